@@ -1,0 +1,5 @@
+pub mod Places
+pub mod Pieces
+pub mod Views
+pub mod Cuts
+pub mod Laws

@@ -1,0 +1,11 @@
+use Rattle.std.proofs.Common.{ℕ, ◌+◌, ◌-◌, ◌*◌, ◌/◌, ◌≤◌, ◌<◌, arith}
+use Rattle.enet_fragment.proofs.cutting.plan.Goals as goal
+use Rattle.enet_fragment.proofs.cutting.plan.Goals.{then-len-eq0, else-len-eq0}
+
+-- so many pieces have room for all bytes
+enough : (len piece : ℕ) → 0 < piece → len ≤ ((len - 1) / piece + 1) * piece
+enough len piece h = omega arith
+
+pub returns-then-count-clause-enough : goal.returns-then-count-clause-enough
+returns-then-count-clause-enough c =
+    elim c.if-len-eq0.branch [ then-len-eq0 w ↦ omega arith | else-len-eq0 w ↦ rw w.count-is (enough c.args.len (c.args.mtu - 28) (omega arith)) ]

@@ -1,0 +1,4 @@
+pub mod Cutting
+pub mod Place
+pub mod Making
+pub mod Assembly

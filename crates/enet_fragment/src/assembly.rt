@@ -1,0 +1,228 @@
+//! A packet that is put together from its fragments.
+
+ghost use Rattle.std.specs.Prelude.{◌≡◌, ◌≤◌, ◌+◌, ◌↔◌, [], IsTrue, IsOk, IfOk, IfErr, length, replicate};
+ghost use Rattle.std.specs.Vec.{vec_capacity, vec_len};
+ghost use Rattle.enet_fragment.specs.Assembly.{written_at};
+
+use crate::Place;
+use bytes::Bytes;
+use enet_codec::Refusal;
+use std::alloc::Global;
+use std::marker::Model;
+
+/// What became of a piece.
+#[derive(Clone, Copy, Debug, PartialEq, Eq)]
+pub enum Put {
+    /// It is in the packet, and another one is still missing.
+    New,
+    /// It had come before; nothing has changed.
+    Again,
+    /// It was the last one that was missing.
+    Whole,
+    /// It can't be a piece of this packet; nothing has changed.
+    Bad,
+}
+
+/// A packet in the making. Contracts see it as a `Making`: its length, the length of its pieces once one of them has told
+/// it, and the bytes of the pieces that have come, by their numbers.
+#[derive(Drop)]
+pub struct Assembly {
+    bytes: Vec<u8>,
+    came: Vec<bool>,
+    missing: usize,
+    cut: Option<usize>,
+}
+
+impl Model for Assembly {
+    ghost use Rattle.enet_fragment.specs.Making.{Making, making_code};
+
+    ghost Value = { Making };
+
+    ghost coded = { making_code };
+
+    ghost use Rattle.enet_fragment.specs.Assembly.{making_of, AreKept};
+
+    ghost view = { λ a. making_of a.bytes.items a.came.items a.cut };
+
+    ghost invariant = { λ a. AreKept a.bytes.items a.came.items a.missing a.cut };
+}
+
+impl Assembly {
+    ghost use Rattle.enet_fragment.specs.Making.{nothing_yet, put_outcome, after_put, without_piece, joined, IsWhole, belongs, is_of_size, is_same_cut, with_piece, piece_at};
+    ghost use Rattle.enet_fragment.specs.Place.{place_of};
+
+    /// A packet of `total` bytes in `count` pieces, of which none has come. It takes `total` bytes and one mark a piece.
+    /// Answers `Refusal::Memory` where it can't have them.
+    pub fn new(alloc: Global, count: u32, total: u32) -> Result<Assembly, Refusal>
+        requires { 1 ≤ count }
+        ensures ok { IfOk result (λ made. made ≡ nothing_yet count total) }
+        ensures memory { IfErr result (λ why. why ≡ Refusal.Memory) }
+    {
+        let came = filled(alloc, false, count)?;
+        let bytes = filled(alloc, 0, total)?;
+        Ok(Assembly {
+            bytes,
+            came,
+            missing: count as usize,
+            cut: None,
+        })
+    }
+
+    /// What `put` would answer for a piece with this place: Bad where the piece can't be one of this packet's, else Again
+    /// where it has come, else Whole where every other piece has come, else New. It takes the time of a few tests,
+    /// however large the packet is.
+    #[tactic(auto, unfolding(crate::specs::Making::put_outcome))]
+    pub fn foresee(&self, place: Place) -> Put
+        ensures { result ≡ put_outcome self.now place }
+    {
+        if !self.belongs(place) {
+            return Put::Bad;
+        }
+        if self.came[place.number as usize] {
+            Put::Again
+        } else if self.missing == 1 {
+            Put::Whole
+        } else {
+            Put::New
+        }
+    }
+
+    /// Puts a piece into the packet, if it is New or Whole (see `foresee`). Again and Bad change nothing. The piece tells
+    /// its cut to all that come later. It takes no memory, and the time that copying the piece takes.
+    pub fn put(&mut self, number: u32, count: u32, total: u32, offset: u32, bytes: &[u8]) -> Put
+        ensures outcome { result ≡ put_outcome self.old (place_of number count total offset bytes.now) }
+        ensures after { self.new ≡ after_put self.old (place_of number count total offset bytes.now) bytes.now }
+    {
+        let place = Place {
+            number,
+            count,
+            total,
+            offset,
+            len: bytes.len(),
+        };
+        let outcome = self.foresee(place);
+        match outcome {
+            Put::New | Put::Whole => self.add(place, bytes),
+            Put::Bad | Put::Again => {}
+        }
+        outcome
+    }
+
+    /// Takes the mark of one piece back, as if it had not come; where it hasn't, nothing changes. The cut stays.
+    pub fn unmark(&mut self, number: u32)
+        ensures { self.new ≡ without_piece self.old number }
+    {
+        let number = number as usize;
+        if number < self.came.len() && self.came[number] {
+            self.came[number] = false;
+            self.missing += 1;
+        }
+    }
+
+    /// Whether every piece has come.
+    pub fn is_whole(&self) -> bool
+        ensures { IsTrue result ↔ IsWhole self.now }
+    {
+        self.missing == 0
+    }
+
+    /// The pieces' bytes, each as it was last put, in the order of their numbers. It copies none of them. For want of
+    /// memory, and for that alone, it hands the assembly back as it was.
+    pub fn finish(self) -> Result<Bytes, Assembly>
+        requires { IsWhole self }
+        ensures ok { IfOk result (λ body. body ≡ joined self.pieces) }
+        ensures len { IfOk result (λ body. length body ≡ self.total) }
+        ensures memory { IfErr result (λ kept. kept ≡ self) }
+        ensures empty { self.total ≡ 0 → IsOk result }
+    {
+        let Assembly {
+            bytes,
+            came,
+            missing,
+            cut,
+        } = self;
+        match Bytes::from_vec(bytes) {
+            Ok(body) => Ok(body),
+            Err(refused) => Err(Assembly {
+                bytes: refused.value,
+                came,
+                missing,
+                cut,
+            }),
+        }
+    }
+
+    /// Whether a piece with this place can be one of this packet's.
+    #[tactic(auto, unfolding(crate::specs::Making::belongs))]
+    fn belongs(&self, place: Place) -> bool
+        ensures { result ≡ belongs self.now place }
+    {
+        if !place.is_sound() || !self.is_of_size(place) {
+            return false;
+        }
+        self.has_same_cut(place.told_cut())
+    }
+
+    /// Whether a piece with this place speaks of a packet of this size.
+    fn is_of_size(&self, place: Place) -> bool
+        ensures { result ≡ is_of_size self.now place }
+    {
+        place.count as usize == self.came.len() && place.total as usize == self.bytes.len()
+    }
+
+    /// Whether this length of the pieces is the one that earlier ones told, if any has.
+    fn has_same_cut(&self, cut: usize) -> bool
+        ensures { result ≡ is_same_cut self.now.cut cut }
+    {
+        match self.cut {
+            None => true,
+            Some(known) => known == cut,
+        }
+    }
+
+    /// Puts a piece that belongs to the packet and has not come.
+    fn add(&mut self, place: Place, bytes: &[u8])
+        requires fits { place.len ≡ length bytes.now }
+        requires belongs { IsTrue (belongs self.old place) }
+        requires missing { piece_at self.old place.number ≡ None }
+        ensures { self.new ≡ with_piece self.old place bytes.now }
+    {
+        let cut = place.told_cut();
+        write_at(&mut self.bytes, place.offset as usize, bytes);
+        self.came[place.number as usize] = true;
+        self.missing -= 1;
+        self.cut = Some(cut);
+    }
+}
+
+/// So many copies of a value, in exactly as much room.
+fn filled<T: Copy>(alloc: Global, value: T, len: u32) -> Result<Vec<T>, Refusal>
+    ensures ok { IfOk result (λ items. items.items ≡ replicate len value) }
+    ensures memory { IfErr result (λ why. why ≡ Refusal.Memory) }
+{
+    let mut items = room_for(alloc, len as usize)?;
+    match items.resize(len as usize, value) {
+        Ok(()) => Ok(items),
+        Err(_) => Err(Refusal::Memory),
+    }
+}
+
+/// Room for exactly so many items.
+fn room_for<T>(alloc: Global, len: usize) -> Result<Vec<T>, Refusal>
+    ensures empty { IfOk result (λ items. items.items ≡ []) }
+    ensures exact { IfOk result (λ items. vec_capacity items ≡ len) }
+    ensures memory { IfErr result (λ why. why ≡ Refusal.Memory) }
+{
+    match Vec::with_capacity(alloc, len) {
+        Ok(items) => Ok(items),
+        Err(_) => Err(Refusal::Memory),
+    }
+}
+
+/// Writes a piece at its place among the packet's bytes.
+fn write_at(buffer: &mut Vec<u8>, offset: usize, bytes: &[u8])
+    requires { offset + length bytes.now ≤ vec_len buffer.old }
+    ensures { buffer.new.items ≡ written_at offset bytes.now buffer.old.items }
+{
+    buffer[offset..offset + bytes.len()].copy_from_slice(bytes);
+}

@@ -1,0 +1,79 @@
+//! The place of one fragment in its packet.
+
+ghost use Rattle.std.specs.Prelude.{◌≡◌, ◌<◌, ◌≤◌, ◌^◌, ◌+◌, IsTrue, nat_le};
+
+use crate::FRAGMENT_LIMIT;
+
+/// The place that a fragment claims to have in its packet.
+#[derive(Clone, Copy, Debug, PartialEq, Eq)]
+pub struct Place {
+    /// Which piece it is, from 0.
+    pub number: u32,
+    /// How many pieces the packet has.
+    pub count: u32,
+    /// How many bytes the packet has.
+    pub total: u32,
+    /// Where in the packet the piece begins, in bytes.
+    pub offset: u32,
+    /// How many bytes the piece has.
+    pub len: usize,
+}
+
+impl Place {
+    ghost use Rattle.enet_fragment.specs.Place.{is_sound, is_even, told_cut};
+
+    /// Whether some packet that is cut evenly has this piece: its number is below the count, the piece ends within the packet
+    /// (ENet 1.3), the count is at most the limit of 16,384, and the cut that it tells has it (our profile). It
+    /// is evenly cut where all pieces but the last have one length, and the last one has the rest.
+    #[tactic(auto, unfolding(crate::specs::Place::is_sound))]
+    pub fn is_sound(self) -> bool
+        ensures value { result ≡ is_sound self }
+        ensures numbered { IsTrue result → self.number < self.count }
+    {
+        self.number < self.count
+            && self.count <= FRAGMENT_LIMIT
+            && self.ends_within()
+            && self.is_even(self.told_cut())
+    }
+
+    /// Whether the piece ends where the packet does, or before.
+    fn ends_within(self) -> bool
+        ensures value { result ≡ nat_le (self.offset + self.len) self.total }
+        ensures small { IsTrue result → told_cut self < 2 ^ 32 }
+    {
+        let total = self.total as usize;
+        self.len <= total && self.offset as usize <= total - self.len
+    }
+
+    /// The length of every piece but the last, as this one tells it.
+    #[tactic(auto, unfolding(crate::specs::Place::told_cut))]
+    pub(crate) fn told_cut(self) -> usize
+        requires { self.number < self.count }
+        ensures { result ≡ told_cut self }
+    {
+        if self.number + 1 == self.count {
+            self.offset.checked_div(self.count - 1).unwrap_or(0) as usize
+        } else {
+            self.len
+        }
+    }
+
+    /// Whether a packet whose pieces have this length has the piece at this place.
+    #[tactic(auto, unfolding(crate::specs::Place::is_even))]
+    fn is_even(self, cut: usize) -> bool
+        requires number { self.number < self.count }
+        requires count { self.count ≤ FRAGMENT_LIMIT }
+        requires cut { cut < 2 ^ 32 }
+        requires offset { self.offset ≤ self.total }
+        ensures { result ≡ is_even cut self }
+    {
+        let len = if self.number + 1 == self.count {
+            (self.total - self.offset) as usize
+        } else {
+            cut
+        };
+        self.offset as usize == self.number as usize * cut
+            && self.len == len
+            && (self.count - 1) as usize * cut <= self.total as usize
+    }
+}
