@@ -1,0 +1,3 @@
+pub mod MarksLemmas
+pub mod OnceLemmas
+pub mod InOrderLemmas

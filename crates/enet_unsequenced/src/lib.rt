@@ -1,0 +1,101 @@
+//! Unsequenced packets of ENet 1.3: each of their groups is dispatched at most once.
+#![tactic(auto)]
+
+ghost use Rattle.std.specs.Prelude.{◌≡◌, ℕ, ◌+◌, ◌%◌, ◌<◌, ◌≤◌, ◌≢◌, IsTrue, List, ◌∷◌, length, All, AllPairs, false};
+ghost use Rattle.std.specs.List.{AllAdjacentBelow};
+ghost use Rattle.std.specs.FinSet as set;
+ghost use Rattle.enet_unsequenced.specs.Groups.{nothing_seen, dispatches, mark, dispatched};
+
+use std::marker::Model;
+
+#[cfg(test)]
+mod tests;
+
+/// How many groups a block has.
+const BLOCK_SIZE: u16 = 1024;
+
+/// How far past the base a group may lie.
+const REACH: u16 = 32_768;
+
+/// The groups of unsequenced packets that a receiver has dispatched: 1,024 marks for the groups from its
+/// base on, which is a multiple of 1,024 and 0 at first (ENet 1.3). No call takes memory.
+#[derive(Drop)]
+pub struct Groups {
+    base: u16,
+    marks: [bool; 1024],
+}
+
+impl Model for Groups {
+    ghost use Rattle.std.specs.Prelude.{◌≡◌, ◌%◌};
+    ghost use Rattle.enet_unsequenced.specs.Groups.{Seen, seen_code};
+    ghost use Rattle.enet_unsequenced.specs.Marks.{marked_from};
+
+    ghost Value = { Seen };
+
+    ghost coded = { seen_code };
+
+    ghost view = { λ g. record { base = g.base; marks = marked_from g.base g.marks } };
+
+    ghost invariant = { λ g. g.base % 1024 ≡ 0 };
+}
+
+impl Groups {
+    /// What a receiver has seen at first: nothing.
+    pub fn new() -> Self
+        ensures { result ≡ nothing_seen }
+    {
+        Self::unmarked(0)
+    }
+
+    /// No group of the block that begins at `base` has been dispatched.
+    fn unmarked(base: u16) -> Self
+        requires { base % 1024 ≡ 0 }
+        ensures { result ≡ record { base = base; marks = set.empty } }
+    {
+        Self {
+            base,
+            marks: no_marks(),
+        }
+    }
+
+    /// Whether a packet of this group would be dispatched: the group lies less than 32,768 past the base,
+    /// modulo 65536, and isn't marked (ENet 1.3).
+    pub fn check(&self, group: u16) -> bool
+        ensures { result ≡ dispatches self.now group }
+    {
+        let past_base = group.wrapping_sub(self.base);
+        past_base < REACH && !(past_base < BLOCK_SIZE && self.marks[past_base as usize])
+    }
+
+    /// Marks a group that is dispatched. A group of another block of 1,024 moves the base to its block
+    /// and clears the marks of the block before (ENet 1.3).
+    pub fn mark(&mut self, group: u16)
+        requires { IsTrue (dispatches self.old group) }
+        ensures { self.new ≡ mark self.old group }
+    {
+        let place = group % BLOCK_SIZE;
+        if group - place != self.base {
+            *self = Self::unmarked(group - place);
+        }
+        self.marks[place as usize] = true;
+    }
+}
+
+/// A block's marks, none of them set.
+fn no_marks() -> [bool; 1024]
+    ensures { All (λ mark. mark ≡ false) result }
+{
+    [false; 1024]
+}
+
+/// What the definitions that `check` and `mark` compute give for a whole run of groups, numbered without
+/// bound.
+pub fn runs_of_groups()
+    // Where no group comes over 32,768 below one that came before it, each is dispatched at most once.
+    ensures at_most_once { (groups : List ℕ) → AllPairs (λ earlier later. earlier ≤ later + 32768) groups
+        → AllPairs (λ earlier later. earlier ≢ later) (dispatched nothing_seen groups) }
+    // Where they come in order, each at most 31,744 above the one before it, all are dispatched.
+    ensures in_order { (groups : List ℕ)
+        → AllAdjacentBelow (λ before next. (before < next) × (next ≤ before + 31744)) (0 ∷ groups) (length groups + 1)
+        → dispatched nothing_seen groups ≡ groups }
+{}
