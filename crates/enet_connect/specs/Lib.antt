@@ -1,0 +1,4 @@
+pub mod Session
+pub mod Sizes
+pub mod Terms
+pub mod Verification

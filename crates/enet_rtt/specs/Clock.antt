@@ -1,0 +1,24 @@
+-- The clock counts milliseconds modulo 2^32.
+use Rattle.std.specs.Prelude.{◌≡◌, ℕ, ◌+◌, ◌-◌, ◌%◌, ◌^◌, ◌<◌, ◌≤◌, ◌↔◌, max}
+
+-- From the moment `since` until now.
+abbrev pub elapsed_time : ℕ → ℕ → ℕ
+elapsed_time now since = (now + 2 ^ 32 - since) % 2 ^ 32
+
+-- Moment a is earlier than moment b: a is a day or more after b, on a clock that wraps.
+abbrev pub IsEarlier : ℕ → ℕ → Type 0
+IsEarlier a b = 86400000 ≤ elapsed_time a b
+
+-- The round trip that an acknowledgement shows, from the sent time of 16 bits that it repeats: at least 1.
+abbrev pub sample_of : ℕ → ℕ → ℕ
+sample_of now sent = max 1 ((now + 2 ^ 16 - sent) % 2 ^ 16)
+
+-- For times that don't wrap, of which the clock shows the remainders: the time that has passed is shown rightly where it
+-- is less than 2^32 ms.
+abbrev pub ShowsElapsedTime : Type 0
+ShowsElapsedTime = (since now : ℕ) → since ≤ now → now < since + 2 ^ 32 → elapsed_time (now % 2 ^ 32) (since % 2 ^ 32) ≡ now - since
+
+-- And of two moments less than a day apart it is told rightly whether the one is earlier.
+abbrev pub TellsEarlier : Type 0
+TellsEarlier =
+    (a b : ℕ) → a < b + 86400000 → b < a + 86400000 → IsEarlier (a % 2 ^ 32) (b % 2 ^ 32) ↔ (a < b)

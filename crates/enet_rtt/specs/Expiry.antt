@@ -1,0 +1,39 @@
+-- When a sent command is due for resending, and when its peer has timed out. Times are in milliseconds.
+use Rattle.std.specs.Prelude.{ℕ, ◌+◌, ◌-◌, ◌*◌, ◌^◌, min, Bool, ◌&&◌, ◌||◌, ◌==◌, nat_le, nat_lt, if◌then◌else◌}
+use Rattle.enet_rtt.specs.Clock.{elapsed_time}
+use Rattle.enet_rtt.specs.declared.expiry.Patience.{Patience}
+use Rattle.enet_rtt.specs.declared.expiry.Expiry.{Expiry}
+use Rattle.enet_rtt.specs.declared.expiry.Expiry.TheVariants.{No, Resend, End}
+
+-- The peer has timed out: the maximum has passed, or the minimum has and 2^(attempts - 1) is the limit or more.
+abbrev pub gives_up : Patience → ℕ → ℕ → Bool
+gives_up p age attempts = nat_le p.maximum age || (nat_le p.minimum age && nat_le p.limit (2 ^ (attempts - 1)))
+
+-- Nothing before the timeout has passed since the last send. The age counts from the first send.
+abbrev pub expiry : Patience → ℕ → ℕ → ℕ → ℕ → ℕ → Expiry
+expiry p now first last timeout attempts =
+    if nat_lt (elapsed_time now last) timeout then No
+    else (if gives_up p (elapsed_time now first) attempts then End else Resend)
+
+-- Doublings stop at the greatest number of 32 bits.
+abbrev pub doubled_time : ℕ → ℕ
+doubled_time t = min (2 * t) 4294967295
+
+-- Attempts stop at 255.
+abbrev pub next_attempts : ℕ → ℕ
+next_attempts n = min (n + 1) 255
+
+-- ENet's default numbers.
+abbrev pub standard_patience : Patience
+standard_patience = record { limit = 32; minimum = 5000; maximum = 30000 }
+
+-- A number, or its default where it is 0.
+abbrev pub or_default_number : ℕ → ℕ → ℕ
+or_default_number n d = if n == 0 then d else n
+
+abbrev pub patience_with_defaults : ℕ → ℕ → ℕ → Patience
+patience_with_defaults limit minimum maximum = record {
+  limit = or_default_number limit 32;
+  minimum = or_default_number minimum 5000;
+  maximum = or_default_number maximum 30000;
+}

@@ -1,0 +1,109 @@
+//! When a sent command is due for resending, and when its peer has timed out.
+
+ghost use Rattle.std.specs.Prelude.{◌≡◌, ◌-◌, ◌^◌, nat_le};
+ghost use Rattle.enet_rtt.specs.Expiry.{expiry, doubled_time, next_attempts, standard_patience, patience_with_defaults, or_default_number};
+
+use crate::clock::elapsed;
+
+/// How long a peer may leave a command unacknowledged before it has timed out (ENet 1.3's timeout limit, minimum and
+/// maximum).
+#[derive(Clone, Copy, Debug, PartialEq, Eq)]
+pub struct Patience {
+    /// The minimum ends the peer only once 2^(attempts - 1) is this number or more.
+    pub limit: u32,
+    /// Milliseconds since the first send after which a peer may end, the limit being reached.
+    pub minimum: u32,
+    /// Milliseconds since the first send after which a peer ends in any case.
+    pub maximum: u32,
+}
+
+/// What is to be done with a sent command that is not acknowledged.
+#[derive(Clone, Copy, Debug, PartialEq, Eq)]
+pub enum Expiry {
+    /// Nothing: its timeout has not passed.
+    No,
+    /// It is due for resending.
+    Resend,
+    /// Its peer has timed out.
+    End,
+}
+
+impl Patience {
+    /// The numbers of ENet 1.3: limit 32, minimum 5,000 ms, maximum 30,000 ms.
+    pub fn standard() -> Self
+        ensures { result ≡ standard_patience }
+    {
+        Patience {
+            limit: 32,
+            minimum: 5_000,
+            maximum: 30_000,
+        }
+    }
+
+    /// These numbers, where a 0 stands for the standard one.
+    pub fn with_defaults(limit: u32, minimum: u32, maximum: u32) -> Self
+        ensures { result ≡ patience_with_defaults limit minimum maximum }
+    {
+        let standard = Patience::standard();
+        Patience {
+            limit: or_default(limit, standard.limit),
+            minimum: or_default(minimum, standard.minimum),
+            maximum: or_default(maximum, standard.maximum),
+        }
+    }
+}
+
+/// What is to be done at the time `now` with a command that was first sent at `first` and last at `last`, whose timeout
+/// in milliseconds is `timeout`, after so many attempts (0 counts as 1). Nothing before its timeout has passed since
+/// it was last sent. Then the peer ends where the maximum has passed since it was first sent, or the minimum has and
+/// 2^(attempts - 1) is the limit or more; otherwise the command is due for resending (our profile).
+pub fn expired(
+    patience: &Patience,
+    now: u32,
+    first: u32,
+    last: u32,
+    timeout: u32,
+    attempts: u8,
+) -> Expiry
+    ensures { result ≡ expiry patience.now now first last timeout attempts }
+{
+    if elapsed(now, last) < timeout {
+        return Expiry::No;
+    }
+    let age = elapsed(now, first);
+    let is_over = age >= patience.maximum;
+    if is_over || age >= patience.minimum && is_at_limit(attempts, patience.limit) {
+        Expiry::End
+    } else {
+        Expiry::Resend
+    }
+}
+
+// Whether 2^(attempts - 1) is the limit or more.
+fn is_at_limit(attempts: u8, limit: u32) -> bool
+    ensures { result ≡ nat_le limit (2 ^ (attempts - 1)) }
+{
+    let doublings = attempts.saturating_sub(1);
+    doublings >= 32 || 1u32 << doublings >= limit
+}
+
+// A number, or its default where it is 0.
+fn or_default(number: u32, default: u32) -> u32
+    ensures { result ≡ or_default_number number default }
+{
+    if number == 0 { default } else { number }
+}
+
+/// Twice the timeout, at most 4,294,967,295 ms: a command's timeout once it is due for resending (our profile).
+pub fn doubled(timeout: u32) -> u32
+    ensures { result ≡ doubled_time timeout }
+{
+    timeout.saturating_mul(2)
+}
+
+/// One attempt more, at most 255: a command's attempts once it is sent again (our profile).
+pub fn one_more(attempts: u8) -> u8
+    ensures { result ≡ next_attempts attempts }
+{
+    attempts.saturating_add(1)
+}

@@ -1,0 +1,88 @@
+//! The estimate of a peer's round trip.
+
+ghost use Rattle.std.specs.Prelude.{◌≡◌};
+ghost use Rattle.enet_rtt.specs.Timing.{fresh, after_sample, timeout, StaysWithin};
+
+use std::marker::Model;
+
+/// The estimate of a peer's round trip: its time and its variance, in milliseconds. It begins at 500 and 0.
+#[derive(Clone, Copy, Debug, PartialEq, Eq)]
+pub struct Timing {
+    round_trip: u32,
+    variance: u32,
+    sampled: bool,
+}
+
+impl Model for Timing {
+    ghost use Rattle.enet_rtt.specs.Timing.{Estimate};
+
+    ghost Value = { Estimate };
+
+    ghost view = { λ t. record { round_trip = t.round_trip; variance = t.variance; sampled = t.sampled } };
+
+    ghost inverse = { λ e. record { round_trip = e.round_trip; variance = e.variance; sampled = e.sampled } };
+}
+
+impl Timing {
+    /// The estimate before any sample: round trip 500, variance 0 (ENet 1.3).
+    pub fn new() -> Self
+        ensures { result ≡ fresh }
+    {
+        Timing {
+            round_trip: 500,
+            variance: 0,
+            sampled: false,
+        }
+    }
+
+    /// Takes in a round trip that was measured. The first one is the round trip, and half of it, rounded up, the
+    /// variance. Later the variance gives up a quarter of itself and takes a quarter of how far the sample is off,
+    /// and the round trip goes an eighth of the way towards the sample (our profile).
+    pub fn sample(&mut self, measured: u32)
+        ensures { self.new ≡ after_sample self.old measured }
+    {
+        if self.sampled {
+            let deviation = measured.abs_diff(self.round_trip);
+            self.variance = self.variance - self.variance / 4 + deviation / 4;
+            if self.round_trip <= measured {
+                self.round_trip += deviation / 8;
+            } else {
+                self.round_trip -= deviation / 8;
+            }
+        } else {
+            self.round_trip = measured;
+            self.variance = measured.div_ceil(2);
+            self.sampled = true;
+        }
+    }
+
+    /// The round trip as estimated, in milliseconds.
+    pub fn round_trip(&self) -> u32
+        ensures { result ≡ self.now.round_trip }
+    {
+        self.round_trip
+    }
+
+    /// The variance of the round trip, in milliseconds.
+    pub fn variance(&self) -> u32
+        ensures { result ≡ self.now.variance }
+    {
+        self.variance
+    }
+
+    /// After how many milliseconds a command that is sent now is due for resending: the round trip and four times
+    /// the variance, at most 4,294,967,295 (our profile).
+    pub fn timeout_of(&self) -> u32
+        ensures { result ≡ timeout self.now }
+    {
+        self.variance
+            .saturating_mul(4)
+            .saturating_add(self.round_trip)
+    }
+}
+
+/// A law of the definitions: round trip and variance stay within what bounds them and the samples. So where samples
+/// are at most 65,535 ms, the timeout is at most 327,675 ms.
+pub fn estimate_stays_within()
+    ensures { StaysWithin }
+{}

@@ -1,0 +1,2 @@
+pub mod Throttle
+pub mod Bandwidth
