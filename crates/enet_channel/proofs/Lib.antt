@@ -1,0 +1,4 @@
+pub mod SenderLemmas
+pub mod HeldLemmas
+pub mod ReleaseLemmas
+pub mod ForesightLemmas

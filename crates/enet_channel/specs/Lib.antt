@@ -1,0 +1,4 @@
+pub mod Sender
+pub mod Kept
+pub mod Receiver
+pub mod Reception
