@@ -1,0 +1,14 @@
+mod Lists
+mod Maps
+mod Entries
+mod Without
+mod WireReceiver
+mod CarriageLemmas
+mod ContentLemmas
+mod PieceLemmas
+mod ReceiverLemmas
+mod ArrivalLemmas
+mod LinkLemmas
+mod QueueLemmas
+mod Sound
+mod Runs

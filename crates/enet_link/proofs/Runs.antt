@@ -1,0 +1,156 @@
+-- Every run of a link keeps what holds of it.
+use Rattle.std.proofs.Common.{◌≡◌, ℕ, ◌+◌, ◌%◌, ◌<◌, Bool, true, false, List, [], ◌∷◌, map, refl, sym, ap, subst, ◌∙◌, inl, inr, arith, Option, Some, None}
+use Rattle.std.specs.Prelude.{◌&&◌, unwrap_or}
+use Rattle.std.specs.Ordering.{nat_cmp}
+use Rattle.std.specs.FinMap.{FinMap, empty, get, get-empty}
+use Rattle.enet_link.specs.Numbering.{wire, unbounded}
+use Rattle.enet_link.specs.Carriage.{Carried, Follows}
+use Rattle.enet_link.specs.DataCommand.{DataCommand}
+use Rattle.enet_link.specs.Sender.{Sent}
+use Rattle.enet_link.specs.Receiver.{Coming, nothing_received, waiting_at}
+use Rattle.enet_link.specs.Reception.{outcome, is_handled, place_read}
+use Rattle.enet_link.specs.Link.{PutOut, is_late}
+use Rattle.enet_link.specs.WireLink.{WireLink}
+use Rattle.enet_link.specs.Steps.{Has, Event, Submit, Send, Drop, Mark, PutsOut, Arrive, ArriveAnswered, PutsAnswer, Acknowledge, StopSending, StopReceiving, DropAnswers, Happens, Runs, fresh_link, bodies_of}
+use Rattle.enet_link.specs.Keeps.{Keeps}
+use Rattle.enet_link.specs.Meant.{OfReliable, IsReadAsMeant}
+use Rattle.enet_link.proofs.ArrivalLemmas.{place_as_meant}
+use Rattle.enet_link.proofs.LinkLemmas.{in_time}
+use Rattle.enet_link.proofs.Sound.{Sound, Images, Sound-follows, Sound-submits, Sound-sends, Sound-drops, Sound-marks, Sound-puts_out, Sound-arrives, Sound-arrives_answered, Sound-logs_answer, Sound-answered, Sound-stops_sending, Sound-stops_receiving, Sound-drops_answers}
+
+nothing_at : (n : ℕ) → get (empty {X = Coming} {R = nat_cmp}) n ≡ None
+nothing_at n = get-empty nat_cmp n
+
+pub Sound-fresh : (mtu : ℕ) → Sound mtu fresh_link
+Sound-fresh mtu = record {
+  link = record { carried = []; sent = 0; unacked = []; commands = []; receiver = nothing_received; is_open = true; answers = []; acks = [] };
+  numbers = record {
+    unacked = λ m h. absurd h;
+    removed = λ m low high. absurd (omega arith);
+    span = λ o. omega arith;
+    within = λ o. record { front = omega arith; held = λ n e h. absurd (let f = nothing_at n in cc) };
+    gap = λ o. (1, omega arith, omega arith, elim [ inl low ↦ omega arith | inr w ↦ (let f = nothing_at w.0 in let g = w.2 in cc) ]);
+    commands = λ e h. absurd h;
+    answers = λ a h. absurd h;
+    rises = tt;
+    acks = λ a h. absurd h;
+  };
+  ready = record {
+    cut = λ c h. absurd h;
+    held = λ n e h. absurd (let f = nothing_at n in cc);
+    waiting = λ n k e h. absurd (let f : get (empty {X = FinMap nat_cmp Coming} {R = nat_cmp}) n ≡ None = get-empty nat_cmp n in
+        let g : get (waiting_at nothing_received n) k ≡ None = ap (λ (o : Option (FinMap nat_cmp Coming)). get (unwrap_or o empty) k) f ∙ nothing_at k in (let x : Some e ≡ None = sym h ∙ g in cc));
+    passed = record { passed = []; left = []; whole = refl; consumed = refl; count = refl; last = refl };
+  };
+  shows = record {
+    carried = refl;
+    plain = λ c h. absurd h;
+    greatest = refl;
+    is_open = refl;
+    queues = λ j. record { gone = []; left = []; whole = refl; count = refl; queued = refl; number = refl; unreliable = refl };
+    images = λ j. tt;
+    rising = tt;
+    commands = λ e h. absurd h;
+    pieces = λ e h. absurd h;
+    making = λ c h. absurd h;
+    incoming = λ o. record {
+      front = refl;
+      unreliable = refl;
+      dispatched = refl;
+      held = λ d low high. nothing_at ((0 + d) % 65536) ∙ sym (nothing_at (0 + d));
+      low = λ n h. nothing_at n;
+      near = λ d far. nothing_at (0 + d);
+      sized = λ n c h. absurd (let f = nothing_at n in cc);
+      sized_true = λ n c h. absurd (let f = nothing_at n in cc);
+      waiting = λ d low. get-empty nat_cmp ((0 + d) % 65536) ∙ sym (get-empty nat_cmp (0 + d));
+      near_waiting = λ d far. get-empty nat_cmp (0 + d);
+    };
+    dispatched = ([], refl);
+    answers = refl;
+    acks = λ a h. absurd h;
+  };
+}
+
+-- one event keeps it
+Sound-happens : (mtu : ℕ) (e : Event) (v w : WireLink) → 28 < mtu → Sound mtu v → Happens mtu e v w → Sound mtu w
+Sound-happens mtu (Submit packet) v w big s h = subst (λ x. Sound mtu x) (sym h.after) (Sound-submits mtu v packet big s h.sending h.few)
+Sound-happens mtu (Send now timeout transit most) v w big s h = subst (λ x. Sound mtu x) (sym h.after) (Sound-sends mtu v now timeout transit most h.due s h.sending h.is_due)
+Sound-happens mtu (Drop now timeout transit most) v w big s h = subst (λ x. Sound mtu x) (sym h.after) (Sound-drops mtu v now timeout transit most h.due s h.sending h.is_due h.unreliable)
+Sound-happens mtu (Mark now) v w big s h = subst (λ x. Sound mtu x) (sym h.after) (Sound-marks mtu v now s h.sending)
+Sound-happens mtu PutsOut v w big s h = subst (λ x. Sound mtu x) (sym h) (Sound-puts_out mtu v s)
+Sound-happens mtu (Arrive command most full) v w big s h = subst (λ x. Sound mtu x) (sym h.after) (Sound-arrives mtu most v command full s h.logged h.in_time)
+Sound-happens mtu (ArriveAnswered command most full) v w big s h =
+    let a = h.arrives in
+    subst (λ x. Sound mtu x) (sym a.after) (Sound-arrives_answered mtu most v command full s a.logged a.in_time h.reliable (λ o. handled (is_handled (outcome wire most v.incoming command.command full)) _ (h.rule o)))
+  where
+    handled : (a b : Bool) → (a && b) ≡ true → a ≡ true
+    handled true b t = refl
+    handled false b t = absurd (cc)
+Sound-happens mtu (PutsAnswer number rest) v w big s h = subst (λ x. Sound mtu x) (sym h.after) (Sound-logs_answer mtu v number rest s h.oldest)
+Sound-happens mtu (Acknowledge answer) v w big s h = subst (λ x. Sound mtu x) (sym h.after) (Sound-answered mtu v answer s h.between h.logged h.in_time)
+Sound-happens mtu (StopSending left) v w big s h = subst (λ x. Sound mtu x) (sym h) (Sound-stops_sending mtu v left s)
+Sound-happens mtu (StopReceiving left kept gone) v w big s h = subst (λ x. Sound mtu x) (sym h.after) (Sound-stops_receiving mtu v left kept gone s h.dispatched)
+Sound-happens mtu DropAnswers v w big s h = subst (λ x. Sound mtu x) (sym h) (Sound-drops_answers mtu v s)
+
+Sound-runs : (mtu : ℕ) (es : List Event) (v w : WireLink) → 28 < mtu → Sound mtu v → Runs mtu es v w → Sound mtu w
+Sound-runs mtu [] v w big s h = subst (λ x. Sound mtu x) h s
+Sound-runs mtu (e ∷ es) v w big s h = Sound-runs mtu es h.0 w big (Sound-happens mtu e v h.0 big s h.1) h.2
+
+-- the numbers of what is sent
+sent_numbers : (mtu : ℕ) (cs : List Carried) (ns : List ℕ) (sent : List Sent) → Images mtu cs ns sent → map (λ (p : Sent). p.command.number) sent ≡ map (λ n. n % 65536) ns
+sent_numbers mtu cs [] [] h = refl
+sent_numbers mtu cs [] (p ∷ sent) h = absurd h
+sent_numbers mtu cs (n ∷ ns) [] h = absurd h
+sent_numbers mtu cs (n ∷ ns) (p ∷ sent) h =
+    let im = h.0 in
+    let number : p.command.number ≡ n % 65536 = ap (λ (x : DataCommand). x.number) im.command ∙ ap (λ x. x % 65536) im.number in
+    (λ j. number j ∷ sent_numbers mtu cs ns sent h.1 j)
+
+Keeps-sound : (mtu : ℕ) (v : WireLink) → Sound mtu v → Keeps mtu v
+Keeps-sound mtu v s =
+    let l = s.link in
+    let h = s.shows in
+    let g = s.numbers in
+    let same = h.greatest in
+    record {
+      receiver = l.receiver;
+      waiting = l.unacked;
+      front = λ o. let i = h.incoming (sym h.is_open ∙ o) in i.front;
+      sent = λ k. sent_numbers mtu l.carried l.unacked v.outgoing.sent (h.images k);
+      removed = λ m low high. elim (g.removed m low (omega arith)) [ inl u ↦ inl u | inr k ↦ inr (λ o. k (sym h.is_open ∙ o)) ];
+      span = λ m u. let k = g.unacked m u in let a = k.1 in let b = k.2 in (k.0, omega arith, omega arith);
+      near = λ o. let k = g.span (sym h.is_open ∙ o) in omega arith;
+      held = λ o n e t. subst (λ cs. OfReliable mtu cs n e.making) h.carried (s.ready.held n e t);
+      read = λ o c t late. subst (λ cs. IsReadAsMeant mtu cs l.receiver c.command) h.carried (as_meant (sym h.is_open ∙ o) c t late);
+    }
+  where
+    as_meant : s.link.is_open ≡ true → (c : PutOut) → Has v.commands c → is_late v.greatest c.reach c.command.number ≡ false → IsReadAsMeant mtu s.link.carried s.link.receiver c.command
+    as_meant o c t late =
+        let l = s.link in
+        let h = s.shows in
+        let g = s.numbers in
+        let y = h.commands c t in
+        let d = y.meant in
+        let f : PutOut = record { command = d; reach = c.reach } in
+        let p = h.pieces f y.there in
+        let out = g.commands f y.there in
+        let a = out.number in let b = out.reach in let e = out.span in
+        let w = g.within o in
+        let now : is_late l.sent c.reach (d.number % 65536) ≡ false = ap (λ z. is_late z c.reach (d.number % 65536)) (sym h.greatest) ∙ ap (λ (x : DataCommand). is_late v.greatest c.reach x.number) (sym y.command) ∙ late in
+        let low = in_time l.sent d.number c.reach out.number (omega arith) now in
+        let place = place_as_meant mtu l.carried l.sent l.receiver d p s.ready w.front (omega arith) (g.span o) low in
+        record {
+          meant = d;
+          piece = p;
+          command = y.command;
+          read = elim place [
+            | inl none ↦ inl (ap (place_read unbounded l.receiver) y.command ∙ none)
+            | inr some' ↦ inr (ap (place_read unbounded l.receiver) y.command ∙ some')
+          ];
+        }
+
+pub follows : (mtu : ℕ) (events : List Event) (w : WireLink) → 28 < mtu → Runs mtu events fresh_link w → Follows mtu w.submitted (bodies_of w.incoming.dispatched)
+follows mtu events w big h = Sound-follows mtu w (Sound-runs mtu events fresh_link w big (Sound-fresh mtu) h)
+
+pub keeps : (mtu : ℕ) (events : List Event) (w : WireLink) → 28 < mtu → Runs mtu events fresh_link w → Keeps mtu w
+keeps mtu events w big h = Keeps-sound mtu w (Sound-runs mtu events fresh_link w big (Sound-fresh mtu) h)

@@ -1,0 +1,73 @@
+-- One channel from a sender to a receiver and the acknowledgements back, with unbounded numbers.
+use Rattle.std.specs.Prelude.{ℕ, Bool, false, ◌+◌, ◌-◌, ◌%◌, not, ◌==◌, nat_lt, if◌then◌else◌, List, [], ◌∷◌, ◌++◌, filter}
+use Rattle.std.specs.Option.{option_map}
+use Rattle.enet_codec.specs.declared.command.Fragment.{Fragment}
+use Rattle.enet_link.specs.Numbering.{unbounded}
+use Rattle.enet_link.specs.Carriage.{Carried}
+use Rattle.enet_link.specs.DataCommand.{DataCommand}
+use Rattle.enet_link.specs.Receiver.{Receiver}
+use Rattle.enet_link.specs.Reception.{received}
+
+-- a command that was put out: reach is the greatest number sent just after its datagram
+pub record PutOut : Type 0 where
+  pub command : DataCommand
+  pub reach : ℕ
+
+-- an acknowledgement: reach is the greatest number sent when its command came, or just after it was put out itself
+pub record Answer : Type 0 where
+  pub number : ℕ
+  pub reach : ℕ
+
+pub record Link : Type 0 where
+  pub carried : List Carried  -- what was submitted
+  pub sent : ℕ  -- the greatest number sent
+  pub unacked : List ℕ  -- the numbers sent that no acknowledgement removed
+  pub commands : List PutOut  -- every command ever put out
+  pub receiver : Receiver
+  pub is_open : Bool  -- whether the receiver still dispatches
+  pub answers : List Answer  -- acknowledgements that wait to be put out, the oldest first
+  pub acks : List Answer  -- every acknowledgement ever put out
+
+-- a command as a datagram has it
+abbrev pub wired_fragment : Bool → Fragment → Fragment
+wired_fragment reliable f = record { start = if reliable then f.start % 65536 else f.start; count = f.count; number = f.number; total = f.total; offset = f.offset }
+
+abbrev pub wired : DataCommand → DataCommand
+wired c = record { reliable = c.reliable; number = c.number % 65536; count = c.count; fragment = option_map (wired_fragment c.reliable) c.fragment; body = c.body }
+
+-- the greatest number that has this wire number and is at most `reach`
+abbrev pub number_below : ℕ → ℕ → ℕ
+number_below reach number = reach - (reach + 65536 - number) % 65536
+
+-- more than 32,768 late: `sent` is the greatest number sent by now
+abbrev pub is_late : ℕ → ℕ → ℕ → Bool
+is_late sent reach number = nat_lt 32768 (sent - number_below reach number)
+
+abbrev pub accept : Link → Carried → Link
+accept l c = record l { carried = l.carried ++ c ∷ [] }
+
+-- the next command is sent for the first time
+abbrev pub send : Link → Link
+send l = record l { sent = l.sent + 1; unacked = l.unacked ++ (l.sent + 1) ∷ [] }
+
+-- a command goes into the log
+abbrev pub put_out : Link → DataCommand → Link
+put_out l c = record l { commands = l.commands ++ (record { command = c; reach = l.sent }) ∷ [] }
+
+-- a command of the log comes
+abbrev pub takes_in : Link → ℕ → DataCommand → Bool → Link
+takes_in l most c full = record l { receiver = if l.is_open then received unbounded most l.receiver (wired c) full else l.receiver }
+
+abbrev pub queue_answer : Link → ℕ → Link
+queue_answer l number = record l { answers = l.answers ++ (record { number = number; reach = l.sent }) ∷ [] }
+
+-- a waiting acknowledgement goes into the log
+abbrev pub put_answer : Link → Answer → List Answer → Link
+put_answer l a rest = record l { answers = rest; acks = l.acks ++ (record { number = a.number; reach = l.sent }) ∷ [] }
+
+-- an acknowledgement of the log comes: the sent command with its wire number is removed
+abbrev pub acknowledged : Link → Answer → Link
+acknowledged l a = record l { unacked = filter (λ m. not (m % 65536 == a.number % 65536)) l.unacked }
+
+abbrev pub closed : Link → Link
+closed l = record l { is_open = false }
