@@ -1,0 +1,6 @@
+pub mod Lateness
+pub mod Hosting
+pub mod Log
+pub mod Marks
+pub mod Packing
+pub mod World

@@ -1,0 +1,53 @@
+-- What the world keeps of the two hosts.
+use Rattle.std.specs.Prelude.{ℕ, ◌+◌, ◌%◌, ◌^◌, ◌-◌, ◌==◌, min, if◌then◌else◌, List, [], ◌∷◌, ◌++◌, slice_set}
+use Rattle.std.specs.List.{slice_index_or, fold}
+use Rattle.enet_codec.specs.declared.shared.Packet.{Packet}
+use Rattle.enet_world.specs.declared.log.Mark.{Mark}
+
+-- a datagram that was put out
+pub record Logged : Type 0 where
+  pub text : List ℕ
+  pub marks : List Mark
+
+-- one channel of one side: the packets that its user submitted, the packets that its user took, and the greatest
+-- reliable number that it has sent
+pub record Kept : Type 0 where
+  pub submitted : List Packet
+  pub taken : List Packet
+  pub greatest : ℕ
+
+-- a channel on which nothing has happened
+abbrev pub fresh_kept : Kept
+fresh_kept = record { submitted = []; taken = []; greatest = 0 }
+
+abbrev pub kept_at : List Kept → ℕ → Kept
+kept_at channels channel = slice_index_or channels channel fresh_kept
+
+abbrev pub greatest_at : List Kept → ℕ → ℕ
+greatest_at channels channel = (kept_at channels channel).greatest
+
+-- the channels with one of them as a function of it gives
+abbrev pub with_kept : List Kept → ℕ → (Kept → Kept) → List Kept
+with_kept channels channel f = slice_set channels channel (f (kept_at channels channel))
+
+abbrev pub with_submission : Packet → Kept → Kept
+with_submission p k = record k { submitted = k.submitted ++ p ∷ [] }
+
+abbrev pub with_taken : Packet → Kept → Kept
+with_taken p k = record k { taken = k.taken ++ p ∷ [] }
+
+-- the greatest number after a command of this number was put out: one more where the command has the next number, and
+-- at most 2 ^ 64 - 1
+abbrev pub greatest_after : ℕ → ℕ → ℕ
+greatest_after greatest number = if min (greatest + 1) (2 ^ 64 - 1) % 65536 == number then min (greatest + 1) (2 ^ 64 - 1) else greatest
+
+abbrev pub counted : List Kept → Mark → List Kept
+counted channels m = if m.acknowledges then channels else with_kept channels m.channel (λ k. record k { greatest = greatest_after k.greatest m.number })
+
+-- the channels after the commands of a datagram were put out
+abbrev pub counted_all : List Kept → List Mark → List Kept
+counted_all channels marks = fold counted channels marks
+
+-- a mark with how far its number's end has come
+abbrev pub reached : List Kept → List Kept → Mark → Mark
+reached own other m = record m { reach = greatest_at (if m.acknowledges then other else own) m.channel }

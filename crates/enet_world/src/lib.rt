@@ -1,0 +1,16 @@
+//! A world of two hosts and the network between them, for scripts and for proofs: each thing that happens is one event,
+//! and each host sees of the other only the bytes that the network brings.
+#![tactic(auto)]
+
+mod end;
+mod event;
+mod host;
+mod log;
+mod packing;
+mod world;
+
+pub use event::{Answer, Side, WorldEvent};
+pub use world::World;
+
+#[cfg(test)]
+mod tests;

@@ -1,0 +1,217 @@
+//! The datagrams that were put out, each with what tells later whether one of its commands is late.
+
+ghost use Rattle.std.specs.Prelude.{◌≡◌, ℕ, ◌+◌, ◌≤◌, ◌<◌, ◌^◌, [], ◌++◌, drop, length, map, option_to_list, vec_len, vec_capacity};
+ghost use Rattle.enet_world.specs.Lateness.{number_below, is_late, has_late};
+ghost use Rattle.enet_codec.specs.Message.{view};
+ghost use Rattle.enet_world.specs.Marks.{mark_of, MarksOf, MarksIn};
+ghost use Rattle.enet_world.specs.Log.{greatest_at, counted, counted_all, reached};
+
+use enet_codec::{Command, Packet, read_command, read_header};
+use enet_seq::ahead;
+use std::marker::Model;
+
+/// At most so many commands stand in a datagram that is put out.
+pub(crate) const MAX_COMMANDS: usize = 32;
+
+/// By how many numbers a command may be late.
+const LATEST: u64 = 32_768;
+
+/// What is kept of a command of a datagram.
+#[derive(Clone, Copy, Debug)]
+pub(crate) struct Mark {
+    /// The channel of the command, or of the command that it acknowledges.
+    pub channel: u8,
+    /// Whether it is an acknowledgement, which means that the other end gave the number.
+    pub acknowledges: bool,
+    /// The reliable number on the wire.
+    pub number: u16,
+    /// The greatest number that the end which gave it had sent on the channel, just after the datagram was put out.
+    pub reach: u64,
+}
+
+/// A datagram that was put out.
+#[derive(Drop)]
+pub(crate) struct Datagram {
+    pub text: Vec<u8>,
+    pub marks: Vec<Mark>,
+}
+
+impl Model for Datagram {
+    ghost use Rattle.enet_world.specs.Log.{Logged};
+
+    ghost Value = { Logged };
+
+    ghost view = { λ d. record { text = d.text.items; marks = d.marks.items } };
+}
+
+/// What is kept of a channel of one side.
+#[derive(Drop)]
+pub(crate) struct Kept {
+    /// What its user submitted.
+    pub submitted: Vec<Packet>,
+    /// What its user took.
+    pub taken: Vec<Packet>,
+    /// The greatest reliable number that it has sent.
+    pub greatest: u64,
+}
+
+impl Model for Kept {
+    ghost use Rattle.enet_world.specs.Log.{Kept};
+
+    ghost Value = { Kept };
+
+    ghost view = { λ k. record { submitted = k.submitted.items; taken = k.taken.items; greatest = k.greatest } };
+}
+
+/// The mark of a command that takes part in the test for lateness: one of sequenced data, or an acknowledgement.
+fn mark_of(command: &Command<'_>) -> Option<Mark>
+    ensures { result ≡ mark_of (view command.now) }
+{
+    match command {
+        Command::Acknowledge {
+            head,
+            received_number,
+            ..
+        } => Some(Mark {
+            channel: head.channel,
+            acknowledges: true,
+            number: *received_number,
+            reach: 0,
+        }),
+        Command::SendReliable { head, .. }
+        | Command::SendUnreliable { head, .. }
+        | Command::SendFragment { head, .. }
+        | Command::SendUnreliableFragment { head, .. } => Some(Mark {
+            channel: head.channel,
+            acknowledges: false,
+            number: head.number,
+            reach: 0,
+        }),
+        _ => None,
+    }
+}
+
+/// Adds the mark of a command, if it has one.
+fn push_mark(marks: &mut Vec<Mark>, command: &Command<'_>)
+    requires { vec_len marks.old < vec_capacity marks.old }
+    ensures items { marks.new.items ≡ marks.old.items ++ option_to_list (mark_of (view command.now)) }
+    ensures len { vec_len marks.new ≤ vec_len marks.old + 1 }
+    ensures capacity { vec_capacity marks.new ≡ vec_capacity marks.old }
+{
+    if let Some(mark) = mark_of(command) {
+        marks.push_reserved(mark);
+    }
+}
+
+/// The bytes from a place on.
+fn bytes_after(bytes: &[u8], place: usize) -> &[u8]
+    requires { place ≤ length bytes.now }
+    ensures { result.now ≡ drop place bytes.now }
+{
+    &bytes[place..]
+}
+
+/// Reads the marks of commands, for which there is room.
+fn read_command_marks(commands: &[u8], marks: &mut Vec<Mark>)
+    requires room { vec_len marks.old + 32 ≤ vec_capacity marks.old }
+    requires empty { marks.old.items ≡ [] }
+    ensures { MarksOf 32 commands.now marks.new.items }
+{
+    let mut rest = commands;
+    for _command in 0..MAX_COMMANDS {
+        let Some((command, len)) = read_command(rest) else {
+            return;
+        };
+        push_mark(marks, &command);
+        rest = bytes_after(rest, len);
+    }
+}
+
+/// Reads the marks of a datagram's commands, for which there is room.
+pub(crate) fn read_marks(text: &[u8], marks: &mut Vec<Mark>)
+    requires room { vec_len marks.old + 32 ≤ vec_capacity marks.old }
+    requires empty { marks.old.items ≡ [] }
+    ensures { MarksIn text.now marks.new.items }
+{
+    if let Some((_header, len)) = read_header(text) {
+        read_command_marks(bytes_after(text, len), marks);
+    }
+}
+
+/// The greatest number sent on a channel.
+pub(crate) fn greatest_at(channels: &[Kept], channel: u8) -> u64
+    ensures { result ≡ greatest_at channels.now channel }
+{
+    match channels.get(usize::from(channel)) {
+        Some(kept) => kept.greatest,
+        None => 0,
+    }
+}
+
+/// Counts a command that is put out: the greatest number of its channel grows by one where it has the next number.
+fn count(channels: &mut [Kept], mark: Mark)
+    ensures { channels.new ≡ counted channels.old mark }
+{
+    let i = usize::from(mark.channel);
+    if mark.acknowledges || i >= channels.len() {
+        return;
+    }
+    let kept = &mut channels[i];
+    let next = kept.greatest.saturating_add(1);
+    if next % 65536 == u64::from(mark.number) {
+        kept.greatest = next;
+    }
+}
+
+/// Counts the commands of a datagram that is put out.
+pub(crate) fn count_all(channels: &mut [Kept], marks: &[Mark])
+    ensures { channels.new ≡ counted_all channels.old marks.now }
+{
+    for mark in marks {
+        count(channels, *mark);
+    }
+}
+
+/// A mark with how far its number's end has come.
+fn reached(mark: Mark, own: &[Kept], other: &[Kept]) -> Mark
+    ensures { result ≡ reached own.now other.now mark }
+{
+    let channels = if mark.acknowledges { other } else { own };
+    Mark {
+        reach: greatest_at(channels, mark.channel),
+        ..mark
+    }
+}
+
+/// Notes in the marks of a datagram how far its numbers have come: on its own side for its commands, and on the other for
+/// what it acknowledges.
+pub(crate) fn note_reach(marks: &mut [Mark], own: &[Kept], other: &[Kept])
+    ensures { marks.new ≡ map (reached own.now other.now) marks.old }
+{
+    for mark in marks.iter_mut() {
+        *mark = reached(*mark, own, other);
+    }
+}
+
+/// The greatest number that has this wire number and is at most `reach`.
+fn number_below(reach: u64, wire: u16) -> u64
+    ensures { result ≡ number_below reach wire }
+{
+    reach.saturating_sub(u64::from(ahead(wire, (reach % 65536) as u16)))
+}
+
+/// Whether a command of a datagram of the sender is more than 32,768 numbers late at the taker.
+fn is_late(mark: &Mark, sender: &[Kept], taker: &[Kept]) -> bool
+    ensures { result ≡ is_late (greatest_at sender.now) (greatest_at taker.now) mark.now }
+{
+    let channels = if mark.acknowledges { taker } else { sender };
+    let sent = greatest_at(channels, mark.channel);
+    sent.saturating_sub(number_below(mark.reach, mark.number)) > LATEST
+}
+
+/// Whether such a command is among those of a datagram.
+pub(crate) fn has_late(marks: &[Mark], sender: &[Kept], taker: &[Kept]) -> bool
+    ensures { result ≡ has_late (greatest_at sender.now) (greatest_at taker.now) marks.now }
+{
+    marks.iter().any(|mark| is_late(mark, sender, taker))
+}

@@ -1,0 +1,298 @@
+use super::*;
+use bytes::Bytes;
+use enet_codec::Refusal;
+use enet_host::{Config, PeerRef, Received};
+use std::alloc::{AllocError, Global};
+use std::test::Fail;
+
+const PEER: PeerRef = PeerRef {
+    slot: 0,
+    generation: 0,
+};
+
+const HELLO: [u8; 15] = [
+    0x80, 0, 0, 0x64, 0x86, 0, 0, 1, 0, 5, 0x68, 0x65, 0x6c, 0x6c, 0x6f,
+];
+
+const HELLO_ACKNOWLEDGED: [u8; 10] = [0, 0, 1, 0, 0, 1, 0, 1, 0, 0x64];
+
+const HELLO_ANSWERS: &str = "[Ok(Done), Ok(Done), Ok(Sent(Some(0))), \
+Ok(Received(Received { handled: 1, stop: None })), \
+Ok(Taken(Some(Receive { peer: PeerRef { slot: 0, generation: 0 }, packet: Packet { channel: 0, flags: 1, body: b\"hello\" } }))), \
+Ok(Taken(None)), Ok(Sent(Some(0))), Ok(Received(Received { handled: 1, stop: None })), Ok(Sent(None))]";
+
+fn submit(side: Side, peer: PeerRef, channel: u8, body: &'static [u8]) -> WorldEvent {
+    WorldEvent::Submit {
+        side,
+        peer,
+        channel,
+        flags: 1,
+        body: Bytes::from_static(body),
+    }
+}
+
+fn hello(alloc: Global) -> Result<Vec<WorldEvent>, AllocError> {
+    Ok(vec![in alloc;
+        WorldEvent::Tick {
+            side: Side::A,
+            ms: 100
+        },
+        submit(Side::A, PEER, 0, b"hello"),
+        WorldEvent::Turn { side: Side::A },
+        WorldEvent::Deliver {
+            side: Side::B,
+            k: 0
+        },
+        WorldEvent::Take { side: Side::B },
+        WorldEvent::Take { side: Side::B },
+        WorldEvent::Turn { side: Side::B },
+        WorldEvent::Deliver {
+            side: Side::A,
+            k: 0
+        },
+        WorldEvent::Turn { side: Side::A },
+    ]?)
+}
+
+/// The answers of steps, one after another.
+fn steps(alloc: Global, world: &mut World, events: Vec<WorldEvent>) -> Result<String, AllocError> {
+    let mut answers = Vec::new(alloc);
+    for event in events {
+        answers.push(world.step(event))?;
+    }
+    format!(in alloc; "{answers:?}")
+}
+
+#[test]
+fn one_reliable_packet(rt: HostRuntime) -> Result<(), Fail> {
+    let alloc = rt.alloc();
+    let mut world = World::joined(alloc, Config::standard(1, 2), Config::standard(1, 2))?;
+    let told = steps(alloc, &mut world, hello(alloc)?)?;
+    assert_eq!(rt; told.as_str(), HELLO_ANSWERS);
+    assert_eq!(rt; world.datagram(Side::A, 0), Some(HELLO.as_slice()));
+    assert_eq!(rt;
+        world.datagram(Side::B, 0),
+        Some(HELLO_ACKNOWLEDGED.as_slice())
+    );
+    assert_eq!(rt; world.datagram(Side::A, 1), None);
+    Ok(())
+}
+
+#[test]
+fn one_reliable_packet_in_a_run(rt: HostRuntime) -> Result<(), Fail> {
+    let alloc = rt.alloc();
+    let mut world = World::joined(alloc, Config::standard(1, 2), Config::standard(1, 2))?;
+    let events = hello(alloc)?;
+    let answers = world.run(&events)?;
+    let told = format!(in alloc; "{answers:?}")?;
+    assert_eq!(rt; told.as_str(), HELLO_ANSWERS);
+    Ok(())
+}
+
+#[test]
+fn lists_of_a_channel(rt: HostRuntime) -> Result<(), Fail> {
+    let alloc = rt.alloc();
+    let mut world = World::joined(alloc, Config::standard(1, 2), Config::standard(1, 2))?;
+    let _ = steps(alloc, &mut world, hello(alloc)?)?;
+    let submitted = world.submitted(0, Side::A, 0);
+    let dispatched = world.dispatched(0, Side::A, 0);
+    let taken = world.events(0, Side::B);
+    let told = format!(in alloc; "{submitted:?} {dispatched:?} {taken:?}")?;
+    let want =
+        "[Packet { channel: 0, flags: 1, body: b\"hello\" }] [Packet { channel: 0, flags: 1, body: b\"hello\" }] \
+[Receive { peer: PeerRef { slot: 0, generation: 0 }, packet: Packet { channel: 0, flags: 1, body: b\"hello\" } }]";
+    assert_eq!(rt; told.as_str(), want);
+    let others = [
+        world.submitted(0, Side::B, 0).len(),
+        world.submitted(0, Side::A, 1).len(),
+        world.submitted(0, Side::A, 2).len(),
+        world.submitted(1, Side::A, 0).len(),
+        world.dispatched(1, Side::A, 0).len(),
+        world.events(1, Side::B).len(),
+        world.events(0, Side::A).len(),
+    ];
+    assert_eq!(rt; others, [0; 7]);
+    Ok(())
+}
+
+#[test]
+fn reliable_out_of_order(rt: HostRuntime) -> Result<(), Fail> {
+    let alloc = rt.alloc();
+    let mut world = World::joined(alloc, Config::standard(1, 2), Config::standard(1, 2))?;
+    let events = vec![in alloc;
+        submit(Side::A, PEER, 0, b"a"),
+        WorldEvent::Turn { side: Side::A },
+        submit(Side::A, PEER, 0, b"b"),
+        WorldEvent::Turn { side: Side::A },
+        WorldEvent::Deliver {
+            side: Side::B,
+            k: 1
+        },
+        WorldEvent::Take { side: Side::B },
+        WorldEvent::Deliver {
+            side: Side::B,
+            k: 0
+        },
+        WorldEvent::Take { side: Side::B },
+        WorldEvent::Take { side: Side::B },
+        WorldEvent::Deliver {
+            side: Side::B,
+            k: 0
+        },
+        WorldEvent::Take { side: Side::B },
+        WorldEvent::Turn { side: Side::B },
+    ]?;
+    let told = steps(alloc, &mut world, events)?;
+    let want =
+        "[Ok(Done), Ok(Sent(Some(0))), Ok(Done), Ok(Sent(Some(1))), Ok(Received(Received { handled: 1, stop: None })), \
+Ok(Taken(None)), Ok(Received(Received { handled: 1, stop: None })), \
+Ok(Taken(Some(Receive { peer: PeerRef { slot: 0, generation: 0 }, packet: Packet { channel: 0, flags: 1, body: b\"a\" } }))), \
+Ok(Taken(Some(Receive { peer: PeerRef { slot: 0, generation: 0 }, packet: Packet { channel: 0, flags: 1, body: b\"b\" } }))), \
+Ok(Received(Received { handled: 1, stop: None })), Ok(Taken(None)), Ok(Sent(Some(0)))]";
+    assert_eq!(rt; told.as_str(), want);
+    let acknowledgements = [
+        0, 0, 1, 0, 0, 2, 0, 2, 0, 0, 1, 0, 0, 1, 0, 1, 0, 0, 1, 0, 0, 1, 0, 1, 0, 0,
+    ];
+    assert_eq!(rt;
+        world.datagram(Side::B, 0),
+        Some(acknowledgements.as_slice())
+    );
+    Ok(())
+}
+
+#[test]
+fn refusals_of_a_pair(rt: HostRuntime) -> Result<(), Fail> {
+    let alloc = rt.alloc();
+    let mut world = World::joined(alloc, Config::standard(1, 2), Config::standard(1, 2))?;
+    let other = PeerRef {
+        slot: 1,
+        generation: 0,
+    };
+    let later = PeerRef {
+        slot: 0,
+        generation: 1,
+    };
+    let events = vec![in alloc;
+        WorldEvent::Deliver {
+            side: Side::B,
+            k: 0
+        },
+        submit(Side::A, PEER, 2, b"a"),
+        submit(Side::A, other, 0, b"a"),
+        submit(Side::A, later, 2, b"a"),
+        submit(Side::A, PEER, 1, &[0; 1365]),
+        submit(Side::A, PEER, 1, &[0; 1364]),
+    ]?;
+    let told = steps(alloc, &mut world, events)?;
+    let want =
+        "[Err(NoSuchDatagram), Err(NoSuchChannel), Err(NoSuchPeer), Err(NoSuchPeer), Err(TooLarge), Ok(Done)]";
+    assert_eq!(rt; told.as_str(), want);
+    Ok(())
+}
+
+#[test]
+fn configurations_refused(rt: HostRuntime) {
+    let good = Config::standard(1, 2);
+    let bad = [
+        Config { peers: 0, ..good },
+        Config {
+            peers: 4096,
+            ..good
+        },
+        Config {
+            channels: 0,
+            ..good
+        },
+        Config { mtu: 575, ..good },
+        Config { mtu: 4097, ..good },
+        Config {
+            generations: 0,
+            ..good
+        },
+        Config {
+            max_packet: 0,
+            ..good
+        },
+        Config {
+            max_packet: 33_554_433,
+            ..good
+        },
+        Config {
+            max_waiting: 0,
+            ..good
+        },
+        Config {
+            max_waiting: 33_554_433,
+            ..good
+        },
+    ];
+    for config in &bad {
+        let first = World::joined(rt.alloc(), *config, good).err();
+        let second = World::joined(rt.alloc(), good, *config).err();
+        let both = [first, second];
+        assert_eq!(rt; both, [Some(Refusal::BadConfig); 2], "{config:?}");
+    }
+}
+
+/// A packet is submitted, put out, delivered, taken and acknowledged. It tells whether each step was done.
+fn exchange(world: &mut World, n: u64) -> bool {
+    let done = [
+        world.step(submit(Side::A, PEER, 0, b"a")).is_ok(),
+        world.step(WorldEvent::Turn { side: Side::A }).is_ok(),
+        world
+            .step(WorldEvent::Deliver {
+                side: Side::B,
+                k: n,
+            })
+            .is_ok(),
+        world.step(WorldEvent::Take { side: Side::B }).is_ok(),
+        world.step(WorldEvent::Turn { side: Side::B }).is_ok(),
+        world
+            .step(WorldEvent::Deliver {
+                side: Side::A,
+                k: n,
+            })
+            .is_ok(),
+    ];
+    done == [true; 6]
+}
+
+#[test]
+fn late_and_too_late(rt: HostRuntime) -> Result<(), Fail> {
+    let alloc = rt.alloc();
+    let mut world = World::joined(alloc, Config::standard(1, 1), Config::standard(1, 1))?;
+    for n in 0..40_000 {
+        assert!(rt; exchange(&mut world, n), "packet {n}");
+    }
+    assert_eq!(rt; world.dispatched(0, Side::A, 0).len(), 40_000);
+    let events = vec![in alloc;
+        WorldEvent::Deliver {
+            side: Side::B,
+            k: 7_231
+        },
+        WorldEvent::Take { side: Side::B },
+        WorldEvent::Turn { side: Side::B },
+        WorldEvent::Deliver {
+            side: Side::B,
+            k: 7_230
+        },
+        WorldEvent::Deliver {
+            side: Side::A,
+            k: 7_231
+        },
+        WorldEvent::Deliver {
+            side: Side::A,
+            k: 7_230
+        },
+        WorldEvent::Deliver {
+            side: Side::B,
+            k: 40_000
+        },
+    ]?;
+    let told = steps(alloc, &mut world, events)?;
+    let want =
+        "[Ok(Received(Received { handled: 1, stop: None })), Ok(Taken(None)), Ok(Sent(None)), Err(Late), \
+Ok(Received(Received { handled: 1, stop: None })), Err(Late), Err(NoSuchDatagram)]";
+    assert_eq!(rt; told.as_str(), want);
+    Ok(())
+}
