@@ -1,0 +1,48 @@
+//! `enet_bench [ORDERS [time]]`: sends that many orders (1,000,000 where none is given) through a submit queue of 4,096
+//! places, from one seat and then from four, each in a thread of its own, and prints how many were settled. With the word
+//! `time` it also prints how many orders went through in a second.
+#![tactic(auto)]
+
+mod traffic;
+
+use anyhow::{Context, Result};
+use std::alloc::Global;
+use std::rt::Clock;
+use std::sync::Wait;
+use std::thread::Threads;
+use std::time::Instant;
+use std::{env, io};
+
+const DEFAULT: u32 = 1_000_000;
+
+fn main(rt: HostRuntime) -> Result<()> {
+    let mut args = env::args(&rt)?.skip(1);
+    let orders = match args.next() {
+        Some(text) => text
+            .as_str()
+            .parse::<u32>()
+            .context("not a number of orders")?,
+        None => DEFAULT,
+    };
+    let timed = args.next().is_some();
+    for seats in [1, 4] {
+        measure(&rt, rt.alloc(), seats, orders / seats, timed)?;
+    }
+    Ok(())
+}
+
+fn measure<R>(rt: &R, alloc: Global, seats: u32, per_seat: u32, timed: bool) -> Result<()>
+where
+    R: Threads + Wait + Clock + Print + Sync,
+{
+    let start = Instant::now(rt)?;
+    let account = traffic::run(rt, alloc, seats, per_seat)?;
+    let elapsed = start.elapsed(rt)?;
+    let total = account.total;
+    println!(rt; "seats {seats} orders {total}")?;
+    if timed {
+        let per_second = traffic::rate(total, elapsed.as_micros());
+        println!(rt; "{per_second} a second")?;
+    }
+    Ok(())
+}

@@ -1,0 +1,52 @@
+//! What goes through the queue, and what its calls answer.
+
+use bytes::Bytes;
+use enet_codec::Addr;
+use enet_host::{DisconnectMode, PeerRef};
+
+/// What a game thread asks of the host. The queue looks at nothing in it: the host's call says what it refuses.
+#[derive(Debug, Drop)]
+pub enum Order {
+    /// To connect to `addr`, with `channels` channels. `info` is told to the other end, `word` is the connect id.
+    Connect {
+        addr: Addr,
+        channels: u8,
+        info: u32,
+        word: u32,
+    },
+    /// To send a packet of these bytes and packet flags on a channel.
+    Submit {
+        peer: PeerRef,
+        channel: u8,
+        flags: u8,
+        body: Bytes,
+    },
+    /// To end the connection in this way. `info` is told to the other end.
+    Disconnect {
+        peer: PeerRef,
+        how: DisconnectMode,
+        info: u32,
+    },
+}
+
+/// An order with the seat that submitted it and its number there, from 0.
+#[derive(Debug, Drop)]
+pub struct Submission {
+    pub seat: u8,
+    pub number: u32,
+    pub order: Order,
+}
+
+/// The receipt for an order: the seat and the order's number there, from 0.
+#[derive(Clone, Copy, Debug, PartialEq, Eq)]
+pub struct Ticket {
+    pub seat: u8,
+    pub number: u32,
+}
+
+/// How many orders went through a queue, in all and by seat. Seats that there were not have 0.
+#[derive(Clone, Copy, Debug, PartialEq, Eq)]
+pub struct Account {
+    pub total: u64,
+    pub by_seat: [u32; 16],
+}
