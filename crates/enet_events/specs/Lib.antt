@@ -1,0 +1,4 @@
+pub mod History
+pub mod Rule
+pub mod Tokens
+pub mod Words
