@@ -1,0 +1,68 @@
+#!/usr/bin/env bash
+# Runs each script that scripts/rows/list.txt names through the built program `enet_relay lab`, and compares what it writes
+# to standard output with NAME.out, to standard error with NAME.err (no such file: nothing) and its status with NAME.status
+# (no such file: 0). A script that is listed and missing fails. The last line is 'N passed, M failed'; the status is 1 where
+# one fails. The program is the one that `rt ci`, or `rt run` in crates/enet_relay, leaves; another can be named as argument.
+cd "$(dirname "$0")/.." || exit 1
+program=${1:-crates/enet_relay/out/enet_relay}
+rows=scripts/rows
+passed=0
+failed=0
+
+fail() {
+    echo "FAILED $1: $2"
+    failed=$((failed + 1))
+}
+
+check() {
+    local row=$rows/$1 wanted=0
+    [ -r "$row.lab" ] && [ -r "$row.out" ] || { fail "$1" "$row.lab or $row.out is missing"; return; }
+    [ -r "$row.status" ] && wanted=$(<"$row.status")
+    timeout 120 "$program" lab < "$row.lab" > "$room/out" 2> "$room/err"
+    local status=$?
+    touch "$room/none"
+    local err=$room/none
+    [ -r "$row.err" ] && err=$row.err
+    cmp -s "$row.out" "$room/out" || { fail "$1" "standard output differs from $row.out"; return; }
+    cmp -s "$err" "$room/err" || { fail "$1" "standard error is: $(head -c 200 "$room/err")"; return; }
+    [ "$status" -eq "$wanted" ] || { fail "$1" "status $status where $wanted is wanted"; return; }
+    passed=$((passed + 1))
+}
+
+# A command line: its name here, the wanted status and standard error, the file that is its standard input, that of its
+# standard output, and its words.
+command_line() {
+    local name=$1 wanted=$2 err=$3 input=$4 output=$5
+    shift 5
+    timeout 120 "$program" "$@" < "$input" > "$output" 2> "$room/err"
+    local status=$?
+    [ "$(<"$room/err")" = "$err" ] || { fail "$name" "standard error is: $(head -c 200 "$room/err")"; return; }
+    [ "$status" -eq "$wanted" ] || { fail "$name" "status $status where $wanted is wanted"; return; }
+    passed=$((passed + 1))
+}
+
+command_lines() {
+    command_line no-subcommand 2 'bad command line' /dev/null "$room/out"
+    command_line unknown-subcommand 2 'bad command line' /dev/null "$room/out" frob
+    command_line serve-does-not-exist-yet 2 'bad command line' /dev/null "$room/out" serve --port 47001
+    command_line a-word-too-many 2 'bad command line' /dev/null "$room/out" lab frob
+    command_line help 0 '' /dev/null "$room/out" --help
+    grep -q lab "$room/out" || fail help "it doesn't name the lab"
+    command_line input-that-cannot-be-read 1 'input or output failed' / "$room/out" lab
+    command_line output-that-cannot-be-written 1 'input or output failed' "$rows/one-reliable-packet.lab" /dev/full lab
+}
+
+room=$(mktemp -d) || exit 1
+trap 'rm -rf "$room"' EXIT
+if [ ! -x "$program" ]; then
+    fail "$program" "it isn't there: run 'rt ci', or 'rt run' in crates/enet_relay"
+elif [ ! -r "$rows/list.txt" ]; then
+    fail "$rows/list.txt" "it is missing"
+else
+    while IFS= read -r name || [ -n "$name" ]; do
+        case $name in '' | '#'*) ;; *) check "$name" ;; esac
+    done < "$rows/list.txt"
+    command_lines
+fi
+echo "$passed passed, $failed failed"
+[ "$failed" -eq 0 ]

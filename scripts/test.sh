@@ -1,0 +1,11 @@
+#!/usr/bin/env bash
+# All tests: the gate (every proof from nothing, the must-fail edits, the tests, the programs), then the worked scripts
+# through the built program. The last line is 'N passed, M failed'; the status is other than 0 where anything failed.
+set -u
+cd "$(dirname "$0")/.."
+begun=$SECONDS
+rt ci
+gate=$?
+echo "rt ci ended with status $gate after $((SECONDS - begun)) seconds"
+[ "$gate" = 0 ] || exit 1
+bash scripts/check-rows.sh
