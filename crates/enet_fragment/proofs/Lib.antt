@@ -3,3 +3,5 @@ pub mod Pieces
 pub mod Views
 pub mod Cuts
 pub mod Laws
+pub mod Wholes
+pub mod Commands

@@ -118,3 +118,7 @@ taken false came others r e h = ⊎_elim (λ f. cc) (λ f. cc) h
 pub put_outcome-taken : (m : Making) (p : Place) (r : Put) → r ≡ put_outcome m p → (r ≡ New) ⊎ (r ≡ Whole) → (belongs m p ≡ true) × (piece_at m p.number ≡ None)
 unfolding put_outcome
 put_outcome-taken m p r e h = taken (belongs m p) (piece_at m p.number) (have_others_come m p.number) r e h
+
+pub outcome_bad : (m : Making) (p : Place) → belongs m p ≡ false → Bad ≡ put_outcome m p
+unfolding put_outcome
+outcome_bad m p a = rw a refl

@@ -1,9 +1,8 @@
 -- What an assembly's fields say of the packet in the making that they stand for.
-use Rattle.std.proofs.Common.{ℕ, zero, suc, ◌≡◌, ◌+◌, ◌-◌, ◌*◌, ◌<◌, ◌≤◌, ◌^◌, Bool, true, false, eqb, List, [], ◌∷◌, length, get_or, Option, Some, None, is_some, unwrap_or, refl, sym, ap, subst, ◌∙◌, arith, IsTrue, ◌↔◌}
+use Rattle.std.proofs.Common.{ℕ, zero, suc, ◌≡◌, ◌+◌, ◌-◌, ◌*◌, ◌<◌, ◌≤◌, ◌^◌, ◌&&◌, Bool, true, false, eqb, List, [], ◌∷◌, length, get_or, Option, Some, None, is_some, unwrap_or, refl, sym, ap, subst, ◌∙◌, arith, IsTrue, ◌↔◌}
 use Rattle.std.proofs.Math.ListN.{set, replicate, length-replicate}
 use Rattle.std.proofs.lemmas.List.{length-set}
 use Rattle.std.proofs.lemmas.List.Sums.{AllPass-from_list_all, list_all-from_AllPass}
-use Rattle.std.proofs.lemmas.Bool.Decides.{nat_tests}
 use borrow.Author.Tests.{eqb-true}
 use Rattle.std.specs.List.{list_all}
 use Rattle.enet_fragment.specs.declared.place.Place.{Place}
@@ -96,16 +95,10 @@ pub total_of-making : (bytes : List ℕ) (came : List Bool) (cut : Option ℕ) (
 total_of-making bytes came cut m v = ap (λ (q : Making). q.total) (sym v)
 
 -- the test of a size, against the lengths of the fields
-pub is_of_size-first : (bytes : List ℕ) (came : List Bool) (cut : Option ℕ) (m : Making) (p : Place) (total : ℕ) → making_of bytes came cut ≡ m → total ≡ length bytes → p.count ≡ length came → eqb p.total total ≡ is_of_size m p
-is_of_size-first bytes came cut m p total v e f =
-    let count : p.count ≡ count_of m = f ∙ sym (count_of-making bytes came cut m v) in
-    let same : total ≡ m.total = e ∙ sym (total_of-making bytes came cut m v) in
-    grind (arith, nat_tests)
-
-pub is_of_size-second : (bytes : List ℕ) (came : List Bool) (cut : Option ℕ) (m : Making) (p : Place) (count : ℕ) → making_of bytes came cut ≡ m → count ≡ length came → (p.count ≡ count → ⊥) → eqb p.count count ≡ is_of_size m p
-is_of_size-second bytes came cut m p count v e f =
-    let same : count ≡ count_of m = e ∙ sym (count_of-making bytes came cut m v) in
-    grind (arith, nat_tests)
+pub is_of_size-making : (bytes : List ℕ) (came : List Bool) (cut : Option ℕ) (m : Making) (p : Place) (count total : ℕ) → making_of bytes came cut ≡ m → count ≡ length came → total ≡ length bytes → (eqb p.count count && eqb p.total total) ≡ is_of_size m p
+is_of_size-making bytes came cut m p count total v e f =
+    ap (λ n. eqb p.count n && eqb p.total total) (e ∙ sym (count_of-making bytes came cut m v))
+    ∙ ap (λ n. eqb p.count (count_of m) && eqb p.total n) (f ∙ sym (total_of-making bytes came cut m v))
 
 -- the pieces under the cut that a piece tells
 same_pieces : (bytes : List ℕ) (came : List Bool) (known : Option ℕ) (cut : ℕ) → is_same_cut known cut ≡ true → (known ≡ None → missing_in came ≡ length came) → pieces_in cut bytes came ≡ pieces_in (unwrap_or known 0) bytes came

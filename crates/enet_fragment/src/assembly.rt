@@ -1,8 +1,9 @@
 //! A packet that is put together from its fragments.
 
-ghost use Rattle.std.specs.Prelude.{◌≡◌, ◌≤◌, ◌+◌, ◌↔◌, [], IsTrue, IsOk, IfOk, IfErr, length, replicate};
+ghost use Rattle.std.specs.Prelude.{◌≡◌, ◌≤◌, ◌+◌, ◌↔◌, [], IsTrue, IsOk, IfOk, IfErr, is_some, length, replicate};
 ghost use Rattle.std.specs.Vec.{vec_capacity, vec_len};
 ghost use Rattle.enet_fragment.specs.Assembly.{written_at};
+ghost use Rattle.enet_fragment.specs.Making.{is_same_cut};
 
 use crate::Place;
 use bytes::Bytes;
@@ -48,8 +49,9 @@ impl Model for Assembly {
 }
 
 impl Assembly {
-    ghost use Rattle.enet_fragment.specs.Making.{nothing_yet, put_outcome, after_put, without_piece, joined, IsWhole, belongs, is_of_size, is_same_cut, with_piece, piece_at};
+    ghost use Rattle.enet_fragment.specs.Making.{nothing_yet, put_outcome, after_put, without_piece, joined, IsWhole, belongs, is_of_size, with_piece, piece_at, count_of};
     ghost use Rattle.enet_fragment.specs.Place.{place_of};
+    ghost use Rattle.enet_fragment.specs.Whole.{whole_of};
 
     /// A packet of `total` bytes in `count` pieces, of which none has come. It takes `total` bytes and one mark a piece.
     /// Answers `Refusal::Memory` where it can't have them.
@@ -131,6 +133,7 @@ impl Assembly {
     pub fn finish(self) -> Result<Bytes, Assembly>
         requires { IsWhole self }
         ensures ok { IfOk result (λ body. body ≡ joined self.pieces) }
+        ensures whole { IfOk result (λ body. whole_of body (count_of self) self.cut ≡ self) }
         ensures len { IfOk result (λ body. length body ≡ self.total) }
         ensures memory { IfErr result (λ kept. kept ≡ self) }
         ensures empty { self.total ≡ 0 → IsOk result }
@@ -154,34 +157,47 @@ impl Assembly {
 
     /// Whether a piece with this place can be one of this packet's.
     #[tactic(auto, unfolding(crate::specs::Making::belongs))]
-    fn belongs(&self, place: Place) -> bool
+    pub(crate) fn belongs(&self, place: Place) -> bool
         ensures { result ≡ belongs self.now place }
     {
         if !place.is_sound() || !self.is_of_size(place) {
             return false;
         }
-        self.has_same_cut(place.told_cut())
+        has_same_cut(self.cut, place.told_cut())
     }
 
     /// Whether a piece with this place speaks of a packet of this size.
     fn is_of_size(&self, place: Place) -> bool
         ensures { result ≡ is_of_size self.now place }
     {
-        place.count as usize == self.came.len() && place.total as usize == self.bytes.len()
+        place.is_of_size(self.came.len(), self.bytes.len())
     }
 
-    /// Whether this length of the pieces is the one that earlier ones told, if any has.
-    fn has_same_cut(&self, cut: usize) -> bool
-        ensures { result ≡ is_same_cut self.now.cut cut }
+    /// Whether the piece of this number has come.
+    pub(crate) fn has(&self, number: u32) -> bool
+        ensures { result ≡ is_some (piece_at self.now number) }
     {
-        match self.cut {
-            None => true,
-            Some(known) => known == cut,
-        }
+        let number = number as usize;
+        number < self.came.len() && self.came[number]
+    }
+
+    /// How many pieces the packet has.
+    pub(crate) fn count(&self) -> u32
+        ensures value { result ≡ count_of self.now }
+        ensures some { 1 ≤ result }
+    {
+        self.came.len() as u32
+    }
+
+    /// How many bytes the packet has.
+    pub(crate) fn total(&self) -> u32
+        ensures value { result ≡ self.now.total }
+    {
+        self.bytes.len() as u32
     }
 
     /// Puts a piece that belongs to the packet and has not come.
-    fn add(&mut self, place: Place, bytes: &[u8])
+    pub(crate) fn add(&mut self, place: Place, bytes: &[u8])
         requires fits { place.len ≡ length bytes.now }
         requires belongs { IsTrue (belongs self.old place) }
         requires missing { piece_at self.old place.number ≡ None }
@@ -192,6 +208,16 @@ impl Assembly {
         self.came[place.number as usize] = true;
         self.missing -= 1;
         self.cut = Some(cut);
+    }
+}
+
+/// Whether this length of the pieces is the one that earlier ones told, if any has.
+pub(crate) fn has_same_cut(known: Option<usize>, cut: usize) -> bool
+    ensures { result ≡ is_same_cut known cut }
+{
+    match known {
+        None => true,
+        Some(known) => known == cut,
     }
 }
 

@@ -3,10 +3,14 @@
 
 mod assembly;
 mod cutting;
+mod data;
+mod gathering;
 mod place;
 
 pub use assembly::{Assembly, Put};
 pub use cutting::{piece, pieces_make_the_body, plan};
+pub use data::{DataCommand, what_is_read_was_written};
+pub use gathering::Gathering;
 pub use place::Place;
 
 /// How many fragments a packet has at most (our profile).

@@ -1,6 +1,6 @@
 //! The place of one fragment in its packet.
 
-ghost use Rattle.std.specs.Prelude.{◌≡◌, ◌<◌, ◌≤◌, ◌^◌, ◌+◌, IsTrue, nat_le};
+ghost use Rattle.std.specs.Prelude.{◌≡◌, ◌<◌, ◌≤◌, ◌^◌, ◌+◌, ◌==◌, ◌&&◌, IsTrue, nat_le};
 
 use crate::FRAGMENT_LIMIT;
 
@@ -56,6 +56,13 @@ impl Place {
         } else {
             self.len
         }
+    }
+
+    /// Whether the piece speaks of a packet of so many pieces and bytes.
+    pub(crate) fn is_of_size(self, count: usize, total: usize) -> bool
+        ensures { result ≡ ((self.count == count) && (self.total == total)) }
+    {
+        self.count as usize == count && self.total as usize == total
     }
 
     /// Whether a packet whose pieces have this length has the piece at this place.

@@ -1,5 +1,6 @@
-use crate::{Assembly, Place, Put, piece, plan};
+use crate::{Assembly, DataCommand, Gathering, Place, Put, piece, plan};
 use bytes::Bytes;
+use enet_codec::{Command, Fragment, Head};
 use std::test::Fail;
 
 const MTU: u32 = 1392;
@@ -147,4 +148,128 @@ fn most_pieces(rt: HostRuntime) {
         };
         assert_eq!(rt; place.is_sound(), sound, "at {count}");
     }
+}
+
+#[test]
+fn a_gathering_of_two(rt: HostRuntime) -> Result<(), Fail> {
+    let last = Place {
+        number: 1,
+        count: 2,
+        total: 3,
+        offset: 2,
+        len: 1,
+    };
+    let front = Place {
+        number: 0,
+        offset: 0,
+        len: 2,
+        ..last
+    };
+    assert!(rt; last.is_sound());
+    let mut packet = Gathering::first(rt.alloc(), last, b"c").map_err(|_| "memory")?;
+    assert_eq!(rt; packet.count(), 2);
+    assert_eq!(rt; packet.total(), 3);
+    assert!(rt; packet.has(1) && !packet.has(0) && !packet.has(2));
+    assert_eq!(rt; packet.foresee(last), Put::Again);
+    assert!(rt; !packet.belongs(Place { total: 4, ..front }));
+    assert_eq!(rt; packet.foresee(front), Put::Whole);
+    assert!(rt; !packet.is_whole());
+    assert!(rt; packet.belongs(front) && !packet.has(front.number));
+    packet.add(front, b"ab").map_err(|_| "memory")?;
+    assert!(rt; packet.has(0) && packet.has(1) && !packet.has(2));
+    assert_eq!(rt; packet.foresee(front), Put::Again);
+    assert_eq!(rt; packet.foresee(Place { offset: 1, ..front }), Put::Bad);
+    assert!(rt; packet.is_whole());
+    assert_eq!(rt; packet.into_body().as_slice(), b"abc".as_slice());
+    Ok(())
+}
+
+#[test]
+fn a_gathering_of_one(rt: HostRuntime) -> Result<(), Fail> {
+    let place = Place {
+        number: 0,
+        count: 1,
+        total: 2,
+        offset: 0,
+        len: 2,
+    };
+    assert!(rt; place.is_sound());
+    let piece = Gathering::first(rt.alloc(), place, b"ab").map_err(|_| "memory")?;
+    let whole = Gathering::single(Bytes::from_vec(vec![in rt.alloc(); 7; 2]?)?);
+    for packet in [&piece, &whole] {
+        assert!(rt; packet.is_whole());
+        assert_eq!(rt; (packet.count(), packet.total()), (1, 2));
+        assert_eq!(rt; packet.foresee(place), Put::Again);
+        assert!(rt; packet.has(0) && !packet.has(1));
+        assert!(rt; !packet.belongs(Place { count: 2, ..place }));
+    }
+    assert!(rt; piece.is_whole() && whole.is_whole());
+    assert_eq!(rt; piece.into_body().as_slice(), b"ab".as_slice());
+    assert_eq!(rt; whole.into_body().as_slice(), [7, 7].as_slice());
+    Ok(())
+}
+
+#[test]
+fn data_commands(rt: HostRuntime) -> Result<(), Fail> {
+    let fragment = Fragment {
+        start: 9,
+        count: 2,
+        number: 1,
+        total: 3,
+        offset: 2,
+    };
+    let payload = [7, 7].as_slice();
+    let head = |acknowledge| Head {
+        acknowledge,
+        unsequenced: false,
+        channel: 3,
+        number: 10,
+    };
+    for (reliable, fragment, expected) in [
+        (
+            true,
+            None,
+            Command::SendReliable {
+                head: head(true),
+                payload,
+            },
+        ),
+        (
+            true,
+            Some(fragment),
+            Command::SendFragment {
+                head: head(true),
+                fragment,
+                payload,
+            },
+        ),
+        (
+            false,
+            None,
+            Command::SendUnreliable {
+                head: head(false),
+                unreliable: 9,
+                payload,
+            },
+        ),
+        (
+            false,
+            Some(fragment),
+            Command::SendUnreliableFragment {
+                head: head(false),
+                fragment,
+                payload,
+            },
+        ),
+    ] {
+        let command = DataCommand {
+            reliable,
+            number: 10,
+            count: if reliable { 0 } else { 9 },
+            fragment,
+            body: Bytes::from_vec(vec![in rt.alloc(); 7; 2]?)?,
+        };
+        assert_eq!(rt; command.command(3), expected);
+    }
+    Ok(())
 }

@@ -1,0 +1,11 @@
+use Rattle.std.proofs.Common.{◌≡◌, true, is_some, sym, ap, ◌∙◌}
+use Rattle.enet_fragment.specs.Making.{piece_at}
+use Rattle.enet_fragment.proofs.Wholes.{whole_seen, whole-misses_none}
+use Rattle.enet_fragment.proofs.gathering.Gathering.add.Goals as goal
+
+pub unreachable-requires : goal.unreachable-requires
+unreachable-requires c =
+    let here = whole_seen _ _ _ _ _ c.self.view_is (sym c.replace.ensures.value ∙ c.in-Whole.is) in
+    let there : is_some (piece_at c.args.self.now c.args.place.number) ≡ true = whole-misses_none _ _ _ _ c.args.place here c.requires.belongs in
+    let missing = ap is_some c.requires.missing in
+    cc
