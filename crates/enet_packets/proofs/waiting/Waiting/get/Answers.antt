@@ -1,0 +1,19 @@
+use Rattle.std.proofs.Common.{◌≡◌, Some, None, sym, ap, ◌∙◌}
+use Rattle.std.specs.Ordering.{nat_cmp}
+use Rattle.std.specs.Map.{lookup}
+use Rattle.std.specs.BTreeMap.{is_at}
+use Rattle.std.specs.FinMap.{get, get-empty}
+use Rattle.enet_packets.proofs.LineLemmas.{Line, line-is, line_there, line_absent}
+use Rattle.enet_packets.proofs.waiting.Waiting.get.Goals as goal
+
+pub returns-in-Some : goal.returns-in-Some
+returns-in-Some c =
+    let es = c.self.inside.lines.entries in
+    let there : lookup (is_at (nat_cmp c.args.number)) es ≡ Some c.in-Some.line.now = sym c.in-Some.ensures.value in
+    rw (← c.self.view_is) (c.get-in-Some.ensures ∙ ap (λ (line : Line). get line c.args.count) (sym (line-is es c.args.number ∙ line_there es c.args.number c.in-Some.line.now there)))
+
+pub returns-in-None : goal.returns-in-None
+returns-in-None c =
+    let es = c.self.inside.lines.entries in
+    let absent : lookup (is_at (nat_cmp c.args.number)) es ≡ None = sym c.in-None.ensures.value in
+    rw (← c.self.view_is) (sym (get-empty nat_cmp c.args.count) ∙ ap (λ (line : Line). get line c.args.count) (sym (line-is es c.args.number ∙ line_absent es c.args.number absent)))
