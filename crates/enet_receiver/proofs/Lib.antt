@@ -1,0 +1,16 @@
+pub mod Lists
+pub mod Maps
+pub mod Entries
+pub mod Without
+pub mod Released
+pub mod LineLemmas
+pub mod Keeping
+pub mod Admission
+pub mod Bounds
+pub mod Fresh
+pub mod Course
+pub mod Foreseen
+pub mod Steps
+pub mod Turns
+pub mod Taken
+pub mod Answered

@@ -1,0 +1,28 @@
+use Rattle.std.proofs.Common.{◌∙◌, ap, Option}
+use Rattle.enet_fragment.specs.declared.data.DataCommand.{DataCommand}
+use Rattle.enet_receiver.specs.Arriving.{data_command}
+use Rattle.enet_receiver.specs.Foresight.{foreseen}
+use Rattle.enet_receiver.proofs.Admission.{admitted}
+use Rattle.enet_receiver.proofs.Answered.{foreseen_held, foreseen_other}
+use Rattle.enet_receiver.proofs.incoming.Incoming.foresee.Goals as goal
+
+pub dispatches-dispatches-requires-clause-admitted : goal.dispatches-dispatches-requires-clause-admitted
+dispatches-dispatches-requires-clause-admitted c =
+    let e = c.args.self.now in
+    admitted e.max_packet e.receiver (data_command c.in-Some.arriving) c.args.full c.in-Ok.place c.in-Ok.ensures.held.0 c.in-Ok.ensures.held.1
+
+pub returns-in-Ok : goal.returns-in-Ok
+returns-in-Ok c =
+    let e = c.args.self.now in
+    let d = data_command c.in-Some.arriving in
+    c.answer.ensures
+    ∙ foreseen_held e d c.args.full c.dispatches-dispatches.result c.in-Ok.ensures.held.0 (c.dispatches-dispatches.ensures c.args.full c.in-Ok.ensures.held.0)
+    ∙ ap (λ (o : Option DataCommand). foreseen e o c.args.full) c.in-Some.ensures
+
+pub returns-in-Err : goal.returns-in-Err
+returns-in-Err c =
+    let e = c.args.self.now in
+    let d = data_command c.in-Some.arriving in
+    c.answer-in-Err.ensures
+    ∙ foreseen_other e d c.args.full c.in-Err.took c.in-Err.ensures.other c.in-Err.ensures.known.0
+    ∙ ap (λ (o : Option DataCommand). foreseen e o c.args.full) c.in-Some.ensures

@@ -1,0 +1,10 @@
+pub mod Receiver
+pub mod Reception
+pub mod Foresight
+pub mod Arriving
+pub mod Kept
+pub mod Codes
+pub mod Walk
+pub mod Laws
+pub mod Parts
+pub mod Admitted

@@ -1,0 +1,97 @@
+//! How many packets a command would dispatch.
+
+ghost use Rattle.std.specs.Prelude.{◌≡◌, ℕ, ◌≤◌, ◌<◌, length};
+ghost use Rattle.std.specs.FinMap.{entries};
+ghost use Rattle.enet_packets.specs.Packets.{line_at, fresh};
+ghost use Rattle.enet_receiver.specs.Walk.{pieces_at, is_fresh, fresh_at, walk, walked};
+
+use enet_packets::{Packets, Waiting};
+use enet_seq::after;
+
+/// How many packets are held at most, and so in how many turns they are dispatched.
+const MOST_TURNS: u32 = 65_535;
+
+/// The packet that a command would make whole.
+#[derive(Clone, Copy)]
+pub(crate) struct Completed {
+    /// Whether it is held, and else waits.
+    pub reliable: bool,
+    /// The number under which it is held, or for which it waits.
+    pub place: u16,
+    /// Its unreliable number.
+    pub count: u16,
+    /// How many pieces it has.
+    pub pieces: u32,
+}
+
+/// How many pieces the packet of this number has, if it is whole.
+fn pieces_at(completed: Option<Completed>, held: &Packets, number: u16) -> Option<u32>
+    ensures { result ≡ pieces_at completed held.now number }
+{
+    if let Some(packet) = completed
+        && packet.reliable
+        && packet.place == number
+    {
+        return Some(packet.pieces);
+    }
+    let coming = held.get(number)?;
+    if coming.making.is_whole() {
+        Some(coming.making.count())
+    } else {
+        None
+    }
+}
+
+/// Whether the packet that is made whole goes with this number, and has not fallen behind.
+fn is_fresh(completed: Option<Completed>, number: u16, last: u16) -> bool
+    ensures { result ≡ is_fresh completed number last }
+{
+    match completed {
+        None => false,
+        Some(packet) => !packet.reliable && packet.place == number && last < packet.count,
+    }
+}
+
+/// How many unreliable packets go with this number after the last one.
+fn fresh_at(completed: Option<Completed>, waiting: &Waiting, number: u16, last: u16) -> u32
+    requires { length (fresh last (entries (line_at waiting.now number))) ≤ 65535 }
+    ensures { result ≡ fresh_at completed waiting.now number last }
+{
+    waiting.fresh_count(number, last) + u32::from(is_fresh(completed, number, last))
+}
+
+/// How many packets the whole ones just past the front are, with the unreliable ones that go with them.
+fn chain_count(completed: Option<Completed>, held: &Packets, waiting: &Waiting, front: u16) -> u32
+    requires { (number : ℕ) → length (fresh 0 (entries (line_at waiting.now number))) ≤ 65535 }
+    ensures { result ≡ walk MOST_TURNS completed held.now waiting.now front }
+{
+    let mut count = 0;
+    let mut last = front;
+    for _turn in 0..MOST_TURNS {
+        let Some(pieces) = pieces_at(completed, held, after(last, 1)) else {
+            return count;
+        };
+        last = after(last, (pieces % 65_536) as u16);
+        count += 1 + fresh_at(completed, waiting, last, 0);
+    }
+    count
+}
+
+/// How many packets are dispatched, once one is made whole.
+pub(crate) fn dispatches(
+    completed: Option<Completed>,
+    held: &Packets,
+    waiting: &Waiting,
+    front: u16,
+    unreliable: u16,
+) -> u32
+    requires { (number last : ℕ) → last < 65536 → length (fresh last (entries (line_at waiting.now number))) ≤ 65535 }
+    ensures { result ≡ walked MOST_TURNS completed held.now waiting.now front unreliable }
+{
+    let chain = chain_count(completed, held, waiting, front);
+    if chain > 0 {
+        chain
+    } else {
+        fresh_at(completed, waiting, front, unreliable)
+    }
+}

@@ -1,0 +1,419 @@
+//! One channel's receiver.
+
+ghost use Rattle.std.specs.Prelude.{◌≡◌, ◌≢◌, ◌<◌, ◌^◌, ◌+◌, ◌∷◌, [], Bool, Ok, Some, None, IfOk, IfSome, IfErr, IsTrue, MatchOption, length};
+ghost use Rattle.std.specs.Option.{option_copied};
+ghost use Rattle.enet_codec.specs.Message.{view};
+ghost use Rattle.enet_seq.specs.Numbering.{wire};
+ghost use Rattle.enet_fragment.specs.DataCommand.{data_of};
+ghost use Rattle.enet_fragment.specs.Whole.{is_whole};
+ghost use Rattle.enet_receiver.specs.Arriving.{data_command};
+ghost use Rattle.enet_receiver.specs.Admitted.{Admitted, IsInside};
+ghost use Rattle.enet_receiver.specs.Parts.{with_first, grown_at, answered_with};
+ghost use Rattle.enet_receiver.specs.Walk.{Completes};
+ghost use Rattle.enet_receiver.specs.Receiver.{held_bytes, cleared};
+ghost use Rattle.enet_receiver.specs.Reception.{outcome, outcome_of, place_read, came_at, is_behind, is_handled, dispatch_count};
+ghost use Rattle.enet_receiver.specs.Foresight.{new_end, data_if, is_reliable, is_unreliable, is_fragment, is_unreliable_fragment, outcome_for, after_command, foreseen};
+
+use crate::arriving::Arriving;
+use crate::foreseeing::{Completed, dispatches};
+use crate::releasing::release;
+use crate::storing::{make_room, store};
+use crate::{Foresight, Took};
+use enet_codec::{Command, Packet, Refusal};
+use enet_fragment::Put;
+use enet_packets::{Coming, Dispatched, Packets, Waiting};
+use enet_seq::{acknowledges, fragment_in_window, in_window};
+use std::alloc::Global;
+use std::collections::VecDeque;
+use std::marker::Model;
+
+/// One channel's receiver: it dispatches reliable packets in the order of their numbers, and unreliable ones in their places
+/// between them, and holds those that came early. Contracts see it as a `ReceivingEnd`.
+#[derive(Drop)]
+pub struct Incoming {
+    alloc: Global,
+    channel: u8,
+    /// The most bytes of a packet.
+    max_packet: u32,
+    /// The number of the last reliable command that was dispatched.
+    front: u16,
+    /// The last unreliable number that was dispatched since.
+    unreliable: u16,
+    /// Reliable packets past the front, by the number of their first piece.
+    held: Packets,
+    /// Unreliable packets, by the reliable number for which they wait.
+    waiting: Waiting,
+    /// What was dispatched and not taken yet, in order.
+    dispatched: VecDeque<Dispatched>,
+}
+
+impl Model for Incoming {
+    ghost use Rattle.enet_receiver.specs.Foresight.{ReceivingEnd};
+    ghost use Rattle.enet_receiver.specs.Codes.{receiving_code};
+
+    ghost Value = { ReceivingEnd };
+
+    ghost coded = { receiving_code };
+
+    ghost use Rattle.enet_receiver.specs.Kept.{Keeps};
+    ghost use Rattle.enet_receiver.specs.Parts.{receiver_of};
+
+    ghost view = { λ s. record {
+      channel = s.channel;
+      max_packet = s.max_packet;
+      receiver = receiver_of s.front s.unreliable s.held s.waiting s.dispatched.items;
+    } };
+
+    ghost invariant = { λ s. Keeps s.max_packet (receiver_of s.front s.unreliable s.held s.waiting s.dispatched.items) };
+}
+
+/// Whether an outcome lets a command be acknowledged.
+fn is_handled(took: Took) -> bool
+    ensures { result ≡ is_handled took }
+{
+    match took {
+        Took::Held | Took::Again | Took::Outside => true,
+        Took::Bad | Took::Waiting | Took::Memory => false,
+    }
+}
+
+impl Incoming {
+    /// A receiver of `channel` to which nothing came, for packets of at most `max_packet` bytes. It takes no memory, so it
+    /// never answers E1.
+    pub fn open(alloc: Global, channel: u8, max_packet: u32) -> Result<Incoming, Refusal>
+        ensures { result ≡ Ok (new_end channel max_packet) }
+    {
+        Ok(Incoming {
+            alloc,
+            channel,
+            max_packet,
+            front: 0,
+            unreliable: 0,
+            held: Packets::new(alloc),
+            waiting: Waiting::new(alloc),
+            dispatched: VecDeque::new(alloc),
+        })
+    }
+
+    /// Takes a SEND_RELIABLE in; `full` says that the bytes that wait at the peer are at their limit or above.
+    ///
+    /// The outcome is the first that applies of `Bad`, `Outside`, `Again`, `Waiting`, `Memory` and `Held` (ENet 1.3's window
+    /// rule; the order is our profile). Where it is `Held`, what it completes is dispatched in this call. All other outcomes
+    /// change nothing. A command that is not SEND_RELIABLE is `Bad`.
+    pub fn reliable(&mut self, command: &Command<'_>, full: bool) -> Took
+        ensures took { result ≢ Took.Memory → result ≡ outcome_for self.old (data_if (is_reliable (view command.now).body) (view command.now)) full }
+        ensures memory { result ≡ Took.Memory → outcome_for self.old (data_if (is_reliable (view command.now).body) (view command.now)) full ≡ Took.Held }
+        ensures held { result ≡ Took.Held → self.new ≡ after_command self.old (data_if (is_reliable (view command.now).body) (view command.now)) full }
+        ensures unchanged { result ≢ Took.Held → self.new ≡ self.old }
+    {
+        let Command::SendReliable { head, payload } = command else {
+            return Took::Bad;
+        };
+        let arriving = Arriving {
+            reliable: true,
+            number: head.number,
+            count: 0,
+            fragment: None,
+            payload,
+        };
+        self.take_in(arriving, full)
+    }
+
+    /// Takes a SEND_UNRELIABLE in, as `reliable` does a SEND_RELIABLE. It is `Again` too where its unreliable number is not
+    /// above the last one dispatched with its reliable number (ENet 1.3).
+    pub fn unreliable(&mut self, command: &Command<'_>, full: bool) -> Took
+        ensures took { result ≢ Took.Memory → result ≡ outcome_for self.old (data_if (is_unreliable (view command.now).body) (view command.now)) full }
+        ensures memory { result ≡ Took.Memory → outcome_for self.old (data_if (is_unreliable (view command.now).body) (view command.now)) full ≡ Took.Held }
+        ensures held { result ≡ Took.Held → self.new ≡ after_command self.old (data_if (is_unreliable (view command.now).body) (view command.now)) full }
+        ensures unchanged { result ≢ Took.Held → self.new ≡ self.old }
+    {
+        let Command::SendUnreliable {
+            head,
+            unreliable,
+            payload,
+        } = command
+        else {
+            return Took::Bad;
+        };
+        let arriving = Arriving {
+            reliable: false,
+            number: head.number,
+            count: *unreliable,
+            fragment: None,
+            payload,
+        };
+        self.take_in(arriving, full)
+    }
+
+    /// Takes a SEND_FRAGMENT in, as `reliable` does a SEND_RELIABLE. It is `Bad` too where it can't be a piece of a packet, or
+    /// its number is not that of its piece (our profile), and `Outside` too where its start is. Inside the window it is `Bad`
+    /// where it can't be a piece of the packet that is held; outside it is compared with none.
+    pub fn fragment(&mut self, command: &Command<'_>, full: bool) -> Took
+        ensures took { result ≢ Took.Memory → result ≡ outcome_for self.old (data_if (is_fragment (view command.now).body) (view command.now)) full }
+        ensures memory { result ≡ Took.Memory → outcome_for self.old (data_if (is_fragment (view command.now).body) (view command.now)) full ≡ Took.Held }
+        ensures held { result ≡ Took.Held → self.new ≡ after_command self.old (data_if (is_fragment (view command.now).body) (view command.now)) full }
+        ensures unchanged { result ≢ Took.Held → self.new ≡ self.old }
+    {
+        let Command::SendFragment {
+            head,
+            fragment,
+            payload,
+        } = command
+        else {
+            return Took::Bad;
+        };
+        let arriving = Arriving {
+            reliable: true,
+            number: head.number,
+            count: 0,
+            fragment: Some(*fragment),
+            payload,
+        };
+        self.take_in(arriving, full)
+    }
+
+    /// Takes a SEND_UNRELIABLE_FRAGMENT in, as `unreliable` does a SEND_UNRELIABLE. It is `Bad` too where it can't be a piece
+    /// of a packet, or, inside the window, of the one that waits (our profile).
+    pub fn unreliable_fragment(&mut self, command: &Command<'_>, full: bool) -> Took
+        ensures took { result ≢ Took.Memory → result ≡ outcome_for self.old (data_if (is_unreliable_fragment (view command.now).body) (view command.now)) full }
+        ensures memory { result ≡ Took.Memory → outcome_for self.old (data_if (is_unreliable_fragment (view command.now).body) (view command.now)) full ≡ Took.Held }
+        ensures held { result ≡ Took.Held → self.new ≡ after_command self.old (data_if (is_unreliable_fragment (view command.now).body) (view command.now)) full }
+        ensures unchanged { result ≢ Took.Held → self.new ≡ self.old }
+    {
+        let Command::SendUnreliableFragment {
+            head,
+            fragment,
+            payload,
+        } = command
+        else {
+            return Took::Bad;
+        };
+        let arriving = Arriving {
+            reliable: false,
+            number: head.number,
+            count: fragment.start,
+            fragment: Some(*fragment),
+            payload,
+        };
+        self.take_in(arriving, full)
+    }
+
+    /// What the call for this command would do with ample memory: its outcome, whether the command is acknowledged, and how
+    /// many packets it would dispatch. A command that is not sequenced data is `Bad`.
+    ///
+    /// A command is not acknowledged where it is `Bad` or `Waiting`, nor where its window is the seventh or the eighth past
+    /// that of the last dispatched number (ENet 1.3). Late and repeated ones are. Whether the command asks for it, by its own
+    /// flag, is for the caller to test.
+    pub fn foresee(&self, command: &Command<'_>, full: bool) -> Foresight
+        ensures { result ≡ foreseen self.now (data_of (view command.now)) full }
+    {
+        let Some(arriving) = Arriving::of(command) else {
+            return Foresight {
+                took: Took::Bad,
+                acknowledged: false,
+                dispatches: 0,
+            };
+        };
+        match self.admit(arriving, full) {
+            Ok(place) => {
+                let dispatches = self.dispatches(arriving, place);
+                self.answer(Took::Held, arriving.number, dispatches)
+            }
+            Err(took) => self.answer(took, arriving.number, 0),
+        }
+    }
+
+    /// The bytes of the packets that are held or wait until those before them have come, each counted whole from its first
+    /// piece on. Dispatched packets do not count, whether they were popped or not.
+    pub fn held(&self) -> u64
+        ensures { result ≡ held_bytes self.now.receiver }
+    {
+        self.held.bytes() + self.waiting.bytes()
+    }
+
+    /// The next dispatched packet, in the order in which they were dispatched; None where none is left. It takes no memory.
+    pub fn pop(&mut self) -> Option<Packet>
+        ensures { MatchOption result ((self.old.receiver.dispatched ≡ []) × (self.new ≡ self.old))
+            (λ packet. (packet.channel ≡ self.old.channel) × (self.old ≡ with_first self.new packet)) }
+    {
+        let dispatched = self.dispatched.pop_front()?;
+        Some(Packet {
+            channel: self.channel,
+            flags: dispatched.flags,
+            body: dispatched.body,
+        })
+    }
+
+    /// Lets all go that is held or waits; what was dispatched stays.
+    pub fn clear(&mut self)
+        ensures { self.new ≡ record self.old { receiver = cleared self.old.receiver } }
+    {
+        self.held.clear();
+        self.waiting.clear();
+    }
+
+    /// Takes a command in.
+    fn take_in(&mut self, arriving: Arriving<'_>, full: bool) -> Took
+        ensures took { result ≢ Took.Memory → result ≡ outcome_for self.old (Some (data_command arriving.entry)) full }
+        ensures memory { result ≡ Took.Memory → outcome_for self.old (Some (data_command arriving.entry)) full ≡ Took.Held }
+        ensures held { result ≡ Took.Held → self.new ≡ after_command self.old (Some (data_command arriving.entry)) full }
+        ensures unchanged { result ≢ Took.Held → self.new ≡ self.old }
+    {
+        let place = match self.admit(arriving, full) {
+            Ok(place) => place,
+            Err(took) => return took,
+        };
+        if !make_room(&self.held, &self.waiting, &mut self.dispatched) {
+            return Took::Memory;
+        }
+        if !store(
+            self.alloc,
+            &mut self.held,
+            &mut self.waiting,
+            place,
+            arriving,
+        ) {
+            return Took::Memory;
+        }
+        release(
+            &mut self.front,
+            &mut self.unreliable,
+            &mut self.held,
+            &mut self.waiting,
+            &mut self.dispatched,
+        );
+        Took::Held
+    }
+
+    /// What is foreseen of a command of this outcome.
+    fn answer(&self, took: Took, number: u16, dispatches: u32) -> Foresight
+        ensures { result ≡ answered_with self.now took number dispatches }
+    {
+        Foresight {
+            took,
+            acknowledged: is_handled(took) && acknowledges(self.front, number),
+            dispatches,
+        }
+    }
+
+    /// The number under which a command's packet is held or for which it waits, if it would be taken in; else what becomes of
+    /// it, with ample memory.
+    fn admit(&self, arriving: Arriving<'_>, full: bool) -> Result<u16, Took>
+        ensures held { IfOk result (λ place. (outcome wire self.now.max_packet self.now.receiver (data_command arriving.entry) full ≡ Took.Held) × (place_read wire self.now.receiver (data_command arriving.entry) ≡ Some place)) }
+        ensures inside { IfOk result (λ place. IsInside self.now.receiver.front place) }
+        ensures short { IfOk result (λ _. length arriving.entry.payload.now < 2 ^ 32) }
+        ensures other { IfErr result (λ took. took ≡ outcome wire self.now.max_packet self.now.receiver (data_command arriving.entry) full) }
+        ensures known { IfErr result (λ took. (took ≢ Took.Held) × (took ≢ Took.Memory)) }
+    {
+        if !arriving.is_piece(self.max_packet) {
+            return Err(Took::Bad);
+        }
+        let Some(place) = self.place_read(arriving) else {
+            return Err(Took::Outside);
+        };
+        match self.outcome_of(arriving, full, place) {
+            Took::Held => Ok(place),
+            took => Err(took),
+        }
+    }
+
+    /// The number under which its packet is held, or for which it waits, if it is inside the window.
+    fn place_read(&self, arriving: Arriving<'_>) -> Option<u16>
+        ensures value { result ≡ place_read wire self.now.receiver (data_command arriving.entry) }
+        ensures inside { IfSome result (λ place. IsInside self.now.receiver.front place) }
+    {
+        if arriving.reliable {
+            let start = arriving.start();
+            fragment_in_window(self.front, start, arriving.number).then_some(start)
+        } else {
+            in_window(self.front, arriving.number).then_some(arriving.number)
+        }
+    }
+
+    /// What came of its packet.
+    fn earlier(&self, arriving: Arriving<'_>, place: u16) -> Option<&Coming>
+        ensures { option_copied result ≡ came_at self.now.receiver (data_command arriving.entry) place }
+    {
+        if arriving.reliable {
+            self.held.get(place)
+        } else {
+            self.waiting.get(place, arriving.count)
+        }
+    }
+
+    /// Whether its packet was dispatched, or has fallen behind.
+    fn is_behind(&self, arriving: Arriving<'_>, place: u16) -> bool
+        ensures { result ≡ is_behind self.now.receiver (data_command arriving.entry) place }
+    {
+        place == self.front && (arriving.reliable || arriving.count <= self.unreliable)
+    }
+
+    /// What becomes of it at its place.
+    fn outcome_of(&self, arriving: Arriving<'_>, full: bool, place: u16) -> Took
+        requires { length arriving.payload.now < 2 ^ 32 }
+        ensures value { result ≡ outcome_of self.now.receiver (data_command arriving.entry) full place (came_at self.now.receiver (data_command arriving.entry) place) }
+        ensures known { result ≢ Took.Memory }
+    {
+        let earlier = self.earlier(arriving, place);
+        if !arriving.agrees_with(earlier) {
+            return Took::Bad;
+        }
+        if self.is_behind(arriving, place) || arriving.came(earlier) {
+            return Took::Again;
+        }
+        if full && earlier.is_none() {
+            Took::Waiting
+        } else {
+            Took::Held
+        }
+    }
+
+    /// The packet that a command makes whole once it is taken in, if it does.
+    fn completed(&self, arriving: Arriving<'_>, place: u16) -> Option<Completed>
+        requires short { length arriving.payload.now < 2 ^ 32 }
+        requires admitted { Admitted self.now.max_packet self.now.receiver (data_command arriving) place }
+        ensures { Completes result self.now.receiver (data_command arriving.entry) place }
+    {
+        if !self.completes(arriving, place) {
+            return None;
+        }
+        Some(Completed {
+            reliable: arriving.reliable,
+            place,
+            count: arriving.count,
+            pieces: arriving.piece().count,
+        })
+    }
+
+    /// Whether a command that is taken in makes its packet whole.
+    fn completes(&self, arriving: Arriving<'_>, place: u16) -> bool
+        requires short { length arriving.payload.now < 2 ^ 32 }
+        requires admitted { Admitted self.now.max_packet self.now.receiver (data_command arriving) place }
+        ensures { result ≡ is_whole (grown_at self.now.receiver (data_command arriving.entry) place).making }
+    {
+        match self.earlier(arriving, place) {
+            None => arriving.piece().count == 1,
+            Some(coming) => match coming.making.foresee(arriving.place()) {
+                Put::Whole => true,
+                _ => false,
+            },
+        }
+    }
+
+    /// How many packets a command that is taken in dispatches.
+    fn dispatches(&self, arriving: Arriving<'_>, place: u16) -> u32
+        requires short { length arriving.payload.now < 2 ^ 32 }
+        requires admitted { Admitted self.now.max_packet self.now.receiver (data_command arriving) place }
+        requires inside { IsInside self.now.receiver.front place }
+        ensures { (full : Bool) → outcome wire self.now.max_packet self.now.receiver (data_command arriving.entry) full ≡ Took.Held
+            → result ≡ dispatch_count wire self.now.max_packet self.now.receiver (data_command arriving.entry) full }
+    {
+        dispatches(
+            self.completed(arriving, place),
+            &self.held,
+            &self.waiting,
+            self.front,
+            self.unreliable,
+        )
+    }
+}

@@ -1,0 +1,23 @@
+//! What holds of every receiver. These functions have no body: their contracts are laws of the definitions that the other
+//! functions compute.
+
+ghost use Rattle.std.specs.Prelude.{ℕ, Bool, List};
+ghost use Rattle.enet_seq.specs.Numbering.{Numbering, wire, unbounded};
+ghost use Rattle.enet_fragment.specs.declared.data.DataCommand.{DataCommand};
+ghost use Rattle.enet_packets.specs.declared.coming.Dispatched.{Dispatched};
+ghost use Rattle.enet_receiver.specs.Receiver.{Receiver};
+ghost use Rattle.enet_receiver.specs.Laws.{HavePieces, NothingIsDue, DoesTheSame};
+
+/// In as many turns as packets are held, all is dispatched that is due, since each dispatch takes at least one of them away:
+/// no whole packet stands just past the front then. Each packet is to have a piece, since one without would leave the front
+/// where it is; a receiver holds none of those.
+pub fn turns_suffice()
+    ensures on_the_wire { (r : Receiver) → HavePieces r → NothingIsDue wire r }
+    ensures without_bound { (r : Receiver) → HavePieces r → NothingIsDue unbounded r }
+{}
+
+/// What was dispatched before, taken or not, makes no difference to what a command does.
+pub fn earlier_dispatches_do_not_matter()
+    ensures { (g : Numbering) (most : ℕ) (r : Receiver) (c : DataCommand) (full : Bool) (earlier : List Dispatched)
+        → DoesTheSame g most r c full earlier }
+{}
