@@ -1,0 +1,36 @@
+-- What is due next, case by case.
+use Rattle.std.proofs.Common.{◌≡◌, ℕ, suc, zero, ◌<◌, true, false, cond, List, [], ◌∷◌, length, get_or, drop, refl, sym, ap, ◌∙◌, arith, Option, Some, None}
+use Rattle.std.specs.List.{slice_get}
+use Rattle.enet_seq.specs.Numbering.{wire}
+use Rattle.enet_fragment.specs.declared.data.DataCommand.{DataCommand}
+use Rattle.enet_sender.specs.Sender.{Sender, Next, next_queued, first_sent, may_go}
+
+-- a list by its head
+pub by_head : {X : Type 0} (xs : List X) (x : X) → 0 < length xs → x ≡ get_or xs 0 x → xs ≡ x ∷ drop 1 xs
+by_head [] x low is = absurd (omega arith)
+by_head (y ∷ xs) x low is = ap (λ z. z ∷ xs) (sym is)
+
+-- a read inside
+pub slice_get-inside : {X : Type 0} (xs : List X) (i : ℕ) (x : X) → i < length xs → x ≡ get_or xs i x → slice_get xs i ≡ Some x
+slice_get-inside [] i x low is = absurd (omega arith)
+slice_get-inside (y ∷ xs) zero x low is = ap (λ z. Some z) (sym is)
+slice_get-inside (y ∷ xs) (suc i) x low is = slice_get-inside xs i x (omega arith) is
+
+pub next_queued-empty : (now timeout transit most : ℕ) (s : Sender) → length s.queued ≡ 0 → next_queued wire now timeout transit most s s.queued ≡ None
+next_queued-empty now timeout transit most s none = go s.queued none
+  where
+    go : (cs : List DataCommand) → length cs ≡ 0 → next_queued wire now timeout transit most s cs ≡ None
+    go [] e = refl
+    go (c ∷ cs) e = absurd (omega arith)
+
+pub next_queued-blocked : (now timeout transit most : ℕ) (s : Sender) (c : DataCommand) → s.queued ≡ c ∷ drop 1 s.queued
+    → may_go wire s.sent transit most c ≡ false → next_queued wire now timeout transit most s s.queued ≡ None
+next_queued-blocked now timeout transit most s c is blocked =
+    let goes : Option Next = Some (first_sent now timeout s c (drop 1 s.queued)) in
+    ap (next_queued wire now timeout transit most s) is ∙ ap (λ b. cond b goes None) blocked
+
+pub next_queued-goes : (now timeout transit most : ℕ) (s : Sender) (c : DataCommand) → s.queued ≡ c ∷ drop 1 s.queued
+    → may_go wire s.sent transit most c ≡ true → next_queued wire now timeout transit most s s.queued ≡ Some (first_sent now timeout s c (drop 1 s.queued))
+next_queued-goes now timeout transit most s c is goes =
+    let next : Option Next = Some (first_sent now timeout s c (drop 1 s.queued)) in
+    ap (next_queued wire now timeout transit most s) is ∙ ap (λ b. cond b next None) goes

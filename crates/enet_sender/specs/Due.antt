@@ -1,0 +1,38 @@
+-- What a call of `next_due` does: it writes what is due where that fits, and else changes nothing.
+use Rattle.std.specs.Prelude.{◌≡◌, ℕ, ◌+◌, ◌<◌, if◌then◌else◌, Option, Some, None, List, length}
+use Rattle.enet_codec.specs.Message.{canonical}
+use Rattle.enet_codec.specs.Writing.{Puts}
+use Rattle.enet_fragment.specs.DataCommand.{message_of}
+use Rattle.enet_fragment.specs.declared.data.DataCommand.{DataCommand}
+use Rattle.enet_sender.specs.declared.outgoing.Kind.{Kind}
+use Rattle.enet_sender.specs.declared.outgoing.Kind.TheVariants as kind
+use Rattle.enet_sender.specs.declared.outgoing.Due.{Due}
+use Rattle.enet_sender.specs.declared.outgoing.Due.TheVariants as due
+use Rattle.enet_seq.specs.Numbering.{wire}
+use Rattle.enet_sender.specs.Sender.{Sender, Next, nothing_sent, submitted, is_more}
+
+-- a sender of a channel
+pub record SendingEnd : Type 0 where
+  pub channel : ℕ
+  pub sender : Sender
+
+-- to which nothing was submitted
+abbrev pub new_end : ℕ → SendingEnd
+new_end channel = record { channel = channel; sender = nothing_sent }
+
+-- after a packet was submitted
+abbrev pub with_submitted : ℕ → SendingEnd → ℕ → List ℕ → SendingEnd
+with_submitted mtu e flags body = record e { sender = submitted wire mtu e.sender (record { flags = flags; body = body }) }
+
+-- how a command is carried
+abbrev pub kind_of : DataCommand → Kind
+kind_of c = if c.reliable then kind.Reliable else (if is_more c then kind.More else kind.Begins)
+
+abbrev pub Did : Option Next → Due → SendingEnd → SendingEnd → List ℕ → ℕ → List ℕ → Type 0
+Did (Some n) (due.Sent past added kind) old new from at to =
+    Puts from at (canonical (message_of old.channel n.command)) to past
+    × (added ≡ n.added) × (kind ≡ kind_of n.command) × (new ≡ record old { sender = n.sender })
+Did (Some n) due.NoRoom old new from at to =
+    (length from < at + length (canonical (message_of old.channel n.command))) × (new ≡ old) × (to ≡ from)
+Did None due.Nothing old new from at to = (new ≡ old) × (to ≡ from)
+Did _ _ old new from at to = ⊥

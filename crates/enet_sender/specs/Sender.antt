@@ -1,0 +1,190 @@
+-- One channel's sender: what is queued, and what is sent and not yet acknowledged. Times are in milliseconds.
+use Rattle.std.specs.Prelude.{ℕ, Bool, true, false, ◌+◌, ◌*◌, ◌&&◌, ◌||◌, not, ◌==◌, nat_lt, nat_le, if◌then◌else◌, List, [], ◌∷◌, ◌++◌, length, map, take, drop, Option, Some, None, slice_get, slice_set, sum_by, is_some}
+use Rattle.std.specs.List.{range_with_len, position, remove}
+use Rattle.enet_codec.specs.declared.command.Fragment.{Fragment}
+use Rattle.enet_seq.specs.Numbering.{Numbering}
+use Rattle.enet_rtt.specs.Clock.{elapsed_time}
+use Rattle.enet_rtt.specs.Expiry.{doubled_time, next_attempts, gives_up}
+use Rattle.enet_rtt.specs.declared.expiry.Patience.{Patience}
+use Rattle.enet_rtt.specs.declared.expiry.Expiry.{Expiry}
+use Rattle.enet_rtt.specs.declared.expiry.Expiry.TheVariants.{No, Resend, End}
+use Rattle.enet_fragment.specs.Cutting.{piece_length}
+use Rattle.enet_fragment.specs.declared.data.DataCommand.{DataCommand}
+use Rattle.enet_sender.specs.declared.sent.Sent.{Sent}
+use Rattle.enet_sender.specs.declared.outgoing.Left.{Left}
+use Rattle.enet_sender.specs.Carriage.{Packet, Carried, carried_as, is_long}
+
+pub record Sender : Type 0 where
+  pub number : ℕ  -- the last reliable number given
+  pub unreliable : ℕ  -- the last unreliable number given since
+  pub queued : List DataCommand
+  pub sent : List Sent  -- sent and not acknowledged, in the order of their first sends
+
+abbrev pub nothing_sent : Sender
+nothing_sent = record { number = 0; unreliable = 0; queued = []; sent = [] }
+
+-- piece i of a body that is cut at each multiple of `size`
+abbrev pub piece_at : ℕ → List ℕ → ℕ → List ℕ
+piece_at size body i = take size (drop (i * size) body)
+
+abbrev pub fragment_at : ℕ → Carried → ℕ → ℕ → Fragment
+fragment_at size c start i = record { start = start; count = c.pieces; number = i; total = length c.packet.body; offset = i * size }
+
+-- command i of a packet, the last reliable number and the unreliable number before it being given. A reliable piece has a
+-- number of its own, the pieces of an unreliable packet share theirs
+abbrev pub command_at : Numbering → ℕ → ℕ → ℕ → Carried → ℕ → DataCommand
+command_at g mtu number count c i = record {
+  reliable = c.reliable;
+  number = if c.reliable then g.after number (i + 1) else number;
+  count = if c.reliable then 0 else count + 1;
+  fragment = if is_long mtu c.packet then Some (fragment_at (piece_length mtu) c (if c.reliable then g.after number 1 else count + 1) i) else None;
+  body = piece_at (piece_length mtu) c.packet.body i;
+}
+
+abbrev pub commands_of : Numbering → ℕ → ℕ → ℕ → Carried → List DataCommand
+commands_of g mtu number count c = map (command_at g mtu number count c) (range_with_len 0 c.pieces)
+
+abbrev pub with_queued : Numbering → ℕ → Sender → Carried → Sender
+with_queued g mtu s c = record {
+  number = if c.reliable then g.after s.number c.pieces else s.number;
+  unreliable = if c.reliable then 0 else s.unreliable + 1;
+  queued = s.queued ++ commands_of g mtu s.number s.unreliable c;
+  sent = s.sent;
+}
+
+-- a packet is submitted
+abbrev pub submitted : Numbering → ℕ → Sender → Packet → Sender
+submitted g mtu s p = with_queued g mtu s (carried_as mtu s.unreliable p)
+
+-- sent once more
+abbrev pub again : ℕ → Sent → Sent
+again now p = record p { last = now; attempts = next_attempts p.attempts; due = false }
+
+-- sent for the first time
+abbrev pub begun : ℕ → ℕ → DataCommand → Sent
+begun now timeout c = record { command = c; first = now; last = now; timeout = timeout; attempts = 1; due = false }
+
+-- a command goes for the first time only where its number is less than 8,192 past the oldest unacknowledged one
+abbrev pub is_in_span : Numbering → List Sent → ℕ → Bool
+is_in_span g [] number = true
+is_in_span g (oldest ∷ sent) number = nat_lt (g.ahead oldest.command.number number) 8192
+
+-- whether the head of the queue may go: `transit` bytes are in transit, and `most` may be
+abbrev pub may_go : Numbering → List Sent → ℕ → ℕ → DataCommand → Bool
+may_go g sent transit most c = not c.reliable || (is_in_span g sent c.number && nat_le (transit + length c.body) most)
+
+-- what is due next: a command with the sender after it
+pub record Next : Type 0 where
+  pub command : DataCommand
+  pub added : ℕ  -- bytes new in transit
+  pub sender : Sender
+
+abbrev pub resent : ℕ → Sender → ℕ → Sent → Next
+resent now s i p = record { command = p.command; added = 0; sender = record s { sent = slice_set s.sent i (again now p) } }
+
+abbrev pub first_sent : ℕ → ℕ → Sender → DataCommand → List DataCommand → Next
+first_sent now timeout s c rest = record {
+  command = c;
+  added = if c.reliable then length c.body else 0;
+  sender = record s { queued = rest; sent = if c.reliable then s.sent ++ begun now timeout c ∷ [] else s.sent };
+}
+
+abbrev pub next_queued : Numbering → ℕ → ℕ → ℕ → ℕ → Sender → List DataCommand → Option Next
+next_queued g now timeout transit most s [] = None
+next_queued g now timeout transit most s (c ∷ rest) = if may_go g s.sent transit most c then Some (first_sent now timeout s c rest) else None
+
+abbrev pub next_resent : ℕ → Sender → ℕ → Option Sent → Option Next
+next_resent now s i None = None
+next_resent now s i (Some p) = Some (resent now s i p)
+
+abbrev pub next_of : Numbering → ℕ → ℕ → ℕ → ℕ → Sender → Option ℕ → Option Next
+next_of g now timeout transit most s None = next_queued g now timeout transit most s s.queued
+next_of g now timeout transit most s (Some i) = next_resent now s i (slice_get s.sent i)
+
+-- the first sent command that is due to go again, else the head of the queue where it may go
+abbrev pub next : Numbering → ℕ → ℕ → ℕ → ℕ → Sender → Option Next
+next g now timeout transit most s = next_of g now timeout transit most s (position (λ (p : Sent). p.due) s.sent)
+
+-- a piece that isn't the first of its packet
+abbrev pub is_after_first : Option Fragment → Bool
+is_after_first None = false
+is_after_first (Some f) = nat_lt 0 f.number
+
+-- a further command of an unreliable packet
+abbrev pub is_more : DataCommand → Bool
+is_more c = not c.reliable && is_after_first c.fragment
+
+-- the rest of the unreliable packet that was begun goes
+abbrev pub skipped : List DataCommand → List DataCommand
+skipped [] = []
+skipped (c ∷ cs) = if is_more c then skipped cs else c ∷ cs
+
+abbrev pub with_skipped : Sender → Sender
+with_skipped s = record s { queued = skipped s.queued }
+
+-- where the sent command of this number stands
+abbrev pub place_of : ℕ → List Sent → Option ℕ
+place_of number sent = position (λ (p : Sent). p.command.number == number) sent
+
+abbrev pub without_place : List Sent → Option ℕ → List Sent
+without_place sent None = sent
+without_place sent (Some i) = remove sent i
+
+-- an acknowledgement removes the sent command of its number
+abbrev pub acknowledged : Sender → ℕ → Sender
+acknowledged s number = record s { sent = without_place s.sent (place_of number s.sent) }
+
+abbrev pub size_of : Option Sent → Option ℕ
+size_of None = None
+size_of (Some p) = Some (length p.command.body)
+
+abbrev pub size_at : List Sent → Option ℕ → Option ℕ
+size_at sent None = None
+size_at sent (Some i) = size_of (slice_get sent i)
+
+-- the bytes of that command's payload, if there is one
+abbrev pub acknowledged_bytes : Sender → ℕ → Option ℕ
+acknowledged_bytes s number = size_at s.sent (place_of number s.sent)
+
+-- the payload bytes of what is sent and not acknowledged, also where it waits to go again
+abbrev pub bytes_in_transit : Sender → ℕ
+bytes_in_transit s = sum_by (λ (p : Sent). length p.command.body) s.sent
+
+-- a sent command that waited out its timeout
+abbrev pub is_late : ℕ → Sent → Bool
+is_late now p = not p.due && nat_le p.timeout (elapsed_time now p.last)
+
+-- it is due to go again, and waits twice as long then
+abbrev pub marked : ℕ → Sent → Sent
+marked now p = if is_late now p then record p { timeout = doubled_time p.timeout; due = true } else p
+
+-- all that is late is due to go again
+abbrev pub with_marked : ℕ → Sender → Sender
+with_marked now s = record s { sent = map (marked now) s.sent }
+
+-- the peer has timed out over this command
+abbrev pub ends : ℕ → Patience → Sent → Bool
+ends now patience p = is_late now p && gives_up patience (elapsed_time now p.first) p.attempts
+
+-- what a moment brings: the end of the peer, resends, or nothing
+abbrev pub lateness : ℕ → Patience → Sender → Expiry
+lateness now patience s =
+    if is_some (position (ends now patience) s.sent) then End
+    else (if is_some (position (is_late now) s.sent) then Resend else No)
+
+-- the end changes nothing here
+abbrev pub after_lateness : Expiry → ℕ → Sender → Sender
+after_lateness No now s = s
+after_lateness Resend now s = with_marked now s
+after_lateness End now s = s
+
+-- all that is queued or sent goes, and the numbers stay
+abbrev pub cleared : Sender → Sender
+cleared s = record s { queued = []; sent = [] }
+
+-- whether a packet is queued, and whether a reliable command is queued or unacknowledged
+abbrev pub left : Sender → Left
+left s = record {
+  packets = nat_lt 0 (length s.queued);
+  reliable = is_some (position (λ (c : DataCommand). c.reliable) s.queued) || nat_lt 0 (length s.sent);
+}
