@@ -1,25 +1,32 @@
 -- What a command of the log does to the receiver.
-use Rattle.std.proofs.Common.{◌≡◌, ◌≢◌, ℕ, ◌+◌, ◌-◌, ◌%◌, ◌<◌, ◌≤◌, Bool, true, false, cond, not, ◌||◌, if◌then◌else◌, List, ◌++◌, length, refl, sym, ap, subst, ◌∙◌, inl, inr, ◌⊎◌, arith, Option, Some, None}
+use Rattle.std.proofs.Common.{◌≡◌, ◌≢◌, ℕ, ◌+◌, ◌-◌, ◌%◌, ◌<◌, ◌≤◌, Bool, true, false, cond, not, ◌||◌, if◌then◌else◌, List, ◌++◌, refl, sym, ap, subst, ◌∙◌, inl, inr, ◌⊎◌, arith, Option, Some, None}
 use Rattle.std.proofs.lemmas.Bool.Decides.{nat_tests}
 use Rattle.std.specs.Ordering.{nat_cmp}
 use Rattle.std.specs.Option.{is_some, is_none}
 use Rattle.std.specs.Prelude.{nat_le, unwrap_or, ◌&&◌, ◌==◌}
-use Rattle.std.specs.FinMap.{FinMap, get, insert, contains_key, len, empty, get-empty}
+use Rattle.std.specs.FinMap.{FinMap, get, insert, len, empty}
 use Rattle.enet_seq.specs.Windows.{in_window, fragment_in_window, ahead}
 use Rattle.enet_seq.specs.Windows as windows
 use Rattle.enet_seq.proofs.WindowsLemmas.{near_is_inside, ahead_true, read_ahead, read_behind, fragment_start}
-use Rattle.enet_link.specs.Numbering.{unbounded, number_read, start_read}
-use Rattle.enet_link.specs.Carriage.{Carried}
-use Rattle.enet_link.specs.Making.{is_piece}
-use Rattle.enet_link.specs.DataCommand.{DataCommand}
-use Rattle.enet_link.specs.Receiver.{Receiver, Coming, waiting_at, with_waiting_at, flushed, with_dispatched, released, all_released}
-use Rattle.enet_link.specs.Reception.{Outcome, Bad, Outside, Again, Waiting, Held, piece_of, place_read, came_at, is_own_number, agrees_with, came, is_behind, outcome_of, outcome_at, outcome, earlier_or_new, with_more, with_added, added_at, received_with, received, is_handled}
+use Rattle.enet_seq.specs.Numbering.{unbounded, number_read, start_read}
+use Rattle.enet_fragment.specs.declared.data.DataCommand.{DataCommand}
+use Rattle.enet_fragment.specs.DataCommand.{piece_of, place_in_packet}
+use Rattle.enet_fragment.specs.Making.{Making, count_of, with_piece}
+use Rattle.enet_packets.specs.declared.coming.Coming.{Coming}
+use Rattle.enet_packets.specs.Packets.{line_at, with_line}
+use Rattle.enet_receiver.specs.Reception.{is_piece, place_read, came_at, agrees_with, came, is_behind, outcome_of, outcome_at, outcome, earlier_or_new, with_more, with_added, added_at, received_with, received, is_handled}
+use Rattle.enet_receiver.specs.Receiver.{Receiver, flushed, with_dispatched, released, all_released}
+use Rattle.enet_receiver.specs.declared.took.Took.{Took}
+use Rattle.enet_receiver.specs.declared.took.Took.TheVariants.{Bad, Outside, Again, Waiting, Held}
+use Rattle.enet_sender.specs.Carriage.{Carried}
 use Rattle.enet_link.specs.Link.{wired}
-use Rattle.enet_link.proofs.Maps.{get-insert_other, get-insert_same, get_inserted, two_numbers}
+use Rattle.enet_link.proofs.Makings.{count_of-with, piece_at-nothing, piece_at-with_other, has_piece-some, has_piece-with_same, has_piece-with_more}
+use Rattle.enet_receiver.proofs.Maps.{get-insert_other, get-insert_same, get_inserted, two_numbers}
 use Rattle.enet_link.proofs.CarriageLemmas.{IsCut, AllCut, Stands, Stands-has, Stands-passed}
 use Rattle.enet_link.proofs.ContentLemmas.{Matches, OfReliable, OfUnreliable, Ready, Ready-dispatched, Ready-flush, waiting-replaced_same, waiting-replaced_other}
 use Rattle.enet_link.proofs.PieceLemmas.{IsPieceOf, says, same_reliable, same_unreliable, Matches-more}
-use Rattle.enet_link.proofs.ReceiverLemmas.{IsReceived, Within, Grows, Grows-same, Grows-trans, Lacks, Lacks-from_gap, released-keeps, released-gap, Within-dispatched, Grows-dispatched, contains-some}
+use Rattle.enet_link.proofs.ReceiverLemmas.{IsReceived, Within, Grows, Grows-same, Grows-trans, Lacks, Lacks-from_gap, released-keeps, released-gap, Within-dispatched, Grows-dispatched}
+use Rattle.enet_link.specs.Meant.{has_piece}
 
 -- what holds of a receiver after something came
 pub record Settled (mtu : ℕ) (cs : List Carried) (sent : ℕ) (old new : Receiver) : Type 0 where
@@ -95,16 +102,16 @@ outcome_cases : (r : Receiver) (d : DataCommand) (full : Bool) (place : ℕ) (ea
     ⊎ ((is_handled (outcome_of r d full place earlier) ≡ false) × ((outcome_of r d full place earlier ≡ Bad) ⊎ (outcome_of r d full place earlier ≡ Waiting)))
     ⊎ ((outcome_of r d full place earlier ≡ Again) × ((is_behind r d place ≡ true) ⊎ (came earlier d ≡ true)))
 outcome_cases r d full place earlier =
-    elim (agrees_with earlier d) as (λ x. let o : Outcome = cond (not x) Bad (cond (is_behind r d place || came earlier d) Again (cond (full && is_none earlier) Waiting Held)) in
+    elim (agrees_with earlier d) as (λ x. let o : Took = cond (not x) Bad (cond (is_behind r d place || came earlier d) Again (cond (full && is_none earlier) Waiting Held)) in
     ((o ≡ Held) × (is_behind r d place ≡ false)) ⊎ ((is_handled o ≡ false) × ((o ≡ Bad) ⊎ (o ≡ Waiting))) ⊎ ((o ≡ Again) × ((is_behind r d place ≡ true) ⊎ (came earlier d ≡ true)))) [
       | false ↦ inr (inl (refl, inl refl))
-      | true ↦ elim (is_behind r d place) as (λ y. let o : Outcome = cond (y || came earlier d) Again (cond (full && is_none earlier) Waiting Held) in
+      | true ↦ elim (is_behind r d place) as (λ y. let o : Took = cond (y || came earlier d) Again (cond (full && is_none earlier) Waiting Held) in
           ((o ≡ Held) × (y ≡ false)) ⊎ ((is_handled o ≡ false) × ((o ≡ Bad) ⊎ (o ≡ Waiting))) ⊎ ((o ≡ Again) × ((y ≡ true) ⊎ (came earlier d ≡ true)))) [
             | true ↦ inr (inr (refl, inl refl))
-            | false ↦ elim (came earlier d) as (λ z. let o : Outcome = cond z Again (cond (full && is_none earlier) Waiting Held) in
+            | false ↦ elim (came earlier d) as (λ z. let o : Took = cond z Again (cond (full && is_none earlier) Waiting Held) in
                 ((o ≡ Held) × (false ≡ false)) ⊎ ((is_handled o ≡ false) × ((o ≡ Bad) ⊎ (o ≡ Waiting))) ⊎ ((o ≡ Again) × ((false ≡ true) ⊎ (z ≡ true)))) [
                   | true ↦ inr (inr (refl, inr refl))
-                  | false ↦ elim (full && is_none earlier) as (λ w. let o : Outcome = cond w Waiting Held in
+                  | false ↦ elim (full && is_none earlier) as (λ w. let o : Took = cond w Waiting Held in
                       ((o ≡ Held) × (false ≡ false)) ⊎ ((is_handled o ≡ false) × ((o ≡ Bad) ⊎ (o ≡ Waiting))) ⊎ ((o ≡ Again) × ((false ≡ true) ⊎ (false ≡ true)))) [
                         | true ↦ inr (inl (refl, inr refl))
                         | false ↦ inl (refl, refl)
@@ -121,7 +128,7 @@ pub record Arrived (mtu : ℕ) (cs : List Carried) (sent most : ℕ) (r : Receiv
 -- by the outcome alone
 arrived_by : (mtu : ℕ) (cs : List Carried) (sent most : ℕ) (r : Receiver) (d : DataCommand) (full : Bool) → Ready mtu cs r → Within sent r → Lacks r
     → ((outcome unbounded most r (wired d) full ≡ Held) × Settled mtu cs sent r (added_at unbounded r (wired d) (place_read unbounded r (wired d))) × (d.reliable ≡ true → IsReceived (added_at unbounded r (wired d) (place_read unbounded r (wired d))) d.number))
-    ⊎ (((o : Outcome) × (outcome unbounded most r (wired d) full ≡ o) × ((o ≡ Bad) ⊎ (o ≡ Waiting) ⊎ (((o ≡ Outside) ⊎ (o ≡ Again)) × (d.reliable ≡ true → IsReceived r d.number)))))
+    ⊎ (((o : Took) × (outcome unbounded most r (wired d) full ≡ o) × ((o ≡ Bad) ⊎ (o ≡ Waiting) ⊎ (((o ≡ Outside) ⊎ (o ≡ Again)) × (d.reliable ≡ true → IsReceived r d.number)))))
     → Arrived mtu cs sent most r d full
 arrived_by mtu cs sent most r d full k s l (inl h) = record {
   settled = subst (λ o. Settled mtu cs sent r (received_with o unbounded r (wired d))) (sym h.0) h.1;
@@ -136,7 +143,7 @@ arrived_by mtu cs sent most r d full k s l (inr w) = elim w.2 [
   ]
 ]
   where
-    same : (o : Outcome) → outcome unbounded most r (wired d) full ≡ o → received_with o unbounded r (wired d) ≡ r → (d.reliable ≡ true → is_handled o ≡ true → IsReceived r d.number) → Arrived mtu cs sent most r d full
+    same : (o : Took) → outcome unbounded most r (wired d) full ≡ o → received_with o unbounded r (wired d) ≡ r → (d.reliable ≡ true → is_handled o ≡ true → IsReceived r d.number) → Arrived mtu cs sent most r d full
     same o e stays known = record {
       settled = subst (λ x. Settled mtu cs sent r (received_with x unbounded r (wired d))) (sym e) (subst (λ x. Settled mtu cs sent r x) (sym stays) (Settled-same mtu cs sent r k s l));
       known = λ t c. subst (λ x. IsReceived (received_with x unbounded r (wired d)) d.number) (sym e) (subst (λ x. IsReceived x d.number) (sym stays) (known t (subst (λ x. is_handled x ≡ true) e c)));
@@ -152,15 +159,6 @@ reached mtu cs r number count c k st rel low =
     let x = Stands-passed mtu p.passed p.left number count c all rel at (omega arith) in
     omega arith
 
-contains_same : {X : Type 0} (m : FinMap nat_cmp X) (k : ℕ) (v : X) → contains_key (insert m k v) k ≡ true
-contains_same m k v = ap is_some (get-insert_same m k v)
-
-contains_more : {X : Type 0} (m : FinMap nat_cmp X) (k q : ℕ) (v : X) → contains_key m q ≡ true → contains_key (insert m k v) q ≡ true
-contains_more m k q v h = elim (two_numbers q k) [
-  | inl same ↦ subst (λ z. contains_key (insert m k v) z ≡ true) (sym same) (contains_same m k v)
-  | inr apart ↦ ap is_some (get-insert_other m k q v apart) ∙ h
-]
-
 -- what is added to a packet that stands behind the front
 added_reliable : (mtu : ℕ) (cs : List Carried) (sent : ℕ) (r : Receiver) (d : DataCommand) (p : IsPieceOf mtu cs d) → Ready mtu cs r → Within sent r → d.reliable ≡ true → d.number ≤ sent → r.front < p.number + 1
     → let after = all_released unbounded (with_added r (wired d) (p.number + 1) (with_more (earlier_or_new (came_at r (wired d) (p.number + 1)) (wired d)) (wired d))) in
@@ -173,7 +171,7 @@ added_reliable mtu cs sent r d p k s rel high above =
     let own : d.number ≡ p.number + (p.index + 1) = sd.own ∙ ap (λ b. cond b (p.number + (p.index + 1)) p.number) cr in
     let e : Coming = with_more (earlier_or_new (came_at r (wired d) start) (wired d)) (wired d) in
     let cut : IsCut mtu c = k.cut c (Stands-has cs p.number p.count c p.stands) in
-    let came' : came_at r (wired d) start ≡ get r.held start = ap (λ b. cond b (get r.held start) (get (waiting_at r start) d.count)) rel in
+    let came' : came_at r (wired d) start ≡ get r.held start = ap (λ b. cond b (get r.held start) (get (line_at r.waiting start) d.count)) rel in
     let matches : Matches mtu e.making c = Matches-more mtu (came_at r (wired d) start) d c p.number p.count p.index p.inside sd (λ x t.
     let q = k.held start x (sym came' ∙ t) in
     let qp = q.place in
@@ -181,9 +179,11 @@ added_reliable mtu cs sent r d p k s rel high above =
     let qcut = k.cut q.packet (Stands-has cs q.number q.count q.packet q.stands) in
     let same : q.packet ≡ c = same_reliable cs p.number q.count p.count q.packet c (subst (λ z. Stands cs z q.count q.packet) n q.stands) p.stands q.reliable cr qcut.some' cut.some' in
     subst (λ y. Matches mtu x.making y) same q.matches) in
-    let has : contains_key e.making.pieces p.index ≡ true = has_piece (came_at r (wired d) start) sd.index_is in
+    let before : Making = (earlier_or_new (came_at r (wired d) start) (wired d)).making in
+    let before_count : count_of before ≡ c.pieces = sym (count_of-with before (place_in_packet (wired d)) d.body) ∙ matches.count in
+    let has : has_piece e.making p.index ≡ true = has_own (came_at r (wired d) start) sd.index_is (let a = p.inside in omega arith) in
     let mid : Receiver = record r { held = insert r.held start e } in
-    let is : with_added r (wired d) start e ≡ mid = λ i. record r { held = if rel i then insert r.held start e else r.held; waiting = if rel i then r.waiting else with_waiting_at r.waiting start (insert (waiting_at r start) d.count e) } in
+    let is : with_added r (wired d) start e ≡ mid = λ i. record r { held = if rel i then insert r.held start e else r.held; waiting = if rel i then r.waiting else with_line r.waiting start (insert (line_at r.waiting start) d.count e) } in
     let ready : Ready mtu cs mid = record {
       cut = k.cut;
       waiting = k.waiting;
@@ -199,8 +199,6 @@ added_reliable mtu cs sent r d p k s rel high above =
         | inl w ↦ (
           let a = w.0 in omega arith,
           λ i h.
-              let m = subst (λ y. Matches mtu y.making c) w.1 matches in
-              let got = contains-some x.making.pieces i h in
               reach n x i w.0 w.1 h,
         )
         | inr w ↦ s.held n x w.1
@@ -218,7 +216,7 @@ added_reliable mtu cs sent r d p k s rel high above =
     } in
     let after = Settled-released mtu cs sent mid ready within in
     let ag = after.grows in
-    let here : IsReceived mid d.number = inr (start, e, get-insert_same r.held start e, omega arith, subst (λ z. contains_key e.making.pieces z ≡ true) (let z : p.index ≡ d.number - start = omega arith in z) has) in
+    let here : IsReceived mid d.number = inr (start, e, get-insert_same r.held start e, omega arith, subst (λ z. has_piece e.making z ≡ true) (let z : p.index ≡ d.number - start = omega arith in z) has) in
     subst (λ x. Settled mtu cs sent r (all_released unbounded x) × IsReceived (all_released unbounded x) d.number) (sym is)
     (record { ready = after.ready; within = after.within; grows = Grows-trans r mid (all_released unbounded mid) grows after.grows; lacks = after.lacks }, ag.received d.number here)
   where
@@ -226,38 +224,38 @@ added_reliable mtu cs sent r d p k s rel high above =
     e0 = with_more (earlier_or_new (came_at r (wired d) (p.number + 1)) (wired d)) (wired d)
 
     at_start : came_at r (wired d) (p.number + 1) ≡ get r.held (p.number + 1)
-    at_start = ap (λ b. cond b (get r.held (p.number + 1)) (get (waiting_at r (p.number + 1)) d.count)) rel
+    at_start = ap (λ b. cond b (get r.held (p.number + 1)) (get (line_at r.waiting (p.number + 1)) d.count)) rel
 
-    has_piece : (o : Option Coming) → (piece_of (wired d)).number ≡ p.index → contains_key (with_more (earlier_or_new o (wired d)) (wired d)).making.pieces p.index ≡ true
-    has_piece o f = subst (λ j. contains_key (insert (earlier_or_new o (wired d)).making.pieces (piece_of (wired d)).number d.body) j ≡ true) f (contains_same (earlier_or_new o (wired d)).making.pieces (piece_of (wired d)).number d.body)
+    has_own : (o : Option Coming) → (piece_of (wired d)).number ≡ p.index → p.index < count_of (earlier_or_new o (wired d)).making → has_piece (with_more (earlier_or_new o (wired d)) (wired d)).making p.index ≡ true
+    has_own o f low = subst (λ j. has_piece (with_piece (earlier_or_new o (wired d)).making (place_in_packet (wired d)) d.body) j ≡ true) f (has_piece-with_same (earlier_or_new o (wired d)).making (place_in_packet (wired d)) d.body (omega arith))
 
     own_is : d.number ≡ p.number + (p.index + 1)
     own_is = let sd = says mtu cs d p in sd.own ∙ ap (λ b. cond b (p.number + (p.index + 1)) p.number) (sym sd.reliable ∙ rel)
 
-    reach_of : (o : Option Coming) → came_at r (wired d) (p.number + 1) ≡ o → (i : ℕ) → contains_key (with_more (earlier_or_new o (wired d)) (wired d)).making.pieces i ≡ true → p.number + 1 + i ≤ sent
+    reach_of : (o : Option Coming) → came_at r (wired d) (p.number + 1) ≡ o → (i : ℕ) → has_piece (with_more (earlier_or_new o (wired d)) (wired d)).making i ≡ true → p.number + 1 + i ≤ sent
     reach_of o t i h =
         let sd = says mtu cs d p in
         let j = sd.index_is in
         elim (two_numbers i (piece_of (wired d)).number) [
           | inl same ↦ (let a = own_is in omega arith)
-          | inr apart ↦ before o t (ap is_some (sym (get-insert_other (earlier_or_new o (wired d)).making.pieces (piece_of (wired d)).number i d.body apart)) ∙ h)
+          | inr apart ↦ before o t (ap is_some (sym (piece_at-with_other (earlier_or_new o (wired d)).making (place_in_packet (wired d)) d.body i apart)) ∙ h)
         ]
       where
-        before : (o : Option Coming) → came_at r (wired d) (p.number + 1) ≡ o → contains_key (earlier_or_new o (wired d)).making.pieces i ≡ true → p.number + 1 + i ≤ sent
-        before None t h = absurd (let f : get (empty {X = List ℕ} {R = nat_cmp}) i ≡ None = get-empty nat_cmp i in let g : true ≡ false = sym h ∙ ap is_some f in cc)
+        before : (o : Option Coming) → came_at r (wired d) (p.number + 1) ≡ o → has_piece (earlier_or_new o (wired d)).making i ≡ true → p.number + 1 + i ≤ sent
+        before None t h = absurd (let f = piece_at-nothing (piece_of (wired d)).count (piece_of (wired d)).total i in let g : true ≡ false = sym h ∙ ap is_some f in cc)
         before (Some x) t h = (s.held (p.number + 1) x (sym at_start ∙ t)).1 i h
 
-    reach : (n : ℕ) (x : Coming) (i : ℕ) → n ≡ p.number + 1 → e0 ≡ x → contains_key x.making.pieces i ≡ true → n + i ≤ sent
+    reach : (n : ℕ) (x : Coming) (i : ℕ) → n ≡ p.number + 1 → e0 ≡ x → has_piece x.making i ≡ true → n + i ≤ sent
     reach n x i a b h =
-        let y = reach_of (came_at r (wired d) (p.number + 1)) refl i (ap (λ (z : Coming). contains_key z.making.pieces i) b ∙ h) in
+        let y = reach_of (came_at r (wired d) (p.number + 1)) refl i (ap (λ (z : Coming). has_piece z.making i) b ∙ h) in
         omega arith
 
-    keeps : (m n : ℕ) (x : Coming) → get r.held n ≡ Some x → n ≡ p.number + 1 → contains_key x.making.pieces (m - n) ≡ true → contains_key e0.making.pieces (m - (p.number + 1)) ≡ true
+    keeps : (m n : ℕ) (x : Coming) → get r.held n ≡ Some x → n ≡ p.number + 1 → has_piece x.making (m - n) ≡ true → has_piece e0.making (m - (p.number + 1)) ≡ true
     keeps m n x t a h =
         let here : came_at r (wired d) (p.number + 1) ≡ Some x = at_start ∙ ap (get r.held) (sym a) ∙ t in
-        let old : contains_key (earlier_or_new (came_at r (wired d) (p.number + 1)) (wired d)).making.pieces (m - (p.number + 1)) ≡ true =
-        ap (λ o. contains_key (earlier_or_new o (wired d)).making.pieces (m - (p.number + 1))) here ∙ ap (λ z. contains_key x.making.pieces (m - z)) (sym a) ∙ h in
-        contains_more (earlier_or_new (came_at r (wired d) (p.number + 1)) (wired d)).making.pieces (piece_of (wired d)).number (m - (p.number + 1)) d.body old
+        let old : has_piece (earlier_or_new (came_at r (wired d) (p.number + 1)) (wired d)).making (m - (p.number + 1)) ≡ true =
+        ap (λ o. has_piece (earlier_or_new o (wired d)).making (m - (p.number + 1))) here ∙ ap (λ z. has_piece x.making (m - z)) (sym a) ∙ h in
+        has_piece-with_more (earlier_or_new (came_at r (wired d) (p.number + 1)) (wired d)).making (place_in_packet (wired d)) d.body (m - (p.number + 1)) old
 
 -- a reliable command of the log comes, near enough and in time
 pub Arrived-reliable : (mtu : ℕ) (cs : List Carried) (sent most : ℕ) (r : Receiver) (d : DataCommand) (full : Bool) → IsPieceOf mtu cs d → Ready mtu cs r → Within sent r → Lacks r
@@ -280,12 +278,12 @@ Arrived-reliable mtu cs sent most r d full p k s l rel high span late =
       | inr w ↦ arrived_by mtu cs sent most r d full k s l (inr (go_outside (place ∙ w.0) (λ t. inl (let low = w.1 in let z = reached mtu cs r p.number p.count c k p.stands cr (omega arith) in omega arith))))
     ]
   where
-    shape : outcome unbounded most r (wired d) full ≡ cond (is_piece most (piece_of (wired d)) (length d.body) && is_own_number (wired d)) (outcome_at r (wired d) full (place_read unbounded r (wired d))) Bad
+    shape : outcome unbounded most r (wired d) full ≡ cond (is_piece most (wired d)) (outcome_at r (wired d) full (place_read unbounded r (wired d))) Bad
     shape = refl
 
-    go_outside : place_read unbounded r (wired d) ≡ None → (d.reliable ≡ true → IsReceived r d.number) → (o : Outcome) × (outcome unbounded most r (wired d) full ≡ o) × ((o ≡ Bad) ⊎ (o ≡ Waiting) ⊎ (((o ≡ Outside) ⊎ (o ≡ Again)) × (d.reliable ≡ true → IsReceived r d.number)))
+    go_outside : place_read unbounded r (wired d) ≡ None → (d.reliable ≡ true → IsReceived r d.number) → (o : Took) × (outcome unbounded most r (wired d) full ≡ o) × ((o ≡ Bad) ⊎ (o ≡ Waiting) ⊎ (((o ≡ Outside) ⊎ (o ≡ Again)) × (d.reliable ≡ true → IsReceived r d.number)))
     go_outside e known =
-        elim (is_piece most (piece_of (wired d)) (length d.body) && is_own_number (wired d)) as (λ b. (o : Outcome) × (cond b (outcome_at r (wired d) full (place_read unbounded r (wired d))) Bad ≡ o) × ((o ≡ Bad) ⊎ (o ≡ Waiting) ⊎ (((o ≡ Outside) ⊎ (o ≡ Again)) × (d.reliable ≡ true → IsReceived r d.number)))) [
+        elim (is_piece most (wired d)) as (λ b. (o : Took) × (cond b (outcome_at r (wired d) full (place_read unbounded r (wired d))) Bad ≡ o) × ((o ≡ Bad) ⊎ (o ≡ Waiting) ⊎ (((o ≡ Outside) ⊎ (o ≡ Again)) × (d.reliable ≡ true → IsReceived r d.number)))) [
           | true ↦ (Outside, ap (outcome_at r (wired d) full) e, inr (inr (inl refl, known)))
           | false ↦ (Bad, refl, inl refl)
         ]
@@ -293,16 +291,16 @@ Arrived-reliable mtu cs sent most r d full p k s l rel high span late =
     came_index : (o : Option Coming) → came_at r (wired d) (p.number + 1) ≡ o → came o (wired d) ≡ true → d.number ≡ p.number + (p.index + 1) → (piece_of (wired d)).number ≡ p.index → IsReceived r d.number
     came_index None t h own idx = absurd (cc)
     came_index (Some x) t h own idx =
-        let here : get r.held (p.number + 1) ≡ Some x = sym (ap (λ b. cond b (get r.held (p.number + 1)) (get (waiting_at r (p.number + 1)) d.count)) rel) ∙ t in
+        let here : get r.held (p.number + 1) ≡ Some x = sym (ap (λ b. cond b (get r.held (p.number + 1)) (get (line_at r.waiting (p.number + 1)) d.count)) rel) ∙ t in
         let back : d.number - (p.number + 1) ≡ p.index = omega arith in
         inr (
           p.number + 1,
           x,
           here,
           omega arith,
-          subst (λ z. contains_key x.making.pieces z ≡ true) (sym back) (elim (or_cases (is_none (wired d).fragment) (contains_key x.making.pieces (piece_of (wired d)).number) h) [
+          subst (λ z. has_piece x.making z ≡ true) (sym back) (elim (or_cases (is_none (wired d).fragment) (has_piece x.making (piece_of (wired d)).number) h) [
             | inl none ↦ single x here none
-            | inr has ↦ subst (λ z. contains_key x.making.pieces z ≡ true) idx has
+            | inr has ↦ subst (λ z. has_piece x.making z ≡ true) idx has
           ]),
         )
       where
@@ -310,7 +308,7 @@ Arrived-reliable mtu cs sent most r d full p k s l rel high span late =
         or_cases true b e = inl refl
         or_cases false b e = inr e
 
-        single : (x : Coming) → get r.held (p.number + 1) ≡ Some x → is_none (wired d).fragment ≡ true → contains_key x.making.pieces p.index ≡ true
+        single : (x : Coming) → get r.held (p.number + 1) ≡ Some x → is_none (wired d).fragment ≡ true → has_piece x.making p.index ≡ true
         single x here none =
             let sd = says mtu cs d p in
             let one = sd.single none in
@@ -322,17 +320,17 @@ Arrived-reliable mtu cs sent most r d full p k s l rel high span late =
             let cut = k.cut p.packet (Stands-has cs p.number p.count p.packet p.stands) in
             let same : q.packet ≡ p.packet = same_reliable cs p.number q.count p.count q.packet p.packet (subst (λ z. Stands cs z q.count q.packet) n q.stands) p.stands q.reliable cr qcut.some' cut.some' in
             let i = q.begun in
-            let got = contains-some x.making.pieces i.0 i.1 in
+            let got = has_piece-some x.making i.0 i.1 in
             let qm = q.matches in
             let low : i.0 < q.packet.pieces = (qm.pieces i.0 got.0 got.1).0 in
             let size : q.packet.pieces ≡ p.packet.pieces = ap (λ (y : Carried). y.pieces) same in
             let inside = p.inside in
             let is : i.0 ≡ p.index = omega arith in
-            subst (λ z. contains_key x.making.pieces z ≡ true) is i.1
+            subst (λ z. has_piece x.making z ≡ true) is i.1
 
     inside_case : place_read unbounded r (wired d) ≡ Some (p.number + 1) → r.front ≤ p.number + 1 → p.packet.reliable ≡ true → d.number ≡ p.number + (p.index + 1) → (piece_of (wired d)).number ≡ p.index → Arrived mtu cs sent most r d full
     inside_case e above cr own idx =
-        elim (is_piece most (piece_of (wired d)) (length d.body) && is_own_number (wired d)) as (λ b. (outcome unbounded most r (wired d) full ≡ cond b (outcome_at r (wired d) full (place_read unbounded r (wired d))) Bad) → Arrived mtu cs sent most r d full) [
+        elim (is_piece most (wired d)) as (λ b. (outcome unbounded most r (wired d) full ≡ cond b (outcome_at r (wired d) full (place_read unbounded r (wired d))) Bad) → Arrived mtu cs sent most r d full) [
           | false ↦ λ q. arrived_by mtu cs sent most r d full k s l (inr (Bad, q, inl refl))
           | true ↦ λ q. considered (q ∙ ap (outcome_at r (wired d) full) e)
         ] refl
@@ -381,24 +379,24 @@ added_unreliable mtu cs sent r d p k s rel =
     let cr : c.reliable ≡ false = sym sd.reliable ∙ rel in
     let count : d.count ≡ p.count + 1 = sd.unreliable ∙ ap (λ b. cond b 0 (p.count + 1)) cr in
     let e : Coming = with_more (earlier_or_new (came_at r (wired d) n) (wired d)) (wired d) in
-    let came' : came_at r (wired d) n ≡ get (waiting_at r n) d.count = ap (λ b. cond b (get r.held n) (get (waiting_at r n) d.count)) rel in
+    let came' : came_at r (wired d) n ≡ get (line_at r.waiting n) d.count = ap (λ b. cond b (get r.held n) (get (line_at r.waiting n) d.count)) rel in
     let matches : Matches mtu e.making c = Matches-more mtu (came_at r (wired d) n) d c p.number p.count p.index p.inside sd (λ x t.
     let q = k.waiting n d.count x (sym came' ∙ t) in
     let qp = q.place in
     let z : q.count ≡ p.count = omega arith in
     let same : q.packet ≡ c = same_unreliable mtu cs n p.count q.packet c k.cut (subst (λ y. Stands cs n y q.packet) z q.stands) p.stands q.reliable cr in
     subst (λ y. Matches mtu x.making y) same q.matches) in
-    let packets : FinMap nat_cmp Coming = insert (waiting_at r n) d.count e in
-    let mid : Receiver = record r { waiting = with_waiting_at r.waiting n packets } in
-    let is : with_added r (wired d) n e ≡ mid = λ i. record r { held = if rel i then insert r.held n e else r.held; waiting = if rel i then r.waiting else with_waiting_at r.waiting n packets } in
+    let packets : FinMap nat_cmp Coming = insert (line_at r.waiting n) d.count e in
+    let mid : Receiver = record r { waiting = with_line r.waiting n packets } in
+    let is : with_added r (wired d) n e ≡ mid = λ i. record r { held = if rel i then insert r.held n e else r.held; waiting = if rel i then r.waiting else with_line r.waiting n packets } in
     let ready : Ready mtu cs mid = record {
       cut = k.cut;
       held = k.held;
       passed = k.passed;
       waiting = λ m q x t. elim (two_numbers m n) [
         | inl same ↦
-            let here : get packets q ≡ Some x = ap (λ y. get y q) (sym (waiting-replaced_same r.waiting n packets)) ∙ subst (λ z. get (unwrap_or (get (with_waiting_at r.waiting n packets) z) empty) q ≡ Some x) same t in
-            elim (get_inserted (waiting_at r n) d.count q e x here) [
+            let here : get packets q ≡ Some x = ap (λ y. get y q) (sym (waiting-replaced_same r.waiting n packets)) ∙ subst (λ z. get (unwrap_or (get (with_line r.waiting n packets) z) empty) q ≡ Some x) same t in
+            elim (get_inserted (line_at r.waiting n) d.count q e x here) [
               | inl w ↦ subst (λ y. OfUnreliable mtu cs m q y.making) w.1 (record { packet = c; count = p.count; place = w.0 ∙ count; stands = subst (λ z. Stands cs z p.count c) (sym same) p.stands; reliable = cr; matches = matches })
               | inr w ↦ subst (λ z. OfUnreliable mtu cs z q x.making) (sym same) (k.waiting n q x w.1)
             ]
@@ -431,14 +429,14 @@ Arrived-unreliable mtu cs sent most r d full p k s l rel high span late =
 
     outside : place_read unbounded r (wired d) ≡ None → Arrived mtu cs sent most r d full
     outside e =
-        elim (is_piece most (piece_of (wired d)) (length d.body) && is_own_number (wired d)) as (λ b. (outcome unbounded most r (wired d) full ≡ cond b (outcome_at r (wired d) full (place_read unbounded r (wired d))) Bad) → Arrived mtu cs sent most r d full) [
+        elim (is_piece most (wired d)) as (λ b. (outcome unbounded most r (wired d) full ≡ cond b (outcome_at r (wired d) full (place_read unbounded r (wired d))) Bad) → Arrived mtu cs sent most r d full) [
           | false ↦ λ q. arrived_by mtu cs sent most r d full k s l (inr (Bad, q, inl refl))
           | true ↦ λ q. arrived_by mtu cs sent most r d full k s l (inr (Outside, q ∙ ap (outcome_at r (wired d) full) e, inr (inr (inl refl, unknown))))
         ] refl
 
     inside_case : place_read unbounded r (wired d) ≡ Some p.number → Arrived mtu cs sent most r d full
     inside_case e =
-        elim (is_piece most (piece_of (wired d)) (length d.body) && is_own_number (wired d)) as (λ b. (outcome unbounded most r (wired d) full ≡ cond b (outcome_at r (wired d) full (place_read unbounded r (wired d))) Bad) → Arrived mtu cs sent most r d full) [
+        elim (is_piece most (wired d)) as (λ b. (outcome unbounded most r (wired d) full ≡ cond b (outcome_at r (wired d) full (place_read unbounded r (wired d))) Bad) → Arrived mtu cs sent most r d full) [
           | false ↦ λ q. arrived_by mtu cs sent most r d full k s l (inr (Bad, q, inl refl))
           | true ↦ λ q. considered (q ∙ ap (outcome_at r (wired d) full) e)
         ] refl

@@ -1,15 +1,17 @@
 -- Packets and their commands in the list of what was submitted.
 use Rattle.std.proofs.Common.{◌≡◌, ℕ, ◌+◌, ◌*◌, ◌<◌, ◌≤◌, true, false, cond, List, [], ◌∷◌, ◌++◌, length, refl, sym, ap, subst, ◌∙◌, inl, inr, ◌⊎◌, arith, append_assoc}
 use Rattle.std.proofs.lemmas.List.{append-nil}
-use Rattle.enet_link.specs.Carriage.{Carried, command_count, FollowsCarried, count_after, fragment_length}
+use Rattle.enet_fragment.specs.Cutting.{piece_length}
+use Rattle.enet_sender.specs.Carriage.{Carried}
 pub use Rattle.enet_link.specs.Meant.{Stands}
 use Rattle.enet_link.proofs.Lists.{Has, Cuts, two_cuts}
+use Rattle.enet_link.specs.Follows.{command_count, FollowsCarried, count_after}
 
 -- a packet is cut into 1 to 16,384 pieces that cover it
 pub record IsCut (mtu : ℕ) (c : Carried) : Type 0 where
   pub some' : 0 < c.pieces
   pub few : c.pieces ≤ 16384
-  pub covered : length c.packet.body ≤ c.pieces * fragment_length mtu
+  pub covered : length c.packet.body ≤ c.pieces * piece_length mtu
 
 abbrev pub AllCut : ℕ → List Carried → Type 0
 AllCut mtu cs = (c : Carried) → Has cs c → IsCut mtu c

@@ -1,48 +1,35 @@
 -- What is put out, held and dispatched are pieces and packets of what was submitted.
-use Rattle.std.proofs.Common.{◌≡◌, ◌≢◌, ℕ, ◌+◌, ◌*◌, ◌<◌, Bool, true, false, cond, List, [], ◌∷◌, ◌++◌, take, refl, sym, ap, subst, ◌∙◌, inl, inr, arith, Option, Some, None, zero, suc, append_assoc}
+use Rattle.std.proofs.Common.{◌≡◌, ◌≢◌, ℕ, ◌+◌, ◌*◌, ◌<◌, Bool, true, false, cond, List, [], ◌∷◌, ◌++◌, take, refl, sym, ap, subst, ◌∙◌, inl, inr, arith, Option, Some, None, append_assoc}
 use Rattle.std.proofs.lemmas.Bool.Decides.{nat_tests}
 use Rattle.std.proofs.lemmas.List.{append-nil, map-append, take_all}
-use Rattle.std.proofs.Math.Seq.{take-add}
 use Rattle.std.specs.Ordering.{nat_cmp}
-use Rattle.std.specs.Option.{is_some}
 use Rattle.std.specs.Prelude.{unwrap_or, nat_lt, ◌&&◌, ◌==◌}
-use Rattle.std.specs.FinMap.{FinMap, get, insert, remove, contains_key, len, entries, empty, empty_of_len, get-empty, retain_keys}
-use Rattle.enet_link.specs.Numbering.{unbounded}
-use Rattle.enet_link.specs.Carriage.{Carried, command_count, count_after, fragment_length}
-use Rattle.enet_link.specs.Making.{Making, is_whole, came_below, body_of, joined_below}
-use Rattle.enet_link.specs.Sender.{piece_at}
-use Rattle.enet_link.specs.Receiver.{Receiver, Coming, Dispatched, waiting_at, with_waiting_at, fresh, last_fresh, flushed, without, with_passed, with_dispatched, handed_out}
+use Rattle.std.specs.FinMap.{FinMap, get, insert, remove, len, entries, empty, empty_of_len, get-empty, retain_keys}
+use Rattle.enet_seq.specs.Numbering.{unbounded}
+use Rattle.enet_fragment.specs.Cutting.{piece_length}
+use Rattle.enet_fragment.specs.Making.{Making, joined, count_of}
+use Rattle.enet_fragment.specs.Whole.{is_whole}
+use Rattle.enet_packets.specs.declared.coming.Coming.{Coming}
+use Rattle.enet_packets.specs.declared.coming.Dispatched.{Dispatched}
+use Rattle.enet_packets.specs.Packets.{line_at, with_line, fresh, last_fresh, handed_out}
+use Rattle.enet_receiver.specs.Receiver.{Receiver, flushed, without, with_passed, with_dispatched}
+use Rattle.enet_sender.specs.Carriage.{Carried}
 pub use Rattle.enet_link.specs.Meant.{Matches, OfReliable, OfUnreliable}
 pub use Rattle.enet_link.specs.Steps.{bodies_of}
 use Rattle.enet_link.proofs.Lists.{Has}
-use Rattle.enet_link.proofs.Maps.{get-remove_other, get-remove_same, get-insert_other, get-insert_same, two_numbers}
+use Rattle.enet_link.proofs.Makings.{joined-pieces}
+use Rattle.enet_receiver.proofs.Maps.{get-remove_other, get-remove_same, get-insert_other, get-insert_same, two_numbers}
 use Rattle.enet_link.proofs.Entries.{get_entry, get_retained}
-use Rattle.enet_link.proofs.Without.{get_without}
+use Rattle.enet_receiver.proofs.Without.{get_without}
 use Rattle.enet_link.proofs.CarriageLemmas.{IsCut, AllCut, Stands, Stands-has, Stands-next, Stands-next_unreliable, Consumed, Consumed-append, Consumed-none, command_count-append, command_count-reliable, command_count-unreliable, count_after-push, IsNext, IsNextUnreliable, Has-append_left, Has-append_right}
-
--- the pieces of a body in their order are the body
-joined-pieces : (size : ℕ) (body : List ℕ) (pieces : FinMap nat_cmp (List ℕ)) (n : ℕ) → ((i : ℕ) (bytes : List ℕ) → get pieces i ≡ Some bytes → bytes ≡ piece_at size body i) → came_below pieces n ≡ true → joined_below pieces n ≡ take (n * size) body
-joined-pieces size body pieces zero h w = ap (λ k. take k body) (let e : 0 ≡ 0 * size = omega arith in e)
-joined-pieces size body pieces (suc n) h w =
-    let both = parts (came_below pieces n) (contains_key pieces n) w in
-    let last : unwrap_or (get pieces n) [] ≡ piece_at size body n = there (get pieces n) refl both.1 in
-    let e : n * size + size ≡ suc n * size = omega arith in
-    (λ j. joined-pieces size body pieces n h both.0 j ++ last j) ∙ sym (take-add (n * size) size body) ∙ ap (λ k. take k body) e
-  where
-    parts : (a b : Bool) → (a && b) ≡ true → (a ≡ true) × (b ≡ true)
-    parts true b k = (refl, k)
-    parts false b k = absurd (cc)
-
-    there : (o : Option (List ℕ)) → get pieces n ≡ o → is_some o ≡ true → unwrap_or o [] ≡ piece_at size body n
-    there None e k = absurd (cc)
-    there (Some bytes) e k = h n bytes e
+use Rattle.enet_link.specs.Follows.{command_count, count_after}
 
 -- what is whole has the packet's bytes
-pub body_of-whole : (mtu : ℕ) (m : Making) (c : Carried) → IsCut mtu c → Matches mtu m c → is_whole m ≡ true → body_of m ≡ c.packet.body
-body_of-whole mtu m c cut h w =
-    joined-pieces (fragment_length mtu) c.packet.body m.pieces m.count (λ i bytes e. (h.pieces i bytes e).1) w
-    ∙ ap (λ n. take (n * fragment_length mtu) c.packet.body) h.count
-    ∙ take_all (c.pieces * fragment_length mtu) c.packet.body cut.covered
+pub joined-whole : (mtu : ℕ) (m : Making) (c : Carried) → IsCut mtu c → Matches mtu m c → is_whole m ≡ true → joined m.pieces ≡ c.packet.body
+joined-whole mtu m c cut h w =
+    joined-pieces (piece_length mtu) m.pieces c.packet.body (λ i bytes e. (h.pieces i bytes e).1) w
+    ∙ ap (λ n. take (n * piece_length mtu) c.packet.body) h.count
+    ∙ take_all (c.pieces * piece_length mtu) c.packet.body cut.covered
 
 -- the packets that the receiver went past, and those that it didn't
 pub record Passed (cs : List Carried) (front unreliable : ℕ) (bodies : List (List ℕ)) : Type 0 where
@@ -56,12 +43,12 @@ pub record Passed (cs : List Carried) (front unreliable : ℕ) (bodies : List (L
 pub record Ready (mtu : ℕ) (cs : List Carried) (r : Receiver) : Type 0 where
   pub cut : AllCut mtu cs
   pub held : (n : ℕ) (e : Coming) → get r.held n ≡ Some e → OfReliable mtu cs n e.making
-  pub waiting : (n k : ℕ) (e : Coming) → get (waiting_at r n) k ≡ Some e → OfUnreliable mtu cs n k e.making
+  pub waiting : (n k : ℕ) (e : Coming) → get (line_at r.waiting n) k ≡ Some e → OfUnreliable mtu cs n k e.making
   pub passed : Passed cs r.front r.unreliable (bodies_of r.dispatched)
 
 -- the packet behind the front is dispatched, and unreliable ones before it are left out
 Passed-more : (mtu : ℕ) (cs : List Carried) (front unreliable : ℕ) (bodies : List (List ℕ)) (m : Making) → AllCut mtu cs → Passed cs front unreliable bodies → OfReliable mtu cs (front + 1) m → is_whole m ≡ true
-    → Passed cs (front + m.count) 0 (bodies ++ body_of m ∷ [])
+    → Passed cs (front + count_of m) 0 (bodies ++ joined m.pieces ∷ [])
 Passed-more mtu cs front unreliable bodies m all p h w =
     let c = h.packet in
     let number : h.number ≡ command_count p.passed = let a = h.place in let b = p.count in omega arith in
@@ -70,21 +57,21 @@ Passed-more mtu cs front unreliable bodies m all p h w =
     let next : IsNext p.left c = Stands-next p.passed p.left h.count c h.reliable cut.some' at in
     let skipped = next.0 in let rest = next.1 in
     let more : List Carried = skipped ++ c ∷ [] in
-    let body : body_of m ≡ c.packet.body = body_of-whole mtu m c cut h.matches w in
-    let only : Consumed (c ∷ []) (body_of m ∷ []) = inl ([], ap (λ b. b ∷ []) body, refl) in
+    let body : joined m.pieces ≡ c.packet.body = joined-whole mtu m c cut h.matches w in
+    let only : Consumed (c ∷ []) (joined m.pieces ∷ []) = inl ([], ap (λ b. b ∷ []) body, refl) in
     let of_skipped : AllCut mtu skipped = λ d g. all d (subst (λ l. Has l d) (sym p.whole) (Has-append_right p.passed p.left d (subst (λ l. Has l d) (sym next.2) (Has-append_left skipped (c ∷ rest) d g)))) in
     record {
       passed = p.passed ++ more;
       left = rest;
       whole = p.whole ∙ ap (λ l. p.passed ++ l) (next.2 ∙ sym (append_assoc skipped (c ∷ []) rest)) ∙ sym (append_assoc p.passed more rest);
-      consumed = Consumed-append p.passed more bodies (body_of m ∷ []) p.consumed (Consumed-append skipped (c ∷ []) [] (body_of m ∷ []) (Consumed-none mtu skipped of_skipped next.3) only);
+      consumed = Consumed-append p.passed more bodies (joined m.pieces ∷ []) p.consumed (Consumed-append skipped (c ∷ []) [] (joined m.pieces ∷ []) (Consumed-none mtu skipped of_skipped next.3) only);
       count = let a = command_count-append p.passed more in let b = command_count-append skipped (c ∷ []) in let d = p.count in let e = next.3 in let f = command_count-reliable c [] h.reliable in let g = h.matches.count in omega arith;
       last = ap (count_after 0) (sym (append_assoc p.passed skipped (c ∷ []))) ∙ count_after-push (p.passed ++ skipped) c ∙ ap (λ b. cond b 0 (count_after 0 (p.passed ++ skipped) + 1)) h.reliable;
     }
 
 -- an unreliable packet of the front is dispatched, and earlier ones are left out
 Passed-unreliable : (mtu : ℕ) (cs : List Carried) (front unreliable count : ℕ) (bodies : List (List ℕ)) (m : Making) → AllCut mtu cs → Passed cs front unreliable bodies → OfUnreliable mtu cs front count m → is_whole m ≡ true → unreliable < count
-    → Passed cs front count (bodies ++ body_of m ∷ [])
+    → Passed cs front count (bodies ++ joined m.pieces ∷ [])
 Passed-unreliable mtu cs front unreliable count bodies m all p h w low =
     let c = h.packet in
     let cut : IsCut mtu c = all c (Stands-has cs front h.count c h.stands) in
@@ -93,19 +80,19 @@ Passed-unreliable mtu cs front unreliable count bodies m all p h w low =
     let next : IsNextUnreliable p.passed p.left h.count c = Stands-next_unreliable mtu p.passed p.left h.count c of_passed h.reliable at (let e = p.last in let f = h.place in omega arith) in
     let skipped = next.0 in let rest = next.1 in
     let more : List Carried = skipped ++ c ∷ [] in
-    let body : body_of m ≡ c.packet.body = body_of-whole mtu m c cut h.matches w in
-    let only : Consumed (c ∷ []) (body_of m ∷ []) = inl ([], ap (λ b. b ∷ []) body, refl) in
+    let body : joined m.pieces ≡ c.packet.body = joined-whole mtu m c cut h.matches w in
+    let only : Consumed (c ∷ []) (joined m.pieces ∷ []) = inl ([], ap (λ b. b ∷ []) body, refl) in
     let of_skipped : AllCut mtu skipped = λ d g. all d (subst (λ l. Has l d) (sym p.whole) (Has-append_right p.passed p.left d (subst (λ l. Has l d) (sym next.2) (Has-append_left skipped (c ∷ rest) d g)))) in
     record {
       passed = p.passed ++ more;
       left = rest;
       whole = p.whole ∙ ap (λ l. p.passed ++ l) (next.2 ∙ sym (append_assoc skipped (c ∷ []) rest)) ∙ sym (append_assoc p.passed more rest);
-      consumed = Consumed-append p.passed more bodies (body_of m ∷ []) p.consumed (Consumed-append skipped (c ∷ []) [] (body_of m ∷ []) (Consumed-none mtu skipped of_skipped next.3) only);
+      consumed = Consumed-append p.passed more bodies (joined m.pieces ∷ []) p.consumed (Consumed-append skipped (c ∷ []) [] (joined m.pieces ∷ []) (Consumed-none mtu skipped of_skipped next.3) only);
       count = let a = command_count-append p.passed more in let b = command_count-append skipped (c ∷ []) in let d = p.count in let e = next.3 in let f = command_count-unreliable c [] h.reliable in omega arith;
       last = ap (count_after 0) (sym (append_assoc p.passed skipped (c ∷ []))) ∙ count_after-push (p.passed ++ skipped) c ∙ ap (λ b. cond b 0 (count_after 0 (p.passed ++ skipped) + 1)) h.reliable ∙ ap (λ n. n + 1) next.4 ∙ sym h.place;
     }
 
-bodies_of-push : (ds : List Dispatched) (e : Coming) → bodies_of (ds ++ handed_out e ∷ []) ≡ bodies_of ds ++ body_of e.making ∷ []
+bodies_of-push : (ds : List Dispatched) (e : Coming) → bodies_of (ds ++ handed_out e ∷ []) ≡ bodies_of ds ++ joined e.making.pieces ∷ []
 bodies_of-push ds e = map-append (λ (d : Dispatched). d.body) ds (handed_out e ∷ [])
 
 -- those that waited are dispatched
@@ -131,7 +118,7 @@ Passed-fresh mtu cs front unreliable ds (e ∷ es) all h p =
     below p q x = grind (arith, nat_tests)
 
 -- what waits for a number after another number's packets were replaced
-pub waiting-replaced_same : (w : FinMap nat_cmp (FinMap nat_cmp Coming)) (n : ℕ) (packets : FinMap nat_cmp Coming) → unwrap_or (get (with_waiting_at w n packets) n) empty ≡ packets
+pub waiting-replaced_same : (w : FinMap nat_cmp (FinMap nat_cmp Coming)) (n : ℕ) (packets : FinMap nat_cmp Coming) → unwrap_or (get (with_line w n packets) n) empty ≡ packets
 waiting-replaced_same w n packets =
     elim (len packets == 0) as (λ b. (len packets == 0) ≡ b → unwrap_or (get (cond b (remove w n) (insert w n packets)) n) empty ≡ packets) [
       | true ↦ λ t. ap (λ (o : Option (FinMap nat_cmp Coming)). unwrap_or o empty) (get-remove_same w n) ∙ sym (empty_of_len packets (zero_is (len packets) t))
@@ -141,7 +128,7 @@ waiting-replaced_same w n packets =
     zero_is : (k : ℕ) → (k == 0) ≡ true → k ≡ 0
     zero_is k t = grind (arith, nat_tests)
 
-pub waiting-replaced_other : (w : FinMap nat_cmp (FinMap nat_cmp Coming)) (n q : ℕ) (packets : FinMap nat_cmp Coming) → q ≢ n → get (with_waiting_at w n packets) q ≡ get w q
+pub waiting-replaced_other : (w : FinMap nat_cmp (FinMap nat_cmp Coming)) (n q : ℕ) (packets : FinMap nat_cmp Coming) → q ≢ n → get (with_line w n packets) q ≡ get w q
 waiting-replaced_other w n q packets apart =
     elim (len packets == 0) as (λ b. get (cond b (remove w n) (insert w n packets)) q ≡ get w q) [
       | true ↦ get-remove_other w n q apart
@@ -156,28 +143,28 @@ waiting-left w n k (Some m) e h t = ap (λ (o : Option (FinMap nat_cmp Coming)).
 Ready-passed : (mtu : ℕ) (cs : List Carried) (r : Receiver) (c : Coming) → get r.held (r.front + 1) ≡ Some c → is_whole c.making ≡ true → Ready mtu cs r → Ready mtu cs (with_passed unbounded r c)
 Ready-passed mtu cs r c e w k = record {
   cut = k.cut;
-  held = λ n x t. k.held n x (get_without unbounded r.held (r.front + 1) c.making.count n x t);
-  waiting = λ n q x t. k.waiting n q x (waiting-left r.waiting n q (get (without unbounded r.waiting r.front c.making.count) n) x (λ m f. get_without unbounded r.waiting r.front c.making.count n m f) t);
-  passed = subst (λ (x : List (List ℕ)). Passed cs (r.front + c.making.count) 0 x) (sym (bodies_of-push r.dispatched c))
+  held = λ n x t. k.held n x (get_without unbounded r.held (r.front + 1) (count_of c.making) n x t);
+  waiting = λ n q x t. k.waiting n q x (waiting-left r.waiting n q (get (without unbounded r.waiting r.front (count_of c.making)) n) x (λ m f. get_without unbounded r.waiting r.front (count_of c.making) n m f) t);
+  passed = subst (λ (x : List (List ℕ)). Passed cs (r.front + (count_of c.making)) 0 x) (sym (bodies_of-push r.dispatched c))
       (Passed-more mtu cs r.front r.unreliable (bodies_of r.dispatched) c.making k.cut k.passed (k.held (r.front + 1) c e) w);
 }
 
 Ready-flushed : (mtu : ℕ) (cs : List Carried) (r : Receiver) → Ready mtu cs r → Ready mtu cs (flushed r)
 Ready-flushed mtu cs r k =
-    let keep : ℕ → Bool = nat_lt (last_fresh r.unreliable (entries (waiting_at r r.front))) in
+    let keep : ℕ → Bool = nat_lt (last_fresh r.unreliable (entries (line_at r.waiting r.front))) in
     record {
       cut = k.cut;
       held = k.held;
       waiting = λ n q x t. elim (two_numbers n r.front) [
         | inl same ↦
-            let here : get (retain_keys (waiting_at r r.front) keep) q ≡ Some x =
-            ap (λ m. get m q) (sym (waiting-replaced_same r.waiting r.front (retain_keys (waiting_at r r.front) keep)))
-            ∙ subst (λ z. get (unwrap_or (get (with_waiting_at r.waiting r.front (retain_keys (waiting_at r r.front) keep)) z) empty) q ≡ Some x) same t in
-            subst (λ z. OfUnreliable mtu cs z q x.making) (sym same) (k.waiting r.front q x (get_retained (waiting_at r r.front) keep q x here))
-        | inr apart ↦ k.waiting n q x (ap (λ (o : Option (FinMap nat_cmp Coming)). get (unwrap_or o empty) q) (sym (waiting-replaced_other r.waiting r.front n (retain_keys (waiting_at r r.front) keep) apart)) ∙ t)
+            let here : get (retain_keys (line_at r.waiting r.front) keep) q ≡ Some x =
+            ap (λ m. get m q) (sym (waiting-replaced_same r.waiting r.front (retain_keys (line_at r.waiting r.front) keep)))
+            ∙ subst (λ z. get (unwrap_or (get (with_line r.waiting r.front (retain_keys (line_at r.waiting r.front) keep)) z) empty) q ≡ Some x) same t in
+            subst (λ z. OfUnreliable mtu cs z q x.making) (sym same) (k.waiting r.front q x (get_retained (line_at r.waiting r.front) keep q x here))
+        | inr apart ↦ k.waiting n q x (ap (λ (o : Option (FinMap nat_cmp Coming)). get (unwrap_or o empty) q) (sym (waiting-replaced_other r.waiting r.front n (retain_keys (line_at r.waiting r.front) keep) apart)) ∙ t)
       ];
-      passed = Passed-fresh mtu cs r.front r.unreliable r.dispatched (entries (waiting_at r r.front)) k.cut
-          (λ e h. k.waiting r.front e.0 e.1 (get_entry (waiting_at r r.front) e h)) k.passed;
+      passed = Passed-fresh mtu cs r.front r.unreliable r.dispatched (entries (line_at r.waiting r.front)) k.cut
+          (λ e h. k.waiting r.front e.0 e.1 (get_entry (line_at r.waiting r.front) e h)) k.passed;
     }
 
 pub Ready-dispatched : (mtu : ℕ) (cs : List Carried) (r : Receiver) (c : Coming) → get r.held (r.front + 1) ≡ Some c → is_whole c.making ≡ true → Ready mtu cs r → Ready mtu cs (with_dispatched unbounded r c)

@@ -1,7 +1,8 @@
 mod Lists
-mod Maps
+mod Firsts
+mod Rising
+mod Makings
 mod Entries
-mod Without
 mod WireReceiver
 mod CarriageLemmas
 mod ContentLemmas
@@ -10,5 +11,9 @@ mod ReceiverLemmas
 mod ArrivalLemmas
 mod LinkLemmas
 mod QueueLemmas
+mod Reading
+mod Shown
+mod SoundSender
 mod Sound
+mod WireSender
 mod Runs

@@ -2,11 +2,11 @@
 use Rattle.std.proofs.Common.{◌≡◌, ℕ, ◌+◌, ◌-◌, ◌%◌, ◌<◌, ◌≤◌, Bool, true, false, not, cond, ◌==◌, List, [], ◌∷◌, ◌++◌, refl, sym, ap, subst, ◌∙◌, inl, inr, ◌⊎◌, arith}
 use Rattle.std.proofs.lemmas.Bool.Decides.{nat_tests}
 use Rattle.std.specs.Prelude.{nat_lt}
-use Rattle.enet_link.specs.Numbering.{unbounded}
-use Rattle.enet_link.specs.Carriage.{Carried}
-use Rattle.enet_link.specs.DataCommand.{DataCommand}
-use Rattle.enet_link.specs.Receiver.{Receiver}
-use Rattle.enet_link.specs.Reception.{received, outcome, is_handled}
+use Rattle.enet_seq.specs.Numbering.{unbounded}
+use Rattle.enet_fragment.specs.declared.data.DataCommand.{DataCommand}
+use Rattle.enet_receiver.specs.Receiver.{Receiver}
+use Rattle.enet_receiver.specs.Reception.{received, outcome, is_handled}
+use Rattle.enet_sender.specs.Carriage.{Carried}
 use Rattle.enet_link.specs.Link.{Link, PutOut, Answer, accept, send, put_out, takes_in, queue_answer, put_answer, acknowledged, closed, is_late, number_below, wired}
 use Rattle.enet_link.proofs.Lists.{Has, Has-push_cases, Has-push_left, Has-push, Has-filter, Has-from_filter}
 use Rattle.enet_link.proofs.ContentLemmas.{Ready}

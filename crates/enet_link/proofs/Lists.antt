@@ -20,6 +20,11 @@ pub Has-push : {X : Type 0} (xs : List X) (y : X) → Has (xs ++ y ∷ []) y
 Has-push [] y = inl refl
 Has-push (z ∷ xs) y = inr (Has-push xs y)
 
+pub Has-append_cases : {X : Type 0} (a b : List X) (x : X) → Has (a ++ b) x → Has a x ⊎ Has b x
+Has-append_cases [] b x h = inr h
+Has-append_cases (y ∷ a) b x (inl e) = inl (inl e)
+Has-append_cases (y ∷ a) b x (inr h) = elim (Has-append_cases a b x h) [ inl k ↦ inl (inr k) | inr k ↦ inr k ]
+
 pub Has-filter : {X : Type 0} (p : X → Bool) (xs : List X) (x : X) → Has xs x → p x ≡ true → Has (filter p xs) x
 Has-filter p [] x h t = absurd h
 Has-filter p (y ∷ ys) x (inl e) t =

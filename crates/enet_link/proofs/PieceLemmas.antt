@@ -1,21 +1,22 @@
 -- The commands of what was submitted, as they come at the receiver.
 use Rattle.std.proofs.Common.{◌≡◌, ℕ, ◌+◌, ◌%◌, ◌<◌, ◌≤◌, true, false, cond, List, [], ◌∷◌, ◌++◌, refl, sym, ap, subst, ◌∙◌, inl, inr, arith, Option, Some, None}
-use Rattle.std.specs.Ordering.{nat_cmp}
 use Rattle.std.specs.Option.{is_none}
-use Rattle.std.specs.FinMap.{get, empty, get-empty}
-use Rattle.enet_link.specs.Numbering.{unbounded}
-use Rattle.enet_link.specs.Carriage.{Carried, command_count, count_after, fragment_length, is_long}
-use Rattle.enet_link.specs.Making.{Making, with_piece, nothing_came}
-use Rattle.enet_link.specs.DataCommand.{DataCommand}
-use Rattle.enet_link.specs.Sender.{command_at, piece_at, fragment_at}
-use Rattle.enet_link.specs.Receiver.{Coming}
-use Rattle.enet_link.specs.Reception.{piece_of, earlier_or_new, with_more}
+use Rattle.enet_seq.specs.Numbering.{unbounded}
+use Rattle.enet_fragment.specs.Cutting.{piece_length}
+use Rattle.enet_fragment.specs.Making.{Making, with_piece, nothing_yet}
+use Rattle.enet_fragment.specs.declared.data.DataCommand.{DataCommand}
+use Rattle.enet_fragment.specs.DataCommand.{piece_of, place_in_packet}
+use Rattle.enet_packets.specs.declared.coming.Coming.{Coming}
+use Rattle.enet_receiver.specs.Reception.{earlier_or_new, with_more}
+use Rattle.enet_sender.specs.Carriage.{Carried, is_long}
+use Rattle.enet_sender.specs.Sender.{command_at, piece_at as cut_piece, fragment_at}
 use Rattle.enet_link.specs.Link.{wired}
 pub use Rattle.enet_link.specs.Meant.{IsPlain, IsPieceOf}
 use Rattle.enet_link.proofs.Lists.{Has, Cuts, two_cuts}
-use Rattle.enet_link.proofs.Maps.{get_inserted}
+use Rattle.enet_link.proofs.Makings.{count_of-nothing, count_of-with, piece_at-nothing, piece_cases}
 use Rattle.enet_link.proofs.CarriageLemmas.{AllCut, Stands, Stands-more, command_count-append, command_count-reliable, command_count-unreliable, count_after-append}
 use Rattle.enet_link.proofs.ContentLemmas.{Matches}
+use Rattle.enet_link.specs.Follows.{command_count, count_after}
 
 pub IsPieceOf-more : (mtu : ℕ) (cs : List Carried) (x : Carried) (d : DataCommand) → IsPieceOf mtu cs d → IsPieceOf mtu (cs ++ x ∷ []) d
 IsPieceOf-more mtu cs x d p = record { packet = p.packet; number = p.number; count = p.count; index = p.index; stands = Stands-more cs x p.number p.count p.packet p.stands; inside = p.inside; plain = p.plain; command = p.command }
@@ -28,7 +29,7 @@ pub record Says (mtu : ℕ) (d : DataCommand) (c : Carried) (number count index 
   pub pieces : (piece_of (wired d)).count ≡ c.pieces
   pub index_is : (piece_of (wired d)).number ≡ index
   pub start : c.reliable ≡ true → (piece_of (wired d)).start ≡ (number + 1) % 65536
-  pub body : (wired d).body ≡ piece_at (fragment_length mtu) c.packet.body index
+  pub body : (wired d).body ≡ cut_piece (piece_length mtu) c.packet.body index
   pub single : is_none (wired d).fragment ≡ true → c.pieces ≡ 1
 
 Says-command : (mtu : ℕ) (c : Carried) (number count index : ℕ) → index < c.pieces → IsPlain mtu c → Says mtu (command_at unbounded mtu number count c index) c number count index
@@ -37,8 +38,8 @@ Says-command mtu c number count index inside plain =
       reliable = c.reliable;
       number = cond c.reliable (number + (index + 1)) number;
       count = cond c.reliable 0 (count + 1);
-      fragment = cond b (Some (fragment_at (fragment_length mtu) c (cond c.reliable (number + 1) (count + 1)) index)) None;
-      body = piece_at (fragment_length mtu) c.packet.body index;
+      fragment = cond b (Some (fragment_at (piece_length mtu) c (cond c.reliable (number + 1) (count + 1)) index)) None;
+      body = cut_piece (piece_length mtu) c.packet.body index;
     }) c number count index) [
       | true ↦ λ t. record {
         reliable = refl;
@@ -128,15 +129,21 @@ pub Matches-more : (mtu : ℕ) (o : Option Coming) (d : DataCommand) (c : Carrie
     → Matches mtu (with_more (earlier_or_new o (wired d)) (wired d)).making c
 Matches-more mtu o d c number count index inside s old = go o old
   where
-    added : (m : Making) → Matches mtu m c → Matches mtu (with_piece m (piece_of (wired d)) (wired d).body) c
-    added m h = record {
-      count = h.count;
-      pieces = λ i bytes e. elim (get_inserted m.pieces (piece_of (wired d)).number i (wired d).body bytes e) [
-        | inl is ↦ (let a = is.0 in let b = s.index_is in omega arith, sym is.1 ∙ s.body ∙ ap (piece_at (fragment_length mtu) c.packet.body) (sym (is.0 ∙ s.index_is)))
-        | inr k ↦ h.pieces i bytes k.1
-      ];
-    }
+    added : (m : Making) → Matches mtu m c → Matches mtu (with_piece m (place_in_packet (wired d)) (wired d).body) c
+    added m h =
+        let n = h.count in
+        let j = s.index_is in
+        record {
+          count = count_of-with m (place_in_packet (wired d)) (wired d).body ∙ h.count;
+          pieces = λ i bytes e. elim (piece_cases m (place_in_packet (wired d)) (wired d).body i bytes (omega arith) e) [
+            | inl is ↦ (let a = is.0 in omega arith, sym is.1 ∙ s.body ∙ ap (cut_piece (piece_length mtu) c.packet.body) (sym (is.0 ∙ s.index_is)))
+            | inr k ↦ h.pieces i bytes k.1
+          ];
+        }
 
     go : (o : Option Coming) → ((e : Coming) → o ≡ Some e → Matches mtu e.making c) → Matches mtu (with_more (earlier_or_new o (wired d)) (wired d)).making c
-    go None h = added (nothing_came (piece_of (wired d)).count (piece_of (wired d)).total) (record { count = s.pieces; pieces = λ i bytes e. absurd (let f : get (empty {X = List ℕ} {R = nat_cmp}) i ≡ None = get-empty nat_cmp i in cc) })
+    go None h =
+        let count = (piece_of (wired d)).count in
+        let total = (piece_of (wired d)).total in
+        added (nothing_yet count total) (record { count = count_of-nothing count total ∙ s.pieces; pieces = λ i bytes e. absurd (let f = piece_at-nothing count total i in cc) })
     go (Some e) h = added e.making (h e refl)

@@ -3,19 +3,17 @@ use Rattle.std.proofs.Common.{◌≡◌, ℕ, ◌+◌, ◌%◌, ◌<◌, Bool, t
 use Rattle.std.specs.List.{range_with_len}
 use Rattle.std.specs.Option.{option_map}
 use Rattle.enet_codec.specs.declared.command.Fragment.{Fragment}
-use Rattle.enet_link.specs.Numbering.{wire, unbounded}
-use Rattle.enet_link.specs.Carriage.{Carried, command_count, count_after, fragment_length, is_long}
-use Rattle.enet_link.specs.DataCommand.{DataCommand}
-use Rattle.enet_link.specs.Sender.{command_at, commands_of, fragment_at, piece_at}
+use Rattle.enet_seq.specs.Numbering.{wire, unbounded}
+use Rattle.enet_fragment.specs.Cutting.{piece_length}
+use Rattle.enet_fragment.specs.declared.data.DataCommand.{DataCommand}
+use Rattle.enet_sender.specs.Carriage.{Carried, is_long}
+use Rattle.enet_sender.specs.Sender.{command_at, commands_of, fragment_at, piece_at as cut_piece}
 use Rattle.enet_link.specs.Link.{wired, wired_fragment}
+pub use Rattle.enet_link.specs.Image.{reliable_count}
 use Rattle.enet_link.proofs.Lists.{Has}
 use Rattle.enet_link.proofs.CarriageLemmas.{command_count-append, count_after-append}
 use Rattle.enet_link.proofs.PieceLemmas.{IsPlain, IsPieceOf}
-
--- how many of them are reliable
-abbrev pub reliable_count : List DataCommand → ℕ
-reliable_count [] = 0
-reliable_count (d ∷ ds) = if d.reliable then reliable_count ds + 1 else reliable_count ds
+use Rattle.enet_link.specs.Follows.{command_count, count_after}
 
 pub reliable_count-append : (a b : List DataCommand) → reliable_count (a ++ b) ≡ reliable_count a + reliable_count b
 reliable_count-append [] b = omega arith
@@ -42,23 +40,23 @@ abbrev raw : Bool → ℕ → ℕ → Option Fragment → List ℕ → DataComma
 raw reliable number count fragment body = record { reliable = reliable; number = number; count = count; fragment = fragment; body = body }
 
 abbrev piece : ℕ → Carried → ℕ → ℕ → Fragment
-piece mtu c start i = fragment_at (fragment_length mtu) c start i
+piece mtu c start i = fragment_at (piece_length mtu) c start i
 
 wired-fragment : (mtu start x : ℕ) (c : Carried) (i : ℕ) (r l : Bool) → x ≡ cond r (start % 65536) start → cond l (Some (piece mtu c x i)) None ≡ option_map (wired_fragment r) (cond l (Some (piece mtu c start i)) None)
 wired-fragment mtu start x c i r true e = ap (λ z. Some (piece mtu c z i)) e
 wired-fragment mtu start x c i r false e = refl
 
-wired-kind : (mtu number count : ℕ) (c : Carried) (i : ℕ) (r : Bool) → let body = piece_at (fragment_length mtu) c.packet.body i in
+wired-kind : (mtu number count : ℕ) (c : Carried) (i : ℕ) (r : Bool) → let body = cut_piece (piece_length mtu) c.packet.body i in
     let left : DataCommand = raw r (cond r ((number % 65536 + (i + 1)) % 65536) (number % 65536)) (cond r 0 (count + 1)) (cond (is_long mtu c.packet) (Some (piece mtu c (cond r ((number % 65536 + 1) % 65536) (count + 1)) i)) None) body in
     left ≡ wired (raw r (cond r (number + (i + 1)) number) (cond r 0 (count + 1)) (cond (is_long mtu c.packet) (Some (piece mtu c (cond r (number + 1) (count + 1)) i)) None) body)
 wired-kind mtu number count c i true =
     let a : (number % 65536 + (i + 1)) % 65536 ≡ (number + (i + 1)) % 65536 = omega arith in
     let b : (number % 65536 + 1) % 65536 ≡ (number + 1) % 65536 = omega arith in
     let f = wired-fragment mtu (number + 1) ((number % 65536 + 1) % 65536) c i true (is_long mtu c.packet) b in
-    (λ j. raw true (a j) 0 (f j) (piece_at (fragment_length mtu) c.packet.body i))
+    (λ j. raw true (a j) 0 (f j) (cut_piece (piece_length mtu) c.packet.body i))
 wired-kind mtu number count c i false =
     let f = wired-fragment mtu (count + 1) (count + 1) c i false (is_long mtu c.packet) refl in
-    (λ j. raw false (number % 65536) (count + 1) (f j) (piece_at (fragment_length mtu) c.packet.body i))
+    (λ j. raw false (number % 65536) (count + 1) (f j) (cut_piece (piece_length mtu) c.packet.body i))
 
 wired-command : (mtu number count : ℕ) (c : Carried) (i : ℕ) → command_at wire mtu (number % 65536) count c i ≡ wired (command_at unbounded mtu number count c i)
 wired-command mtu number count c i = wired-kind mtu number count c i c.reliable

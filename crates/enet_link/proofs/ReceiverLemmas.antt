@@ -1,23 +1,24 @@
 -- What a receiver with unbounded numbers has received, and what it lacks.
-use Rattle.std.proofs.Common.{◌≡◌, ℕ, ◌+◌, ◌-◌, ◌<◌, ◌≤◌, Bool, true, false, cond, List, refl, sym, ap, subst, ◌∙◌, inl, inr, ◌⊎◌, arith, Option, Some, None, zero, suc}
+use Rattle.std.proofs.Common.{◌≡◌, ℕ, ◌+◌, ◌-◌, ◌<◌, ◌≤◌, Bool, true, false, cond, List, refl, sym, ap, ◌∙◌, inl, inr, ◌⊎◌, arith, Option, Some, None, zero, suc}
 use Rattle.std.specs.Ordering.{nat_cmp}
-use Rattle.std.specs.Option.{is_some}
-use Rattle.std.specs.Prelude.{◌&&◌}
-use Rattle.std.specs.FinMap.{FinMap, get, contains_key, len, empty_of_len, get-empty}
-use Rattle.enet_link.specs.Numbering.{unbounded}
-use Rattle.enet_link.specs.Carriage.{Carried}
-use Rattle.enet_link.specs.Making.{is_whole, came_below}
-use Rattle.enet_link.specs.Receiver.{Receiver, Coming, without, with_dispatched, next_whole, released_with, released}
+use Rattle.std.specs.FinMap.{get, len, empty_of_len, get-empty}
+use Rattle.enet_seq.specs.Numbering.{unbounded}
+use Rattle.enet_fragment.specs.Whole.{is_whole}
+use Rattle.enet_fragment.specs.Making.{count_of}
+use Rattle.enet_packets.specs.declared.coming.Coming.{Coming}
+use Rattle.enet_receiver.specs.Receiver.{Receiver, without, with_dispatched, next_whole, released_with, released}
+use Rattle.enet_sender.specs.Carriage.{Carried}
 pub use Rattle.enet_link.specs.Keeps.{IsReceived}
-use Rattle.enet_link.proofs.Maps.{two_numbers}
-use Rattle.enet_link.proofs.Without.{get-without_inside, get-without_outside, get_without, len-without_first}
+use Rattle.enet_link.proofs.Makings.{has_piece-some, whole-has, missing}
+use Rattle.enet_receiver.proofs.Without.{get-without_inside, get-without_outside, get_without, len-without_first}
 use Rattle.enet_link.proofs.CarriageLemmas.{Stands-has, same_start}
 use Rattle.enet_link.proofs.ContentLemmas.{OfReliable, Ready, Ready-dispatched}
+use Rattle.enet_link.specs.Meant.{has_piece}
 
 -- the front and what is held stay within what was sent
 pub record Within (sent : ℕ) (r : Receiver) : Type 0 where
   pub front : r.front ≤ sent
-  pub held : (n : ℕ) (e : Coming) → get r.held n ≡ Some e → (r.front < n) × ((i : ℕ) → contains_key e.making.pieces i ≡ true → n + i ≤ sent)
+  pub held : (n : ℕ) (e : Coming) → get r.held n ≡ Some e → (r.front < n) × ((i : ℕ) → has_piece e.making i ≡ true → n + i ≤ sent)
 
 -- what was received stays received, and the front doesn't fall
 pub record Grows (old new : Receiver) : Type 0 where
@@ -34,39 +35,6 @@ Grows-trans a b c g h = record { front = let x = g.front in let y = h.front in o
 abbrev pub Lacks : Receiver → Type 0
 Lacks r = (g : ℕ) × (r.front < g) × (g ≤ r.front + 16384) × (IsReceived r g → ⊥)
 
-pub contains-some : {X : Type 0} (m : FinMap nat_cmp X) (i : ℕ) → contains_key m i ≡ true → (x : X) × (get m i ≡ Some x)
-contains-some {X = X} m i h = go (get m i) refl h
-  where
-    go : (o : Option X) → get m i ≡ o → is_some o ≡ true → (x : X) × (get m i ≡ Some x)
-    go None e k = absurd (cc)
-    go (Some x) e k = (x, e)
-
-parts : (a b : Bool) → (a && b) ≡ true → (a ≡ true) × (b ≡ true)
-parts true b k = (refl, k)
-parts false b k = absurd (cc)
-
-came_below-at : (pieces : FinMap nat_cmp (List ℕ)) (n i : ℕ) → came_below pieces n ≡ true → i < n → contains_key pieces i ≡ true
-came_below-at pieces zero i h low = absurd (omega arith)
-came_below-at pieces (suc n) i h low =
-    let both = parts (came_below pieces n) (contains_key pieces n) h in
-    elim (two_numbers i n) [
-      | inl same ↦ subst (λ k. contains_key pieces k ≡ true) (sym same) both.1
-      | inr apart ↦ came_below-at pieces n i both.0 (grind arith)
-    ]
-
--- where not each of the first pieces is there, one is missing
-missing : (pieces : FinMap nat_cmp (List ℕ)) (n : ℕ) → came_below pieces n ≡ false → (i : ℕ) × (i < n) × (contains_key pieces i ≡ false)
-missing pieces zero h = absurd (cc)
-missing pieces (suc n) h = go (missing pieces n) (contains_key pieces n) refl
-  where
-    left : (a b : Bool) → (a && b) ≡ false → b ≡ true → a ≡ false
-    left true b k t = absurd (cc)
-    left false b k t = refl
-
-    go : (came_below pieces n ≡ false → (i : ℕ) × (i < n) × (contains_key pieces i ≡ false)) → (b : Bool) → contains_key pieces n ≡ b → (i : ℕ) × (i < suc n) × (contains_key pieces i ≡ false)
-    go more true e = let m = more (left _ _ h e) in let l = m.1 in (m.0, omega arith, m.2)
-    go more false e = (n, omega arith, e)
-
 -- what a dispatch of one packet keeps, the whole release keeps
 pub released-keeps : (P : Receiver → Type 0) → ((r : Receiver) (c : Coming) → get r.held (r.front + 1) ≡ Some c → is_whole c.making ≡ true → P r → P (with_dispatched unbounded r c)) → (most : ℕ) (r : Receiver) → P r → P (released unbounded most r)
 unfolding released
@@ -81,10 +49,10 @@ released-keeps P step (suc most) r h = go (released-keeps P step most) (get r.he
     ] refl
 
 -- the pieces of what is held at a number
-piece_inside : (mtu : ℕ) (cs : List Carried) (r : Receiver) (n : ℕ) (e : Coming) (i : ℕ) → Ready mtu cs r → (t : get r.held n ≡ Some e) → contains_key e.making.pieces i ≡ true → (p : OfReliable mtu cs n e.making) × (i < p.packet.pieces)
+piece_inside : (mtu : ℕ) (cs : List Carried) (r : Receiver) (n : ℕ) (e : Coming) (i : ℕ) → Ready mtu cs r → (t : get r.held n ≡ Some e) → has_piece e.making i ≡ true → (p : OfReliable mtu cs n e.making) × (i < p.packet.pieces)
 piece_inside mtu cs r n e i k t h =
     let p = k.held n e t in
-    let x = contains-some e.making.pieces i h in
+    let x = has_piece-some e.making i h in
     let m = p.matches in
     (p, (m.pieces i x.0 x.1).0)
 
@@ -94,15 +62,15 @@ Within-dispatched mtu cs sent r c e w k s =
     let cut = k.cut p.packet (Stands-has cs p.number p.count p.packet p.stands) in
     let m = p.matches in
     let size = cut.some' in
-    let last = came_below-at c.making.pieces c.making.count (c.making.count - 1) w (let a = m.count in omega arith) in
-    let reach = (s.held (r.front + 1) c e).1 (c.making.count - 1) last in
+    let last = whole-has c.making (count_of c.making - 1) w (let a = m.count in omega arith) in
+    let reach = (s.held (r.front + 1) c e).1 (count_of c.making - 1) last in
     record {
       front = let a = m.count in omega arith;
       held = λ n x t.
-          let old = s.held n x (get_without unbounded r.held (r.front + 1) c.making.count n x t) in (
-            elim (less_or_not (r.front + c.making.count) n) [
+          let old = s.held n x (get_without unbounded r.held (r.front + 1) (count_of c.making) n x t) in (
+            elim (less_or_not (r.front + (count_of c.making)) n) [
               | inl above ↦ above
-              | inr below ↦ absurd (let low = old.0 in let f : get (without unbounded r.held (r.front + 1) c.making.count) n ≡ None = get-without_inside r.held (r.front + 1) c.making.count n (omega arith) (omega arith) in (let g : Some x ≡ None = sym t ∙ f in cc))
+              | inr below ↦ absurd (let low = old.0 in let f : get (without unbounded r.held (r.front + 1) (count_of c.making)) n ≡ None = get-without_inside r.held (r.front + 1) (count_of c.making) n (omega arith) (omega arith) in (let g : Some x ≡ None = sym t ∙ f in cc))
             ],
             old.1,
           );
@@ -123,7 +91,7 @@ Grows-dispatched mtu cs sent r c e k s = record {
     less_or_not : (a b : ℕ) → (a < b) ⊎ (b ≤ a)
     less_or_not a b = grind arith
 
-    kept : (m n : ℕ) (x : Coming) → get r.held n ≡ Some x → n ≤ m → contains_key x.making.pieces (m - n) ≡ true → IsReceived (with_dispatched unbounded r c) m
+    kept : (m n : ℕ) (x : Coming) → get r.held n ≡ Some x → n ≤ m → has_piece x.making (m - n) ≡ true → IsReceived (with_dispatched unbounded r c) m
     kept m n x t low h =
         let mine = piece_inside mtu cs r n x (m - n) k t h in
         let q = mine.0 in
@@ -134,14 +102,14 @@ Grows-dispatched mtu cs sent r c e k s = record {
         let qm = q.matches in
         let qp = q.place in
         let pp = p.place in
-        elim (less_or_not (r.front + c.making.count) n) [
-          | inl beyond ↦ inr (n, x, get-without_outside r.held (r.front + 1) c.making.count n (inr (omega arith)) ∙ t, low, h)
+        elim (less_or_not (r.front + (count_of c.making)) n) [
+          | inl beyond ↦ inr (n, x, get-without_outside r.held (r.front + 1) (count_of c.making) n (inr (omega arith)) ∙ t, low, h)
           | inr within ↦
               let same : p.number ≡ q.number = same_start cs p.number q.number p.count q.count n p.packet q.packet p.stands q.stands p.reliable q.reliable (omega arith) (let a = pm.count in omega arith) (omega arith) (omega arith) in
               let first : n ≡ r.front + 1 = omega arith in
               let is : Some x ≡ Some c = sym t ∙ ap (get r.held) first ∙ e in
               let it : x ≡ c = cc in
-              let size : x.making.count ≡ c.making.count = ap (λ (y : Coming). y.making.count) it in
+              let size : (count_of x.making) ≡ (count_of c.making) = ap (λ (y : Coming). (count_of y.making)) it in
               inl (let a = qm.count in omega arith)
         ]
 
@@ -164,9 +132,9 @@ released-gap mtu cs (suc most) r k h = go (released-gap mtu cs most) (get r.held
       | true ↦ λ w.
           let p = k.held (r.front + 1) c e in
           let cut = k.cut p.packet (Stands-has cs p.number p.count p.packet p.stands) in
-          let size : 0 < c.making.count = let a = cut.some' in let b = p.matches in let d = b.count in omega arith in
+          let size : 0 < (count_of c.making) = let a = cut.some' in let b = p.matches in let d = b.count in omega arith in
           let one : r.front + 1 + 0 ≡ r.front + 1 = omega arith in
-          let less = len-without_first unbounded r.held (r.front + 1) c.making.count c one size e in
+          let less = len-without_first unbounded r.held (r.front + 1) (count_of c.making) c one size e in
           rest (with_dispatched unbounded r c) (Ready-dispatched mtu cs r c e w k) (omega arith)
       | false ↦ λ w. ends (Some c) e (ap (λ b. cond b (Some c) None) w)
     ] refl
@@ -190,7 +158,7 @@ Lacks-from_gap mtu cs sent r k s gap = go (get r.held (r.front + 1)) refl gap
       ],
     )
     go (Some c) e n =
-        let m = missing c.making.pieces c.making.count (not_whole (is_whole c.making) n) in
+        let m = missing c.making (not_whole (is_whole c.making) n) in
         let i = m.0 in
         let low = m.1 in
         let p = k.held (r.front + 1) c e in
@@ -216,7 +184,7 @@ Lacks-from_gap mtu cs sent r k s gap = go (get r.held (r.front + 1)) refl gap
                 let is : Some w.1 ≡ Some c = sym w.2 ∙ ap (get r.held) first ∙ e in
                 let it : w.1 ≡ c = cc in
                 let index : r.front + 1 + i - w.0 ≡ i = omega arith in
-                (let f : true ≡ false = sym w.4 ∙ ap (λ (y : Coming). contains_key y.making.pieces (r.front + 1 + i - w.0)) it ∙ ap (contains_key c.making.pieces) index ∙ m.2 in cc)
+                (let f : true ≡ false = sym w.4 ∙ ap (λ (y : Coming). has_piece y.making (r.front + 1 + i - w.0)) it ∙ ap (has_piece c.making) index ∙ m.2 in cc)
           ],
         )
       where

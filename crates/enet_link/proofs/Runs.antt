@@ -1,22 +1,29 @@
 -- Every run of a link keeps what holds of it.
-use Rattle.std.proofs.Common.{◌≡◌, ℕ, ◌+◌, ◌%◌, ◌<◌, Bool, true, false, List, [], ◌∷◌, map, refl, sym, ap, subst, ◌∙◌, inl, inr, arith, Option, Some, None}
+use Rattle.std.proofs.Common.{◌≡◌, ℕ, ◌%◌, ◌<◌, Bool, true, false, List, [], ◌∷◌, map, refl, sym, ap, subst, ◌∙◌, inl, inr, arith, Option, Some, None}
 use Rattle.std.specs.Prelude.{◌&&◌, unwrap_or}
 use Rattle.std.specs.Ordering.{nat_cmp}
 use Rattle.std.specs.FinMap.{FinMap, empty, get, get-empty}
-use Rattle.enet_link.specs.Numbering.{wire, unbounded}
-use Rattle.enet_link.specs.Carriage.{Carried, Follows}
-use Rattle.enet_link.specs.DataCommand.{DataCommand}
-use Rattle.enet_link.specs.Sender.{Sent}
-use Rattle.enet_link.specs.Receiver.{Coming, nothing_received, waiting_at}
-use Rattle.enet_link.specs.Reception.{outcome, is_handled, place_read}
+use Rattle.enet_seq.specs.Numbering.{wire, unbounded}
+use Rattle.enet_fragment.specs.declared.data.DataCommand.{DataCommand}
+use Rattle.enet_packets.specs.declared.coming.Coming.{Coming}
+use Rattle.enet_packets.specs.Packets.{line_at}
+use Rattle.enet_receiver.specs.Receiver.{nothing_received}
+use Rattle.enet_receiver.specs.Reception.{outcome, is_handled, place_read}
+use Rattle.enet_sender.specs.Carriage.{Carried}
+use Rattle.enet_sender.specs.declared.sent.Sent.{Sent}
 use Rattle.enet_link.specs.Link.{PutOut, is_late}
 use Rattle.enet_link.specs.WireLink.{WireLink}
 use Rattle.enet_link.specs.Steps.{Has, Event, Submit, Send, Drop, Mark, PutsOut, Arrive, ArriveAnswered, PutsAnswer, Acknowledge, StopSending, StopReceiving, DropAnswers, Happens, Runs, fresh_link, bodies_of}
 use Rattle.enet_link.specs.Keeps.{Keeps}
-use Rattle.enet_link.specs.Meant.{OfReliable, IsReadAsMeant}
+use Rattle.enet_link.specs.Meant.{OfReliable, IsReadAsMeant, IsReadAsItself}
 use Rattle.enet_link.proofs.ArrivalLemmas.{place_as_meant}
+use Rattle.enet_link.proofs.WireReceiver.{Shows-nothing}
 use Rattle.enet_link.proofs.LinkLemmas.{in_time}
-use Rattle.enet_link.proofs.Sound.{Sound, Images, Sound-follows, Sound-submits, Sound-sends, Sound-drops, Sound-marks, Sound-puts_out, Sound-arrives, Sound-arrives_answered, Sound-logs_answer, Sound-answered, Sound-stops_sending, Sound-stops_receiving, Sound-drops_answers}
+use Rattle.enet_link.proofs.Reading.{reads-piece}
+use Rattle.enet_link.proofs.Shown.{Sound, Images, Sound-follows}
+use Rattle.enet_link.proofs.SoundSender.{Sound-submits, Sound-sends, Sound-drops, Sound-marks}
+use Rattle.enet_link.proofs.Sound.{Sound-puts_out, Sound-arrives, Sound-arrives_answered, Sound-logs_answer, Sound-answered, Sound-stops_sending, Sound-stops_receiving, Sound-drops_answers}
+use Rattle.enet_link.specs.Follows.{Follows}
 
 nothing_at : (n : ℕ) → get (empty {X = Coming} {R = nat_cmp}) n ≡ None
 nothing_at n = get-empty nat_cmp n
@@ -39,7 +46,7 @@ Sound-fresh mtu = record {
     cut = λ c h. absurd h;
     held = λ n e h. absurd (let f = nothing_at n in cc);
     waiting = λ n k e h. absurd (let f : get (empty {X = FinMap nat_cmp Coming} {R = nat_cmp}) n ≡ None = get-empty nat_cmp n in
-        let g : get (waiting_at nothing_received n) k ≡ None = ap (λ (o : Option (FinMap nat_cmp Coming)). get (unwrap_or o empty) k) f ∙ nothing_at k in (let x : Some e ≡ None = sym h ∙ g in cc));
+        let g : get (line_at nothing_received.waiting n) k ≡ None = ap (λ (o : Option (FinMap nat_cmp Coming)). get (unwrap_or o empty) k) f ∙ nothing_at k in (let x : Some e ≡ None = sym h ∙ g in cc));
     passed = record { passed = []; left = []; whole = refl; consumed = refl; count = refl; last = refl };
   };
   shows = record {
@@ -53,18 +60,7 @@ Sound-fresh mtu = record {
     commands = λ e h. absurd h;
     pieces = λ e h. absurd h;
     making = λ c h. absurd h;
-    incoming = λ o. record {
-      front = refl;
-      unreliable = refl;
-      dispatched = refl;
-      held = λ d low high. nothing_at ((0 + d) % 65536) ∙ sym (nothing_at (0 + d));
-      low = λ n h. nothing_at n;
-      near = λ d far. nothing_at (0 + d);
-      sized = λ n c h. absurd (let f = nothing_at n in cc);
-      sized_true = λ n c h. absurd (let f = nothing_at n in cc);
-      waiting = λ d low. get-empty nat_cmp ((0 + d) % 65536) ∙ sym (get-empty nat_cmp (0 + d));
-      near_waiting = λ d far. get-empty nat_cmp (0 + d);
-    };
+    incoming = λ o. Shows-nothing;
     dispatched = ([], refl);
     answers = refl;
     acks = λ a h. absurd h;
@@ -154,3 +150,10 @@ follows mtu events w big h = Sound-follows mtu w (Sound-runs mtu events fresh_li
 
 pub keeps : (mtu : ℕ) (events : List Event) (w : WireLink) → 28 < mtu → Runs mtu events fresh_link w → Keeps mtu w
 keeps mtu events w big h = Keeps-sound mtu w (Sound-runs mtu events fresh_link w big (Sound-fresh mtu) h)
+
+pub reads : (mtu : ℕ) (events : List Event) (w : WireLink) → 28 < mtu → Runs mtu events fresh_link w → (c : PutOut) → Has w.commands c → IsReadAsItself c.command
+reads mtu events w big h c k =
+    let s = Sound-runs mtu events fresh_link w big (Sound-fresh mtu) h in
+    let shows = s.shows in
+    let y = shows.commands c k in
+    subst (λ (x : DataCommand). IsReadAsItself x) (sym y.command) (reads-piece mtu s.link.carried y.meant (shows.pieces (record { command = y.meant; reach = c.reach }) y.there))

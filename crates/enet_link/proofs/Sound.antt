@@ -1,659 +1,28 @@
--- What holds of a link as its two ends and the log show it.
-use Rattle.std.proofs.Common.{◌≡◌, ◌≢◌, ℕ, ◌+◌, ◌-◌, ◌*◌, ◌/◌, ◌%◌, ◌<◌, ◌≤◌, Bool, true, false, not, cond, ◌==◌, ◌||◌, if◌then◌else◌, List, [], ◌∷◌, ◌++◌, length, map, refl, sym, ap, subst, ◌∙◌, inl, inr, ◌⊎◌, arith, Option, Some, None, zero, suc, append_assoc}
+-- What the log, the receiving end and the acknowledgements do keeps what holds of a link.
+use Rattle.std.proofs.Common.{◌≡◌, ◌≢◌, ℕ, ◌+◌, ◌%◌, ◌<◌, ◌≤◌, Bool, true, false, not, cond, ◌==◌, List, [], ◌∷◌, ◌++◌, map, refl, sym, ap, subst, ◌∙◌, inl, inr, arith, append_assoc}
 use Rattle.std.proofs.lemmas.Bool.Decides.{nat_tests}
 use Rattle.std.proofs.lemmas.List.{append-nil, map-append}
-use Rattle.std.proofs.Math.Nat.{lt-div-mul-add}
-use Rattle.std.specs.Prelude.{nat_lt, nat_le, ◌&&◌, ◌^◌, min, slice_get, slice_set}
-use Rattle.std.specs.List.{filter, position}
-use Rattle.enet_seq.specs.Windows.{ahead}
-use Rattle.enet_seq.proofs.WindowsLemmas.{ahead_true}
-use Rattle.enet_link.specs.Numbering.{wire, unbounded}
-use Rattle.enet_link.specs.Carriage.{Packet, Carried, carried, carried_from, carried_as, command_count, count_after, goes_reliable, fragment_length, pieces_of, Follows, FollowsCarried}
-use Rattle.enet_link.specs.DataCommand.{DataCommand}
-use Rattle.enet_link.specs.Sender.{Sender, Sent, Next, commands_of, with_queued, again, begun, is_in_span, may_go, resent, first_sent, next_queued, next_resent, next_of, next, is_more, skipped, with_skipped, has_number, marked, is_late}
-use Rattle.enet_link.specs.Receiver.{Receiver, Dispatched}
-use Rattle.enet_link.specs.Reception.{received, outcome, is_handled, piece_of}
+use Rattle.std.specs.List.{filter}
+use Rattle.enet_seq.specs.Numbering.{wire, unbounded}
+use Rattle.enet_fragment.specs.declared.data.DataCommand.{DataCommand}
+use Rattle.enet_fragment.specs.DataCommand.{piece_of}
+use Rattle.enet_packets.specs.declared.coming.Dispatched.{Dispatched}
+use Rattle.enet_receiver.specs.Receiver.{Receiver}
+use Rattle.enet_receiver.specs.Reception.{received, outcome, is_handled}
+use Rattle.enet_sender.specs.Carriage.{Carried}
+use Rattle.enet_sender.specs.Sender.{Sender, place_of, without_place}
+use Rattle.enet_sender.specs.declared.sent.Sent.{Sent}
 use Rattle.enet_link.specs.Link.{Link, PutOut, Answer, accept, send, put_out, takes_in, queue_answer, put_answer, closed, wired}
 use Rattle.enet_link.specs.Link as link
-use Rattle.enet_link.specs.WireLink.{WireLink, submits, greatest_after, sends, drops, marks, with_reach, puts_out, arrives, logs_answer, answered, stops_sending, stops_receiving, drops_answers}
-use Rattle.enet_link.proofs.Lists.{Has, Has-push_cases, Has-push_left, Has-push, Has-from_filter, Has-slice_get}
+use Rattle.enet_link.specs.WireLink.{WireLink, with_reach, puts_out, arrives, logs_answer, answered, stops_sending, stops_receiving, drops_answers}
+use Rattle.enet_link.proofs.Lists.{Has, Has-push_cases, Has-push_left, Has-push}
 use Rattle.enet_link.proofs.WireReceiver.{ShowsReceiver, Shows-received}
-use Rattle.enet_link.proofs.CarriageLemmas.{IsCut, Stands, Follows-consumed, Follows-front, command_count-append, count_after-append}
-use Rattle.enet_link.proofs.ContentLemmas.{Ready, bodies_of}
-use Rattle.enet_link.proofs.PieceLemmas.{IsPlain, IsPieceOf, IsPieceOf-more, says}
-use Rattle.enet_link.proofs.LinkLemmas.{Numbers, either, Numbers-accept, Numbers-send, Numbers-put_out, put_out-reliable, put_out-unreliable, Numbers-takes_in, known-takes_in, arrives as arrival, Numbers-queue_answer, Numbers-put_answer, Numbers-acknowledged, Numbers-closed}
-use Rattle.enet_link.proofs.QueueLemmas.{reliable_count, reliable_count-append, all_from, all-append, wired-commands, next_command}
-
--- the queue has the commands of what was submitted that didn't go
-pub record Queues (mtu : ℕ) (cs : List Carried) (sent : ℕ) (o : Sender) : Type 0 where
-  pub gone : List DataCommand
-  pub left : List DataCommand
-  pub whole : all_from mtu 0 0 cs ≡ gone ++ left
-  pub count : reliable_count gone ≡ sent
-  pub queued : o.queued ≡ map wired left
-  pub number : o.number ≡ command_count cs % 65536
-  pub unreliable : o.unreliable ≡ count_after 0 cs
-
--- a sent command is the one of this number
-pub record ImageOf (mtu : ℕ) (cs : List Carried) (n : ℕ) (p : Sent) : Type 0 where
-  pub meant : DataCommand
-  pub piece : IsPieceOf mtu cs meant
-  pub reliable : meant.reliable ≡ true
-  pub number : meant.number ≡ n
-  pub command : p.command ≡ wired meant
-
-abbrev pub Images : ℕ → List Carried → List ℕ → List Sent → Type 0
-Images mtu cs [] [] = Unit {0}
-Images mtu cs [] (p ∷ sent) = ⊥
-Images mtu cs (n ∷ ns) [] = ⊥
-Images mtu cs (n ∷ ns) (p ∷ sent) = ImageOf mtu cs n p × Images mtu cs ns sent
-
-abbrev pub Rising : List ℕ → Type 0
-Rising [] = Unit {0}
-Rising (n ∷ ns) = ((m : ℕ) → Has ns m → n ≤ m) × Rising ns
-
--- a command of the datagram in the making: it waits for its acknowledgement, or is unreliable and the next number is the last sent or waits
-pub record Pending (mtu : ℕ) (l : Link) (c : DataCommand) : Type 0 where
-  pub meant : DataCommand
-  pub piece : IsPieceOf mtu l.carried meant
-  pub command : c ≡ wired meant
-  pub reliable : meant.reliable ≡ true → Has l.unacked meant.number
-  pub unreliable : meant.reliable ≡ false → (meant.number ≤ l.sent) × ((l.sent ≡ meant.number) ⊎ Has l.unacked (meant.number + 1))
-
--- a command of the log is one that was meant
-pub record Logged (l : Link) (e : PutOut) : Type 0 where
-  pub meant : DataCommand
-  pub command : e.command ≡ wired meant
-  pub there : Has l.commands (record { command = meant; reach = e.reach })
-
-pub record Shows (mtu : ℕ) (v : WireLink) (l : Link) : Type 0 where
-  pub carried : l.carried ≡ carried mtu v.submitted
-  pub plain : (c : Carried) → Has l.carried c → IsPlain mtu c
-  pub greatest : v.greatest ≡ l.sent
-  pub is_open : v.is_open ≡ l.is_open
-  pub queues : v.is_sending ≡ true → Queues mtu l.carried l.sent v.outgoing
-  pub images : v.is_sending ≡ true → Images mtu l.carried l.unacked v.outgoing.sent
-  pub rising : Rising l.unacked
-  pub commands : (e : PutOut) → Has v.commands e → Logged l e
-  pub pieces : (e : PutOut) → Has l.commands e → IsPieceOf mtu l.carried e.command
-  pub making : (c : DataCommand) → Has v.making c → Pending mtu l c
-  pub incoming : l.is_open ≡ true → ShowsReceiver v.incoming l.receiver
-  pub dispatched : (rest : List Dispatched) × (l.receiver.dispatched ≡ v.incoming.dispatched ++ rest)
-  pub answers : v.answers ≡ map (λ a. a.number % 65536) l.answers
-  pub acks : (a : Answer) → Has v.acks a → (n : ℕ) × (a.number ≡ n % 65536) × Has l.acks (record { number = n; reach = a.reach })
-
-pub record Sound (mtu : ℕ) (v : WireLink) : Type 0 where
-  pub link : Link
-  pub shows : Shows mtu v link
-  pub numbers : Numbers link
-  pub ready : Ready mtu link.carried link.receiver
-
--- the headline, for one channel of one connection
-pub Sound-follows : (mtu : ℕ) (v : WireLink) → Sound mtu v → Follows mtu v.submitted (bodies_of v.incoming.dispatched)
-Sound-follows mtu v s =
-    let p = s.ready.passed in
-    let d = s.shows.dispatched in
-    let all : FollowsCarried s.link.carried (bodies_of s.link.receiver.dispatched) = subst (λ (x : List Carried). FollowsCarried x (bodies_of s.link.receiver.dispatched)) (sym p.whole) (Follows-consumed p.passed p.left (bodies_of s.link.receiver.dispatched) p.consumed) in
-    let split : bodies_of s.link.receiver.dispatched ≡ bodies_of v.incoming.dispatched ++ bodies_of d.0 = ap bodies_of d.1 ∙ map-append (λ (x : Dispatched). x.body) v.incoming.dispatched d.0 in
-    let part : FollowsCarried s.link.carried (bodies_of v.incoming.dispatched) = Follows-front s.link.carried (bodies_of v.incoming.dispatched) (bodies_of d.0) (subst (λ (x : List (List ℕ)). FollowsCarried s.link.carried x) split all) in
-    subst (λ (x : List Carried). FollowsCarried x (bodies_of v.incoming.dispatched)) s.shows.carried part
-
--- how a packet is cut
-
-pieces_cover : (size len : ℕ) → 0 < size → len ≤ pieces_of size len * size × 0 < pieces_of size len
-pieces_cover size len z =
-    elim (nat_lt size len) as (λ b. nat_lt size len ≡ b → let n = cond b ((len + size - 1) / size) 1 in len ≤ n * size × 0 < n) [
-      | true ↦ λ t.
-          let k : len + size - 1 < (len + size - 1) / size * size + size = lt-div-mul-add z in
-          let above : size < len = above_is size len t in
-          (omega arith, some_is ((len + size - 1) / size) k above)
-      | false ↦ λ t. (let low : len ≤ size = below_is size len t in omega arith, omega arith)
-    ] refl
-  where
-    above_is : (a b : ℕ) → nat_lt a b ≡ true → a < b
-    above_is a b t = grind (arith, nat_tests)
-
-    below_is : (a b : ℕ) → nat_lt a b ≡ false → b ≤ a
-    below_is a b t = grind (arith, nat_tests)
-
-    some_is : (q : ℕ) → len + size - 1 < q * size + size → size < len → 0 < q
-    some_is zero k a = absurd (omega arith)
-    some_is (suc q) k a = omega arith
-
-IsCut-carried : (mtu count : ℕ) (p : Packet) → 28 < mtu → (carried_as mtu count p).pieces ≤ 16384 → IsCut mtu (carried_as mtu count p)
-IsCut-carried mtu count p big few = let k = pieces_cover (fragment_length mtu) (length p.body) (omega arith) in record { some' = k.1; few = few; covered = k.0 }
-
-IsPlain-carried : (mtu count : ℕ) (p : Packet) → IsPlain mtu (carried_as mtu count p)
-IsPlain-carried mtu count p short = ap (λ b. cond b ((length p.body + fragment_length mtu - 1) / fragment_length mtu) 1) short
-
-carried-push : (mtu count : ℕ) (ps : List Packet) (p : Packet) → carried_from mtu count (ps ++ p ∷ []) ≡ carried_from mtu count ps ++ carried_as mtu (count_after count (carried_from mtu count ps)) p ∷ []
-carried-push mtu count [] p = refl
-carried-push mtu count (x ∷ ps) p = ap (λ (l : List Carried). carried_as mtu count x ∷ l) (carried-push mtu (cond (goes_reliable mtu count x) 0 (count + 1)) ps p)
-
--- a packet is submitted
-
-Queues-submit : (mtu : ℕ) (cs : List Carried) (sent : ℕ) (o : Sender) (c : Carried) → Queues mtu cs sent o → Queues mtu (cs ++ c ∷ []) sent (with_queued wire mtu o c)
-Queues-submit mtu cs sent o c q =
-    let new : List DataCommand = commands_of unbounded mtu (command_count cs) (count_after 0 cs) c in
-    let on : commands_of wire mtu o.number o.unreliable c ≡ map wired new = (λ i. commands_of wire mtu (q.number i) (q.unreliable i) c) ∙ wired-commands mtu (command_count cs) (count_after 0 cs) c in
-    let count = command_count-append cs (c ∷ []) in
-    let qn = q.number in
-    let z : 0 + command_count cs ≡ command_count cs = omega arith in
-    record {
-      gone = q.gone;
-      left = q.left ++ new;
-      count = q.count;
-      whole = all-append mtu 0 0 cs (c ∷ []) ∙ ap (λ n. all_from mtu 0 0 cs ++ all_from mtu n (count_after 0 cs) (c ∷ [])) z
-          ∙ ap (λ l. all_from mtu 0 0 cs ++ l) (append-nil new)
-          ∙ ap (λ l. l ++ new) q.whole ∙ append_assoc q.gone q.left new;
-      queued = (λ i. q.queued i ++ on i) ∙ sym (map-append wired q.left new);
-      number = ap (λ n. cond c.reliable ((n + c.pieces) % 65536) n) q.number ∙ ap (λ n. n) (last c.reliable) ∙ ap (λ n. n % 65536) (sym count);
-      unreliable = ap (λ n. cond c.reliable 0 (n + 1)) q.unreliable ∙ sym (count_after-append 0 cs (c ∷ []));
-    }
-  where
-    last : (r : Bool) → cond r ((command_count cs % 65536 + c.pieces) % 65536) (command_count cs % 65536) ≡ (command_count cs + cond r (0 + c.pieces) 0) % 65536
-    last true = omega arith
-    last false = omega arith
-
-ImageOf-more : (mtu : ℕ) (cs : List Carried) (x : Carried) (n : ℕ) (p : Sent) → ImageOf mtu cs n p → ImageOf mtu (cs ++ x ∷ []) n p
-ImageOf-more mtu cs x n p h = record { meant = h.meant; piece = IsPieceOf-more mtu cs x h.meant h.piece; reliable = h.reliable; number = h.number; command = h.command }
-
-Images-more : (mtu : ℕ) (cs : List Carried) (x : Carried) (ns : List ℕ) (sent : List Sent) → Images mtu cs ns sent → Images mtu (cs ++ x ∷ []) ns sent
-Images-more mtu cs x [] [] h = tt
-Images-more mtu cs x [] (c ∷ sent) h = absurd h
-Images-more mtu cs x (n ∷ ns) [] h = absurd h
-Images-more mtu cs x (n ∷ ns) (c ∷ sent) h = (ImageOf-more mtu cs x n c h.0, Images-more mtu cs x ns sent h.1)
-
-Ready-accept : (mtu : ℕ) (cs : List Carried) (x : Carried) (r : Receiver) → IsCut mtu x → Ready mtu cs r → Ready mtu (cs ++ x ∷ []) r
-Ready-accept mtu cs x r cut k = record {
-  cut = λ c h. elim (Has-push_cases cs x c h) [ inl old ↦ k.cut c old | inr is ↦ subst (λ y. IsCut mtu y) is cut ];
-  held = λ n e t. let h = k.held n e t in record { packet = h.packet; number = h.number; count = h.count; place = h.place; stands = more h.number h.count h.packet h.stands; reliable = h.reliable; matches = h.matches; begun = h.begun };
-  waiting = λ n q e t. let h = k.waiting n q e t in record { packet = h.packet; count = h.count; place = h.place; stands = more n h.count h.packet h.stands; reliable = h.reliable; matches = h.matches };
-  passed = let p = k.passed in record { passed = p.passed; left = p.left ++ x ∷ []; whole = ap (λ l. l ++ x ∷ []) p.whole ∙ append_assoc p.passed p.left (x ∷ []); consumed = p.consumed; count = p.count; last = p.last };
-}
-  where
-    more : (n k : ℕ) (c : Carried) → Stands cs n k c → Stands (cs ++ x ∷ []) n k c
-    more n k c w = record { before = w.before; behind = w.behind ++ x ∷ []; number_is = w.number_is; count_is = w.count_is; whole = ap (λ l. l ++ x ∷ []) w.whole ∙ append_assoc w.before (c ∷ w.behind) (x ∷ []) }
-
-Pending-more : (mtu : ℕ) (l : Link) (x : Carried) (c : DataCommand) → Pending mtu l c → Pending mtu (accept l x) c
-Pending-more mtu l x c k = record { meant = k.meant; piece = IsPieceOf-more mtu l.carried x k.meant k.piece; command = k.command; reliable = k.reliable; unreliable = k.unreliable }
-
-pub Sound-submits : (mtu : ℕ) (v : WireLink) (p : Packet) → 28 < mtu → Sound mtu v → v.is_sending ≡ true → (carried_as mtu v.outgoing.unreliable p).pieces ≤ 16384 → Sound mtu (submits mtu v p)
-Sound-submits mtu v p big s sending few =
-    let l = s.link in
-    let h = s.shows in
-    let q = h.queues sending in
-    let c : Carried = carried_as mtu v.outgoing.unreliable p in
-    record {
-      link = accept l c;
-      numbers = Numbers-accept l c s.numbers;
-      ready = Ready-accept mtu l.carried c l.receiver (IsCut-carried mtu v.outgoing.unreliable p big few) s.ready;
-      shows = record {
-        carried = ap (λ (x : List Carried). x ++ c ∷ []) h.carried
-            ∙ ap (λ n. carried mtu v.submitted ++ carried_as mtu n p ∷ []) (q.unreliable ∙ ap (count_after 0) h.carried)
-            ∙ sym (carried-push mtu 0 v.submitted p);
-        plain = λ x t. elim (Has-push_cases l.carried c x t) [ inl old ↦ h.plain x old | inr is ↦ subst (λ y. IsPlain mtu y) is (IsPlain-carried mtu v.outgoing.unreliable p) ];
-        greatest = h.greatest;
-        is_open = h.is_open;
-        queues = λ k. Queues-submit mtu l.carried l.sent v.outgoing c q;
-        images = λ k. Images-more mtu l.carried c l.unacked v.outgoing.sent (h.images sending);
-        rising = h.rising;
-        incoming = h.incoming;
-        dispatched = h.dispatched;
-        answers = h.answers;
-        acks = h.acks;
-        commands = λ e t. let k = h.commands e t in record { meant = k.meant; command = k.command; there = k.there };
-        pieces = λ e t. IsPieceOf-more mtu l.carried c e.command (h.pieces e t);
-        making = λ d t. Pending-more mtu l c d (h.making d t);
-      };
-    }
-
--- what is due next
-
--- a sent command goes again, or the head of the queue goes
-pub record Resends (o : Sender) (now : ℕ) (n : Next) : Type 0 where
-  pub place : ℕ
-  pub which : Sent
-  pub there : slice_get o.sent place ≡ Some which
-  pub is : n ≡ resent now o place which
-
-pub record Begins (o : Sender) (now timeout transit most : ℕ) (n : Next) : Type 0 where
-  pub head : DataCommand
-  pub rest : List DataCommand
-  pub queued : o.queued ≡ head ∷ rest
-  pub allowed : may_go wire o.sent transit most head ≡ true
-  pub is : n ≡ first_sent now timeout o head rest
-
-some_same : {X : Type 0} (x y : X) → Some x ≡ Some y → x ≡ y
-some_same x y e = cc
-
-next_cases : (now timeout transit most : ℕ) (o : Sender) (n : Next) → next wire now timeout transit most o ≡ Some n → Resends o now n ⊎ Begins o now timeout transit most n
-next_cases now timeout transit most o n e = go (position (λ (p : Sent). p.due) o.sent) e
-  where
-    from_queue : (q : List DataCommand) → o.queued ≡ q → next_queued wire now timeout transit most o q ≡ Some n → Resends o now n ⊎ Begins o now timeout transit most n
-    from_queue [] t k = absurd (cc)
-    from_queue (c ∷ rest) t k =
-        elim (may_go wire o.sent transit most c) as (λ b. may_go wire o.sent transit most c ≡ b → cond b (Some (first_sent now timeout o c rest)) None ≡ Some n → Resends o now n ⊎ Begins o now timeout transit most n) [
-          | true ↦ λ m f. inr (record { head = c; rest = rest; queued = t; allowed = m; is = sym (some_same _ _ f) })
-          | false ↦ λ m f. absurd (cc)
-        ] refl k
-
-    from_sent : (i : ℕ) (p : Option Sent) → slice_get o.sent i ≡ p → next_resent now o i p ≡ Some n → Resends o now n ⊎ Begins o now timeout transit most n
-    from_sent i None t k = absurd (cc)
-    from_sent i (Some p) t k = inl (record { place = i; which = p; there = t; is = sym (some_same _ _ k) })
-
-    go : (w : Option ℕ) → next_of wire now timeout transit most o w ≡ Some n → Resends o now n ⊎ Begins o now timeout transit most n
-    go None k = from_queue o.queued refl k
-    go (Some i) k = from_sent i (slice_get o.sent i) refl k
-
--- the head of the queue is the next of all commands
-record Heads (mtu : ℕ) (cs : List Carried) (sent : ℕ) (o : Sender) (c : DataCommand) (rest : List DataCommand) : Type 0 where
-  meant : DataCommand
-  gone : List DataCommand
-  left : List DataCommand
-  whole : all_from mtu 0 0 cs ≡ gone ++ meant ∷ left
-  count : reliable_count gone ≡ sent
-  command : c ≡ wired meant
-  queued : rest ≡ map wired left
-  piece : IsPieceOf mtu cs meant
-  number : meant.number ≡ cond meant.reliable (sent + 1) sent
-  last : o.number ≡ command_count cs % 65536
-  unreliable : o.unreliable ≡ count_after 0 cs
-
-Heads-from : (mtu : ℕ) (cs : List Carried) (sent : ℕ) (o : Sender) (c : DataCommand) (rest : List DataCommand) → ((x : Carried) → Has cs x → IsPlain mtu x) → o.queued ≡ c ∷ rest → Queues mtu cs sent o → Heads mtu cs sent o c rest
-Heads-from mtu cs sent o c rest plain e q = go q.left q.whole (sym e ∙ q.queued)
-  where
-    go : (left : List DataCommand) → all_from mtu 0 0 cs ≡ q.gone ++ left → c ∷ rest ≡ map wired left → Heads mtu cs sent o c rest
-    go [] w f = absurd (cc)
-    go (d ∷ left) w f =
-        let n = next_command mtu cs q.gone d left plain w in
-        record {
-          meant = d;
-          gone = q.gone;
-          left = left;
-          whole = w;
-          count = q.count;
-          piece = n.piece;
-          last = q.number;
-          unreliable = q.unreliable;
-          command = cc;
-          queued = cc;
-          number = n.number ∙ ap (λ k. cond d.reliable (k + 1) k) q.count;
-        }
-
--- the queue after its head went
-Queues-sent : (mtu : ℕ) (cs : List Carried) (sent : ℕ) (o : Sender) (c : DataCommand) (rest : List DataCommand) (sent' : List Sent) (h : Heads mtu cs sent o c rest)
-    → Queues mtu cs (cond h.meant.reliable (sent + 1) sent) (record o { queued = rest; sent = sent' })
-Queues-sent mtu cs sent o c rest sent' h = record {
-  gone = h.gone ++ h.meant ∷ [];
-  left = h.left;
-  whole = h.whole ∙ sym (append_assoc h.gone (h.meant ∷ []) h.left);
-  count = reliable_count-append h.gone (h.meant ∷ []) ∙ ap (λ k. k + reliable_count (h.meant ∷ [])) h.count ∙ last h.meant.reliable;
-  queued = h.queued;
-  number = h.last;
-  unreliable = h.unreliable;
-}
-  where
-    last : (r : Bool) → sent + cond r (0 + 1) 0 ≡ cond r (sent + 1) sent
-    last true = omega arith
-    last false = omega arith
-
-Rising-push : (ns : List ℕ) (n : ℕ) → Rising ns → ((m : ℕ) → Has ns m → m ≤ n) → Rising (ns ++ n ∷ [])
-Rising-push [] n r h = ((λ m k. absurd k), tt)
-Rising-push (x ∷ ns) n r h = (
-  (λ m k. elim (Has-push_cases ns n m k) [ inl j ↦ r.0 m j | inr is ↦ subst (λ z. x ≤ z) is (h x (inl refl)) ]),
-  Rising-push ns n r.1 (λ m k. h m (inr k)),
-)
-
-Images-push : (mtu : ℕ) (cs : List Carried) (ns : List ℕ) (sent : List Sent) (n : ℕ) (p : Sent) → Images mtu cs ns sent → ImageOf mtu cs n p → Images mtu cs (ns ++ n ∷ []) (sent ++ p ∷ [])
-Images-push mtu cs [] [] n p h i = (i, tt)
-Images-push mtu cs [] (d ∷ sent) n p h i = absurd h
-Images-push mtu cs (m ∷ ns) [] n p h i = absurd h
-Images-push mtu cs (m ∷ ns) (d ∷ sent) n p h i = (h.0, Images-push mtu cs ns sent n p h.1 i)
-
--- the span's test of the oldest is that of all
-room_from : (mtu : ℕ) (cs : List Carried) (ns : List ℕ) (sent : List Sent) (number last : ℕ) → Images mtu cs ns sent → Rising ns → ((m : ℕ) → Has ns m → (m ≤ last) × (last < m + 8192)) → number ≡ (last + 1) % 65536 → is_in_span wire sent number ≡ true
-    → (m : ℕ) → Has ns m → last + 1 < m + 8192
-room_from mtu cs [] sent number last i r b e t m h = absurd h
-room_from mtu cs (n ∷ ns) [] number last i r b e t m h = absurd i
-room_from mtu cs (n ∷ ns) (p ∷ sent) number last i r b e t m h =
-    let k = b n (inl refl) in
-    let k0 = k.0 in
-    let k1 = k.1 in
-    let im = i.0 in
-    let wired_number : p.command.number ≡ n % 65536 = ap (λ (x : DataCommand). x.number) im.command ∙ ap (λ x. x % 65536) im.number in
-    let d = ahead_true n (last + 1) (omega arith) (omega arith) in
-    let f : ahead p.command.number number ≡ ahead (n % 65536) ((last + 1) % 65536) = ap (λ z. ahead z number) wired_number ∙ ap (λ z. ahead (n % 65536) z) e in
-    let g : ahead p.command.number number < 8192 = below (ahead p.command.number number) 8192 t in
-    let low : n ≤ m = elim h [ inl is ↦ subst (λ z. n ≤ z) is (omega arith) | inr j ↦ r.0 m j ] in
-    omega arith
-  where
-    below : (p q : ℕ) → nat_lt p q ≡ true → p < q
-    below p q x = grind (arith, nat_tests)
-
-Images-has : (mtu : ℕ) (cs : List Carried) (ns : List ℕ) (sent : List Sent) (p : Sent) → Images mtu cs ns sent → Has sent p → (n : ℕ) × Has ns n × ImageOf mtu cs n p
-Images-has mtu cs [] [] p i h = absurd h
-Images-has mtu cs [] (d ∷ sent) p i h = absurd i
-Images-has mtu cs (n ∷ ns) [] p i h = absurd h
-Images-has mtu cs (n ∷ ns) (d ∷ sent) p i (inl e) = subst (λ (x : Sent). (m : ℕ) × Has (n ∷ ns) m × ImageOf mtu cs m x) e (n, inl refl, i.0)
-Images-has mtu cs (n ∷ ns) (d ∷ sent) p i (inr h) = let k = Images-has mtu cs ns sent p i.1 h in (k.0, inr k.1, k.2)
-
--- a sent command is replaced by one that says the same
-Images-set : (mtu : ℕ) (cs : List Carried) (ns : List ℕ) (sent : List Sent) (i : ℕ) (p q : Sent) → Images mtu cs ns sent → slice_get sent i ≡ Some p → q.command ≡ p.command → Images mtu cs ns (slice_set sent i q)
-Images-set mtu cs [] [] i p q h t e = absurd (cc)
-Images-set mtu cs [] (d ∷ sent) i p q h t e = absurd h
-Images-set mtu cs (n ∷ ns) [] i p q h t e = absurd h
-Images-set mtu cs (n ∷ ns) (d ∷ sent) zero p q h t e =
-    let same : d ≡ p = some_same d p t in
-    let im = h.0 in
-    (record { meant = im.meant; piece = im.piece; reliable = im.reliable; number = im.number; command = e ∙ ap (λ (x : Sent). x.command) (sym same) ∙ im.command }, h.1)
-Images-set mtu cs (n ∷ ns) (d ∷ sent) (suc i) p q h t e = (h.0, Images-set mtu cs ns sent i p q h.1 t e)
-
-Images-map : (mtu : ℕ) (cs : List Carried) (ns : List ℕ) (sent : List Sent) (f : Sent → Sent) → ((p : Sent) → (f p).command ≡ p.command) → Images mtu cs ns sent → Images mtu cs ns (map f sent)
-Images-map mtu cs [] [] f e h = tt
-Images-map mtu cs [] (p ∷ sent) f e h = absurd h
-Images-map mtu cs (n ∷ ns) [] f e h = absurd h
-Images-map mtu cs (n ∷ ns) (p ∷ sent) f e h =
-    let im = h.0 in
-    (record { meant = im.meant; piece = im.piece; reliable = im.reliable; number = im.number; command = e p ∙ im.command }, Images-map mtu cs ns sent f e h.1)
-
-or_left : (a b : Bool) → (not a || b) ≡ true → a ≡ true → b ≡ true
-or_left true b h t = h
-or_left false b h t = absurd (cc)
-
-and_left : (a b : Bool) → (a && b) ≡ true → a ≡ true
-and_left true b h = refl
-and_left false b h = absurd (cc)
-
--- the greatest number after a command
-grows_for : (g : ℕ) (c : DataCommand) → c.reliable ≡ true → c.number ≡ (g + 1) % 65536 → greatest_after g c ≡ g + 1
-grows_for g c r n =
-    let t : (c.number == (g + 1) % 65536) ≡ true = grind (arith, nat_tests) in
-    let both : (c.reliable && c.number == (g + 1) % 65536) ≡ true = λ i. r i && t i in
-    ap (λ b. cond b (g + 1) g) both
-
-stays_for : (g : ℕ) (c : DataCommand) → (c.reliable ≡ true → c.number ≢ (g + 1) % 65536) → greatest_after g c ≡ g
-stays_for g c h =
-    elim c.reliable as (λ r. c.reliable ≡ r → cond (r && c.number == (g + 1) % 65536) (g + 1) g ≡ g) [
-      | true ↦ λ r. ap (λ b. cond b (g + 1) g) (apart c.number ((g + 1) % 65536) (h r))
-      | false ↦ λ r. refl
-    ] refl
-  where
-    apart : (a b : ℕ) → a ≢ b → (a == b) ≡ false
-    apart a b n = grind (arith, nat_tests)
-
--- a sent command goes again
-Sound-resends : (mtu : ℕ) (v : WireLink) (now : ℕ) (n : Next) → Sound mtu v → v.is_sending ≡ true → Resends v.outgoing now n → Sound mtu (sends v n)
-Sound-resends mtu v now n s sending r =
-    let l = s.link in
-    let h = s.shows in
-    let q = h.queues sending in
-    let p = r.which in
-    let had = Images-has mtu l.carried l.unacked v.outgoing.sent p (h.images sending) (Has-slice_get v.outgoing.sent r.place p r.there) in
-    let m = had.0 in
-    let im = had.2 in
-    let u = s.numbers.unacked m had.1 in
-    let command : n.command ≡ wired im.meant = ap (λ (x : Next). x.command) r.is ∙ im.command in
-    let number : n.command.number ≡ m % 65536 = ap (λ (x : DataCommand). x.number) command ∙ ap (λ x. x % 65536) im.number in
-    let g = h.greatest in
-    let u0 = u.0 in let u1 = u.1 in let u2 = u.2 in
-    let stays : greatest_after v.greatest n.command ≡ v.greatest = stays_for v.greatest n.command (λ t e. grind arith) in
-    let out : n.sender ≡ (record v.outgoing { sent = slice_set v.outgoing.sent r.place (again now p) }) = ap (λ (x : Next). x.sender) r.is in
-    record {
-      link = l;
-      numbers = s.numbers;
-      ready = s.ready;
-      shows = record {
-        carried = h.carried;
-        plain = h.plain;
-        greatest = stays ∙ h.greatest;
-        is_open = h.is_open;
-        rising = h.rising;
-        commands = h.commands;
-        pieces = h.pieces;
-        incoming = h.incoming;
-        dispatched = h.dispatched;
-        answers = h.answers;
-        acks = h.acks;
-        queues = λ j. subst (λ x. Queues mtu l.carried l.sent x) (sym out) (record { gone = q.gone; left = q.left; whole = q.whole; count = q.count; queued = q.queued; number = q.number; unreliable = q.unreliable });
-        images = λ j. subst (λ (x : Sender). Images mtu l.carried l.unacked x.sent) (sym out) (Images-set mtu l.carried l.unacked v.outgoing.sent r.place p (again now p) (h.images sending) r.there refl);
-        making = λ d t. elim (Has-push_cases v.making n.command d t) [
-          | inl old ↦ h.making d old
-          | inr is ↦ subst (λ x. Pending mtu l x) is (record {
-            meant = im.meant;
-            piece = im.piece;
-            command = command;
-            reliable = λ k. subst (λ x. Has l.unacked x) (sym im.number) had.1;
-            unreliable = λ k. absurd (let f : true ≡ false = sym im.reliable ∙ k in cc);
-          })
-        ];
-      };
-    }
-
--- the head of the queue goes for the first time
-Sound-begins_reliable : (mtu : ℕ) (v : WireLink) (now timeout transit most : ℕ) (n : Next) (s : Sound mtu v) → v.is_sending ≡ true → (b : Begins v.outgoing now timeout transit most n) → (k : Heads mtu s.link.carried s.link.sent v.outgoing b.head b.rest) → k.meant.reliable ≡ true → Sound mtu (sends v n)
-Sound-begins_reliable mtu v now timeout transit most n s sending b k kind =
-    let l = s.link in
-    let h = s.shows in
-    let c = b.head in
-    let head_kind : c.reliable ≡ true = ap (λ (x : DataCommand). x.reliable) k.command ∙ kind in
-    let meant_number : k.meant.number ≡ l.sent + 1 = k.number ∙ ap (λ r. cond r (l.sent + 1) l.sent) kind in
-    let number : c.number ≡ (l.sent + 1) % 65536 = ap (λ (x : DataCommand). x.number) k.command ∙ ap (λ x. x % 65536) meant_number in
-    let span : is_in_span wire v.outgoing.sent c.number ≡ true = and_left (is_in_span wire v.outgoing.sent c.number) (nat_le (transit + length c.body) most) (or_left c.reliable _ b.allowed head_kind) in
-    let room = room_from mtu l.carried l.unacked v.outgoing.sent c.number l.sent (h.images sending) h.rising (λ m j. let u = s.numbers.unacked m j in (u.1, u.2)) number span in
-    let command : n.command ≡ c = ap (λ (x : Next). x.command) b.is in
-    let up : greatest_after v.greatest n.command ≡ v.greatest + 1 = ap (greatest_after v.greatest) command ∙ grows_for v.greatest c head_kind (number ∙ ap (λ g. (g + 1) % 65536) (sym h.greatest)) in
-    let out : n.sender ≡ (record v.outgoing { queued = b.rest; sent = v.outgoing.sent ++ begun now timeout c ∷ [] }) =
-    ap (λ (x : Next). x.sender) b.is ∙ ap (λ r. record v.outgoing { queued = b.rest; sent = if r then v.outgoing.sent ++ begun now timeout c ∷ [] else v.outgoing.sent }) head_kind in
-    let image : ImageOf mtu l.carried (l.sent + 1) (begun now timeout c) = record { meant = k.meant; piece = k.piece; reliable = kind; number = meant_number; command = k.command } in
-    record {
-      link = send l;
-      numbers = Numbers-send l s.numbers room;
-      ready = s.ready;
-      shows = record {
-        carried = h.carried;
-        plain = h.plain;
-        is_open = h.is_open;
-        pieces = h.pieces;
-        incoming = h.incoming;
-        dispatched = h.dispatched;
-        answers = h.answers;
-        acks = h.acks;
-        greatest = up ∙ ap (λ g. g + 1) h.greatest;
-        queues = λ j. subst (λ x. Queues mtu l.carried (l.sent + 1) x) (sym out) (subst (λ r. Queues mtu l.carried (cond r (l.sent + 1) l.sent) (record v.outgoing { queued = b.rest; sent = v.outgoing.sent ++ begun now timeout c ∷ [] })) kind
-            (Queues-sent mtu l.carried l.sent v.outgoing c b.rest (v.outgoing.sent ++ begun now timeout c ∷ []) k));
-        images = λ j. subst (λ (x : Sender). Images mtu l.carried (l.unacked ++ (l.sent + 1) ∷ []) x.sent) (sym out) (Images-push mtu l.carried l.unacked v.outgoing.sent (l.sent + 1) (begun now timeout c) (h.images sending) image);
-        rising = Rising-push l.unacked (l.sent + 1) h.rising (λ m j. let u = s.numbers.unacked m j in let u1 = u.1 in omega arith);
-        commands = λ e t. let y = h.commands e t in record { meant = y.meant; command = y.command; there = y.there };
-        making = λ d t. elim (Has-push_cases v.making n.command d t) [
-          | inl old ↦ let p = h.making d old in record {
-            meant = p.meant;
-            piece = p.piece;
-            command = p.command;
-            reliable = λ z. Has-push_left l.unacked (l.sent + 1) p.meant.number (p.reliable z);
-            unreliable = λ z. let a = p.unreliable z in let a0 = a.0 in (omega arith, elim a.1 [ inl same ↦ inr (subst (λ y. Has (l.unacked ++ (l.sent + 1) ∷ []) (y + 1)) same (Has-push l.unacked (l.sent + 1))) | inr u ↦ inr (Has-push_left l.unacked (l.sent + 1) (p.meant.number + 1) u) ]);
-          }
-          | inr is ↦ subst (λ x. Pending mtu (send l) x) is (record {
-            meant = k.meant;
-            piece = k.piece;
-            command = command ∙ k.command;
-            reliable = λ z. subst (λ x. Has (l.unacked ++ (l.sent + 1) ∷ []) x) (sym meant_number) (Has-push l.unacked (l.sent + 1));
-            unreliable = λ z. absurd (let f : true ≡ false = sym kind ∙ z in cc);
-          })
-        ];
-      };
-    }
-
-Sound-begins_unreliable : (mtu : ℕ) (v : WireLink) (now timeout transit most : ℕ) (n : Next) (s : Sound mtu v) → v.is_sending ≡ true → (b : Begins v.outgoing now timeout transit most n) → (k : Heads mtu s.link.carried s.link.sent v.outgoing b.head b.rest) → k.meant.reliable ≡ false → Sound mtu (sends v n)
-Sound-begins_unreliable mtu v now timeout transit most n s sending b k kind =
-    let l = s.link in
-    let h = s.shows in
-    let c = b.head in
-    let head_kind : c.reliable ≡ false = ap (λ (x : DataCommand). x.reliable) k.command ∙ kind in
-    let meant_number : k.meant.number ≡ l.sent = k.number ∙ ap (λ r. cond r (l.sent + 1) l.sent) kind in
-    let command : n.command ≡ c = ap (λ (x : Next). x.command) b.is in
-    let stays : greatest_after v.greatest n.command ≡ v.greatest = ap (greatest_after v.greatest) command ∙ stays_for v.greatest c (λ t. absurd (let f : true ≡ false = sym t ∙ head_kind in cc)) in
-    let out : n.sender ≡ (record v.outgoing { queued = b.rest; sent = v.outgoing.sent }) =
-    ap (λ (x : Next). x.sender) b.is ∙ ap (λ r. record v.outgoing { queued = b.rest; sent = if r then v.outgoing.sent ++ begun now timeout c ∷ [] else v.outgoing.sent }) head_kind in
-    record {
-      link = l;
-      numbers = s.numbers;
-      ready = s.ready;
-      shows = record {
-        carried = h.carried;
-        plain = h.plain;
-        is_open = h.is_open;
-        rising = h.rising;
-        commands = h.commands;
-        pieces = h.pieces;
-        incoming = h.incoming;
-        dispatched = h.dispatched;
-        answers = h.answers;
-        acks = h.acks;
-        greatest = stays ∙ h.greatest;
-        queues = λ j. subst (λ x. Queues mtu l.carried l.sent x) (sym out) (subst (λ r. Queues mtu l.carried (cond r (l.sent + 1) l.sent) (record v.outgoing { queued = b.rest; sent = v.outgoing.sent })) kind
-            (Queues-sent mtu l.carried l.sent v.outgoing c b.rest v.outgoing.sent k));
-        images = λ j. subst (λ (x : Sender). Images mtu l.carried l.unacked x.sent) (sym out) (h.images sending);
-        making = λ d t. elim (Has-push_cases v.making n.command d t) [
-          | inl old ↦ h.making d old
-          | inr is ↦ subst (λ x. Pending mtu l x) is (record {
-            meant = k.meant;
-            piece = k.piece;
-            command = command ∙ k.command;
-            reliable = λ z. absurd (let f : true ≡ false = sym z ∙ kind in cc);
-            unreliable = λ z. (omega arith, inl (sym meant_number));
-          })
-        ];
-      };
-    }
-
-pub Sound-sends : (mtu : ℕ) (v : WireLink) (now timeout transit most : ℕ) (n : Next) → Sound mtu v → v.is_sending ≡ true → next wire now timeout transit most v.outgoing ≡ Some n → Sound mtu (sends v n)
-Sound-sends mtu v now timeout transit most n s sending e =
-    elim (next_cases now timeout transit most v.outgoing n e) [
-      | inl r ↦ Sound-resends mtu v now n s sending r
-      | inr b ↦
-          let k = Heads-from mtu s.link.carried s.link.sent v.outgoing b.head b.rest s.shows.plain b.queued (s.shows.queues sending) in
-          elim (either k.meant.reliable) [
-            | inl t ↦ Sound-begins_reliable mtu v now timeout transit most n s sending b k t
-            | inr t ↦ Sound-begins_unreliable mtu v now timeout transit most n s sending b k t
-          ]
-    ]
-
--- the throttle drops the unreliable packet that was begun
-
-record Skips (left : List DataCommand) : Type 0 where
-  dropped : List DataCommand
-  kept : List DataCommand
-  whole : left ≡ dropped ++ kept
-  none : reliable_count dropped ≡ 0
-  is : skipped (map wired left) ≡ map wired kept
-
-skips : (left : List DataCommand) → Skips left
-skips [] = record { dropped = []; kept = []; whole = refl; none = refl; is = refl }
-skips (d ∷ left) =
-    let rest = skips left in
-    elim (is_more (wired d)) as (λ b. is_more (wired d) ≡ b → Skips (d ∷ left)) [
-      | true ↦ λ t.
-          let kind : d.reliable ≡ false = not_reliable d.reliable _ t in
-          record {
-            dropped = d ∷ rest.dropped;
-            kept = rest.kept;
-            whole = ap (λ l. d ∷ l) rest.whole;
-            none = ap (λ r. cond r (reliable_count rest.dropped + 1) (reliable_count rest.dropped)) kind ∙ rest.none;
-            is = ap (λ b. cond b (skipped (map wired left)) (wired d ∷ map wired left)) t ∙ rest.is;
-          }
-      | false ↦ λ t. record { dropped = []; kept = d ∷ left; whole = refl; none = refl; is = ap (λ b. cond b (skipped (map wired left)) (wired d ∷ map wired left)) t }
-    ] refl
-  where
-    not_reliable : (r m : Bool) → (not r && m) ≡ true → r ≡ false
-    not_reliable true m h = absurd (cc)
-    not_reliable false m h = refl
-
-pub Sound-drops : (mtu : ℕ) (v : WireLink) (now timeout transit most : ℕ) (n : Next) → Sound mtu v → v.is_sending ≡ true → next wire now timeout transit most v.outgoing ≡ Some n → n.command.reliable ≡ false → Sound mtu (drops v n)
-Sound-drops mtu v now timeout transit most n s sending e kind =
-    elim (next_cases now timeout transit most v.outgoing n e) [
-      | inl r ↦ absurd (not_resent r)
-      | inr b ↦ begun_case b (Heads-from mtu s.link.carried s.link.sent v.outgoing b.head b.rest s.shows.plain b.queued (s.shows.queues sending))
-    ]
-  where
-    not_resent : Resends v.outgoing now n → ⊥
-    not_resent r =
-        let had = Images-has mtu s.link.carried s.link.unacked v.outgoing.sent r.which (s.shows.images sending) (Has-slice_get v.outgoing.sent r.place r.which r.there) in
-        let im = had.2 in
-        let is : n.command.reliable ≡ true = ap (λ (x : Next). x.command.reliable) r.is ∙ ap (λ (x : DataCommand). x.reliable) im.command ∙ im.reliable in
-        (let f : true ≡ false = sym is ∙ kind in cc)
-
-    begun_case : (b : Begins v.outgoing now timeout transit most n) → Heads mtu s.link.carried s.link.sent v.outgoing b.head b.rest → Sound mtu (drops v n)
-    begun_case b k =
-        let l = s.link in
-        let h = s.shows in
-        let c = b.head in
-        let head_kind : c.reliable ≡ false = ap (λ (x : Next). x.command.reliable) (sym b.is) ∙ kind in
-        let meant_kind : k.meant.reliable ≡ false = ap (λ (x : DataCommand). x.reliable) (sym k.command) ∙ head_kind in
-        let out : n.sender ≡ (record v.outgoing { queued = b.rest; sent = v.outgoing.sent }) =
-        ap (λ (x : Next). x.sender) b.is ∙ ap (λ r. record v.outgoing { queued = b.rest; sent = if r then v.outgoing.sent ++ begun now timeout c ∷ [] else v.outgoing.sent }) head_kind in
-        let q = Queues-sent mtu l.carried l.sent v.outgoing c b.rest v.outgoing.sent k in
-        let sk = skips q.left in
-        let count : reliable_count q.gone ≡ l.sent = q.count ∙ ap (λ r. cond r (l.sent + 1) l.sent) meant_kind in
-        record {
-          link = l;
-          numbers = s.numbers;
-          ready = s.ready;
-          shows = record {
-            carried = h.carried;
-            plain = h.plain;
-            greatest = h.greatest;
-            is_open = h.is_open;
-            rising = h.rising;
-            commands = h.commands;
-            pieces = h.pieces;
-            making = h.making;
-            incoming = h.incoming;
-            dispatched = h.dispatched;
-            answers = h.answers;
-            acks = h.acks;
-            queues = λ j. subst (λ x. Queues mtu l.carried l.sent (with_skipped x)) (sym out) (record {
-              gone = q.gone ++ sk.dropped;
-              left = sk.kept;
-              whole = q.whole ∙ ap (λ z. q.gone ++ z) sk.whole ∙ sym (append_assoc q.gone sk.dropped sk.kept);
-              count = reliable_count-append q.gone sk.dropped ∙ (let a = sk.none in omega arith);
-              queued = ap skipped q.queued ∙ sk.is;
-              number = q.number;
-              unreliable = q.unreliable;
-            });
-            images = λ j. subst (λ (x : Sender). Images mtu l.carried l.unacked x.sent) (sym out) (h.images sending);
-          };
-        }
-
--- what waited too long is due to go again
-marked-command : (now : ℕ) (p : Sent) → (marked now p).command ≡ p.command
-marked-command now p = elim (is_late now p) as (λ b. (cond b (record p { timeout = min (p.timeout * 2) (2 ^ 32 - 1); due = true }) p).command ≡ p.command) [ true ↦ refl | false ↦ refl ]
-
-pub Sound-marks : (mtu : ℕ) (v : WireLink) (now : ℕ) → Sound mtu v → v.is_sending ≡ true → Sound mtu (marks v now)
-Sound-marks mtu v now s sending =
-    let l = s.link in
-    let h = s.shows in
-    record {
-      link = l;
-      numbers = s.numbers;
-      ready = s.ready;
-      shows = record {
-        carried = h.carried;
-        plain = h.plain;
-        greatest = h.greatest;
-        is_open = h.is_open;
-        rising = h.rising;
-        commands = h.commands;
-        pieces = h.pieces;
-        making = h.making;
-        incoming = h.incoming;
-        dispatched = h.dispatched;
-        answers = h.answers;
-        acks = h.acks;
-        queues = λ j. let q = h.queues sending in record { gone = q.gone; left = q.left; whole = q.whole; count = q.count; queued = q.queued; number = q.number; unreliable = q.unreliable };
-        images = λ j. Images-map mtu l.carried l.unacked v.outgoing.sent (marked now) (marked-command now) (h.images sending);
-      };
-    }
+use Rattle.enet_link.proofs.ContentLemmas.{Ready}
+use Rattle.enet_link.proofs.PieceLemmas.{IsPieceOf, says}
+use Rattle.enet_link.proofs.LinkLemmas.{either, Numbers-put_out, put_out-reliable, put_out-unreliable, Numbers-takes_in, known-takes_in, arrives as arrival, Numbers-queue_answer, Numbers-put_answer, Numbers-acknowledged, Numbers-closed}
+use Rattle.enet_link.proofs.Rising.{IsRising-filter}
+use Rattle.enet_link.proofs.Shown.{Images, IsRising, Pending, Logged, Shows, Sound}
+use Rattle.enet_link.proofs.Firsts.{drop_first, without-first}
 
 -- the datagram is put out
 
@@ -858,27 +227,44 @@ Sound-logs_answer mtu v a rest s e = go s.link.answers refl
         }
 
 -- an acknowledgement of the log comes
-Images-without : (mtu : ℕ) (cs : List Carried) (ns : List ℕ) (sent : List Sent) (w : ℕ) → Images mtu cs ns sent → Images mtu cs (filter (λ m. not (m % 65536 == w)) ns) (filter (λ (p : Sent). not (has_number w p)) sent)
-Images-without mtu cs [] [] w i = tt
-Images-without mtu cs [] (c ∷ sent) w i = absurd i
-Images-without mtu cs (n ∷ ns) [] w i = absurd i
-Images-without mtu cs (n ∷ ns) (p ∷ sent) w i =
-    let rest = Images-without mtu cs ns sent w i.1 in
+filter_all : (test : ℕ → Bool) (ns : List ℕ) → ((m : ℕ) → Has ns m → test m ≡ true) → filter test ns ≡ ns
+filter_all test [] h = refl
+filter_all test (n ∷ ns) h = rw (h n (inl refl)) (ap (λ l. n ∷ l) (filter_all test ns (λ m k. h m (inr k))))
+
+-- numbers within the span, of which no two are one number on the wire
+abbrev Near : ℕ → List ℕ → Type 0
+Near last ns = (m : ℕ) → Has ns m → (m ≤ last) × (last < m + 8192)
+
+-- the one sent command of a wire number goes
+Images-without : (mtu last : ℕ) (cs : List Carried) (ns : List ℕ) (sent : List Sent) (w : ℕ) → IsRising ns → Near last ns → Images mtu cs ns sent → Images mtu cs (filter (λ m. not (m % 65536 == w)) ns) (drop_first (λ (p : Sent). p.command.number == w) sent)
+Images-without mtu last cs [] [] w r near i = tt
+Images-without mtu last cs [] (c ∷ sent) w r near i = absurd i
+Images-without mtu last cs (n ∷ ns) [] w r near i = absurd i
+Images-without mtu last cs (n ∷ ns) (p ∷ sent) w r near i =
+    let rest = Images-without mtu last cs ns sent w r.1 (λ m h. near m (inr h)) i.1 in
     let im = i.0 in
     let number : p.command.number ≡ n % 65536 = ap (λ (x : DataCommand). x.number) im.command ∙ ap (λ x. x % 65536) im.number in
-    subst (λ z. Images mtu cs (filter (λ m. not (m % 65536 == w)) (n ∷ ns)) (cond (not (z == w)) (p ∷ filter (λ (d : Sent). not (has_number w d)) sent) (filter (λ (d : Sent). not (has_number w d)) sent))) (sym number)
-    (elim (not (n % 65536 == w)) as (λ b. Images mtu cs (cond b (n ∷ filter (λ m. not (m % 65536 == w)) ns) (filter (λ m. not (m % 65536 == w)) ns)) (cond b (p ∷ filter (λ (d : Sent). not (has_number w d)) sent) (filter (λ (d : Sent). not (has_number w d)) sent))) [
-      | true ↦ (i.0, rest)
-      | false ↦ rest
-    ])
+    subst (λ z. Images mtu cs (filter (λ m. not (m % 65536 == w)) (n ∷ ns)) (cond (z == w) sent (p ∷ drop_first (λ (d : Sent). d.command.number == w) sent))) (sym number)
+    (elim (n % 65536 == w) as (λ b. (n % 65536 == w) ≡ b → Images mtu cs (cond (not b) (n ∷ filter (λ m. not (m % 65536 == w)) ns) (filter (λ m. not (m % 65536 == w)) ns)) (cond b sent (p ∷ drop_first (λ (d : Sent). d.command.number == w) sent))) [
+      | true ↦ λ t. subst (λ l. Images mtu cs l sent) (sym (filter_all (λ m. not (m % 65536 == w)) ns (λ m h. stays m h t))) i.1
+      | false ↦ λ t. (i.0, rest)
+    ] refl)
+  where
+    stays : (m : ℕ) → Has ns m → (n % 65536 == w) ≡ true → not (m % 65536 == w) ≡ true
+    stays m h t =
+        let above = r.0 m h in
+        let here = near m (inr h) in
+        let low = near n (inl refl) in
+        other m (equal (n % 65536) t) above here.0 low.1
+      where
+        equal : (k : ℕ) → (k == w) ≡ true → k ≡ w
+        equal k e = grind (arith, nat_tests)
 
-Rising-filter : (p : ℕ → Bool) (ns : List ℕ) → Rising ns → Rising (filter p ns)
-Rising-filter p [] r = tt
-Rising-filter p (n ∷ ns) r =
-    elim (p n) as (λ b. Rising (cond b (n ∷ filter p ns) (filter p ns))) [
-      | true ↦ ((λ m k. r.0 m (Has-from_filter p ns m k)), Rising-filter p ns r.1)
-      | false ↦ Rising-filter p ns r.1
-    ]
+        unlike : (k : ℕ) → k ≢ w → not (k == w) ≡ true
+        unlike k apart = grind (arith, nat_tests)
+
+        other : (m : ℕ) → n % 65536 ≡ w → n < m → m ≤ last → last < n + 8192 → not (m % 65536 == w) ≡ true
+        other m e above high low = unlike (m % 65536) (λ f. omega arith)
 
 pub Sound-answered : (mtu : ℕ) (v : WireLink) (a : Answer) → Sound mtu v → v.making ≡ [] → Has v.acks a → link.is_late v.greatest a.reach a.number ≡ false → Sound mtu (answered v a)
 Sound-answered mtu v a s nothing there late =
@@ -898,9 +284,10 @@ Sound-answered mtu v a s nothing there late =
         is_open = h.is_open;
         pieces = h.pieces;
         queues = λ j. let q = h.queues j in record { gone = q.gone; left = q.left; whole = q.whole; count = q.count; queued = q.queued; number = q.number; unreliable = q.unreliable };
-        images = λ j. subst (λ z. Images mtu l.carried (filter (λ m. not (m % 65536 == k.0 % 65536)) l.unacked) (filter (λ (p : Sent). not (has_number z p)) v.outgoing.sent)) (sym k.1)
-            (Images-without mtu l.carried l.unacked v.outgoing.sent (k.0 % 65536) (h.images j));
-        rising = Rising-filter (λ m. not (m % 65536 == k.0 % 65536)) l.unacked h.rising;
+        images = λ j. subst (λ z. Images mtu l.carried (filter (λ m. not (m % 65536 == k.0 % 65536)) l.unacked) (without_place v.outgoing.sent (place_of z v.outgoing.sent))) (sym k.1)
+            (subst (λ x. Images mtu l.carried (filter (λ m. not (m % 65536 == k.0 % 65536)) l.unacked) x) (sym (without-first (λ (p : Sent). p.command.number == k.0 % 65536) v.outgoing.sent))
+            (Images-without mtu l.sent l.carried l.unacked v.outgoing.sent (k.0 % 65536) h.rising (λ m x. let u = s.numbers.unacked m x in (u.1, u.2)) (h.images j)));
+        rising = IsRising-filter (λ m. not (m % 65536 == k.0 % 65536)) l.unacked h.rising;
         making = λ d x. absurd (subst (λ (y : List DataCommand). Has y d) nothing x);
         commands = λ x j. let y = h.commands x j in record { meant = y.meant; command = y.command; there = y.there };
         incoming = h.incoming;

@@ -5,16 +5,24 @@ use Rattle.std.specs.Ordering.{nat_cmp}
 use Rattle.std.specs.Option.{is_none}
 use Rattle.std.specs.Prelude.{unwrap_or, nat_le, nat_lt, ◌&&◌}
 use Rattle.std.specs.FinMap.{FinMap, get, insert, remove, len, entries, empty, empty_of_len, get-empty, retain_keys}
-use Rattle.enet_seq.specs.Windows.{in_window, fragment_in_window, ahead}
-use Rattle.enet_link.specs.Numbering.{Numbering, wire, unbounded, number_read, start_read}
-use Rattle.enet_link.specs.Making.{is_whole, is_piece}
-use Rattle.enet_link.specs.DataCommand.{DataCommand}
-use Rattle.enet_link.specs.Reception.{Bad, Outside, Again, Waiting, Held, piece_of, place_read, came_at, is_own_number, agrees_with, came, is_behind, outcome_of, outcome_at, outcome, earlier_or_new, with_more, with_added, added_at, received_with, received}
+use Rattle.enet_seq.specs.Windows.{acknowledges, in_window, fragment_in_window, ahead}
 use Rattle.enet_seq.proofs.WindowsLemmas.{inside_is_near}
-use Rattle.enet_link.specs.Receiver.{Receiver, Coming, waiting_at, with_waiting_at, fresh, last_fresh, flushed, without, with_passed, with_dispatched, next_whole, released_with, released, all_released, handed_out}
+use Rattle.enet_seq.specs.Numbering.{Numbering, wire, unbounded, number_read, start_read}
+use Rattle.enet_fragment.specs.Whole.{is_whole}
+use Rattle.enet_fragment.specs.declared.data.DataCommand.{DataCommand}
+use Rattle.enet_fragment.specs.DataCommand.{piece_of, place_in_packet}
+use Rattle.enet_fragment.specs.Making.{nothing_yet}
+use Rattle.enet_fragment.proofs.Places.{Sound-from_test}
+use Rattle.enet_fragment.specs.Making.{count_of}
+use Rattle.enet_packets.specs.declared.coming.Coming.{Coming}
+use Rattle.enet_packets.specs.Packets.{line_at, with_line, fresh, last_fresh, handed_out}
+use Rattle.enet_receiver.specs.Reception.{is_piece, place_read, came_at, agrees_with, came, is_behind, outcome_of, outcome_at, outcome, earlier_or_new, with_more, with_added, added_at, received_with, received, is_handled, acknowledged, dispatch_count}
+use Rattle.enet_receiver.specs.declared.took.Took.TheVariants.{Memory, Bad, Outside, Again, Waiting, Held}
+use Rattle.enet_receiver.specs.Receiver.{Receiver, nothing_received, cleared, flushed, without, with_passed, with_dispatched, next_whole, released_with, released, all_released}
 pub use Rattle.enet_link.specs.Image.{IsSized, AllSized, ShowsReceiver}
-use Rattle.enet_link.proofs.Maps.{get-remove_other, get-remove_same, get-insert_other, get-insert_same, get_inserted, two_numbers}
-use Rattle.enet_link.proofs.Without.{get-without_inside, get-without_outside, get-without_wire_inside, get-without_wire_outside, get_without, len-without_first}
+use Rattle.enet_link.proofs.Makings.{count_of-nothing, count_of-with}
+use Rattle.enet_receiver.proofs.Maps.{get-remove_other, get-remove_same, get-insert_other, get-insert_same, get_inserted, two_numbers}
+use Rattle.enet_receiver.proofs.Without.{get-without_inside, get-without_outside, get-without_wire_inside, get-without_wire_outside, get_without, len-without_first}
 
 less_or_not : (a b : ℕ) → (a < b) ⊎ (b ≤ a)
 less_or_not a b = grind arith
@@ -25,7 +33,7 @@ wire_behind v r s = let e = s.front in omega arith
 
 Shows-passed : (v r : Receiver) (c : Coming) → IsSized c → ShowsReceiver v r → ShowsReceiver (with_passed wire v c) (with_passed unbounded r c)
 Shows-passed v r c size s =
-    let k = c.making.count in
+    let k = (count_of c.making) in
     let f = r.front in
     let some' = size.0 in
     let few = size.1 in
@@ -89,7 +97,7 @@ Shows-passed v r c size s =
 put_of : FinMap nat_cmp Coming → Option (FinMap nat_cmp Coming)
 put_of packets = cond (len packets == 0) None (Some packets)
 
-get-with_waiting_same : (w : FinMap nat_cmp (FinMap nat_cmp Coming)) (n : ℕ) (packets : FinMap nat_cmp Coming) → get (with_waiting_at w n packets) n ≡ put_of packets
+get-with_waiting_same : (w : FinMap nat_cmp (FinMap nat_cmp Coming)) (n : ℕ) (packets : FinMap nat_cmp Coming) → get (with_line w n packets) n ≡ put_of packets
 unfolding put_of
 get-with_waiting_same w n packets =
     elim (len packets == 0) as (λ b. get (cond b (remove w n) (insert w n packets)) n ≡ cond b None (Some packets)) [
@@ -97,7 +105,7 @@ get-with_waiting_same w n packets =
       | false ↦ get-insert_same w n packets
     ]
 
-get-with_waiting_other : (w : FinMap nat_cmp (FinMap nat_cmp Coming)) (n q : ℕ) (packets : FinMap nat_cmp Coming) → q ≢ n → get (with_waiting_at w n packets) q ≡ get w q
+get-with_waiting_other : (w : FinMap nat_cmp (FinMap nat_cmp Coming)) (n q : ℕ) (packets : FinMap nat_cmp Coming) → q ≢ n → get (with_line w n packets) q ≡ get w q
 get-with_waiting_other w n q packets apart =
     elim (len packets == 0) as (λ b. get (cond b (remove w n) (insert w n packets)) q ≡ get w q) [
       | true ↦ get-remove_other w n q apart
@@ -105,12 +113,12 @@ get-with_waiting_other w n q packets apart =
     ]
 
 -- the packets that wait for the same number
-waiting_same : (v r : Receiver) (a : ℕ) → a ≤ 28671 → ShowsReceiver v r → waiting_at v ((r.front + a) % 65536) ≡ waiting_at r (r.front + a)
+waiting_same : (v r : Receiver) (a : ℕ) → a ≤ 28671 → ShowsReceiver v r → line_at v.waiting ((r.front + a) % 65536) ≡ line_at r.waiting (r.front + a)
 waiting_same v r a low s = ap (λ (o : Option (FinMap nat_cmp Coming)). unwrap_or o empty) (s.waiting a (omega arith))
 
 -- the packets of a number near the front are replaced
 Shows-waiting : (v r : Receiver) (a : ℕ) (packets : FinMap nat_cmp Coming) → a ≤ 28671 → ShowsReceiver v r
-    → ShowsReceiver (record v { waiting = with_waiting_at v.waiting ((r.front + a) % 65536) packets }) (record r { waiting = with_waiting_at r.waiting (r.front + a) packets })
+    → ShowsReceiver (record v { waiting = with_line v.waiting ((r.front + a) % 65536) packets }) (record r { waiting = with_line r.waiting (r.front + a) packets })
 Shows-waiting v r a packets near s = record {
   front = s.front;
   unreliable = s.unreliable;
@@ -121,7 +129,7 @@ Shows-waiting v r a packets near s = record {
   sized_true = s.sized_true;
   dispatched = s.dispatched;
   waiting = λ d low. elim (two_numbers d a) [
-    | inl same ↦ subst (λ x. get (with_waiting_at v.waiting ((r.front + a) % 65536) packets) ((r.front + x) % 65536) ≡ get (with_waiting_at r.waiting (r.front + a) packets) (r.front + x)) (sym same)
+    | inl same ↦ subst (λ x. get (with_line v.waiting ((r.front + a) % 65536) packets) ((r.front + x) % 65536) ≡ get (with_line r.waiting (r.front + a) packets) (r.front + x)) (sym same)
         (get-with_waiting_same v.waiting ((r.front + a) % 65536) packets ∙ sym (get-with_waiting_same r.waiting (r.front + a) packets))
     | inr apart ↦
         get-with_waiting_other v.waiting ((r.front + a) % 65536) ((r.front + d) % 65536) packets (λ e. apart (grind arith))
@@ -136,10 +144,10 @@ Shows-flushed v r s =
     let e = s.front in
     let here : v.front ≡ (r.front + 0) % 65536 = omega arith in
     let zero' : r.front + 0 ≡ r.front = omega arith in
-    let same : waiting_at v v.front ≡ waiting_at r r.front = ap (waiting_at v) here ∙ waiting_same v r 0 (omega arith) s ∙ ap (waiting_at r) zero' in
-    let list : entries (waiting_at v v.front) ≡ entries (waiting_at r r.front) = ap entries same in
-    let left : FinMap nat_cmp Coming = retain_keys (waiting_at r r.front) (nat_lt (last_fresh r.unreliable (entries (waiting_at r r.front)))) in
-    let kept : retain_keys (waiting_at v v.front) (nat_lt (last_fresh v.unreliable (entries (waiting_at v v.front)))) ≡ left =
+    let same : line_at v.waiting v.front ≡ line_at r.waiting r.front = ap (line_at v.waiting) here ∙ waiting_same v r 0 (omega arith) s ∙ ap (line_at r.waiting) zero' in
+    let list : entries (line_at v.waiting v.front) ≡ entries (line_at r.waiting r.front) = ap entries same in
+    let left : FinMap nat_cmp Coming = retain_keys (line_at r.waiting r.front) (nat_lt (last_fresh r.unreliable (entries (line_at r.waiting r.front)))) in
+    let kept : retain_keys (line_at v.waiting v.front) (nat_lt (last_fresh v.unreliable (entries (line_at v.waiting v.front)))) ≡ left =
     λ i. retain_keys (same i) (nat_lt (last_fresh (s.unreliable i) (list i))) in
     let w = Shows-waiting v r 0 left (omega arith) s in
     let z = w.waiting in
@@ -153,11 +161,11 @@ Shows-flushed v r s =
       sized_true = s.sized_true;
       unreliable = λ i. last_fresh (s.unreliable i) (list i);
       waiting = λ d low.
-          ap (λ p. get (with_waiting_at v.waiting v.front p) ((r.front + d) % 65536)) kept
-          ∙ ap (λ n. get (with_waiting_at v.waiting n left) ((r.front + d) % 65536)) here
+          ap (λ p. get (with_line v.waiting v.front p) ((r.front + d) % 65536)) kept
+          ∙ ap (λ n. get (with_line v.waiting n left) ((r.front + d) % 65536)) here
           ∙ w.waiting d low
-          ∙ ap (λ n. get (with_waiting_at r.waiting n left) (r.front + d)) zero';
-      near_waiting = λ d far. ap (λ n. get (with_waiting_at r.waiting n left) (r.front + d)) (sym zero') ∙ w.near_waiting d far;
+          ∙ ap (λ n. get (with_line r.waiting n left) (r.front + d)) zero';
+      near_waiting = λ d far. ap (λ n. get (with_line r.waiting n left) (r.front + d)) (sym zero') ∙ w.near_waiting d far;
       dispatched = λ i. s.dispatched i ++ fresh (s.unreliable i) (list i);
     }
 
@@ -181,7 +189,7 @@ Shows-released (suc most) v r s =
 
 -- after a packet less is held
 smaller : (g : Numbering) (r : Receiver) (c : Coming) → g.after (g.after r.front 1) 0 ≡ g.after r.front 1 → IsSized c → get r.held (g.after r.front 1) ≡ Some c → len (with_dispatched g r c).held < len r.held
-smaller g r c z size e = len-without_first g r.held (g.after r.front 1) c.making.count c z size.0 e
+smaller g r c z size e = len-without_first g r.held (g.after r.front 1) (count_of c.making) c z size.0 e
 
 -- numbers that go on as those of the wire or without bound do
 abbrev IsFixed : Numbering → Type 0
@@ -207,7 +215,7 @@ released-enough g fixed (suc j) (suc k) r sized a b =
       | Some c ↦ λ e.
           let there = whole_is (get r.held (g.after r.front 1)) c e in
           let less = smaller g r c (fixed r.front) (sized (g.after r.front 1) c there) there in
-          released-enough g fixed j k (with_dispatched g r c) (λ n x f. sized n x (get_without g r.held (g.after r.front 1) c.making.count n x f)) (omega arith) (omega arith)
+          released-enough g fixed j k (with_dispatched g r c) (λ n x f. sized n x (get_without g r.held (g.after r.front 1) (count_of c.making) n x f)) (omega arith) (omega arith)
     ] refl
 
 Shows-all_released : (v r : Receiver) → ShowsReceiver v r → ShowsReceiver (all_released wire v) (all_released unbounded r)
@@ -257,14 +265,14 @@ Places-command v r c small small_start s =
 
 came_at_same : (v r : Receiver) (c : DataCommand) (a : ℕ) → a ≤ 28671 → ShowsReceiver v r → came_at v c ((r.front + a) % 65536) ≡ came_at r c (r.front + a)
 came_at_same v r c a near s =
-    let unreliable : get (waiting_at v ((r.front + a) % 65536)) c.count ≡ get (waiting_at r (r.front + a)) c.count = ap (λ m. get m c.count) (waiting_same v r a near s) in
+    let unreliable : get (line_at v.waiting ((r.front + a) % 65536)) c.count ≡ get (line_at r.waiting (r.front + a)) c.count = ap (λ m. get m c.count) (waiting_same v r a near s) in
     let reliable : get v.held ((r.front + a) % 65536) ≡ get r.held (r.front + a) = elim (two_numbers a 0) [
       | inl none ↦
           let lap : (r.front + a) % 65536 ≡ (r.front + 65536) % 65536 = omega arith in
           ap (get v.held) lap ∙ s.held 65536 (omega arith) (omega arith) ∙ s.near 65536 (omega arith) ∙ sym (s.low (r.front + a) (omega arith))
       | inr some' ↦ s.held a (grind arith) (omega arith)
     ] in
-    elim c.reliable as (λ b. cond b (get v.held ((r.front + a) % 65536)) (get (waiting_at v ((r.front + a) % 65536)) c.count) ≡ cond b (get r.held (r.front + a)) (get (waiting_at r (r.front + a)) c.count)) [ true ↦ reliable | false ↦ unreliable ]
+    elim c.reliable as (λ b. cond b (get v.held ((r.front + a) % 65536)) (get (line_at v.waiting ((r.front + a) % 65536)) c.count) ≡ cond b (get r.held (r.front + a)) (get (line_at r.waiting (r.front + a)) c.count)) [ true ↦ reliable | false ↦ unreliable ]
 
 behind_same : (v r : Receiver) (c : DataCommand) (a : ℕ) → a ≤ 28671 → ShowsReceiver v r → is_behind v c ((r.front + a) % 65536) ≡ is_behind r c (r.front + a)
 behind_same v r c a near s =
@@ -299,12 +307,12 @@ Shows-added : (v r : Receiver) (c : DataCommand) (a : ℕ) (e : Coming) → a �
     → ShowsReceiver (with_added v c ((r.front + a) % 65536) e) (with_added r c (r.front + a) e)
 Shows-added v r c a e near above s =
     elim c.reliable as (λ b. c.reliable ≡ b → ShowsReceiver
-    (record v { held = cond b (insert v.held ((r.front + a) % 65536) e) v.held; waiting = cond b v.waiting (with_waiting_at v.waiting ((r.front + a) % 65536) (insert (waiting_at v ((r.front + a) % 65536)) c.count e)) })
-    (record r { held = cond b (insert r.held (r.front + a) e) r.held; waiting = cond b r.waiting (with_waiting_at r.waiting (r.front + a) (insert (waiting_at r (r.front + a)) c.count e)) })) [
+    (record v { held = cond b (insert v.held ((r.front + a) % 65536) e) v.held; waiting = cond b v.waiting (with_line v.waiting ((r.front + a) % 65536) (insert (line_at v.waiting ((r.front + a) % 65536)) c.count e)) })
+    (record r { held = cond b (insert r.held (r.front + a) e) r.held; waiting = cond b r.waiting (with_line r.waiting (r.front + a) (insert (line_at r.waiting (r.front + a)) c.count e)) })) [
       | true ↦ λ t. reliable (above t).0 (above t).1
-      | false ↦ λ t. subst (λ m. ShowsReceiver (record v { waiting = with_waiting_at v.waiting ((r.front + a) % 65536) (insert m c.count e) })
-          (record r { waiting = with_waiting_at r.waiting (r.front + a) (insert (waiting_at r (r.front + a)) c.count e) })) (sym (waiting_same v r a near s))
-          (Shows-waiting v r a (insert (waiting_at r (r.front + a)) c.count e) near s)
+      | false ↦ λ t. subst (λ m. ShowsReceiver (record v { waiting = with_line v.waiting ((r.front + a) % 65536) (insert m c.count e) })
+          (record r { waiting = with_line r.waiting (r.front + a) (insert (line_at r.waiting (r.front + a)) c.count e) })) (sym (waiting_same v r a near s))
+          (Shows-waiting v r a (insert (line_at r.waiting (r.front + a)) c.count e) near s)
     ] refl
   where
     apart_in_lap : (d : ℕ) → 0 < a → 0 < d → d ≤ 65536 → d ≢ a → (r.front + d) % 65536 ≢ (r.front + a) % 65536
@@ -355,25 +363,21 @@ above_front r c a b t = elim (two_numbers a 0) [
 ]
 
 -- a piece of a packet that can be one has a count of 1 to 16,384
-is_piece-sized : (most : ℕ) (c : DataCommand) → is_piece most (piece_of c) (length c.body) ≡ true → (0 < (piece_of c).count) × ((piece_of c).count ≤ 16384)
+is_piece-sized : (most : ℕ) (c : DataCommand) → is_piece most c ≡ true → (0 < (piece_of c).count) × ((piece_of c).count ≤ 16384)
 is_piece-sized most c h =
-    let f = piece_of c in
-    let one = and_left _ _ h in
-    let two = and_left _ _ one in
-    let three = and_left _ _ two in
-    let number = and_left _ _ three in
-    let limit = and_right _ _ three in
-    (above f.number f.count number, below f.count limit)
-  where
-    above : (m n : ℕ) → nat_lt m n ≡ true → 0 < n
-    above m n t = grind (arith, nat_tests)
+    let sound = Sound-from_test (place_in_packet c) (and_left _ _ (and_left _ _ h)) in
+    let below : (piece_of c).number < (piece_of c).count = sound.below in
+    (omega arith, sound.within_limit)
 
-    below : (n : ℕ) → nat_le n 16384 ≡ true → n ≤ 16384
-    below n t = grind (arith, nat_tests)
+sized_by : (m n : ℕ) → m ≡ n → (0 < m) × (m ≤ 16384) → (0 < n) × (n ≤ 16384)
+sized_by m n e h = subst (λ k. (0 < k) × (k ≤ 16384)) e h
 
 sized_more : (o : Option Coming) (c : DataCommand) → ((e : Coming) → o ≡ Some e → IsSized e) → (0 < (piece_of c).count) × ((piece_of c).count ≤ 16384) → IsSized (with_more (earlier_or_new o c) c)
-sized_more None c old new = new
-sized_more (Some e) c old new = old e refl
+sized_more None c old new =
+    let count : count_of (with_more (earlier_or_new None c) c).making ≡ (piece_of c).count =
+    count_of-with (nothing_yet (piece_of c).count (piece_of c).total) (place_in_packet c) c.body ∙ count_of-nothing (piece_of c).count (piece_of c).total in
+    sized_by _ _ (sym count) new
+sized_more (Some e) c old new = sized_by _ _ (sym (count_of-with e.making (place_in_packet c) c.body)) (old e refl)
 
 -- what a command does where its place is read
 received_at : (v r : Receiver) (c : DataCommand) (full : Bool) (o p : Option ℕ) → Places r.front o p → (0 < (piece_of c).count) × ((piece_of c).count ≤ 16384) → ShowsReceiver v r
@@ -393,14 +397,14 @@ received_at v r c full o p (inr w) size s h =
     (subst (λ x. ShowsReceiver (all_released wire (with_added v c ((r.front + a) % 65536) (with_more (earlier_or_new x c) c))) (all_released unbounded (with_added r c n e))) (sym (came_at_same v r c a w.1 s)) both))
   where
     came_sized : c.reliable ≡ true → (x : Coming) → came_at r c (r.front + w.0) ≡ Some x → IsSized x
-    came_sized k x t = s.sized_true (r.front + w.0) x (sym (ap (λ b. cond b (get r.held (r.front + w.0)) (get (waiting_at r (r.front + w.0)) c.count)) k) ∙ t)
+    came_sized k x t = s.sized_true (r.front + w.0) x (sym (ap (λ b. cond b (get r.held (r.front + w.0)) (get (line_at r.waiting (r.front + w.0)) c.count)) k) ∙ t)
 
 pub Shows-received : (most : ℕ) (v r : Receiver) (c : DataCommand) (full : Bool) → c.number < 65536 → (c.reliable ≡ true → (piece_of c).start < 65536) → ShowsReceiver v r
     → (outcome wire most v c full ≡ outcome unbounded most r c full) × ShowsReceiver (received wire most v c full) (received unbounded most r c full)
 Shows-received most v r c full small small_start s =
     let places = Places-command v r c small small_start s in
     let same : outcome wire most v c full ≡ outcome unbounded most r c full =
-    ap (λ x. cond (is_piece most (piece_of c) (length c.body) && is_own_number c) x Bad) (outcome_same_at v r c full _ _ places s) in (
+    ap (λ x. cond (is_piece most c) x Bad) (outcome_same_at v r c full _ _ places s) in (
       same,
       subst (λ x. ShowsReceiver (received_with x wire v c) (received unbounded most r c full)) (sym same)
           (elim (outcome unbounded most r c full) as (λ x. outcome unbounded most r c full ≡ x → ShowsReceiver (received_with x wire v c) (received_with x unbounded r c)) [
@@ -408,14 +412,63 @@ Shows-received most v r c full small small_start s =
             | Outside ↦ λ e. s
             | Again ↦ λ e. s
             | Waiting ↦ λ e. s
+            | Memory ↦ λ e. s
             | Held ↦ λ e. held places e
           ] refl),
     )
   where
     held : Places r.front (place_read wire v c) (place_read unbounded r c) → outcome unbounded most r c full ≡ Held → ShowsReceiver (added_at wire v c (place_read wire v c)) (added_at unbounded r c (place_read unbounded r c))
-    held places e = go (is_piece most (piece_of c) (length c.body)) (is_own_number c) refl e
+    held places e = go (is_piece most c) refl e
       where
-        go : (a b : Bool) → is_piece most (piece_of c) (length c.body) ≡ a → cond (a && b) (outcome_at r c full (place_read unbounded r c)) Bad ≡ Held → ShowsReceiver (added_at wire v c (place_read wire v c)) (added_at unbounded r c (place_read unbounded r c))
-        go true true t k = received_at v r c full _ _ places (is_piece-sized most c t) s k
-        go true false t k = absurd (cc)
-        go false b t k = absurd (cc)
+        go : (a : Bool) → is_piece most c ≡ a → cond a (outcome_at r c full (place_read unbounded r c)) Bad ≡ Held → ShowsReceiver (added_at wire v c (place_read wire v c)) (added_at unbounded r c (place_read unbounded r c))
+        go true t k = received_at v r c full _ _ places (is_piece-sized most c t) s k
+        go false t k = absurd (cc)
+
+-- whether it is acknowledged, and how many packets it dispatches
+pub Shows-acknowledged : (most : ℕ) (v r : Receiver) (c : DataCommand) (full : Bool) → c.number < 65536 → (c.reliable ≡ true → (piece_of c).start < 65536) → ShowsReceiver v r → acknowledged wire most v c full ≡ acknowledged unbounded most r c full
+Shows-acknowledged most v r c full small small_start s =
+    let same = (Shows-received most v r c full small small_start s).0 in
+    let shown = s.front in
+    let front : v.front % 65536 ≡ r.front % 65536 = omega arith in
+    (λ i. is_handled (same i) && acknowledges (front i) c.number)
+
+pub Shows-dispatches : (most : ℕ) (v r : Receiver) (c : DataCommand) (full : Bool) → c.number < 65536 → (c.reliable ≡ true → (piece_of c).start < 65536) → ShowsReceiver v r → dispatch_count wire most v c full ≡ dispatch_count unbounded most r c full
+Shows-dispatches most v r c full small small_start s =
+    let after = (Shows-received most v r c full small small_start s).1 in
+    let new = after.dispatched in
+    let old = s.dispatched in
+    (λ i. length (new i) - length (old i))
+
+nothing_at : (n : ℕ) → get (empty {X = Coming} {R = nat_cmp}) n ≡ None
+nothing_at n = get-empty nat_cmp n
+
+no_line_at : (n : ℕ) → get (empty {X = FinMap nat_cmp Coming} {R = nat_cmp}) n ≡ None
+no_line_at n = get-empty nat_cmp n
+
+pub Shows-cleared : (v r : Receiver) → ShowsReceiver v r → ShowsReceiver (cleared v) (cleared r)
+Shows-cleared v r s = record {
+  front = s.front;
+  unreliable = s.unreliable;
+  dispatched = s.dispatched;
+  held = λ d low high. nothing_at ((r.front + d) % 65536) ∙ sym (nothing_at (r.front + d));
+  low = λ n h. nothing_at n;
+  near = λ d far. nothing_at (r.front + d);
+  sized = λ n c h. absurd (let f = nothing_at n in cc);
+  sized_true = λ n c h. absurd (let f = nothing_at n in cc);
+  waiting = λ d low. no_line_at ((r.front + d) % 65536) ∙ sym (no_line_at (r.front + d));
+  near_waiting = λ d far. no_line_at (r.front + d);
+}
+
+pub Shows-nothing : ShowsReceiver nothing_received nothing_received
+Shows-nothing = record {
+  front = refl;
+  unreliable = refl;
+  dispatched = refl;
+  held = λ d low high. nothing_at ((0 + d) % 65536) ∙ sym (nothing_at (0 + d));
+  low = λ n h. nothing_at n;
+  near = λ d far. nothing_at (0 + d);
+  sized = λ n c h. absurd (let f = nothing_at n in cc);
+  sized_true = λ n c h. absurd (let f = nothing_at n in cc);
+  waiting = λ d low. no_line_at ((0 + d) % 65536) ∙ sym (no_line_at (0 + d));
+  near_waiting = λ d far. no_line_at (0 + d);
+}

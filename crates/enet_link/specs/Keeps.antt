@@ -1,17 +1,18 @@
 -- What a link keeps true of the numbers that were meant.
 use Rattle.std.specs.Prelude.{◌≡◌, ℕ, true, false, ◌+◌, ◌-◌, ◌%◌, ◌<◌, ◌≤◌, ◌⊎◌, List, map, Some}
-use Rattle.std.specs.FinMap.{get, contains_key}
-use Rattle.enet_link.specs.Carriage.{carried}
+use Rattle.std.specs.FinMap.{get}
+use Rattle.enet_packets.specs.declared.coming.Coming.{Coming}
+use Rattle.enet_receiver.specs.Receiver.{Receiver}
+use Rattle.enet_sender.specs.Carriage.{carried}
+use Rattle.enet_sender.specs.declared.sent.Sent.{Sent}
 use Rattle.enet_link.specs.Link.{PutOut, is_late}
-use Rattle.enet_link.specs.Meant.{OfReliable, IsReadAsMeant}
-use Rattle.enet_link.specs.Sender.{Sent}
-use Rattle.enet_link.specs.Receiver.{Receiver, Coming}
+use Rattle.enet_link.specs.Meant.{OfReliable, IsReadAsMeant, has_piece}
 use Rattle.enet_link.specs.WireLink.{WireLink}
 use Rattle.enet_link.specs.Steps.{Has}
 
 -- dispatched, or held as a piece
 abbrev pub IsReceived : Receiver → ℕ → Type 0
-IsReceived r m = (m ≤ r.front) ⊎ ((n : ℕ) × (e : Coming) × (get r.held n ≡ Some e) × (n ≤ m) × (contains_key e.making.pieces (m - n) ≡ true))
+IsReceived r m = (m ≤ r.front) ⊎ ((n : ℕ) × (e : Coming) × (get r.held n ≡ Some e) × (n ≤ m) × (has_piece e.making (m - n) ≡ true))
 
 -- there is a receiver of unbounded numbers whose front the link shows, and unbounded numbers that wait for their
 -- acknowledgements, such that

@@ -1,13 +1,7 @@
-pub mod Carriage
-pub mod Making
-pub mod Numbering
-pub mod DataCommand
-pub mod Receiver
-pub mod Reception
-pub mod Sender
+pub mod Follows
 pub mod Link
 pub mod WireLink
 pub mod Steps
+pub mod Meant
 pub mod Keeps
 pub mod Image
-pub mod Meant

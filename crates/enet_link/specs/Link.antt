@@ -2,11 +2,11 @@
 use Rattle.std.specs.Prelude.{ℕ, Bool, false, ◌+◌, ◌-◌, ◌%◌, not, ◌==◌, nat_lt, if◌then◌else◌, List, [], ◌∷◌, ◌++◌, filter}
 use Rattle.std.specs.Option.{option_map}
 use Rattle.enet_codec.specs.declared.command.Fragment.{Fragment}
-use Rattle.enet_link.specs.Numbering.{unbounded}
-use Rattle.enet_link.specs.Carriage.{Carried}
-use Rattle.enet_link.specs.DataCommand.{DataCommand}
-use Rattle.enet_link.specs.Receiver.{Receiver}
-use Rattle.enet_link.specs.Reception.{received}
+use Rattle.enet_seq.specs.Numbering.{unbounded}
+use Rattle.enet_sender.specs.Carriage.{Carried}
+use Rattle.enet_fragment.specs.declared.data.DataCommand.{DataCommand}
+use Rattle.enet_receiver.specs.Receiver.{Receiver}
+use Rattle.enet_receiver.specs.Reception.{received}
 
 -- a command that was put out: reach is the greatest number sent just after its datagram
 pub record PutOut : Type 0 where
@@ -54,9 +54,9 @@ send l = record l { sent = l.sent + 1; unacked = l.unacked ++ (l.sent + 1) ∷ [
 abbrev pub put_out : Link → DataCommand → Link
 put_out l c = record l { commands = l.commands ++ (record { command = c; reach = l.sent }) ∷ [] }
 
--- a command of the log comes
+-- a command of the log comes; `max_packet` is the greatest packet that is taken in, in bytes
 abbrev pub takes_in : Link → ℕ → DataCommand → Bool → Link
-takes_in l most c full = record l { receiver = if l.is_open then received unbounded most l.receiver (wired c) full else l.receiver }
+takes_in l max_packet c full = record l { receiver = if l.is_open then received unbounded max_packet l.receiver (wired c) full else l.receiver }
 
 abbrev pub queue_answer : Link → ℕ → Link
 queue_answer l number = record l { answers = l.answers ++ (record { number = number; reach = l.sent }) ∷ [] }

@@ -1,13 +1,15 @@
 -- What was meant: the packets and commands of a list of what was submitted.
-use Rattle.std.specs.Prelude.{◌≡◌, ℕ, true, false, ◌+◌, ◌<◌, ◌⊎◌, List, ◌∷◌, ◌++◌, Some, None, if◌then◌else◌}
-use Rattle.std.specs.FinMap.{get, contains_key}
-use Rattle.enet_link.specs.Numbering.{unbounded}
-use Rattle.enet_link.specs.Carriage.{Carried, command_count, count_after, fragment_length, is_long}
-use Rattle.enet_link.specs.Making.{Making}
-use Rattle.enet_link.specs.DataCommand.{DataCommand}
-use Rattle.enet_link.specs.Sender.{command_at, piece_at}
-use Rattle.enet_link.specs.Receiver.{Receiver}
-use Rattle.enet_link.specs.Reception.{place_read}
+use Rattle.std.specs.Prelude.{◌≡◌, ℕ, Bool, true, false, ◌+◌, ◌<◌, ◌⊎◌, List, ◌∷◌, ◌++◌, Some, None, is_some, if◌then◌else◌}
+use Rattle.enet_seq.specs.Numbering.{unbounded}
+use Rattle.enet_fragment.specs.Cutting.{piece_length}
+use Rattle.enet_fragment.specs.Making.{Making, count_of, piece_at}
+use Rattle.enet_fragment.specs.declared.data.DataCommand.{DataCommand}
+use Rattle.enet_fragment.specs.DataCommand.{data_of, message_of}
+use Rattle.enet_receiver.specs.Receiver.{Receiver}
+use Rattle.enet_receiver.specs.Reception.{place_read}
+use Rattle.enet_sender.specs.Carriage.{Carried, is_long}
+use Rattle.enet_sender.specs.Sender.{command_at, piece_at as cut_piece}
+use Rattle.enet_link.specs.Follows.{command_count, count_after}
 use Rattle.enet_link.specs.Link.{wired}
 
 -- the packet c stands behind so many reliable commands, and so many unreliable packets since the last reliable one
@@ -18,10 +20,14 @@ pub record Stands (cs : List Carried) (number count : ℕ) (c : Carried) : Type 
   pub number_is : command_count before ≡ number
   pub count_is : count_after 0 before ≡ count
 
+-- whether the piece of this number has come
+abbrev pub has_piece : Making → ℕ → Bool
+has_piece m i = is_some (piece_at m i)
+
 -- the pieces that came are pieces of the packet
 pub record Matches (mtu : ℕ) (m : Making) (c : Carried) : Type 0 where
-  pub count : m.count ≡ c.pieces
-  pub pieces : (i : ℕ) (bytes : List ℕ) → get m.pieces i ≡ Some bytes → (i < c.pieces) × (bytes ≡ piece_at (fragment_length mtu) c.packet.body i)
+  pub count : count_of m ≡ c.pieces
+  pub pieces : (i : ℕ) (bytes : List ℕ) → piece_at m i ≡ Some bytes → (i < c.pieces) × (bytes ≡ cut_piece (piece_length mtu) c.packet.body i)
 
 -- a packet on its way is a reliable one of the list, of which this is the number of the first piece
 pub record OfReliable (mtu : ℕ) (cs : List Carried) (start : ℕ) (m : Making) : Type 0 where
@@ -32,7 +38,7 @@ pub record OfReliable (mtu : ℕ) (cs : List Carried) (start : ℕ) (m : Making)
   pub stands : Stands cs number count packet
   pub reliable : packet.reliable ≡ true
   pub matches : Matches mtu m packet
-  pub begun : (i : ℕ) × (contains_key m.pieces i ≡ true)
+  pub begun : (i : ℕ) × (has_piece m i ≡ true)
 
 -- or an unreliable one of these numbers
 pub record OfUnreliable (mtu : ℕ) (cs : List Carried) (number unreliable : ℕ) (m : Making) : Type 0 where
@@ -64,3 +70,7 @@ pub record IsReadAsMeant (mtu : ℕ) (cs : List Carried) (r : Receiver) (c : Dat
   pub piece : IsPieceOf mtu cs meant
   pub command : c ≡ wired meant
   pub read : (place_read unbounded r c ≡ None) ⊎ (place_read unbounded r c ≡ Some (if piece.packet.reliable then piece.number + 1 else piece.number))
+
+-- a command is read as itself where it comes, on every channel
+abbrev pub IsReadAsItself : DataCommand → Type 0
+IsReadAsItself c = (channel : ℕ) → data_of (message_of channel c) ≡ Some c

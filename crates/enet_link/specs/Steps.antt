@@ -1,10 +1,11 @@
 -- What can happen to a link, one thing after another.
 use Rattle.std.specs.Prelude.{◌≡◌, ℕ, Bool, true, false, ◌≤◌, ◌⊎◌, List, [], ◌∷◌, ◌++◌, Some, map}
-use Rattle.enet_link.specs.Numbering.{wire}
-use Rattle.enet_link.specs.Carriage.{Packet, carried_as, fragment_limit}
-use Rattle.enet_link.specs.Sender.{Sender, Next, next, nothing_sent}
-use Rattle.enet_link.specs.Receiver.{Receiver, Dispatched, nothing_received}
-use Rattle.enet_link.specs.Reception.{acknowledged}
+use Rattle.enet_seq.specs.Numbering.{wire}
+use Rattle.enet_sender.specs.Carriage.{Packet, carried_as, fragment_limit}
+use Rattle.enet_sender.specs.Sender.{Sender, Next, next, nothing_sent}
+use Rattle.enet_packets.specs.declared.coming.Dispatched.{Dispatched}
+use Rattle.enet_receiver.specs.Receiver.{Receiver, nothing_received}
+use Rattle.enet_receiver.specs.Reception.{acknowledged}
 use Rattle.enet_link.specs.Link.{PutOut, Answer, is_late}
 use Rattle.enet_link.specs.WireLink.{WireLink, submits, sends, drops, marks, puts_out, arrives, logs_answer, answered, stops_sending, stops_receiving, drops_answers}
 
@@ -13,14 +14,16 @@ abbrev pub Has : {X : Type 0} → List X → X → Type 0
 Has [] x = ⊥
 Has (y ∷ ys) x = (y ≡ x) ⊎ Has ys x
 
+-- `now` is a moment and `timeout` how long a first send waits, both in milliseconds; `transit` bytes are in transit, and `most`
+-- may be. Of what comes, `max_packet` is the greatest packet that is taken in, in bytes, and `full` says that too many wait
 pub data Event : Type 0 where
   Submit : (packet : Packet) → Event
   Send : (now timeout transit most : ℕ) → Event  -- the command that is due next goes into the datagram
   Drop : (now timeout transit most : ℕ) → Event  -- the throttle drops the unreliable packet that it begins
   Mark : (now : ℕ) → Event  -- what waited too long is due to go again
   PutsOut : Event  -- the datagram is put out
-  Arrive : (command : PutOut) (most : ℕ) (full : Bool) → Event  -- a command of the log comes
-  ArriveAnswered : (command : PutOut) (most : ℕ) (full : Bool) → Event  -- and is acknowledged
+  Arrive : (command : PutOut) (max_packet : ℕ) (full : Bool) → Event  -- a command of the log comes
+  ArriveAnswered : (command : PutOut) (max_packet : ℕ) (full : Bool) → Event  -- and is acknowledged
   PutsAnswer : (number : ℕ) (rest : List ℕ) → Event  -- the oldest waiting acknowledgement is put out
   Acknowledge : (answer : Answer) → Event  -- an acknowledgement of the log comes
   StopSending : (left : Sender) → Event  -- the sending end stops, whatever it keeps
@@ -51,16 +54,16 @@ pub record Marks (now : ℕ) (v w : WireLink) : Type 0 where
   pub after : w ≡ marks v now
 
 -- a command of the log comes, not more than 32,768 late
-pub record Arrives (command : PutOut) (most : ℕ) (full answer : Bool) (v w : WireLink) : Type 0 where
+pub record Arrives (command : PutOut) (max_packet : ℕ) (full answer : Bool) (v w : WireLink) : Type 0 where
   pub logged : Has v.commands command
   pub in_time : is_late v.greatest command.reach command.command.number ≡ false
-  pub after : w ≡ arrives v most command.command full answer
+  pub after : w ≡ arrives v max_packet command.command full answer
 
 -- a reliable one is acknowledged: where the receiver dispatches, by its rule
-pub record ArrivesAnswered (command : PutOut) (most : ℕ) (full : Bool) (v w : WireLink) : Type 0 where
-  pub arrives : Arrives command most full true v w
+pub record ArrivesAnswered (command : PutOut) (max_packet : ℕ) (full : Bool) (v w : WireLink) : Type 0 where
+  pub arrives : Arrives command max_packet full true v w
   pub reliable : command.command.reliable ≡ true
-  pub rule : v.is_open ≡ true → acknowledged wire most v.incoming command.command full ≡ true
+  pub rule : v.is_open ≡ true → acknowledged wire max_packet v.incoming command.command full ≡ true
 
 pub record PutsAnswers (number : ℕ) (rest : List ℕ) (v w : WireLink) : Type 0 where
   pub oldest : v.answers ≡ number ∷ rest
@@ -84,15 +87,15 @@ Happens mtu (Send now timeout transit most) v w = Sends now timeout transit most
 Happens mtu (Drop now timeout transit most) v w = Drops now timeout transit most v w
 Happens mtu (Mark now) v w = Marks now v w
 Happens mtu PutsOut v w = w ≡ puts_out v
-Happens mtu (Arrive command most full) v w = Arrives command most full false v w
-Happens mtu (ArriveAnswered command most full) v w = ArrivesAnswered command most full v w
+Happens mtu (Arrive command max_packet full) v w = Arrives command max_packet full false v w
+Happens mtu (ArriveAnswered command max_packet full) v w = ArrivesAnswered command max_packet full v w
 Happens mtu (PutsAnswer number rest) v w = PutsAnswers number rest v w
 Happens mtu (Acknowledge answer) v w = Acknowledges answer v w
 Happens mtu (StopSending left) v w = w ≡ stops_sending v left
 Happens mtu (StopReceiving left kept gone) v w = StopsReceiving left kept gone v w
 Happens mtu DropAnswers v w = w ≡ drops_answers v
 
--- events, one after another
+-- events, one after another, with datagrams of at most `mtu` bytes
 abbrev pub Runs : ℕ → List Event → WireLink → WireLink → Type 0
 Runs mtu [] v w = v ≡ w
 Runs mtu (e ∷ es) v w = (u : WireLink) × Happens mtu e v u × Runs mtu es u w

@@ -1,11 +1,12 @@
 -- One channel from a sender to a receiver and the acknowledgements back, as the two ends and the log show it: with wire numbers.
 use Rattle.std.specs.Prelude.{ℕ, Bool, false, ◌+◌, ◌%◌, ◌&&◌, ◌==◌, if◌then◌else◌, List, [], ◌∷◌, ◌++◌, map}
-use Rattle.enet_link.specs.Numbering.{wire}
-use Rattle.enet_link.specs.Carriage.{Packet}
-use Rattle.enet_link.specs.DataCommand.{DataCommand}
-use Rattle.enet_link.specs.Sender.{Sender, Next, submitted, with_skipped, marked, acknowledged}
-use Rattle.enet_link.specs.Receiver.{Receiver, Dispatched}
-use Rattle.enet_link.specs.Reception.{received}
+use Rattle.enet_seq.specs.Numbering.{wire}
+use Rattle.enet_sender.specs.Carriage.{Packet}
+use Rattle.enet_fragment.specs.declared.data.DataCommand.{DataCommand}
+use Rattle.enet_sender.specs.Sender.{Sender, Next, submitted, with_skipped, with_marked, acknowledged}
+use Rattle.enet_packets.specs.declared.coming.Dispatched.{Dispatched}
+use Rattle.enet_receiver.specs.Receiver.{Receiver}
+use Rattle.enet_receiver.specs.Reception.{received}
 use Rattle.enet_link.specs.Link.{PutOut, Answer}
 
 pub record WireLink : Type 0 where
@@ -38,7 +39,7 @@ drops v n = record v { outgoing = with_skipped n.sender }
 
 -- a moment later, what waited too long is due to go again
 abbrev pub marks : WireLink → ℕ → WireLink
-marks v now = record v { outgoing = record v.outgoing { sent = map (marked now) v.outgoing.sent } }
+marks v now = record v { outgoing = with_marked now v.outgoing }
 
 abbrev pub with_reach : ℕ → DataCommand → PutOut
 with_reach reach c = record { command = c; reach = reach }
@@ -47,10 +48,11 @@ with_reach reach c = record { command = c; reach = reach }
 abbrev pub puts_out : WireLink → WireLink
 puts_out v = record v { commands = v.commands ++ map (with_reach v.greatest) v.making; making = [] }
 
--- a command of the log comes, and is acknowledged or not
+-- a command of the log comes, and is acknowledged or not; `max_packet` is the greatest packet that is taken in, in bytes, and
+-- `full` says that too many bytes wait
 abbrev pub arrives : WireLink → ℕ → DataCommand → Bool → Bool → WireLink
-arrives v most c full answered = record v {
-  incoming = if v.is_open then received wire most v.incoming c full else v.incoming;
+arrives v max_packet c full answered = record v {
+  incoming = if v.is_open then received wire max_packet v.incoming c full else v.incoming;
   answers = if answered then v.answers ++ c.number ∷ [] else v.answers;
 }
 

@@ -1,4 +1,4 @@
-use Rattle.enet_link.proofs.Runs.{follows, keeps}
+use Rattle.enet_link.proofs.Runs.{follows, keeps, reads}
 use Rattle.enet_link.proofs.one_link.Goals as goal
 
 pub returns-clause-follows : goal.returns-clause-follows
@@ -6,3 +6,6 @@ returns-clause-follows c = follows
 
 pub returns-clause-keeps : goal.returns-clause-keeps
 returns-clause-keeps c = keeps
+
+pub returns-clause-reads : goal.returns-clause-reads
+returns-clause-reads c = reads
