@@ -1,14 +1,9 @@
-//! One channel's two sides in ENet 1.3: the sender, which numbers and sends a packet's commands, and the
-//! receiver, which dispatches packets in order.
-//!
-//! So far every packet goes as one reliable command (SEND_RELIABLE).
+//! One channel's two sides in ENet 1.3: the sender, which numbers, cuts, sends and resends what is submitted, and the receiver,
+//! which dispatches it. Both are crates of their own below this one; here they stand side by side, with the tests that need both.
 #![tactic(auto)]
 
-mod incoming;
-mod outgoing;
-
-pub use incoming::{Foresight, Incoming, Took};
-pub use outgoing::{Due, Kind, Outgoing};
+pub use enet_receiver::{Foresight, Incoming, Took};
+pub use enet_sender::{Due, Kind, Left, Outgoing};
 
 #[cfg(test)]
 mod tests;

@@ -3,30 +3,20 @@ use Rattle.std.specs.Prelude.{◌≡◌, ℕ, ◌≤◌, ◌+◌, ◌%◌, ◌^�
 use Rattle.enet_codec.specs.declared.shared.Packet.{Packet}
 use Rattle.enet_codec.specs.declared.shared.Refusal.{Refusal}
 use Rattle.enet_codec.specs.declared.shared.Refusal.TheVariants.{NoSuchPeer, NoSuchChannel, TooLarge}
-use Rattle.std.specs.FinMap.{entries}
-use Rattle.enet_channel.specs.Sender.{Sender}
-use Rattle.enet_channel.specs.Receiver.{Receiver}
+use Rattle.enet_fragment.specs.Cutting.{piece_count}
+use Rattle.enet_sender.specs.Carriage.{fragment_limit}
+use Rattle.enet_sender.specs.Due.{SendingEnd}
+use Rattle.enet_receiver.specs.Foresight.{ReceivingEnd}
 use Rattle.enet_host.specs.declared.config.Config.{Config}
 use Rattle.enet_host.specs.declared.event.PeerRef.{PeerRef}
 use Rattle.enet_world.specs.declared.host.Settings.{Settings}
 use Rattle.enet_world.specs.declared.host.Acknowledgement.{Acknowledgement}
 
--- one channel's receiver, with the packets held above the front in the order of their numbers
-pub record Receiving : Type 0 where
-  pub channel : ℕ
-  pub max_packet : ℕ
-  pub front : ℕ
-  pub held : List (ℕ × List ℕ)
-  pub dispatched : List Packet
-
-abbrev pub receiving_of : Receiver → Receiving
-receiving_of r = record { channel = r.channel; max_packet = r.max_packet; front = r.front; held = entries r.held; dispatched = r.dispatched }
-
 pub record Hosting : Type 0 where
   pub clock : ℕ
   pub settings : Settings
-  pub outgoing : List Sender
-  pub incoming : List Receiving
+  pub outgoing : List SendingEnd
+  pub incoming : List ReceivingEnd
   pub acknowledgements : List Acknowledgement  -- those that wait, the oldest first
   pub dispatched : List Packet  -- what the user hasn't taken, in the order of dispatch
   pub untaken : ℕ  -- the bytes of those
@@ -49,9 +39,9 @@ window_of outgoing = if outgoing == 0 then 65536 else min 65536 (max 4096 (outgo
 abbrev pub is_first_peer : PeerRef → Bool
 is_first_peer p = p.slot == 0 && p.generation == 0
 
--- whether a packet is too large: longer than the greatest packet, or than one datagram holds
+-- whether a packet is too large: longer than the greatest packet, or cut into more pieces than the limit allows
 abbrev pub is_too_large : Settings → ℕ → Bool
-is_too_large s len = nat_lt s.max_packet len || nat_lt (s.mtu - 28) len
+is_too_large s len = nat_lt s.max_packet len || nat_lt fragment_limit (piece_count len s.mtu)
 
 -- the first refusal but want of memory that a submission meets
 abbrev pub submission_refusal : Hosting → PeerRef → ℕ → ℕ → Option Refusal

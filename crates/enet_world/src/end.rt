@@ -29,8 +29,12 @@ pub(crate) struct End {
 
 impl Model for End {
     ghost use Rattle.enet_world.specs.World.{Ending, IsEnding};
+    ghost use Rattle.std.specs.Coded.{codes};
+    ghost use Rattle.enet_receiver.specs.Codes.{receiving_code};
 
     ghost Value = { Ending };
+
+    ghost coded = { Prim.hlevel (codes, receiving_code) };
 
     ghost view = { λ e. record { host = e.host; log = e.log.items; channels = e.channels.items; events = e.events.items } };
 

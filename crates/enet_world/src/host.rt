@@ -1,13 +1,20 @@
 //! A host with one slot, whose peer is Connected from the start.
 
-ghost use Rattle.std.specs.Prelude.{◌≡◌, ℕ, ◌+◌, ◌≤◌, ◌<◌, length, OnErr, IfErr, IfOk, IfSome, IsTrue, None, ◌-◌, [], slice_get, MatchOption, Some};
+ghost use Rattle.std.specs.Prelude.{◌≡◌, ◌≢◌, ℕ, ◌+◌, ◌≤◌, ◌<◌, length, OnErr, IfErr, IfOk, IfSome, IsTrue, None, ◌-◌, [], slice_get, MatchOption, Some};
 ghost use Rattle.std.specs.VecDeque.{deque_len, deque_capacity};
-ghost use Rattle.enet_world.specs.Hosting.{window_of, submission_refusal, settings_of, IsFresh, Takes, Listens, Emits, ticked};
+ghost use Rattle.std.specs.Bool.{OnFalse};
+ghost use Rattle.enet_codec.specs.Message.{view};
+ghost use Rattle.enet_fragment.specs.Cutting.{piece_count};
+ghost use Rattle.enet_fragment.specs.DataCommand.{data_of};
+ghost use Rattle.enet_receiver.specs.Foresight.{outcome_for, after_command};
+ghost use Rattle.enet_sender.specs.Carriage.{fragment_limit};
+ghost use Rattle.enet_world.specs.Hosting.{window_of, is_too_large, submission_refusal, settings_of, IsFresh, Takes, Listens, Emits, ticked};
 
 use crate::packing::{Progress, finish, pack_acknowledgements, pack_channels};
 use bytes::Bytes;
 use enet_channel::{Incoming, Outgoing, Took};
 use enet_codec::{Command, Head, Header, Packet, Refusal, Stop, read_command, read_header};
+use enet_fragment::plan;
 use enet_host::{Config, PeerRef, Received};
 use std::alloc::Global;
 use std::collections::VecDeque;
@@ -24,9 +31,6 @@ const LONGEST_TICK: u32 = 60_000;
 
 /// What the header takes of a datagram at most, in bytes.
 const HEADER_BYTES: usize = 4;
-
-/// What the header and the longest head of a data command take of a datagram, in bytes.
-const OVERHEAD: u32 = 28;
 
 const COMPRESSED: u8 = 0x40;
 
@@ -69,16 +73,20 @@ pub(crate) struct Host {
 }
 
 impl Model for Host {
-    ghost use Rattle.std.specs.Prelude.{length, map};
-    ghost use Rattle.enet_world.specs.Hosting.{Hosting, IsHosting, receiving_of};
+    ghost use Rattle.std.specs.Prelude.{length};
+    ghost use Rattle.enet_world.specs.Hosting.{Hosting, IsHosting};
+    ghost use Rattle.std.specs.Coded.{codes};
+    ghost use Rattle.enet_receiver.specs.Codes.{receiving_code};
 
     ghost Value = { Hosting };
+
+    ghost coded = { Prim.hlevel (codes, receiving_code) };
 
     ghost view = { λ h. record {
       clock = h.clock;
       settings = h.settings;
       outgoing = h.outgoing.items;
-      incoming = map receiving_of h.incoming.items;
+      incoming = h.incoming.items;
       acknowledgements = h.acknowledgements.items;
       dispatched = h.dispatched.items;
       untaken = h.untaken;
@@ -147,8 +155,33 @@ fn header_of(bytes: &[u8]) -> Result<(Header, usize), Stop>
     Ok((header, len))
 }
 
-/// Takes a command in, and leaves room for so many dispatched packets. Where there is no memory it answers false, and
-/// nothing is changed.
+/// Whether a packet of so many bytes is longer than the greatest one, or would be cut into too many pieces.
+#[tactic(auto, unfolding(enet_fragment::specs::Cutting::planned))]
+fn is_too_large(settings: &Settings, len: usize) -> bool
+    requires low { 576 ≤ settings.now.mtu }
+    requires high { settings.now.mtu ≤ 4096 }
+    ensures { result ≡ is_too_large settings.now len }
+{
+    len > settings.max_packet as usize || plan(len, settings.mtu).is_none()
+}
+
+/// Takes a sequenced data command in, by the call of its kind.
+fn reception(incoming: &mut Incoming, command: &Command<'_>, full: bool) -> Took
+    ensures took { result ≢ Took.Memory → result ≡ outcome_for incoming.old (data_of (view command.now)) full }
+    ensures held { result ≡ Took.Held → incoming.new ≡ after_command incoming.old (data_of (view command.now)) full }
+    ensures unchanged { result ≢ Took.Held → incoming.new ≡ incoming.old }
+{
+    match command {
+        Command::SendReliable { .. } => incoming.reliable(command, full),
+        Command::SendUnreliable { .. } => incoming.unreliable(command, full),
+        Command::SendFragment { .. } => incoming.fragment(command, full),
+        Command::SendUnreliableFragment { .. } => incoming.unreliable_fragment(command, full),
+        _ => Took::Bad,
+    }
+}
+
+/// Takes a sequenced data command in, and leaves room for so many dispatched packets. Where there is no memory it answers
+/// false, and nothing is changed.
 fn take_in(
     incoming: &mut Incoming,
     dispatched: &mut VecDeque<Packet>,
@@ -156,13 +189,15 @@ fn take_in(
     full: bool,
     packets: u32,
 ) -> bool
+    ensures taken { IsTrue result → incoming.new ≡ after_command incoming.old (data_of (view command.now)) full }
+    ensures refused { OnFalse result (incoming.new ≡ incoming.old) }
     ensures room { IsTrue result → deque_len dispatched.new + packets ≤ deque_capacity dispatched.new }
     ensures dispatched { dispatched.new.items ≡ dispatched.old.items }
 {
     if dispatched.reserve(packets as usize).is_err() {
         return false;
     }
-    incoming.reliable(command, full) != Took::Memory
+    reception(incoming, command, full) != Took::Memory
 }
 
 /// Moves so many packets from a channel to what the user takes, for which there is room, and gives the bytes that the
@@ -224,9 +259,7 @@ impl Host {
         if channel >= self.settings.channels {
             return Some(Refusal::NoSuchChannel);
         }
-        if len > self.settings.max_packet as usize
-            || len > (self.settings.mtu - OVERHEAD) as usize
-        {
+        if is_too_large(&self.settings, len) {
             return Some(Refusal::TooLarge);
         }
         None
@@ -235,7 +268,7 @@ impl Host {
     /// Queues a packet that no refusal but E1 meets.
     pub fn submit(&mut self, channel: u8, flags: u8, body: Bytes) -> Result<(), Refusal>
         requires channel { channel < self.old.settings.channels }
-        requires small { length body ≤ self.old.settings.mtu - 28 }
+        requires few { piece_count (length body) self.old.settings.mtu ≤ fragment_limit }
         ensures memory { IfErr result (λ why. why ≡ Refusal.Memory) }
         ensures unchanged { OnErr result (self.new ≡ self.old) }
         ensures kept { self.new ≡ record self.old { outgoing = self.new.outgoing } }
@@ -287,6 +320,7 @@ impl Host {
         let begin = Progress {
             at: HEADER_BYTES,
             commands: 32,
+            asks: false,
             transit: self.transit,
         };
         let most = self.settings.window.max(self.settings.mtu);
@@ -304,7 +338,7 @@ impl Host {
         if done.at == HEADER_BYTES {
             return None;
         }
-        let sent = (done.at != answered.at).then_some((self.clock % 65536) as u16);
+        let sent = done.asks.then_some((self.clock % 65536) as u16);
         Some(finish(room, done.at, sent))
     }
 
@@ -361,12 +395,10 @@ impl Host {
                 self.acknowledged(head.channel, *received_number);
                 Ok(())
             }
-            Command::SendReliable { head, payload } => self.reliable(
-                sent,
-                command,
-                *head,
-                payload.len(),
-            ),
+            Command::SendReliable { head, .. }
+            | Command::SendUnreliable { head, .. }
+            | Command::SendFragment { head, .. }
+            | Command::SendUnreliableFragment { head, .. } => self.data(sent, command, *head),
             _ => Err(Stop::BadCommand),
         }
     }
@@ -394,22 +426,13 @@ impl Host {
         waiting >= u64::from(self.settings.max_waiting)
     }
 
-    /// Takes a reliable packet of one piece.
-    fn reliable(
-        &mut self,
-        sent: Option<u16>,
-        command: &Command<'_>,
-        head: Head,
-        len: usize,
-    ) -> Result<(), Stop>
+    /// Takes a sequenced data command. It is acknowledged where it asks for it and the window lets it be.
+    fn data(&mut self, sent: Option<u16>, command: &Command<'_>, head: Head) -> Result<(), Stop>
         ensures { Listens self.old self.new }
     {
         let i = usize::from(head.channel);
         if i >= self.incoming.len() {
             return Err(Stop::BadChannel);
-        }
-        if len > self.settings.max_packet as usize {
-            return Err(Stop::BadFragment);
         }
         let full = self.is_full();
         let foresight = self.incoming[i].foresee(command, full);

@@ -5,7 +5,7 @@ ghost use Rattle.enet_codec.specs.Message.{view};
 ghost use Rattle.enet_world.specs.Packing.{IsAhead, acknowledgement_of};
 
 use crate::host::Acknowledgement;
-use enet_channel::{Due, Outgoing};
+use enet_channel::{Due, Kind, Outgoing};
 use enet_codec::{Command, Head, Header, write_command, write_header};
 use std::collections::VecDeque;
 
@@ -20,6 +20,8 @@ pub(crate) struct Progress {
     pub at: usize,
     /// How many more commands the datagram takes; 0 too where one didn't fit.
     pub commands: u32,
+    /// Whether a command of it asks for an acknowledgement, so that it has a sent time.
+    pub asks: bool,
     /// The payload bytes in transit.
     pub transit: u32,
 }
@@ -83,9 +85,10 @@ fn pack_channel(
     let mut progress = from;
     while progress.commands > 0 {
         match outgoing.next_due(now, FIRST_TIMEOUT, progress.transit, most, buf, progress.at) {
-            Due::Sent { past, added, .. } => {
+            Due::Sent { past, added, kind } => {
                 progress.at = past;
                 progress.commands -= 1;
+                progress.asks |= kind == Kind::Reliable;
                 progress.transit = progress.transit.saturating_add(added);
             }
             Due::NoRoom => {

@@ -31,6 +31,10 @@ fn submit(side: Side, peer: PeerRef, channel: u8, body: &'static [u8]) -> WorldE
     }
 }
 
+fn deliver(side: Side, k: u64) -> WorldEvent {
+    WorldEvent::Deliver { side, k }
+}
+
 fn hello(alloc: Global) -> Result<Vec<WorldEvent>, AllocError> {
     Ok(vec![in alloc;
         WorldEvent::Tick {
@@ -39,17 +43,11 @@ fn hello(alloc: Global) -> Result<Vec<WorldEvent>, AllocError> {
         },
         submit(Side::A, PEER, 0, b"hello"),
         WorldEvent::Turn { side: Side::A },
-        WorldEvent::Deliver {
-            side: Side::B,
-            k: 0
-        },
+        deliver(Side::B, 0),
         WorldEvent::Take { side: Side::B },
         WorldEvent::Take { side: Side::B },
         WorldEvent::Turn { side: Side::B },
-        WorldEvent::Deliver {
-            side: Side::A,
-            k: 0
-        },
+        deliver(Side::A, 0),
         WorldEvent::Turn { side: Side::A },
     ]?)
 }
@@ -124,21 +122,12 @@ fn reliable_out_of_order(rt: HostRuntime) -> Result<(), Fail> {
         WorldEvent::Turn { side: Side::A },
         submit(Side::A, PEER, 0, b"b"),
         WorldEvent::Turn { side: Side::A },
-        WorldEvent::Deliver {
-            side: Side::B,
-            k: 1
-        },
+        deliver(Side::B, 1),
         WorldEvent::Take { side: Side::B },
-        WorldEvent::Deliver {
-            side: Side::B,
-            k: 0
-        },
+        deliver(Side::B, 0),
         WorldEvent::Take { side: Side::B },
         WorldEvent::Take { side: Side::B },
-        WorldEvent::Deliver {
-            side: Side::B,
-            k: 0
-        },
+        deliver(Side::B, 0),
         WorldEvent::Take { side: Side::B },
         WorldEvent::Turn { side: Side::B },
     ]?;
@@ -173,19 +162,72 @@ fn refusals_of_a_pair(rt: HostRuntime) -> Result<(), Fail> {
         generation: 1,
     };
     let events = vec![in alloc;
-        WorldEvent::Deliver {
-            side: Side::B,
-            k: 0
-        },
+        deliver(Side::B, 0),
         submit(Side::A, PEER, 2, b"a"),
         submit(Side::A, other, 0, b"a"),
         submit(Side::A, later, 2, b"a"),
-        submit(Side::A, PEER, 1, &[0; 1365]),
-        submit(Side::A, PEER, 1, &[0; 1364]),
     ]?;
     let told = steps(alloc, &mut world, events)?;
+    let want = "[Err(NoSuchDatagram), Err(NoSuchChannel), Err(NoSuchPeer), Err(NoSuchPeer)]";
+    assert_eq!(rt; told.as_str(), want);
+    Ok(())
+}
+
+// At an mtu of 576, 16,384 pieces of 548 bytes are 8,978,432 bytes.
+#[test]
+fn largest_packets(rt: HostRuntime) -> Result<(), Fail> {
+    let alloc = rt.alloc();
+    let standard = Config::standard(1, 1);
+    let short = Config {
+        mtu: 576,
+        ..standard
+    };
+    let small = Config {
+        max_packet: 2000,
+        ..standard
+    };
+    for (config, len, refused) in [
+        (short, 8_978_432usize, false),
+        (short, 8_978_433, true),
+        (small, 2000, false),
+        (small, 2001, true),
+    ] {
+        let mut world = World::joined(alloc, config, standard)?;
+        let answer = world.step(WorldEvent::Submit {
+            side: Side::A,
+            peer: PEER,
+            channel: 0,
+            flags: 1,
+            body: Bytes::from_vec(vec![in alloc; 0u8; len]?)?,
+        });
+        let want = refused.then_some(Refusal::TooLarge);
+        assert_eq!(rt; answer.err(), want, "{len} bytes");
+    }
+    Ok(())
+}
+
+// B takes packets of at most 3 bytes, and begins none once 2 wait. Number 1 is too large, so number 2 is held.
+#[test]
+fn stops_of_a_pair(rt: HostRuntime) -> Result<(), Fail> {
+    let alloc = rt.alloc();
+    let narrow = Config {
+        max_packet: 3,
+        max_waiting: 2,
+        ..Config::standard(1, 1)
+    };
+    let mut world = World::joined(alloc, Config::standard(1, 1), narrow)?;
+    let mut events = Vec::new(alloc);
+    let bodies: [&'static [u8]; 3] = [b"abcd", b"ab", b"c"];
+    for (k, body) in bodies.into_iter().enumerate() {
+        events.push(submit(Side::A, PEER, 0, body))?;
+        events.push(WorldEvent::Turn { side: Side::A })?;
+        events.push(deliver(Side::B, k as u64))?;
+    }
+    let told = steps(alloc, &mut world, events)?;
     let want =
-        "[Err(NoSuchDatagram), Err(NoSuchChannel), Err(NoSuchPeer), Err(NoSuchPeer), Err(TooLarge), Ok(Done)]";
+        "[Ok(Done), Ok(Sent(Some(0))), Ok(Received(Received { handled: 0, stop: Some(BadFragment) })), \
+Ok(Done), Ok(Sent(Some(1))), Ok(Received(Received { handled: 1, stop: None })), \
+Ok(Done), Ok(Sent(Some(2))), Ok(Received(Received { handled: 0, stop: Some(Waiting) }))]";
     assert_eq!(rt; told.as_str(), want);
     Ok(())
 }
@@ -239,20 +281,10 @@ fn exchange(world: &mut World, n: u64) -> bool {
     let done = [
         world.step(submit(Side::A, PEER, 0, b"a")).is_ok(),
         world.step(WorldEvent::Turn { side: Side::A }).is_ok(),
-        world
-            .step(WorldEvent::Deliver {
-                side: Side::B,
-                k: n,
-            })
-            .is_ok(),
+        world.step(deliver(Side::B, n)).is_ok(),
         world.step(WorldEvent::Take { side: Side::B }).is_ok(),
         world.step(WorldEvent::Turn { side: Side::B }).is_ok(),
-        world
-            .step(WorldEvent::Deliver {
-                side: Side::A,
-                k: n,
-            })
-            .is_ok(),
+        world.step(deliver(Side::A, n)).is_ok(),
     ];
     done == [true; 6]
 }
@@ -266,28 +298,13 @@ fn late_and_too_late(rt: HostRuntime) -> Result<(), Fail> {
     }
     assert_eq!(rt; world.dispatched(0, Side::A, 0).len(), 40_000);
     let events = vec![in alloc;
-        WorldEvent::Deliver {
-            side: Side::B,
-            k: 7_231
-        },
+        deliver(Side::B, 7_231),
         WorldEvent::Take { side: Side::B },
         WorldEvent::Turn { side: Side::B },
-        WorldEvent::Deliver {
-            side: Side::B,
-            k: 7_230
-        },
-        WorldEvent::Deliver {
-            side: Side::A,
-            k: 7_231
-        },
-        WorldEvent::Deliver {
-            side: Side::A,
-            k: 7_230
-        },
-        WorldEvent::Deliver {
-            side: Side::B,
-            k: 40_000
-        },
+        deliver(Side::B, 7_230),
+        deliver(Side::A, 7_231),
+        deliver(Side::A, 7_230),
+        deliver(Side::B, 40_000),
     ]?;
     let told = steps(alloc, &mut world, events)?;
     let want =

@@ -23,8 +23,12 @@ pub struct World {
 
 impl Model for World {
     ghost use Rattle.enet_world.specs.World.{Joined};
+    ghost use Rattle.std.specs.Coded.{codes};
+    ghost use Rattle.enet_receiver.specs.Codes.{receiving_code};
 
     ghost Value = { Joined };
+
+    ghost coded = { Prim.hlevel (codes, receiving_code) };
 
     ghost view = { λ w. record { a = w.a; b = w.b } };
 }

@@ -1,4 +1,0 @@
-pub mod SenderLemmas
-pub mod HeldLemmas
-pub mod ReleaseLemmas
-pub mod ForesightLemmas

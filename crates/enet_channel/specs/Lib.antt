@@ -1,4 +1,0 @@
-pub mod Sender
-pub mod Kept
-pub mod Receiver
-pub mod Reception
