@@ -1,0 +1,257 @@
+-- One channel, turn by turn.
+use Rattle.std.proofs.Common.{◌≡◌, ℕ, zero, suc, ◌+◌, ◌-◌, ◌<◌, ◌≤◌, ◌^◌, ◌⊎◌, List, [], ◌∷◌, length, refl, sym, ap, ◌∙◌, subst, arith, Bool, true, false, not, cond, Option, Some, None, slice_set, sum_by}
+use Rattle.std.specs.List.{slice_get}
+use Rattle.std.proofs.lemmas.List.Sums.{sum_by-cons}
+use Rattle.enet_codec.specs.Message.{Message, canonical}
+use Rattle.enet_codec.specs.Writing.{Puts}
+use Rattle.enet_seq.specs.Numbering.{wire}
+use Rattle.enet_throttle.specs.Throttle.{Throttling, is_admitted, transit}
+use Rattle.enet_fragment.specs.declared.data.DataCommand.{DataCommand}
+use Rattle.enet_fragment.specs.DataCommand.{message_of}
+use Rattle.enet_sender.specs.declared.outgoing.Due.{Due}
+use Rattle.enet_sender.specs.declared.outgoing.Due.TheVariants as due
+use Rattle.enet_sender.specs.declared.outgoing.Kind.{Kind}
+use Rattle.enet_sender.specs.declared.outgoing.Kind.TheVariants as kind
+use Rattle.enet_sender.specs.Sender.{Sender, Next, next, with_skipped, bytes_in_transit, is_more}
+use Rattle.enet_sender.specs.Due.{SendingEnd, kind_of, Did}
+use Rattle.enet_sender.proofs.Transit.{transit-next}
+use Rattle.enet_outbox.specs.declared.parts.Pace.{Pace}
+use Rattle.enet_outbox.specs.declared.packing.Progress.{Progress}
+use Rattle.enet_outbox.specs.declared.packing.Flow.{Flow}
+use Rattle.enet_outbox.specs.Outbox.{Outbox, transit_of}
+use Rattle.enet_outbox.specs.Emission.{Filling, fits, with_command, shut, asked, with_sender, data_put, data_step, channel_step, channel_turn, with_channel, channel_turns, turns_of, transit_limit}
+use Rattle.enet_outbox.specs.Packing.{Holds, taken_in, place_in, Leads, asked_for, refuses, with_flow, Shares}
+use Rattle.enet_outbox.proofs.Fillings.{fits-written, holds-written, holds-back, holds-other, unfit, holds-shut, leads-by, place-open, place-full}
+use Rattle.enet_outbox.proofs.Turns.{left_of, left-most, left-falls, left-skipped, added-none}
+
+-- a list with one element replaced
+pub set-same : {A : Type 0} (xs : List A) (i : ℕ) (x : A) → slice_get xs i ≡ Some x → slice_set xs i x ≡ xs
+set-same [] i x e = refl
+set-same (y ∷ xs) zero x e = let is : y ≡ x = cc in ap (λ z. z ∷ xs) (sym is)
+set-same (y ∷ xs) (suc i) x e = ap (λ zs. y ∷ zs) (set-same xs i x e)
+
+pub set-twice : {A : Type 0} (xs : List A) (i : ℕ) (x y : A) → slice_set (slice_set xs i x) i y ≡ slice_set xs i y
+set-twice [] i x y = refl
+set-twice (z ∷ xs) zero x y = refl
+set-twice (z ∷ xs) (suc i) x y = ap (λ zs. z ∷ zs) (set-twice xs i x y)
+
+pub get-set : {A : Type 0} (xs : List A) (i : ℕ) (x y : A) → slice_get xs i ≡ Some x → slice_get (slice_set xs i y) i ≡ Some y
+get-set [] i x y e = cc
+get-set (z ∷ xs) zero x y e = refl
+get-set (z ∷ xs) (suc i) x y e = get-set xs i x y e
+
+sum-set : {A : Type 0} (f : A → ℕ) (xs : List A) (i : ℕ) (x y : A) → slice_get xs i ≡ Some x → sum_by f (slice_set xs i y) + f x ≡ sum_by f xs + f y
+sum-set f [] i x y e = cc
+sum-set f (z ∷ xs) zero x y e =
+    let is : f z ≡ f x = let same : z ≡ x = cc in ap f same in
+    let a = sum_by-cons f y xs in
+    let b = sum_by-cons f z xs in
+    omega arith
+sum-set f (z ∷ xs) (suc i) x y e =
+    let h = sum-set f xs i x y e in
+    let a = sum_by-cons f z (slice_set xs i y) in
+    let b = sum_by-cons f z xs in
+    omega arith
+
+-- the bytes in transit change by what the channel's change
+transit-set : (senders : List SendingEnd) (i : ℕ) (s t : SendingEnd) → slice_get senders i ≡ Some s →
+    sum_by (λ (s : SendingEnd). bytes_in_transit s.sender) (slice_set senders i t) + bytes_in_transit s.sender ≡ sum_by (λ (s : SendingEnd). bytes_in_transit s.sender) senders + bytes_in_transit t.sender
+transit-set senders i s t e = sum-set (λ (s : SendingEnd). bytes_in_transit s.sender) senders i s t e
+
+-- what a call did
+pub did-sent : (n : Option Next) (past added : ℕ) (k : Kind) (old new : SendingEnd) (from : List ℕ) (at : ℕ) (to : List ℕ) → Did n (due.Sent past added k) old new from at to →
+    (m : Next) × (n ≡ Some m) × Puts from at (canonical (message_of old.channel m.command)) to past × (added ≡ m.added) × (k ≡ kind_of m.command) × (new ≡ record old { sender = m.sender })
+did-sent None past added k old new from at to d = absurd d
+did-sent (Some m) past added k old new from at to d = (m, refl, d.0, d.1, d.2, d.3)
+
+did-full : (n : Option Next) (old new : SendingEnd) (from : List ℕ) (at : ℕ) (to : List ℕ) → Did n due.NoRoom old new from at to →
+    (m : Next) × (n ≡ Some m) × (length from < at + length (canonical (message_of old.channel m.command))) × (new ≡ old) × (to ≡ from)
+did-full None old new from at to d = absurd d
+did-full (Some m) old new from at to d = (m, refl, d.0, d.1, d.2)
+
+did-nothing : (n : Option Next) (old new : SendingEnd) (from : List ℕ) (at : ℕ) (to : List ℕ) → Did n due.Nothing old new from at to → (n ≡ None) × (new ≡ old) × (to ≡ from)
+did-nothing None old new from at to d = (refl, d.0, d.1)
+did-nothing (Some m) old new from at to d = absurd d
+
+-- there was room for the command that was written
+pub channel-room : (p : Progress) (past added : ℕ) (k : Kind) (old new : SendingEnd) (from to : List ℕ) (n : Option Next) → Did n (due.Sent past added k) old new from (place_in p from) to →
+    (0 < p.commands) × (p.at < length to)
+channel-room p past added k old new from to n d =
+    let s = did-sent n past added k old new from (place_in p from) to d in
+    let w = place-open p from (canonical (message_of old.channel s.0.command)) to past (omega arith) s.2 in
+    (w.0, w.2)
+
+-- what the throttle refuses is unreliable
+refused-unreliable : (c : DataCommand) (k : Kind) (t : Throttling) → k ≡ kind_of c → refuses k t ≡ true → c.reliable ≡ false
+refused-unreliable c k t is e =
+    elim c.reliable as (λ b. refuses (cond b kind.Reliable (cond (is_more c) kind.More kind.Begins)) t ≡ true → b ≡ false) [ true ↦ λ h. cc | false ↦ λ h. refl ]
+    (ap (λ (k : Kind). refuses k t) (sym is) ∙ e)
+
+-- what is due on a channel is put in, or dropped, as the throttle says
+step-put : (more : Filling → Filling) (f : Filling) (channel : ℕ) (s : SendingEnd) (n : Next) (k : Kind) → refuses k f.outbox.throttle ≡ false →
+    data_step more f channel s n k ≡ more (data_put f channel s n (record f.outbox { throttle = asked_for k f.outbox.throttle }))
+step-put more f channel s n kind.Reliable e = refl
+step-put more f channel s n kind.More e = refl
+step-put more f channel s n kind.Begins e =
+    let put : Filling = more (data_put f channel s n (asked f.outbox)) in
+    let drop : Filling = more (record f { outbox = with_sender (asked f.outbox) channel (record s { sender = with_skipped n.sender }) }) in
+    elim (is_admitted f.outbox.throttle) as (λ b. not b ≡ false → cond b put drop ≡ put) [ true ↦ λ h. refl | false ↦ λ h. cc ] e
+
+step-drop : (more : Filling → Filling) (f : Filling) (channel : ℕ) (s : SendingEnd) (n : Next) (k : Kind) → refuses k f.outbox.throttle ≡ true →
+    data_step more f channel s n k ≡ more (record f { outbox = with_sender (record f.outbox { throttle = asked_for k f.outbox.throttle }) channel (record s { sender = with_skipped n.sender }) })
+step-drop more f channel s n kind.Reliable e = cc
+step-drop more f channel s n kind.More e = cc
+step-drop more f channel s n kind.Begins e =
+    let put : Filling = more (data_put f channel s n (asked f.outbox)) in
+    let drop : Filling = more (record f { outbox = with_sender (asked f.outbox) channel (record s { sender = with_skipped n.sender }) }) in
+    elim (is_admitted f.outbox.throttle) as (λ b. not b ≡ true → cond b put drop ≡ drop) [ true ↦ λ h. cc | false ↦ λ h. refl ] e
+
+-- what is due next on a channel of a filling
+abbrev due_next : Pace → Outbox → SendingEnd → Option Next
+due_next pace o s = next wire pace.now pace.timeout (transit_of o) (transit_limit pace o) s.sender
+
+turn-at : (pace : Pace) (channel turns : ℕ) (f : Filling) (s : SendingEnd) (n : Option Next) → slice_get f.outbox.senders channel ≡ Some s → due_next pace f.outbox s ≡ n →
+    with_channel pace channel (suc turns) f ≡ channel_step (with_channel pace channel turns) f channel s n
+unfolding with_channel
+turn-at pace channel turns f s n there e = ap (channel_turn (with_channel pace channel turns) pace f channel) there ∙ ap (channel_step (with_channel pace channel turns) f channel s) e
+
+channel-end : (pace : Pace) (channel turns : ℕ) (f : Filling) (s : SendingEnd) → slice_get f.outbox.senders channel ≡ Some s → due_next pace f.outbox s ≡ None → with_channel pace channel turns f ≡ f
+unfolding with_channel
+channel-end pace channel zero f s there e = refl
+channel-end pace channel (suc turns) f s there e = turn-at pace channel turns f s None there e
+
+channel-stop : (pace : Pace) (channel turns : ℕ) (f : Filling) (s : SendingEnd) (n : Next) → 0 < turns → slice_get f.outbox.senders channel ≡ Some s → due_next pace f.outbox s ≡ Some n →
+    fits f (message_of s.channel n.command) ≡ false → with_channel pace channel turns f ≡ shut f
+channel-stop pace channel zero f s n some there e fit = absurd (omega arith)
+channel-stop pace channel (suc turns) f s n some there e fit =
+    let go : Filling = data_step (with_channel pace channel turns) f channel s n (kind_of n.command) in
+    turn-at pace channel turns f s (Some n) there e ∙ ap (λ (b : Bool). cond b go (shut f)) fit
+
+channel-go : (pace : Pace) (channel turns : ℕ) (f : Filling) (s : SendingEnd) (n : Next) (k : Kind) → 0 < turns → slice_get f.outbox.senders channel ≡ Some s → due_next pace f.outbox s ≡ Some n →
+    fits f (message_of s.channel n.command) ≡ true → k ≡ kind_of n.command → with_channel pace channel turns f ≡ data_step (with_channel pace channel (turns - 1)) f channel s n k
+channel-go pace channel zero f s n k some there e fit is = absurd (omega arith)
+channel-go pace channel (suc turns) f s n k some there e fit is =
+    let go : ℕ → Kind → Filling = λ t k. data_step (with_channel pace channel t) f channel s n k in
+    let j : turns ≡ suc turns - 1 = omega arith in
+    turn-at pace channel turns f s (Some n) there e ∙ ap (λ (b : Bool). cond b (go turns (kind_of n.command)) (shut f)) fit
+    ∙ ap (go turns) (sym is) ∙ ap (λ (t : ℕ). go t k) j
+
+-- the stage has come so far
+pub record ChannelAt (pace : Pace) (channel : ℕ) (f : Filling) (s : SendingEnd) (w : Flow) (p : Progress) (buf : List ℕ) : Type 0 where
+  pub g : Filling
+  pub turns : ℕ
+  pub holds : Holds g p buf
+  pub there : slice_get g.outbox.senders channel ≡ Some s
+  pub outbox : g.outbox ≡ with_flow f.outbox (slice_set f.outbox.senders channel s) w
+  pub enough : left_of s.sender ≤ turns
+  pub stage : with_channel pace channel (channel_turns f.outbox channel) f ≡ with_channel pace channel turns g
+  pub in_transit : transit_of g.outbox ≡ w.transit
+
+pub channel-begin : {pace : Pace} {channel : ℕ} {f : Filling} {s : SendingEnd} {w : Flow} {p : Progress} {buf : List ℕ} → Holds f p buf → slice_get f.outbox.senders channel ≡ Some s → Shares f.outbox w → ChannelAt pace channel f s w p buf
+channel-begin {pace} {channel} {f} {s} {w} {p} {buf} h there e = record {
+  g = f;
+  turns = channel_turns f.outbox channel;
+  holds = h;
+  there = there;
+  outbox = ap (λ (ss : List SendingEnd). record f.outbox { senders = ss }) (sym (set-same f.outbox.senders channel s there))
+      ∙ ap (λ (t : Throttling). record f.outbox { senders = slice_set f.outbox.senders channel s; throttle = t }) e.0
+      ∙ ap (λ (l : Option ℕ). record f.outbox { senders = slice_set f.outbox.senders channel s; throttle = w.throttle; last = l }) e.1;
+  enough = let P : Option SendingEnd → Type 0 = λ o. left_of s.sender ≤ turns_of o in subst P (sym there) (left-most s.sender);
+  stage = refl;
+  in_transit = e.2;
+}
+
+-- what the code finds due
+abbrev due_by : Pace → SendingEnd → Flow → Option Next
+due_by pace s w = next wire pace.now pace.timeout w.transit (transit w.throttle pace.window pace.mtu) s.sender
+
+here : {pace : Pace} {channel : ℕ} {f : Filling} {s : SendingEnd} {w : Flow} {p : Progress} {buf : List ℕ} (a : ChannelAt pace channel f s w p buf) → due_next pace a.g.outbox s ≡ due_by pace s w
+here {pace} {channel} {f} {s} {w} a =
+    ap (λ (n : ℕ). next wire pace.now pace.timeout n (transit_limit pace a.g.outbox) s.sender) a.in_transit
+    ∙ ap (λ (o : Outbox). next wire pace.now pace.timeout w.transit (transit_limit pace o) s.sender) a.outbox
+
+pub channel-put : {pace : Pace} {channel : ℕ} {f : Filling} {s new : SendingEnd} {w : Flow} {p : Progress} {from to : List ℕ} {past : ℕ} (added : ℕ) (k : Kind) → ChannelAt pace channel f s w p from →
+    Did (due_by pace s w) (due.Sent past added k) s new from (place_in p from) to → refuses k w.throttle ≡ false →
+    ChannelAt pace channel f new (record { throttle = asked_for k w.throttle; transit = w.transit + added; last = Some channel }) (taken_in p past to) to
+channel-put {pace} {channel} {f} {s} {new} {w} {p} {from} {to} {past} added k a d admitted =
+    let r = did-sent (due_by pace s w) past added k s new from (place_in p from) to d in
+    let n : Next = r.0 in
+    let m : Message = message_of s.channel n.command in
+    let v : Flow = record { throttle = asked_for k w.throttle; transit = w.transit + added; last = Some channel } in
+    let t : SendingEnd = record s { sender = n.sender } in
+    let opened = place-open p from (canonical m) to past (omega arith) r.2 in
+    let G : Outbox → Outbox = λ o. record o { senders = slice_set o.senders channel t; throttle = asked_for k o.throttle; last = Some channel } in
+    let less = left-falls wire pace.now pace.timeout w.transit (transit w.throttle pace.window pace.mtu) s.sender n r.1 in
+    let adds = transit-next wire pace.now pace.timeout w.transit (transit w.throttle pace.window pace.mtu) s.sender n r.1 in
+    let sums = transit-set a.g.outbox.senders channel s t a.there in
+    let added_is : added ≡ n.added = r.3 in
+    let in_transit = a.in_transit in
+    let enough = a.enough in
+    let P : SendingEnd → Type 0 = λ x. ChannelAt pace channel f x v (taken_in p past to) to in
+    let made : P t = record {
+      g = with_command a.g m (G a.g.outbox);
+      turns = a.turns - 1;
+      holds = holds-written m a.holds opened.0 opened.1 (G a.g.outbox);
+      there = get-set a.g.outbox.senders channel s t a.there;
+      outbox = ap G a.outbox ∙ ap (λ (ss : List SendingEnd). with_flow f.outbox ss v) (set-twice f.outbox.senders channel s t);
+      enough = omega arith;
+      stage = a.stage ∙ channel-go pace channel a.turns a.g s n k (omega arith) a.there (here a ∙ r.1) (fits-written m a.holds opened.0 opened.1) r.4
+          ∙ step-put (with_channel pace channel (a.turns - 1)) a.g channel s n k (ap (λ (o : Outbox). refuses k o.throttle) a.outbox ∙ admitted);
+      in_transit = omega arith;
+    } in
+    subst P (sym r.5) made
+
+pub channel-drop : {pace : Pace} {channel : ℕ} {f : Filling} {s : SendingEnd} {w : Flow} {p : Progress} {from to : List ℕ} (new : SendingEnd) (past added : ℕ) (k : Kind) → ChannelAt pace channel f s w p from →
+    Did (due_by pace s w) (due.Sent past added k) s new from (place_in p from) to → refuses k w.throttle ≡ true →
+    ChannelAt pace channel f (record new { sender = with_skipped new.sender }) (record { throttle = asked_for k w.throttle; transit = w.transit; last = w.last }) p to
+channel-drop {pace} {channel} {f} {s} {w} {p} {from} {to} new past added k a d refused =
+    let r = did-sent (due_by pace s w) past added k s new from (place_in p from) to d in
+    let n : Next = r.0 in
+    let m : Message = message_of s.channel n.command in
+    let v : Flow = record { throttle = asked_for k w.throttle; transit = w.transit; last = w.last } in
+    let t : SendingEnd = record s { sender = with_skipped n.sender } in
+    let opened = place-open p from (canonical m) to past (omega arith) r.2 in
+    let G : Outbox → Outbox = λ o. record o { senders = slice_set o.senders channel t; throttle = asked_for k o.throttle } in
+    let less = left-falls wire pace.now pace.timeout w.transit (transit w.throttle pace.window pace.mtu) s.sender n r.1 in
+    let skip = left-skipped n.sender in
+    let adds = transit-next wire pace.now pace.timeout w.transit (transit w.throttle pace.window pace.mtu) s.sender n r.1 in
+    let none = added-none wire pace.now pace.timeout w.transit (transit w.throttle pace.window pace.mtu) s.sender n r.1 (refused-unreliable n.command k w.throttle r.4 refused) in
+    let sums = transit-set a.g.outbox.senders channel s t a.there in
+    let in_transit = a.in_transit in
+    let enough = a.enough in
+    let P : SendingEnd → Type 0 = λ x. ChannelAt pace channel f (record x { sender = with_skipped x.sender }) v p to in
+    let made : P (record s { sender = n.sender }) = record {
+      g = record a.g { outbox = G a.g.outbox };
+      turns = a.turns - 1;
+      holds = holds-other (G a.g.outbox) (holds-back a.holds opened.1);
+      there = get-set a.g.outbox.senders channel s t a.there;
+      outbox = ap G a.outbox ∙ ap (λ (ss : List SendingEnd). with_flow f.outbox ss v) (set-twice f.outbox.senders channel s t);
+      enough = omega arith;
+      stage = a.stage ∙ channel-go pace channel a.turns a.g s n k (omega arith) a.there (here a ∙ r.1) (fits-written m a.holds opened.0 opened.1) r.4
+          ∙ step-drop (with_channel pace channel (a.turns - 1)) a.g channel s n k (ap (λ (o : Outbox). refuses k o.throttle) a.outbox ∙ refused);
+      in_transit = omega arith;
+    } in
+    subst P (sym r.5) made
+
+-- where nothing more goes
+abbrev Ends : Pace → ℕ → Filling → SendingEnd → Flow → Progress → List ℕ → Type 0
+Ends pace channel f s w p buf =
+    Leads (with_channel pace channel (channel_turns f.outbox channel) f) (with_flow f.outbox (slice_set f.outbox.senders channel s) w) p buf
+    × (transit_of (with_flow f.outbox (slice_set f.outbox.senders channel s) w) ≡ w.transit)
+
+pub channel-full : {pace : Pace} {channel : ℕ} {f : Filling} {s : SendingEnd} {w : Flow} {p : Progress} {from to : List ℕ} (new : SendingEnd) → ChannelAt pace channel f s w p from →
+    Did (due_by pace s w) due.NoRoom s new from (place_in p from) to → Ends pace channel f new w (record p { closed = true }) to
+channel-full {pace} {channel} {f} {s} {w} {p} {from} {to} new a d =
+    let r = did-full (due_by pace s w) s new from (place_in p from) to d in
+    let n : Next = r.0 in
+    let m : Message = message_of s.channel n.command in
+    let less = left-falls wire pace.now pace.timeout w.transit (transit w.throttle pace.window pace.mtu) s.sender n r.1 in
+    let enough = a.enough in
+    let stop = channel-stop pace channel a.turns a.g s n (omega arith) a.there (here a ∙ r.1) (unfit m a.holds (place-full p from (length (canonical m)) r.2)) in
+    rw (r.3, r.4) (leads-by (a.stage ∙ stop) (holds-shut a.holds) a.outbox, ap transit_of (sym a.outbox) ∙ a.in_transit)
+
+pub channel-none : {pace : Pace} {channel : ℕ} {f : Filling} {s : SendingEnd} {w : Flow} {p : Progress} {from to : List ℕ} (new : SendingEnd) → ChannelAt pace channel f s w p from →
+    Did (due_by pace s w) due.Nothing s new from (place_in p from) to → Ends pace channel f new w p to
+channel-none {pace} {channel} {f} {s} {w} {p} {from} {to} new a d =
+    let r = did-nothing (due_by pace s w) s new from (place_in p from) to d in
+    rw (r.1, r.2) (leads-by (a.stage ∙ channel-end pace channel a.turns a.g s a.there (here a ∙ r.0)) a.holds a.outbox, ap transit_of (sym a.outbox) ∙ a.in_transit)

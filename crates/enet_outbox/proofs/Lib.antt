@@ -1,0 +1,9 @@
+pub mod Channel
+pub mod Channels
+pub mod Controls
+pub mod Emissions
+pub mod Fillings
+pub mod Senders
+pub mod Stages
+pub mod Submitting
+pub mod Turns

@@ -1,0 +1,151 @@
+-- Each command that goes leaves less to send, so the turns of a stage are enough.
+use Rattle.std.proofs.Common.{◌≡◌, ℕ, zero, suc, ◌+◌, ◌<◌, ◌≤◌, ◌⊎◌, inl, inr, Bool, true, false, not, ◌&&◌, ◌||◌, cond, nat_le, List, [], ◌∷◌, ◌++◌, length, get_or, refl, sym, ap, subst, ◌∙◌, arith, Option, Some, None, slice_set}
+use Rattle.std.specs.List.{position, slice_get}
+use Rattle.std.proofs.lemmas.Bool.{leb-true}
+use Rattle.std.proofs.lemmas.List.Quantifiers.{position-Some}
+use Rattle.std.proofs.lemmas.Option.{get_or_from_slice_get, cond_some}
+use Rattle.enet_seq.specs.Numbering.{Numbering}
+use Rattle.enet_fragment.specs.declared.data.DataCommand.{DataCommand}
+use Rattle.enet_sender.specs.declared.sent.Sent.{Sent}
+use Rattle.enet_sender.specs.Sender.{Sender, Next, next, next_of, next_queued, next_resent, first_sent, resent, begun, again, may_go, is_in_span, is_more, skipped, with_skipped}
+use Rattle.enet_control.specs.declared.control.Numbered.{Numbered}
+use Rattle.enet_control.specs.declared.control.SentControl.{SentControl}
+use Rattle.enet_control.specs.Controlling as control
+
+abbrev pub one_if : Bool → ℕ
+one_if true = 1
+one_if false = 0
+
+-- how many are due to go again
+abbrev pub due_in : {X : Type 0} → (X → Bool) → List X → ℕ
+due_in p [] = 0
+due_in p (x ∷ xs) = one_if (p x) + due_in p xs
+
+due-push : {X : Type 0} (p : X → Bool) (xs : List X) (x : X) → p x ≡ false → due_in p (xs ++ x ∷ []) ≡ due_in p xs
+due-push p [] x e = ap (λ (b : Bool). one_if b + 0) e
+due-push p (y ∷ xs) x e = ap (λ n. one_if (p y) + n) (due-push p xs x e)
+
+due-set : {X : Type 0} (p : X → Bool) (xs : List X) (i : ℕ) (x y : X) → slice_get xs i ≡ Some x → p x ≡ true → p y ≡ false → due_in p (slice_set xs i y) < due_in p xs
+due-set p [] i x y there e n = cc
+due-set p (z ∷ xs) zero x y there e n =
+    let is : z ≡ x = cc in
+    let one : one_if (p z) ≡ 1 = ap one_if (ap p is ∙ e) in
+    let none : one_if (p y) ≡ 0 = ap one_if n in
+    omega arith
+due-set p (z ∷ xs) (suc i) x y there e n = let h = due-set p xs i x y there e n in omega arith
+
+pub due-most : {X : Type 0} (p : X → Bool) (xs : List X) → due_in p xs ≤ length xs
+due-most p [] = omega arith
+due-most p (x ∷ xs) = let h = due-most p xs in by (p x) h
+  where
+    by : (b : Bool) → due_in p xs ≤ length xs → one_if b + due_in p xs ≤ suc (length xs)
+    by true h = omega arith
+    by false h = omega arith
+
+-- what is due is found
+found-due : {X : Type 0} (p : X → Bool) (xs : List X) (i : ℕ) (x : X) → position p xs ≡ Some i → slice_get xs i ≡ Some x → p x ≡ true
+found-due p xs i x e there = sym (ap p (get_or_from_slice_get xs i x x there)) ∙ (position-Some p xs i x e).1
+
+if-some : {X : Type 0} (P : X → Type 0) (x n : X) → P x → Some x ≡ Some n → P n
+if-some P x n h e = let is : x ≡ n = cc in subst P is h
+
+if-goes : {X : Type 0} (P : X → Type 0) (b : Bool) (x n : X) → (b ≡ true → P x) → cond b (Some x) None ≡ Some n → P n
+if-goes P true x n h e = if-some P x n (h refl) e
+if-goes P false x n h e = cc
+
+-- what a channel has left to send
+abbrev pub left_of : Sender → ℕ
+left_of s = length s.queued + due_in (λ (p : Sent). p.due) s.sent
+
+pub left-most : (s : Sender) → left_of s ≤ length s.queued + length s.sent
+left-most s = let h = due-most (λ (p : Sent). p.due) s.sent in omega arith
+
+-- a fact of what is due next: of each first send and of each resend
+by-next : (P : Next → Type 0) (g : Numbering) (now timeout transit most : ℕ) (s : Sender) (n : Next)
+    → ((c : DataCommand) (rest : List DataCommand) → s.queued ≡ c ∷ rest → may_go g s.sent transit most c ≡ true → P (first_sent now timeout s c rest))
+    → ((i : ℕ) (p : Sent) → slice_get s.sent i ≡ Some p → p.due ≡ true → P (resent now s i p))
+    → next g now timeout transit most s ≡ Some n → P n
+by-next P g now timeout transit most s n first again_ e = by-place (position (λ (p : Sent). p.due) s.sent) refl e
+  where
+    by-queue : (queued : List DataCommand) → s.queued ≡ queued → next_queued g now timeout transit most s queued ≡ Some n → P n
+    by-queue [] is e = cc
+    by-queue (c ∷ rest) is e = if-goes P (may_go g s.sent transit most c) (first_sent now timeout s c rest) n (first c rest is) e
+
+    by-sent : (i : ℕ) → position (λ (p : Sent). p.due) s.sent ≡ Some i → (o : Option Sent) → slice_get s.sent i ≡ o → next_resent now s i o ≡ Some n → P n
+    by-sent i found None is e = cc
+    by-sent i found (Some p) is e = if-some P (resent now s i p) n (again_ i p is (found-due (λ (p : Sent). p.due) s.sent i p found is)) e
+
+    by-place : (o : Option ℕ) → position (λ (p : Sent). p.due) s.sent ≡ o → next_of g now timeout transit most s o ≡ Some n → P n
+    by-place None found e = by-queue s.queued refl e
+    by-place (Some i) found e = by-sent i found (slice_get s.sent i) refl e
+
+sent-first : (b : Bool) (sent : List Sent) (q : Sent) → q.due ≡ false → due_in (λ (p : Sent). p.due) (cond b (sent ++ q ∷ []) sent) ≡ due_in (λ (p : Sent). p.due) sent
+sent-first true sent q e = due-push (λ (p : Sent). p.due) sent q e
+sent-first false sent q e = refl
+
+pub left-falls : (g : Numbering) (now timeout transit most : ℕ) (s : Sender) (n : Next) → next g now timeout transit most s ≡ Some n → left_of n.sender < left_of s
+left-falls g now timeout transit most s n e =
+    by-next (λ (m : Next). left_of m.sender < left_of s) g now timeout transit most s n
+    (λ c rest is goes. let d = sent-first c.reliable s.sent (begun now timeout c) refl in let l = ap (λ (cs : List DataCommand). length cs) is in omega arith)
+    (λ i p there due. let d = due-set (λ (p : Sent). p.due) s.sent i p (again now p) there due refl in omega arith) e
+
+-- what is new in transit fits what may be
+pub added-fits : (g : Numbering) (now timeout transit most : ℕ) (s : Sender) (n : Next) → next g now timeout transit most s ≡ Some n → (n.added ≡ 0) ⊎ (transit + n.added ≤ most)
+added-fits g now timeout transit most s n e =
+    by-next (λ (m : Next). (m.added ≡ 0) ⊎ (transit + m.added ≤ most)) g now timeout transit most s n
+    (λ c rest is goes. first c.reliable (is_in_span g s.sent c.number) (length c.body) goes)
+    (λ i p there due. inl refl) e
+  where
+    first : (reliable span : Bool) (len : ℕ) → (not reliable || (span && nat_le (transit + len) most)) ≡ true → (cond reliable len 0 ≡ 0) ⊎ (transit + cond reliable len 0 ≤ most)
+    first false span len goes = inl refl
+    first true true len goes = inr (leb-true (transit + len) most goes)
+    first true false len goes = cc
+
+-- an unreliable command adds nothing
+pub added-none : (g : Numbering) (now timeout transit most : ℕ) (s : Sender) (n : Next) → next g now timeout transit most s ≡ Some n → n.command.reliable ≡ false → n.added ≡ 0
+added-none g now timeout transit most s n e =
+    by-next (λ (m : Next). m.command.reliable ≡ false → m.added ≡ 0) g now timeout transit most s n
+    (λ c rest is goes unreliable. ap (λ (b : Bool). cond b (length c.body) 0) unreliable)
+    (λ i p there due unreliable. refl) e
+
+skipped-most : (cs : List DataCommand) → length (skipped cs) ≤ length cs
+skipped-most [] = omega arith
+skipped-most (c ∷ cs) = by (is_more c) (skipped-most cs)
+  where
+    by : (b : Bool) → length (skipped cs) ≤ length cs → length (cond b (skipped cs) (c ∷ cs)) ≤ suc (length cs)
+    by true h = omega arith
+    by false h = omega arith
+
+pub left-skipped : (s : Sender) → left_of (with_skipped s) ≤ left_of s
+left-skipped s = let h = skipped-most s.queued in omega arith
+
+-- what channel 0xFF has left to send
+abbrev pub control_left : control.Commands → ℕ
+control_left c = length c.queued + due_in (λ (p : SentControl). p.due) c.sent
+
+pub control-most : (c : control.Commands) → control_left c ≤ length c.queued + length c.sent
+control-most c = let h = due-most (λ (p : SentControl). p.due) c.sent in omega arith
+
+control-first : (b : Bool) (sent : List SentControl) (q : SentControl) → q.due ≡ false → due_in (λ (p : SentControl). p.due) (cond b (sent ++ q ∷ []) sent) ≡ due_in (λ (p : SentControl). p.due) sent
+control-first true sent q e = due-push (λ (p : SentControl). p.due) sent q e
+control-first false sent q e = refl
+
+pub control-falls : (now timeout : ℕ) (c : control.Commands) (n : control.Next) → control.next now timeout c ≡ Some n → control_left n.commands < control_left c
+control-falls now timeout c n e = by-place (position (λ (p : SentControl). p.due) c.sent) refl e
+  where
+    by-queue : (queued : List Numbered) → c.queued ≡ queued → control.next_queued now timeout c queued ≡ Some n → control_left n.commands < control_left c
+    by-queue [] is e = cc
+    by-queue (x ∷ rest) is e =
+        let d = control-first (control.is_reliable x.control) c.sent (control.begun now timeout x) refl in
+        let l = ap (λ (cs : List Numbered). length cs) is in
+        if-goes (λ (m : control.Next). control_left m.commands < control_left c) (control.is_in_span c.sent x.number) _ n (λ goes. omega arith) e
+
+    by-sent : (i : ℕ) → position (λ (p : SentControl). p.due) c.sent ≡ Some i → (o : Option SentControl) → slice_get c.sent i ≡ o → control.next_resent now c i o ≡ Some n → control_left n.commands < control_left c
+    by-sent i found None is e = cc
+    by-sent i found (Some p) is e =
+        let d = due-set (λ (p : SentControl). p.due) c.sent i p (control.again now p) is (found-due (λ (p : SentControl). p.due) c.sent i p found is) refl in
+        if-some (λ (m : control.Next). control_left m.commands < control_left c) _ n (omega arith) e
+
+    by-place : (o : Option ℕ) → position (λ (p : SentControl). p.due) c.sent ≡ o → control.next_of now timeout c o ≡ Some n → control_left n.commands < control_left c
+    by-place None found e = by-queue c.queued refl e
+    by-place (Some i) found e = by-sent i found (slice_get c.sent i) refl e

@@ -1,0 +1,35 @@
+use Rattle.std.proofs.Common.{◌≡◌, ◌≤◌, ℕ, ap, ◌∙◌, sym, refl, subst, arith, length}
+use Rattle.enet_outbox.specs.Outbox.{Outbox, Sending, transit_of}
+use Rattle.enet_outbox.specs.Kept.{KeepsOutbox}
+use Rattle.enet_outbox.specs.Emission.{filled}
+use Rattle.enet_outbox.specs.Packing.{Leads}
+use Rattle.enet_outbox.specs.contracts.outbox.Outbox.{the_view}
+use Rattle.enet_outbox.proofs.Emissions.{filled-leads, left_by}
+use Rattle.enet_outbox.proofs.outbox.Outbox.pack.Goals as goal
+
+pub invariant_of-self : goal.invariant_of-self
+invariant_of-self c =
+    let o : Outbox = (the_view c.self.inside).outbox in
+    let l = filled-leads c.args.pace o c.first_channel-first.result c.self.inside.transit
+    c.pack_acknowledgements-acknowledged.result c.pack_controls-controlled.result c.pack_unsequenced-unsequenced.result c.pack_senders-sent.result
+    c.args.buf.now c.pack_acknowledgements-acknowledged.new.buf c.pack_controls-controlled.new.buf c.pack_unsequenced-unsequenced.new.buf c.pack_senders-sent.new.buf
+    c.pack_acknowledgements-acknowledged.new.acknowledgements.items c.pack_controls-controlled.new.control.commands c.pack_unsequenced-unsequenced.new.unsequenced.items
+    c.pack_unsequenced-unsequenced.new.throttle c.pack_unsequenced-unsequenced.new.last c.pack_senders-sent.new.senders.items c.pack_senders-sent.new.flow
+    c.requires.long c.requires.whole c.first_channel-first.ensures.value (sym c.self.invariant.counted)
+    c.pack_acknowledgements-acknowledged.ensures.packs c.pack_controls-controlled.ensures.packs c.pack_unsequenced-unsequenced.ensures c.pack_senders-sent.ensures.packs in
+    record { few = omega (arith, c.pack_senders-sent.ensures.kept, c.self.invariant.few); counted = sym l.1 }
+
+pub returns-clause-leads : goal.returns-clause-leads
+returns-clause-leads c =
+    let o : Outbox = (the_view c.self.inside).outbox in
+    let l = filled-leads c.args.pace o c.first_channel-first.result c.self.inside.transit
+    c.pack_acknowledgements-acknowledged.result c.pack_controls-controlled.result c.pack_unsequenced-unsequenced.result c.pack_senders-sent.result
+    c.args.buf.now c.pack_acknowledgements-acknowledged.new.buf c.pack_controls-controlled.new.buf c.pack_unsequenced-unsequenced.new.buf c.pack_senders-sent.new.buf
+    c.pack_acknowledgements-acknowledged.new.acknowledgements.items c.pack_controls-controlled.new.control.commands c.pack_unsequenced-unsequenced.new.unsequenced.items
+    c.pack_unsequenced-unsequenced.new.throttle c.pack_unsequenced-unsequenced.new.last c.pack_senders-sent.new.senders.items c.pack_senders-sent.new.flow
+    c.requires.long c.requires.whole c.first_channel-first.ensures.value (sym c.self.invariant.counted)
+    c.pack_acknowledgements-acknowledged.ensures.packs c.pack_controls-controlled.ensures.packs c.pack_unsequenced-unsequenced.ensures c.pack_senders-sent.ensures.packs in
+    let new : Outbox = left_by o c.pack_acknowledgements-acknowledged.new.acknowledgements.items c.pack_controls-controlled.new.control.commands c.pack_unsequenced-unsequenced.new.unsequenced.items
+    c.pack_senders-sent.new.senders.items c.pack_senders-sent.new.flow in
+    let P : Sending → Type 0 = λ s. Leads (filled c.args.pace s.outbox) new c.pack_senders-sent.result c.pack_senders-sent.new.buf in
+    subst P c.self.view_is l.0

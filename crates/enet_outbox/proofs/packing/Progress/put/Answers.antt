@@ -1,0 +1,9 @@
+use Rattle.std.proofs.Common.{◌≡◌, ◌+◌, ◌≤◌, length, arith, inl, inr}
+use Rattle.enet_codec.specs.Message.{view}
+use Rattle.enet_outbox.proofs.Fillings.{fits-written, holds-written, holds-back}
+use Rattle.enet_outbox.proofs.packing.Progress.put.Goals as goal
+
+pub returns : goal.returns
+returns c = λ f h.
+    let m = view c.args.command.now in
+    (fits-written m h (omega arith) c.in_ok-past.ensures.written, λ o. rw c.with.ensures (holds-written m h (omega arith) c.in_ok-past.ensures.written o), holds-back h c.in_ok-past.ensures.written)

@@ -1,0 +1,51 @@
+use Rattle.std.proofs.Common.{◌≡◌, List, Option, arith, Some, None, ap, ◌∙◌, sym, refl, true, false, subst}
+use Rattle.enet_outbox.specs.declared.parts.Acknowledgement.{Acknowledgement}
+use Rattle.enet_outbox.specs.declared.packing.Progress.{Progress}
+use Rattle.enet_codec.specs.Message.{Message, view}
+use Rattle.enet_outbox.specs.Outbox.{Outbox}
+use Rattle.enet_outbox.specs.Emission.{Filling, acknowledgement_of, with_command, fits, shut}
+use Rattle.enet_outbox.specs.Packing.{TakesIn}
+use Rattle.enet_outbox.proofs.Fillings.{leads-by, holds-shut}
+use Rattle.enet_outbox.proofs.Stages.{acknowledgements-go, acknowledgements-stop, acknowledgements-end}
+use Rattle.enet_outbox.proofs.packing.pack_acknowledgements.Goals as goal
+
+pub acknowledgements-init : goal.acknowledgements-init
+acknowledgements-init c = record {
+  stage = λ f h e. (f, h, ap (λ (xs : List Acknowledgement). record f.outbox { acknowledgements = xs }) e, refl);
+  room = omega arith;
+}
+
+pub acknowledgements-preserved : goal.acknowledgements-preserved
+acknowledgements-preserved c = record {
+  room = grind arith;
+  stage = λ f h e.
+      let i = c.acknowledgements.invariant.stage f h e in
+      let g = i.0 in
+      let a = c.in-Some.acknowledgement in
+      let m = acknowledgement_of a in
+      let ys = c.pop_front.new.self.items in
+      let is = sym c.first.ensures ∙ c.in-Some.is in
+      let P : Message → Type 0 = λ m. TakesIn m c.acknowledgements.progress (Some c.in-Some-put.next) c.acknowledgements.buf c.put.new.buf in
+      let t : P m = subst P c.command.ensures (subst (λ (r : Option Progress). TakesIn (view c.command.result) c.acknowledgements.progress r c.acknowledgements.buf c.put.new.buf) c.in-Some-put.is c.put.ensures) in
+      let u = t g i.1 in
+      let o : Outbox = record g.outbox { acknowledgements = ys } in
+      (with_command g m o, u.1 o, ap (λ (o : Outbox). record o { acknowledgements = ys }) i.2, i.3 ∙ acknowledgements-go _ ys a g is c.pop_front.ensures.rest u.0);
+}
+
+pub returns-in_default-put-clause-packs : goal.returns-in_default-put-clause-packs
+returns-in_default-put-clause-packs c = λ f h e.
+    let i = c.acknowledgements.invariant.stage f h e in
+    let g = i.0 in
+    let a = c.in-Some.acknowledgement in
+    let m = acknowledgement_of a in
+    let is = sym c.first.ensures ∙ c.in-Some.is in
+    let P : Message → Type 0 = λ m. TakesIn m c.acknowledgements.progress None c.acknowledgements.buf c.put.new.buf in
+    let t : P m = subst P c.command.ensures (subst (λ (r : Option Progress). TakesIn (view c.command.result) c.acknowledgements.progress r c.acknowledgements.buf c.put.new.buf) c.in_default-put.is c.put.ensures) in
+    let u = t.1 g i.1 in
+    rw (c.shut.ensures, t.0) (leads-by (i.3 ∙ acknowledgements-stop _ a g is u) (holds-shut i.1) i.2)
+
+pub returns-clause-packs : goal.returns-clause-packs
+returns-clause-packs c = λ f h e.
+    let i = c.acknowledgements.invariant.stage f h e in
+    let is = sym c.first.ensures ∙ c.in_default.is in
+    leads-by (i.3 ∙ acknowledgements-end _ i.0 is) i.1 i.2

@@ -1,0 +1,4 @@
+pub mod Outbox
+pub mod Emission
+pub mod Kept
+pub mod Packing

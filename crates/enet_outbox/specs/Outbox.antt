@@ -1,0 +1,173 @@
+-- All that a peer has to send. Times are in milliseconds.
+use Rattle.std.specs.Prelude.{ℕ, ◌%◌, ◌/◌, ◌&&◌, ◌||◌, not, ◌==◌, Bool, if◌then◌else◌, List, [], ◌∷◌, ◌++◌, length, map, take, Option, Some, None, slice_get, slice_set, sum_by}
+use Rattle.std.specs.List.{range_with_len, list_all, list_any}
+use Rattle.enet_seq.specs.Windows.{after}
+use Rattle.enet_seq.specs.Numbering.{wire}
+use Rattle.enet_rtt.specs.declared.expiry.Patience.{Patience}
+use Rattle.enet_rtt.specs.declared.expiry.Expiry.{Expiry}
+use Rattle.enet_rtt.specs.declared.expiry.Expiry.TheVariants.{No, Resend, End}
+use Rattle.enet_throttle.specs.Throttle.{Throttling}
+use Rattle.enet_throttle.specs.Throttle as throttle
+use Rattle.enet_control.specs.declared.control.Control.{Control}
+use Rattle.enet_control.specs.Controlling.{Commands, nothing_controlled, is_idle}
+use Rattle.enet_control.specs.Controlling as controlling
+use Rattle.enet_sender.specs.Carriage.{Packet, is_flagged_reliable, is_long}
+use Rattle.enet_sender.specs.Sender.{bytes_in_transit, left}
+use Rattle.enet_sender.specs.Sender as sender
+use Rattle.enet_sender.specs.Due.{SendingEnd, new_end}
+use Rattle.enet_outbox.specs.declared.parts.Acknowledgement.{Acknowledgement}
+use Rattle.enet_outbox.specs.declared.parts.Unsequenced.{Unsequenced}
+use Rattle.enet_outbox.specs.declared.parts.Matched.{Matched}
+use Rattle.enet_outbox.specs.declared.parts.Matched.TheVariants as matched
+
+pub record Outbox : Type 0 where
+  pub acknowledgements : List Acknowledgement  -- those that wait, the oldest first
+  pub control : Commands  -- channel 0xFF
+  pub unsequenced : List Unsequenced  -- those that wait, in the order of submission
+  pub group : ℕ  -- the last group given
+  pub senders : List SendingEnd  -- by channel
+  pub throttle : Throttling
+  pub last : Option ℕ  -- the channel of the last data command that a datagram had
+
+-- so many channels with nothing to send, so many commands of channel 0xFF having been numbered before
+abbrev pub empty_outbox : ℕ → ℕ → Throttling → Outbox
+empty_outbox channels number t = record {
+  acknowledgements = [];
+  control = nothing_controlled number;
+  unsequenced = [];
+  group = 0;
+  senders = map new_end (range_with_len 0 channels);
+  throttle = t;
+  last = None;
+}
+
+-- the payload bytes of what is sent and not acknowledged
+abbrev pub transit_of : Outbox → ℕ
+transit_of o = sum_by (λ (s : SendingEnd). bytes_in_transit s.sender) o.senders
+
+abbrev pub has_no_packet : SendingEnd → Bool
+has_no_packet s = not (left s.sender).packets
+
+abbrev pub has_no_reliable : SendingEnd → Bool
+has_no_reliable s = not (left s.sender).reliable
+
+-- no reliable command is queued or unacknowledged
+abbrev pub is_quiet : Outbox → Bool
+is_quiet o = is_idle o.control && list_all has_no_reliable o.senders
+
+-- nor is a packet queued
+abbrev pub is_done : Outbox → Bool
+is_done o = is_quiet o && list_all has_no_packet o.senders && length o.unsequenced == 0
+
+abbrev pub cleared_sender : SendingEnd → SendingEnd
+cleared_sender s = record s { sender = sender.cleared s.sender }
+
+-- all that is queued or sent is dropped, acknowledgements too
+abbrev pub cleared : Outbox → Outbox
+cleared o = record o {
+  acknowledgements = [];
+  control = controlling.cleared o.control;
+  unsequenced = [];
+  senders = map cleared_sender o.senders;
+}
+
+-- only the first channels stay
+abbrev pub narrowed : Outbox → ℕ → Outbox
+narrowed o channels = record o { senders = take channels o.senders }
+
+-- the flag UNSEQUENCED, 2
+abbrev pub is_flagged_unsequenced : Packet → Bool
+is_flagged_unsequenced q = q.flags / 2 % 2 == 1
+
+-- a packet goes unsequenced where it asks for it, doesn't ask to be reliable, and isn't cut
+abbrev pub is_unsequenced : ℕ → Packet → Bool
+is_unsequenced mtu q = is_flagged_unsequenced q && not (is_flagged_reliable q) && not (is_long mtu q)
+
+-- it takes its group when it is submitted
+abbrev pub with_unsequenced : Outbox → ℕ → Packet → Outbox
+with_unsequenced o channel q = record o {
+  group = after o.group 1;
+  unsequenced = o.unsequenced ++ (record { channel = channel; group = after o.group 1; body = q.body }) ∷ [];
+}
+
+abbrev pub with_sequenced : Outbox → ℕ → ℕ → Packet → Option SendingEnd → Outbox
+with_sequenced o mtu channel q None = o
+with_sequenced o mtu channel q (Some s) = record o { senders = slice_set o.senders channel (record s { sender = sender.submitted wire mtu s.sender q }) }
+
+-- a packet is submitted
+abbrev pub submitted : Outbox → ℕ → ℕ → Packet → Outbox
+submitted o mtu channel q =
+    if is_unsequenced mtu q then with_unsequenced o channel q else with_sequenced o mtu channel q (slice_get o.senders channel)
+
+-- a command that came is to be acknowledged
+abbrev pub with_acknowledgement : Outbox → Acknowledgement → Outbox
+with_acknowledgement o a = record o { acknowledgements = o.acknowledgements ++ a ∷ [] }
+
+-- a command of channel 0xFF is queued
+abbrev pub with_control : Outbox → Control → Outbox
+with_control o what = record o { control = controlling.with_queued o.control what }
+
+-- an acknowledgement comes: what it matches, and the outbox without that
+abbrev pub as_control : Option Control → Matched
+as_control None = matched.Nothing
+as_control (Some what) = matched.Control what
+
+abbrev pub as_data : Option ℕ → Matched
+as_data None = matched.Nothing
+as_data (Some bytes) = matched.Data
+
+abbrev pub matched_on : Option SendingEnd → ℕ → Matched
+matched_on None number = matched.Nothing
+matched_on (Some s) number = as_data (sender.acknowledged_bytes s.sender number)
+
+abbrev pub matched_by : Outbox → ℕ → ℕ → Matched
+matched_by o channel number =
+    if channel == 0xFF then as_control (controlling.acknowledged_control o.control number) else matched_on (slice_get o.senders channel) number
+
+abbrev pub acknowledged_on : Outbox → ℕ → ℕ → Option SendingEnd → Outbox
+acknowledged_on o channel number None = o
+acknowledged_on o channel number (Some s) = record o { senders = slice_set o.senders channel (record s { sender = sender.acknowledged s.sender number }) }
+
+abbrev pub acknowledged : Outbox → ℕ → ℕ → Outbox
+acknowledged o channel number =
+    if channel == 0xFF
+    then record o { control = controlling.acknowledged o.control number }
+    else acknowledged_on o channel number (slice_get o.senders channel)
+
+-- a sent command has waited out the peer's patience
+abbrev pub has_ended : Outbox → ℕ → Patience → Bool
+has_ended o now patience =
+    list_any (controlling.ends now patience) o.control.sent
+    || list_any (λ (s : SendingEnd). list_any (sender.ends now patience) s.sender.sent) o.senders
+
+-- a sent command has waited out its timeout
+abbrev pub has_late : Outbox → ℕ → Bool
+has_late o now =
+    list_any (controlling.is_late now) o.control.sent
+    || list_any (λ (s : SendingEnd). list_any (sender.is_late now) s.sender.sent) o.senders
+
+abbrev pub marked_sender : ℕ → SendingEnd → SendingEnd
+marked_sender now s = record s { sender = sender.with_marked now s.sender }
+
+-- all that waited out its timeout is due to go again
+abbrev pub marked : Outbox → ℕ → Outbox
+marked o now = record o { control = controlling.with_marked now o.control; senders = map (marked_sender now) o.senders }
+
+-- what a moment brings: the end of the peer, which changes nothing here, resends, or nothing
+abbrev pub lateness : Outbox → ℕ → Patience → Expiry
+lateness o now patience = if has_ended o now patience then End else (if has_late o now then Resend else No)
+
+abbrev pub after_lateness : Expiry → Outbox → ℕ → Outbox
+after_lateness No o now = o
+after_lateness Resend o now = marked o now
+after_lateness End o now = o
+
+-- a round trip was measured
+abbrev pub sampled : Outbox → ℕ → ℕ → ℕ → ℕ → Outbox
+sampled o now measured round_trip variance = record o { throttle = throttle.after_sample o.throttle now measured round_trip variance }
+
+-- the outbox, and for how many more acknowledgements and commands of channel 0xFF there is room
+pub record Sending : Type 0 where
+  pub outbox : Outbox
+  pub acknowledgement_room : ℕ
+  pub control_room : ℕ

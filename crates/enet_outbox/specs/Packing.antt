@@ -1,0 +1,104 @@
+-- A datagram while it is filled, as its buffer and its progress show it, and what each stage makes of it.
+use Rattle.std.specs.Prelude.{◌≡◌, ℕ, ◌+◌, ◌%◌, ◌==◌, not, Bool, if◌then◌else◌, ◌-◌, ◌≤◌, ◌||◌, nat_le, true, false, List, [], length, map, flat_map, Option, Some, None, slice_range, slice_get, slice_set, slice_index}
+use Rattle.std.specs.List.{list_any, range_with_len}
+use Rattle.enet_codec.specs.Message.{Message, canonical}
+use Rattle.enet_throttle.specs.Throttle.{Throttling, is_admitted, next_counter}
+use Rattle.enet_control.specs.Controlling.{Commands}
+use Rattle.enet_sender.specs.Due.{SendingEnd}
+use Rattle.enet_outbox.specs.declared.parts.Acknowledgement.{Acknowledgement}
+use Rattle.enet_outbox.specs.declared.parts.Unsequenced.{Unsequenced}
+use Rattle.enet_codec.specs.declared.header.Header.{Header}
+use Rattle.enet_outbox.specs.declared.parts.Pace.{Pace}
+use Rattle.enet_outbox.specs.declared.parts.Destination.{Destination}
+use Rattle.enet_outbox.specs.declared.packing.Progress.{Progress}
+use Rattle.enet_outbox.specs.declared.packing.Flow.{Flow}
+use Rattle.enet_sender.specs.declared.outgoing.Kind.{Kind}
+use Rattle.enet_sender.specs.declared.outgoing.Kind.TheVariants.{Begins}
+use Rattle.enet_outbox.specs.Outbox.{Outbox, transit_of}
+use Rattle.enet_outbox.specs.Emission.{Filling, asks, fits, with_command, shut, with_acknowledgements, with_controls, control_turns, with_unsequenced, with_channel, channel_turns, with_channels, unless_closed}
+
+-- the commands of the filling stand in the buffer from 4 on, and the progress shows how much more it takes
+pub record Holds (f : Filling) (p : Progress) (buf : List ℕ) : Type 0 where
+  pub begins : 4 ≤ p.at
+  pub within : p.at ≤ length buf
+  pub text : slice_range buf 4 p.at ≡ flat_map canonical f.messages
+  pub free : f.bytes ≡ length buf - p.at
+  pub more : f.commands ≡ p.commands
+  pub is_closed : f.closed ≡ p.closed
+  pub is_asking : list_any asks f.messages ≡ p.asks
+
+-- a command was written up to a place; its first bit asks for an acknowledgement
+abbrev pub taken_in : Progress → ℕ → List ℕ → Progress
+taken_in p past buf = record { at = past; commands = p.commands - 1; closed = false; asks = p.asks || nat_le 128 (slice_index buf p.at) }
+
+-- a command has gone into the datagram; or it doesn't fit, and nothing has changed
+abbrev pub TakesIn : Message → Progress → Option Progress → List ℕ → List ℕ → Type 0
+TakesIn m p None from to = (to ≡ from) × ((f : Filling) → Holds f p from → fits f m ≡ false)
+TakesIn m p (Some q) from to = (f : Filling) → Holds f p from → (fits f m ≡ true) × ((o : Outbox) → Holds (with_command f m o) q to) × Holds f p to
+
+-- a stage leads to this filling with this outbox, as the buffer shows it
+pub record Leads (g : Filling) (o : Outbox) (q : Progress) (to : List ℕ) : Type 0 where
+  pub holds : Holds g q to
+  pub outbox : g.outbox ≡ o
+
+-- the acknowledgements, of which those are left
+abbrev pub PacksAcknowledgements : List Acknowledgement → List Acknowledgement → Progress → Progress → List ℕ → List ℕ → Type 0
+PacksAcknowledgements old new p q from to =
+    (f : Filling) → Holds f p from → f.outbox.acknowledgements ≡ old → Leads (with_acknowledgements old f) (record f.outbox { acknowledgements = new }) q to
+
+-- where the next command goes; where the datagram takes no more, at the end of the buffer, where none fits
+abbrev pub place_in : Progress → List ℕ → ℕ
+place_in p buf = if p.commands == 0 then length buf else p.at
+
+-- the commands of channel 0xFF
+abbrev pub PacksControls : Pace → Commands → Commands → Progress → Progress → List ℕ → List ℕ → Type 0
+PacksControls pace old new p q from to =
+    (f : Filling) → Holds f p from → f.outbox.control ≡ old → Leads (unless_closed (with_controls pace (control_turns f.outbox)) f) (record f.outbox { control = new }) q to
+
+-- the unsequenced packets
+abbrev pub PacksUnsequenced : List Unsequenced → List Unsequenced → Throttling → Throttling → Option ℕ → Option ℕ → Progress → Progress → List ℕ → List ℕ → Type 0
+PacksUnsequenced old new throttle1 throttle2 last1 last2 p q from to =
+    (f : Filling) → Holds f p from → f.outbox.unsequenced ≡ old → f.outbox.throttle ≡ throttle1 → f.outbox.last ≡ last1
+    → Leads (unless_closed (with_unsequenced old) f) (record f.outbox { unsequenced = new; throttle = throttle2; last = last2 }) q to
+
+-- the throttle is asked of the first command of an unreliable packet alone
+abbrev pub asked_for : Kind → Throttling → Throttling
+asked_for Begins t = record t { counter = next_counter t }
+asked_for _ t = t
+
+abbrev pub refuses : Kind → Throttling → Bool
+refuses Begins t = not (is_admitted t)
+refuses _ t = false
+
+-- what the channels share: the throttle, the bytes in transit, and the channel of the last data command
+abbrev pub with_flow : Outbox → List SendingEnd → Flow → Outbox
+with_flow o senders w = record o { senders = senders; throttle = w.throttle; last = w.last }
+
+abbrev pub Shares : Outbox → Flow → Type 0
+Shares o w = (o.throttle ≡ w.throttle) × (o.last ≡ w.last) × (transit_of o ≡ w.transit)
+
+-- one channel
+abbrev pub PacksChannel : Pace → ℕ → SendingEnd → SendingEnd → Flow → Flow → Progress → Progress → List ℕ → List ℕ → Type 0
+PacksChannel pace channel old new v w p q from to =
+    (f : Filling) → Holds f p from → slice_get f.outbox.senders channel ≡ Some old → Shares f.outbox v
+    → Leads (with_channel pace channel (channel_turns f.outbox channel) f) (with_flow f.outbox (slice_set f.outbox.senders channel new) w) q to
+    × (transit_of (with_flow f.outbox (slice_set f.outbox.senders channel new) w) ≡ w.transit)
+
+-- all n channels from turn k on, cyclically, beginning with the first
+abbrev pub turns : ℕ → ℕ → ℕ → List ℕ
+turns first n k = map (λ turn. (first + turn) % n) (range_with_len k (n - k))
+
+-- the channels
+abbrev pub PacksChannels : Pace → ℕ → List SendingEnd → List SendingEnd → Flow → Flow → Progress → Progress → List ℕ → List ℕ → Type 0
+PacksChannels pace first old new v w p q from to =
+    (f : Filling) → Holds f p from → f.outbox.senders ≡ old → Shares f.outbox v
+    → Leads (with_channels pace (turns first (length old) 0) f) (with_flow f.outbox new w) q to × (transit_of (with_flow f.outbox new w) ≡ w.transit)
+
+-- the header, where a command asks for an acknowledgement and where none does
+abbrev pub header_asking : ℕ → Destination → Bool → Header
+header_asking now to asking = record {
+  peer = to.slot;
+  session = if to.slot % 4096 == 0xFFF then 0 else to.session;
+  compressed = false;
+  sent = if asking then Some (now % 65536) else None;
+}

@@ -1,0 +1,11 @@
+//! All that a peer has to send in ENet 1.3: acknowledgements, the commands of channel 0xFF, unsequenced packets, and its
+//! channels' senders; and how they are packed into datagrams.
+#![tactic(auto)]
+
+mod lists;
+mod outbox;
+mod packing;
+mod parts;
+
+pub use outbox::Outbox;
+pub use parts::{Acknowledgement, Destination, Matched, Pace, Unsequenced};

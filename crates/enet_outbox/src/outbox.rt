@@ -1,0 +1,357 @@
+//! All that a peer has to send.
+
+ghost use Rattle.std.specs.Prelude.{◌≡◌, ◌+◌, ◌/◌, ◌%◌, ◌≤◌, ◌<◌, ◌⊎◌, ◌↔◌, ◌&&◌, ◌==◌, not, nat_lt, length, IsTrue, OnOk, OnErr, IfOk, IfErr, IsErrAnd};
+ghost use Rattle.enet_throttle.specs.Throttle.{with_interval, limited};
+ghost use Rattle.enet_sender.specs.Carriage.{fragment_limit};
+ghost use Rattle.enet_fragment.specs.Cutting.{piece_length, piece_count};
+ghost use Rattle.enet_outbox.specs.Outbox.{acknowledged, after_lateness, cleared, empty_outbox, is_done, is_quiet, lateness, marked, matched_by, narrowed, sampled, submitted, transit_of, with_acknowledgement, with_control, with_unsequenced};
+
+use crate::{Acknowledgement, Matched, Unsequenced, lists};
+use bytes::Bytes;
+use enet_codec::Refusal;
+use enet_control::{Control, ControlChannel};
+use enet_fragment::FRAGMENT_OVERHEAD;
+use enet_rtt::{Expiry, Patience};
+use enet_sender::Outgoing;
+use enet_seq::after;
+use enet_throttle::Throttle;
+use std::alloc::Global;
+use std::collections::VecDeque;
+use std::marker::Model;
+
+/// The channel of the commands that concern the connection itself (ENet 1.3).
+const CONTROL_CHANNEL: u8 = 0xFF;
+
+/// All that a peer has to send: acknowledgements, the commands of channel 0xFF, unsequenced packets, and its channels'
+/// senders, with the throttle that drops unreliable and unsequenced packets. Contracts see it as a `Sending`: all that it
+/// has, and for how many more acknowledgements and commands of channel 0xFF there is room.
+#[derive(Drop)]
+pub struct Outbox {
+    pub(crate) acknowledgements: VecDeque<Acknowledgement>,
+    pub(crate) control: ControlChannel,
+    pub(crate) unsequenced: VecDeque<Unsequenced>,
+    pub(crate) group: u16,
+    pub(crate) senders: Vec<Outgoing>,
+    pub(crate) throttle: Throttle,
+    pub(crate) last: Option<u8>,
+    /// The payload bytes of what is sent and not acknowledged.
+    pub(crate) transit: u32,
+}
+
+impl Model for Outbox {
+    ghost use Rattle.enet_outbox.specs.Outbox.{Sending};
+
+    ghost Value = { Sending };
+
+    ghost use Rattle.std.specs.Prelude.{◌-◌};
+    ghost use Rattle.std.specs.VecDeque.{deque_len, deque_capacity};
+    ghost use Rattle.enet_outbox.specs.Kept.{KeepsOutbox};
+
+    ghost view = { λ o. record {
+      outbox = record {
+        acknowledgements = o.acknowledgements.items;
+        control = o.control.commands;
+        unsequenced = o.unsequenced.items;
+        group = o.group;
+        senders = o.senders.items;
+        throttle = o.throttle;
+        last = o.last;
+      };
+      acknowledgement_room = deque_capacity o.acknowledgements - deque_len o.acknowledgements;
+      control_room = o.control.room;
+    } };
+
+    ghost invariant = { λ o. KeepsOutbox o.transit o.senders.items };
+}
+
+impl Outbox {
+    /// So many channels with nothing to send, where `number` is the last number given before on channel 0xFF: 0 for a new
+    /// connection. There is room for one command of channel 0xFF. E1 where memory is refused.
+    pub fn open(
+        alloc: Global,
+        channels: u8,
+        number: u16,
+        throttle: Throttle,
+    ) -> Result<Outbox, Refusal>
+        ensures outbox { IfOk result (λ o. o.outbox ≡ empty_outbox channels number throttle) }
+        ensures control_room { IfOk result (λ o. 1 ≤ o.control_room) }
+        ensures memory { IfErr result (λ why. why ≡ Refusal.Memory) }
+    {
+        let control = ControlChannel::open(alloc, number)?;
+        let senders = lists::open_senders(alloc, channels)?;
+        Ok(Outbox {
+            acknowledgements: VecDeque::new(alloc),
+            control,
+            unsequenced: VecDeque::new(alloc),
+            group: 0,
+            senders,
+            throttle,
+            last: None,
+            transit: 0,
+        })
+    }
+
+    /// How many channels there are, at most 255.
+    pub fn channels(&self) -> usize
+        ensures count { result ≡ length self.now.outbox.senders }
+        ensures few { result ≤ 255 }
+    {
+        self.senders.len()
+    }
+
+    /// Submits a packet on a channel; `flags` are its flags (RELIABLE 1, UNSEQUENCED 2, UNRELIABLE_FRAGMENT 8, others are
+    /// ignored) and `mtu` is the peer's, in bytes. It goes unsequenced where it asks for that, does not ask to be reliable,
+    /// and has at most `mtu - 28` bytes: then it takes the next group, modulo 65536. Else it is the channel's (ENet 1.3).
+    ///
+    /// E5 exactly where it would be cut into more than 16,384 pieces (our profile), then E1 where memory is refused. After
+    /// either nothing has changed, and the body comes back.
+    pub fn submit(
+        &mut self,
+        mtu: u32,
+        channel: u8,
+        flags: u8,
+        body: Bytes,
+    ) -> Result<(), (Refusal, Bytes)>
+        requires mtu { (576 ≤ mtu) × (mtu ≤ 4096) }
+        requires channel { channel < length self.old.outbox.senders }
+        ensures submitted { OnOk result (self.new.outbox ≡ submitted self.old.outbox mtu channel (record { flags = flags; body = body })) }
+        ensures too_large { IsErrAnd result (λ e. e.0 ≡ Refusal.TooLarge) ↔ (fragment_limit < piece_count (length body) mtu) }
+        ensures refused { IfErr result (λ e. (self.new ≡ self.old) × (e.1 ≡ body)) }
+        ensures only { IfErr result (λ e. (e.0 ≡ Refusal.TooLarge) ⊎ (e.0 ≡ Refusal.Memory)) }
+        ensures acknowledgement_room { self.new.acknowledgement_room ≡ self.old.acknowledgement_room }
+        ensures control_room { self.new.control_room ≡ self.old.control_room }
+    {
+        if !is_unsequenced(flags, body.len(), mtu) {
+            return lists::submit_on(&mut self.senders, channel, flags, body, mtu);
+        }
+        self.submit_unsequenced(channel, body)
+    }
+
+    /// Queues an unsequenced packet with the next group. E1 where memory is refused: nothing has changed then, and the body
+    /// comes back.
+    fn submit_unsequenced(&mut self, channel: u8, body: Bytes) -> Result<(), (Refusal, Bytes)>
+        ensures queued { OnOk result (self.new.outbox ≡ with_unsequenced self.old.outbox channel (record { flags = 2; body = body })) }
+        ensures refused { IfErr result (λ e. (self.new ≡ self.old) × (e.1 ≡ body)) }
+        ensures memory { IfErr result (λ e. e.0 ≡ Refusal.Memory) }
+        ensures acknowledgement_room { self.new.acknowledgement_room ≡ self.old.acknowledgement_room }
+        ensures control_room { self.new.control_room ≡ self.old.control_room }
+    {
+        if self.unsequenced.reserve(1).is_err() {
+            return Err((Refusal::Memory, body));
+        }
+        let group = after(self.group, 1);
+        self.group = group;
+        self.unsequenced.push_back_reserved(Unsequenced {
+            channel,
+            group,
+            body,
+        });
+        Ok(())
+    }
+
+    /// Makes room for one acknowledgement more. Where there is some, it takes no memory; else E1 where memory is refused, with
+    /// nothing changed.
+    pub fn reserve_acknowledgement(&mut self) -> Result<(), Refusal>
+        ensures outbox { self.new.outbox ≡ self.old.outbox }
+        ensures room { OnOk result (1 ≤ self.new.acknowledgement_room) }
+        ensures grows { self.old.acknowledgement_room ≤ self.new.acknowledgement_room }
+        ensures full { OnErr result (self.old.acknowledgement_room ≡ 0) }
+        ensures control_room { self.new.control_room ≡ self.old.control_room }
+        ensures refused { OnErr result (self.new ≡ self.old) }
+        ensures memory { IfErr result (λ why. why ≡ Refusal.Memory) }
+    {
+        if lists::make_room(&mut self.acknowledgements) {
+            Ok(())
+        } else {
+            Err(Refusal::Memory)
+        }
+    }
+
+    /// Queues an acknowledgement behind those that wait. There must be room for it, so it takes no memory.
+    pub fn acknowledge(&mut self, what: Acknowledgement)
+        requires { 1 ≤ self.old.acknowledgement_room }
+        ensures outbox { self.new.outbox ≡ with_acknowledgement self.old.outbox what }
+        ensures room { self.old.acknowledgement_room ≤ self.new.acknowledgement_room + 1 }
+        ensures control_room { self.new.control_room ≡ self.old.control_room }
+    {
+        self.acknowledgements.push_back_reserved(what);
+    }
+
+    /// Makes room for one command more of channel 0xFF. Where there is some, it takes no memory; else E1 where memory is
+    /// refused, with nothing changed.
+    pub fn reserve_control(&mut self) -> Result<(), Refusal>
+        ensures outbox { self.new.outbox ≡ self.old.outbox }
+        ensures room { OnOk result (1 ≤ self.new.control_room) }
+        ensures grows { self.old.control_room ≤ self.new.control_room }
+        ensures full { OnErr result (self.old.control_room ≡ 0) }
+        ensures acknowledgement_room { self.new.acknowledgement_room ≡ self.old.acknowledgement_room }
+        ensures refused { OnErr result (self.new ≡ self.old) }
+        ensures memory { IfErr result (λ why. why ≡ Refusal.Memory) }
+    {
+        self.control.reserve()
+    }
+
+    /// Queues a command of channel 0xFF with the next number. There must be room for it, so it takes no memory.
+    pub fn queue_control(&mut self, what: Control)
+        requires { 1 ≤ self.old.control_room }
+        ensures outbox { self.new.outbox ≡ with_control self.old.outbox what }
+        ensures room { self.old.control_room ≤ self.new.control_room + 1 }
+        ensures acknowledgement_room { self.new.acknowledgement_room ≡ self.old.acknowledgement_room }
+    {
+        self.control.queue(what);
+    }
+
+    /// An acknowledgement comes: the one sent command of this channel and number goes, and the answer says what it was.
+    /// `Nothing`, with all as it was, where no sent command has them.
+    pub fn matched(&mut self, channel: u8, number: u16) -> Matched
+        ensures found { result ≡ matched_by self.old.outbox channel number }
+        ensures outbox { self.new.outbox ≡ acknowledged self.old.outbox channel number }
+        ensures acknowledgement_room { self.new.acknowledgement_room ≡ self.old.acknowledgement_room }
+        ensures control_room { self.old.control_room ≤ self.new.control_room }
+    {
+        if channel != CONTROL_CHANNEL {
+            return lists::accept(&mut self.senders, &mut self.transit, channel, number);
+        }
+        match self.control.acknowledge(number) {
+            None => Matched::Nothing,
+            Some(what) => Matched::Control(what),
+        }
+    }
+
+    /// Takes a measured round trip into the throttle: `measured` at the time `now`, with the estimated round trip and its
+    /// variance as they stand after it, in milliseconds.
+    pub fn sample(&mut self, now: u32, measured: u32, round_trip: u32, variance: u32)
+        ensures outbox { self.new.outbox ≡ sampled self.old.outbox now measured round_trip variance }
+        ensures acknowledgement_room { self.new.acknowledgement_room ≡ self.old.acknowledgement_room }
+        ensures control_room { self.new.control_room ≡ self.old.control_room }
+    {
+        self.throttle.sample(now, measured, round_trip, variance);
+    }
+
+    /// Sets the throttle's interval in milliseconds, its acceleration and its deceleration, and nothing else.
+    pub fn configure_throttle(&mut self, interval: u32, acceleration: u32, deceleration: u32)
+        ensures outbox { self.new.outbox ≡ record self.old.outbox { throttle = with_interval self.old.outbox.throttle interval acceleration deceleration } }
+        ensures acknowledgement_room { self.new.acknowledgement_room ≡ self.old.acknowledgement_room }
+        ensures control_room { self.new.control_room ≡ self.old.control_room }
+    {
+        self.throttle
+            .configure(interval, acceleration, deceleration);
+    }
+
+    /// Sets the throttle's limit, where more than 32 counts as 32, and cuts the throttle to it.
+    pub fn limit_throttle(&mut self, limit: u32)
+        ensures outbox { self.new.outbox ≡ record self.old.outbox { throttle = limited self.old.outbox.throttle limit } }
+        ensures acknowledgement_room { self.new.acknowledgement_room ≡ self.old.acknowledgement_room }
+        ensures control_room { self.new.control_room ≡ self.old.control_room }
+    {
+        self.throttle.set_limit(limit);
+    }
+
+    /// What the moment `now` brings: `End` where a sent command of any channel has waited out its timeout and its peer has
+    /// timed out over it by `patience`, which changes nothing; else `Resend` where a sent command has waited out its timeout:
+    /// each such one is then due to go again, and waits twice as long; else `No` (our profile).
+    pub fn late(&mut self, now: u32, patience: &Patience) -> Expiry
+        ensures found { result ≡ lateness self.old.outbox now patience.now }
+        ensures after { self.new.outbox ≡ after_lateness result self.old.outbox now }
+        ensures acknowledgement_room { self.new.acknowledgement_room ≡ self.old.acknowledgement_room }
+        ensures control_room { self.new.control_room ≡ self.old.control_room }
+    {
+        let expiry = self.lateness(now, patience);
+        if expiry == Expiry::Resend {
+            self.mark(now);
+        }
+        expiry
+    }
+
+    /// What a moment brings.
+    fn lateness(&self, now: u32, patience: &Patience) -> Expiry
+        ensures { result ≡ lateness self.now.outbox now patience.now }
+    {
+        if self.control.ends(now, patience) || lists::any_ends(&self.senders, now, patience) {
+            return Expiry::End;
+        }
+        if self.control.is_late(now) || lists::any_late(&self.senders, now) {
+            Expiry::Resend
+        } else {
+            Expiry::No
+        }
+    }
+
+    /// Marks all that is late as due to go again.
+    fn mark(&mut self, now: u32)
+        ensures outbox { self.new.outbox ≡ marked self.old.outbox now }
+        ensures acknowledgement_room { self.new.acknowledgement_room ≡ self.old.acknowledgement_room }
+        ensures control_room { self.new.control_room ≡ self.old.control_room }
+    {
+        self.control.mark(now);
+        lists::mark(&mut self.senders, now);
+    }
+
+    /// Whether no reliable command is queued or unacknowledged, on any channel. Then there is room for one command of
+    /// channel 0xFF.
+    pub fn is_quiet(&self) -> bool
+        ensures quiet { result ≡ is_quiet self.now.outbox }
+        ensures room { IsTrue result → 1 ≤ self.now.control_room }
+    {
+        self.control.is_idle() && lists::have_no_reliable(&self.senders)
+    }
+
+    /// Whether no reliable command is queued or unacknowledged, and no packet is queued. Then there is room for one command
+    /// of channel 0xFF.
+    pub fn is_done(&self) -> bool
+        ensures done { result ≡ is_done self.now.outbox }
+        ensures room { IsTrue result → 1 ≤ self.now.control_room }
+    {
+        self.is_quiet() && lists::have_no_packet(&self.senders) && self.unsequenced.is_empty()
+    }
+
+    /// Whether an acknowledgement waits to be put out.
+    pub fn has_acknowledgements(&self) -> bool
+        ensures { result ≡ nat_lt 0 (length self.now.outbox.acknowledgements) }
+    {
+        !self.acknowledgements.is_empty()
+    }
+
+    /// Whether a command of channel 0xFF is queued.
+    pub fn has_controls(&self) -> bool
+        ensures { result ≡ nat_lt 0 (length self.now.outbox.control.queued) }
+    {
+        self.control.has_queued()
+    }
+
+    /// Drops all that is queued or sent, acknowledgements too. Numbers and groups go on from where they stand. Then nothing
+    /// is in transit, and there is room for one command of channel 0xFF.
+    pub fn clear(&mut self)
+        ensures outbox { self.new.outbox ≡ cleared self.old.outbox }
+        ensures transit { transit_of self.new.outbox ≡ 0 }
+        ensures acknowledgement_room { self.old.acknowledgement_room ≤ self.new.acknowledgement_room }
+        ensures control_room { 1 ≤ self.new.control_room }
+    {
+        self.acknowledgements.clear();
+        self.control.clear();
+        self.unsequenced.clear();
+        lists::clear(&mut self.senders);
+        self.transit = 0;
+    }
+
+    /// Keeps so many channels, the first ones; nothing may be in transit.
+    pub fn narrow(&mut self, channels: u8)
+        requires { transit_of self.old.outbox ≡ 0 }
+        ensures outbox { self.new.outbox ≡ narrowed self.old.outbox channels }
+        ensures acknowledgement_room { self.new.acknowledgement_room ≡ self.old.acknowledgement_room }
+        ensures control_room { self.new.control_room ≡ self.old.control_room }
+    {
+        self.senders.truncate(usize::from(channels));
+    }
+}
+
+/// Whether a packet of these flags and so many bytes goes unsequenced.
+fn is_unsequenced(flags: u8, len: usize, mtu: u32) -> bool
+    requires { 576 ≤ mtu }
+    ensures { result ≡ (flags / 2 % 2 == 1 && not (flags % 2 == 1) && not (nat_lt (piece_length mtu) len)) }
+{
+    let asks_for_unsequenced = flags / 2 % 2 == 1;
+    let asks_for_reliable = flags % 2 == 1;
+    let is_long = len > (mtu - FRAGMENT_OVERHEAD) as usize;
+    asks_for_unsequenced && !asks_for_reliable && !is_long
+}

@@ -1,0 +1,449 @@
+//! What a peer has to send is packed into a datagram, source by source: acknowledgements, the commands of channel 0xFF,
+//! unsequenced packets, and the channels (our profile). The commands stand in the buffer from 4 on, and the header is
+//! written before them in the end.
+
+ghost use Rattle.std.specs.Prelude.{◌≡◌, true, ◌≤◌, ◌+◌, ◌-◌, ◌<◌, ◌^◌, ◌++◌, length, take, drop, slice_get, slice_range, unwrap_or};
+ghost use Rattle.std.specs.Option.{option_map};
+ghost use Rattle.std.specs.VecDeque.{deque_len, deque_capacity};
+ghost use Rattle.enet_codec.specs.Header.{header_text};
+ghost use Rattle.enet_codec.specs.Message.{view, payload_of};
+ghost use Rattle.enet_outbox.specs.Emission.{acknowledgement_of, unsequenced_of, filled, Emits};
+ghost use Rattle.enet_outbox.specs.Packing.{header_asking, Leads, taken_in, place_in, asked_for, refuses, TakesIn, PacksAcknowledgements, PacksControls, PacksUnsequenced, PacksChannel, PacksChannels};
+
+use crate::{Acknowledgement, Destination, Outbox, Pace, Unsequenced};
+use enet_codec::{Command, Head, Header, write_command, write_header};
+use enet_control::{ControlChannel, Written};
+use enet_sender::{Due, Kind, Outgoing};
+use enet_throttle::Throttle;
+use std::collections::VecDeque;
+
+/// Where a datagram stands that is being filled.
+#[derive(Clone, Copy, Debug, PartialEq, Eq)]
+pub struct Progress {
+    /// Where the next command goes.
+    pub at: usize,
+    /// How many more commands the datagram takes.
+    pub commands: usize,
+    /// Whether a command did not fit.
+    pub closed: bool,
+    /// Whether a command asks for an acknowledgement.
+    pub asks: bool,
+}
+
+/// What the channels share.
+#[derive(Clone, Copy)]
+pub struct Flow {
+    pub throttle: Throttle,
+    /// The payload bytes of what is sent and not acknowledged.
+    pub transit: u32,
+    /// The channel of the last data command that a datagram had.
+    pub last: Option<u8>,
+}
+
+impl Progress {
+    /// Where the next command goes. Where the datagram takes no more, it is the end of the buffer, where none fits.
+    fn place(self, buf: &[u8]) -> usize
+        ensures { result ≡ place_in self buf.now }
+    {
+        if self.commands == 0 {
+            buf.len()
+        } else {
+            self.at
+        }
+    }
+
+    /// The same datagram, into which a command did not fit.
+    fn shut(self) -> Progress
+        ensures { result ≡ record self { closed = true } }
+    {
+        Progress {
+            closed: true,
+            ..self
+        }
+    }
+
+    /// Writes a command where the datagram takes it; None where it does not, with nothing changed.
+    fn put(self, buf: &mut [u8], command: &Command<'_>) -> Option<Progress>
+        requires { length (payload_of (view command.now).body) < 2 ^ 16 }
+        ensures { TakesIn (view command.now) self result buf.old buf.new }
+    {
+        if self.commands == 0 {
+            return None;
+        }
+        let past = write_command(buf, self.at, command)?;
+        Some(self.with(buf, past))
+    }
+
+    /// The datagram with the command that was written up to `past`. The first bit of a command asks for an acknowledgement.
+    fn with(self, buf: &[u8], past: usize) -> Progress
+        requires within { self.at < length buf.now }
+        requires more { 0 < self.commands }
+        ensures { result ≡ taken_in self past buf.now }
+    {
+        Progress {
+            at: past,
+            commands: self.commands - 1,
+            closed: false,
+            asks: self.asks || buf[self.at] >= 0x80,
+        }
+    }
+}
+
+impl Acknowledgement {
+    /// The command on the wire (ENet 1.3).
+    fn command(self) -> Command<'static>
+        ensures { view result ≡ acknowledgement_of self }
+    {
+        let head = Head {
+            acknowledge: false,
+            unsequenced: false,
+            channel: self.channel,
+            number: self.number,
+        };
+        Command::Acknowledge {
+            head,
+            received_number: self.number,
+            received_time: self.time,
+        }
+    }
+}
+
+impl Unsequenced {
+    /// The command on the wire (ENet 1.3).
+    fn command(&self) -> Command<'_>
+        ensures { view result ≡ unsequenced_of self.now }
+    {
+        let head = Head {
+            acknowledge: false,
+            unsequenced: true,
+            channel: self.channel,
+            number: 0,
+        };
+        Command::SendUnsequenced {
+            head,
+            group: self.group,
+            payload: self.body.as_slice(),
+        }
+    }
+}
+
+fn first(acknowledgements: &VecDeque<Acknowledgement>) -> Option<Acknowledgement>
+    ensures { result ≡ slice_get acknowledgements.now.items 0 }
+{
+    acknowledgements.front().copied()
+}
+
+/// Puts the acknowledgements into the datagram in the order of their arrival, as far as they fit.
+pub(crate) fn pack_acknowledgements(
+    acknowledgements: &mut VecDeque<Acknowledgement>,
+    buf: &mut [u8],
+    from: Progress,
+) -> Progress
+    ensures packs { PacksAcknowledgements acknowledgements.old.items acknowledgements.new.items from result buf.old buf.new }
+    ensures room { deque_capacity acknowledgements.old - deque_len acknowledgements.old ≤ deque_capacity acknowledgements.new - deque_len acknowledgements.new }
+{
+    let mut progress = from;
+    'acknowledgements: while let Some(acknowledgement) = first(acknowledgements) {
+        let Some(next) = progress.put(buf, &acknowledgement.command()) else {
+            return progress.shut();
+        };
+        progress = next;
+        let _ = acknowledgements.pop_front();
+    }
+    progress
+}
+
+/// Writes an unsequenced packet where the datagram takes it; None where it does not, with nothing changed.
+fn put_packet(packet: &Unsequenced, buf: &mut [u8], from: Progress) -> Option<Progress>
+    requires { length buf.old ≤ 4096 }
+    ensures { TakesIn (unsequenced_of packet.now) from result buf.old buf.new }
+{
+    if buf.len() < packet.body.len() {
+        return None;
+    }
+    from.put(buf, &packet.command())
+}
+
+/// Puts the commands of channel 0xFF into the datagram that are due to go again or queued, as far as they fit. A closed
+/// datagram stays as it is.
+pub(crate) fn pack_controls(
+    control: &mut ControlChannel,
+    pace: Pace,
+    buf: &mut [u8],
+    from: Progress,
+) -> Progress
+    ensures packs { PacksControls pace control.old.commands control.new.commands from result buf.old buf.new }
+    ensures room { control.old.room ≤ control.new.room }
+{
+    if from.closed {
+        return from;
+    }
+    let mut progress = from;
+    'turns: loop {
+        let place = progress.place(buf);
+        match control.next_due(pace.now, pace.timeout, buf, place) {
+            Written::Sent { past } => progress = progress.with(buf, past),
+            Written::NoRoom => return progress.shut(),
+            Written::Nothing => return progress,
+        }
+    }
+}
+
+fn drop_first(unsequenced: &mut VecDeque<Unsequenced>)
+    ensures rest { unsequenced.new.items ≡ drop 1 unsequenced.old.items }
+    ensures less { deque_len unsequenced.new ≡ deque_len unsequenced.old - 1 }
+{
+    let _ = unsequenced.pop_front();
+}
+
+/// Puts the unsequenced packets into the datagram in the order of their submission, as far as they fit, and tells the channel
+/// of the last one. The throttle is asked of each that fits, and may drop it. A closed datagram stays as it is.
+pub(crate) fn pack_unsequenced(
+    unsequenced: &mut VecDeque<Unsequenced>,
+    throttle: &mut Throttle,
+    last: &mut Option<u8>,
+    buf: &mut [u8],
+    from: Progress,
+) -> Progress
+    requires { length buf.old ≤ 4096 }
+    ensures { PacksUnsequenced unsequenced.old.items unsequenced.new.items throttle.old throttle.new last.old last.new from result buf.old buf.new }
+{
+    if from.closed {
+        return from;
+    }
+    let mut progress = from;
+    'packets: while let Some(packet) = unsequenced.front() {
+        let Some(next) = put_packet(packet, buf, progress) else {
+            return progress.shut();
+        };
+        if throttle.admits() {
+            *last = Some(packet.channel);
+            progress = next;
+        }
+        drop_first(unsequenced);
+    }
+    progress
+}
+
+/// Asks the throttle of the first command of an unreliable packet, and says whether the packet is dropped.
+fn refuses(throttle: &mut Throttle, kind: Kind) -> bool
+    ensures answer { result ≡ refuses kind throttle.old }
+    ensures asked { throttle.new ≡ asked_for kind throttle.old }
+{
+    match kind {
+        Kind::Begins => !throttle.admits(),
+        Kind::Reliable | Kind::More => false,
+    }
+}
+
+/// Puts what is due on a channel into the datagram, as far as it fits. The throttle is asked of the first command of each
+/// unreliable packet that fits, and may drop the packet.
+fn pack_channel(
+    sender: &mut Outgoing,
+    flow: &mut Flow,
+    channel: u8,
+    pace: Pace,
+    buf: &mut [u8],
+    from: Progress,
+) -> Progress
+    ensures { PacksChannel pace channel sender.old sender.new flow.old flow.new from result buf.old buf.new }
+{
+    let mut progress = from;
+    'turns: loop {
+        let place = progress.place(buf);
+        let most = flow.throttle.transit_limit(pace.window, pace.mtu);
+        match sender.next_due(pace.now, pace.timeout, flow.transit, most, buf, place) {
+            Due::Sent { past, added, kind } => {
+                if refuses(&mut flow.throttle, kind) {
+                    sender.skip();
+                } else {
+                    flow.transit += added;
+                    flow.last = Some(channel);
+                    progress = progress.with(buf, past);
+                }
+            }
+            Due::NoRoom => return progress.shut(),
+            Due::Nothing => return progress,
+        }
+    }
+}
+
+/// Puts what is due on the channels into the datagram, cyclically from the channel `first` on, as far as it fits. A closed
+/// datagram stays as it is.
+pub(crate) fn pack_channels(
+    senders: &mut [Outgoing],
+    flow: &mut Flow,
+    first: usize,
+    pace: Pace,
+    buf: &mut [u8],
+    from: Progress,
+) -> Progress
+    requires few { length senders.old ≤ 255 }
+    requires first { first ≤ 256 }
+    ensures { PacksChannels pace first senders.old senders.new flow.old flow.new from result buf.old buf.new }
+{
+    let channels = senders.len();
+    let mut progress = from;
+    'turns: for turn in 0..channels {
+        if progress.closed {
+            return progress;
+        }
+        let channel = (first + turn) % channels;
+        progress = pack_channel(
+            &mut senders[channel],
+            flow,
+            channel as u8,
+            pace,
+            buf,
+            progress,
+        );
+    }
+    progress
+}
+
+/// The same for a peer's senders.
+fn pack_senders(
+    senders: &mut Vec<Outgoing>,
+    flow: &mut Flow,
+    first: usize,
+    pace: Pace,
+    buf: &mut [u8],
+    from: Progress,
+) -> Progress
+    requires few { length senders.old.items ≤ 255 }
+    requires first { first ≤ 256 }
+    ensures packs { PacksChannels pace first senders.old.items senders.new.items flow.old flow.new from result buf.old buf.new }
+    ensures kept { length senders.new.items ≡ length senders.old.items }
+{
+    let senders = senders.as_mut_slice();
+    pack_channels(senders, flow, first, pace, buf, from)
+}
+
+/// The channel after the last one that had a data command.
+fn first_channel(last: Option<u8>) -> usize
+    ensures value { result ≡ unwrap_or (option_map (λ channel. channel + 1) last) 0 }
+    ensures bound { result ≤ 256 }
+{
+    match last {
+        Some(channel) => usize::from(channel) + 1,
+        None => 0,
+    }
+}
+
+/// The header of a datagram. The sent time stands exactly where a command asks for an acknowledgement, and the session is 0
+/// while the other's slot is not known (ENet 1.3).
+fn header_of(now: u32, to: Destination, asks: bool) -> Header
+    ensures { result ≡ header_asking now to asks }
+{
+    Header {
+        peer: to.slot,
+        session: if to.slot % 4096 == 0xFFF {
+            0
+        } else {
+            to.session
+        },
+        compressed: false,
+        sent: if asks {
+            Some((now % 65_536) as u16)
+        } else {
+            None
+        },
+    }
+}
+
+/// Writes the header before the commands, which stand from 4 to `at`, and gives the datagram's length. Without a sent time
+/// the commands move two bytes to the front.
+pub(crate) fn finish(buf: &mut [u8], at: usize, header: &Header) -> usize
+    requires after_header { 4 ≤ at }
+    requires within { at ≤ length buf.old }
+    ensures text { take result buf.new ≡ header_text header.now ++ slice_range buf.old 4 at }
+    ensures ends { result ≡ length (header_text header.now) + (at - 4) }
+{
+    match header.sent {
+        Some(_) => {
+            let _ = write_header(buf, 0, header);
+            at
+        }
+        None => {
+            buf.copy_within(4..at, 2);
+            let _ = write_header(buf, 0, header);
+            at - 2
+        }
+    }
+}
+
+impl Outbox {
+    /// Puts all that may go now into a datagram of `pace.mtu` bytes, without its header.
+    fn pack(&mut self, pace: Pace, buf: &mut [u8]) -> Progress
+        requires long { 4 ≤ pace.mtu }
+        requires short { pace.mtu ≤ 4096 }
+        requires whole { length buf.old ≡ pace.mtu }
+        ensures leads { Leads (filled pace self.old.outbox) self.new.outbox result buf.new }
+        ensures acknowledgement_room { self.old.acknowledgement_room ≤ self.new.acknowledgement_room }
+        ensures control_room { self.old.control_room ≤ self.new.control_room }
+    {
+        let first = first_channel(self.last);
+        let start = Progress {
+            at: 4,
+            commands: 32,
+            closed: false,
+            asks: false,
+        };
+        let acknowledged = pack_acknowledgements(&mut self.acknowledgements, buf, start);
+        let controlled = pack_controls(&mut self.control, pace, buf, acknowledged);
+        let unsequenced = pack_unsequenced(
+            &mut self.unsequenced,
+            &mut self.throttle,
+            &mut self.last,
+            buf,
+            controlled,
+        );
+        let mut flow = Flow {
+            throttle: self.throttle,
+            transit: self.transit,
+            last: self.last,
+        };
+        let sent = pack_senders(&mut self.senders, &mut flow, first, pace, buf, unsequenced);
+        self.throttle = flow.throttle;
+        self.transit = flow.transit;
+        self.last = flow.last;
+        sent
+    }
+
+    /// Writes the next datagram over the whole of the buffer, which has `pace.mtu` bytes.
+    fn emit_whole(&mut self, pace: Pace, to: Destination, buf: &mut [u8]) -> Option<usize>
+        requires long { 4 ≤ pace.mtu }
+        requires short { pace.mtu ≤ 4096 }
+        requires whole { length buf.old ≡ pace.mtu }
+        ensures emits { Emits pace to result self.old.outbox self.new.outbox buf.new }
+        ensures acknowledgement_room { self.old.acknowledgement_room ≤ self.new.acknowledgement_room }
+        ensures control_room { self.old.control_room ≤ self.new.control_room }
+    {
+        let progress = self.pack(pace, buf);
+        if progress.at == 4 {
+            return None;
+        }
+        let header = header_of(pace.now, to, progress.asks);
+        Some(finish(buf, progress.at, &header))
+    }
+
+    /// Writes the next datagram at the front of the buffer and gives its length; None where no command goes. It has at most
+    /// `pace.mtu` bytes, 576 to 4,096, and at most 32 commands: first the acknowledgements in the order of their arrival, then
+    /// the commands of channel 0xFF, then the unsequenced packets as submitted, then the channels, cyclically from the one
+    /// after the last that had a data command in an earlier datagram. On a channel first goes what is due to go again, then
+    /// what is queued. The datagram ends before the first command that does not fit, and the next one begins with it (our
+    /// profile).
+    ///
+    /// The throttle is asked of each unsequenced packet that fits, and of the first command of each unreliable packet that
+    /// fits; it may drop the packet. A drop is no command: also where the answer is None the outbox may have changed. The
+    /// header has the sent time exactly where a command asks for an acknowledgement, and session 0 while the other's slot is
+    /// not known (ENet 1.3). Behind the datagram anything may stand in the buffer. It takes no memory.
+    pub fn emit(&mut self, pace: Pace, to: Destination, buf: &mut [u8; 4096]) -> Option<usize>
+        requires { (576 ≤ pace.mtu) × (pace.mtu ≤ 4096) }
+        ensures emits { Emits pace to result self.old.outbox self.new.outbox buf.new }
+        ensures acknowledgement_room { self.old.acknowledgement_room ≤ self.new.acknowledgement_room }
+        ensures control_room { self.old.control_room ≤ self.new.control_room }
+    {
+        self.emit_whole(pace, to, &mut buf[..pace.mtu as usize])
+    }
+}
