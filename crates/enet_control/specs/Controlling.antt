@@ -154,7 +154,7 @@ after_lateness No now c = c
 after_lateness Resend now c = with_marked now c
 after_lateness End now c = c
 
--- all that is queued or sent goes, and the numbers stay
+-- all that is queued or sent is dropped, and the numbers stay
 abbrev pub cleared : Commands → Commands
 cleared c = record c { queued = []; sent = [] }
 

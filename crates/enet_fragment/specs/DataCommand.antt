@@ -22,7 +22,7 @@ message_of channel c = record {
   body = wire_body c.reliable c.fragment c.count c.body;
 }
 
--- a command as it is read. The unreliable number of a fragment is its start number
+-- a command as it is read. The unreliable number of an unreliable fragment is its start number
 abbrev pub read_of : Head → Body → Option DataCommand
 read_of h (send_reliable p) = Some (record { reliable = true; number = h.number; count = 0; fragment = None; body = p })
 read_of h (send_unreliable n p) = Some (record { reliable = false; number = h.number; count = n; fragment = None; body = p })

@@ -76,6 +76,6 @@ all_released g r = flushed (released g (len r.held) r)
 abbrev pub held_bytes : Receiver → ℕ
 held_bytes r = bytes_of r.held + bytes_in r.waiting
 
--- all that is held or waits goes; what was dispatched stays
+-- all that is held or waits is dropped; the front, the unreliable number and what was dispatched stay
 abbrev pub cleared : Receiver → Receiver
 cleared r = record r { held = empty; waiting = empty }

@@ -1,13 +1,14 @@
 //! What a receiver answers.
 
-/// What became of a command, the first that applies. All but `Held` leave the receiver as it was.
+/// What became of a command: the first that applies of `Bad`, `Outside`, `Again`, `Waiting`, `Memory` and `Held`, a fragment that
+/// contradicts earlier pieces being `Bad` only inside the window. All but `Held` leave the receiver as it was.
 #[derive(Clone, Copy, Debug, PartialEq, Eq)]
 pub enum Took {
     /// It was taken in, and what it completed was dispatched.
     Held,
-    /// It came before, or has fallen behind.
+    /// It came before, its place is taken, its number is the front's, or it has fallen behind.
     Again,
-    /// Its number is outside the window.
+    /// Its number is outside the window; of a reliable fragment, its own or that of its packet's first piece.
     Outside,
     /// It can't be a piece of its packet, its packet is above the maximum packet size, or it is not a command of the call
     /// that was made.
@@ -23,7 +24,7 @@ pub enum Took {
 pub struct Foresight {
     /// Its outcome.
     pub took: Took,
-    /// Whether the window lets it be acknowledged; its own flag is not asked.
+    /// Whether its outcome and the window let it be acknowledged; its own flag is not asked.
     pub acknowledged: bool,
     /// How many packets it would dispatch.
     pub dispatches: u32,

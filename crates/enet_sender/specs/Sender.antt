@@ -114,7 +114,7 @@ is_after_first (Some f) = nat_lt 0 f.number
 abbrev pub is_more : DataCommand → Bool
 is_more c = not c.reliable && is_after_first c.fragment
 
--- the rest of the unreliable packet that was begun goes
+-- the rest of the unreliable packet that was begun is dropped
 abbrev pub skipped : List DataCommand → List DataCommand
 skipped [] = []
 skipped (c ∷ cs) = if is_more c then skipped cs else c ∷ cs
@@ -178,7 +178,7 @@ after_lateness No now s = s
 after_lateness Resend now s = with_marked now s
 after_lateness End now s = s
 
--- all that is queued or sent goes, and the numbers stay
+-- all that is queued or sent is dropped, and the numbers stay
 abbrev pub cleared : Sender → Sender
 cleared s = record s { queued = []; sent = [] }
 
