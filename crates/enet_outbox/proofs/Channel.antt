@@ -1,5 +1,5 @@
 -- One channel, turn by turn.
-use Rattle.std.proofs.Common.{◌≡◌, ℕ, zero, suc, ◌+◌, ◌-◌, ◌<◌, ◌≤◌, ◌^◌, ◌⊎◌, List, [], ◌∷◌, length, refl, sym, ap, ◌∙◌, subst, arith, Bool, true, false, not, cond, Option, Some, None, slice_set, sum_by}
+use Rattle.std.proofs.Common.{◌≡◌, ℕ, zero, suc, ◌+◌, ◌-◌, ◌<◌, ◌≤◌, List, [], ◌∷◌, length, refl, sym, ap, ◌∙◌, subst, arith, Bool, true, false, not, cond, Option, Some, None, slice_set, sum_by}
 use Rattle.std.specs.List.{slice_get}
 use Rattle.std.proofs.lemmas.List.Sums.{sum_by-cons}
 use Rattle.enet_codec.specs.Message.{Message, canonical}
@@ -8,11 +8,10 @@ use Rattle.enet_seq.specs.Numbering.{wire}
 use Rattle.enet_throttle.specs.Throttle.{Throttling, is_admitted, transit}
 use Rattle.enet_fragment.specs.declared.data.DataCommand.{DataCommand}
 use Rattle.enet_fragment.specs.DataCommand.{message_of}
-use Rattle.enet_sender.specs.declared.outgoing.Due.{Due}
 use Rattle.enet_sender.specs.declared.outgoing.Due.TheVariants as due
 use Rattle.enet_sender.specs.declared.outgoing.Kind.{Kind}
 use Rattle.enet_sender.specs.declared.outgoing.Kind.TheVariants as kind
-use Rattle.enet_sender.specs.Sender.{Sender, Next, next, with_skipped, bytes_in_transit, is_more}
+use Rattle.enet_sender.specs.Sender.{Next, next, with_skipped, bytes_in_transit, is_more}
 use Rattle.enet_sender.specs.Due.{SendingEnd, kind_of, Did}
 use Rattle.enet_sender.proofs.Transit.{transit-next}
 use Rattle.enet_outbox.specs.declared.parts.Pace.{Pace}

@@ -1,5 +1,5 @@
 -- The channels, one after another.
-use Rattle.std.proofs.Common.{◌≡◌, ℕ, zero, suc, ◌+◌, ◌-◌, ◌<◌, ◌≤◌, ◌%◌, List, [], ◌∷◌, length, map, refl, sym, ap, ◌∙◌, subst, arith, Bool, true, false, cond, Option, Some, None, slice_set}
+use Rattle.std.proofs.Common.{◌≡◌, ℕ, zero, suc, ◌+◌, ◌-◌, ◌<◌, ◌≤◌, ◌%◌, List, [], ◌∷◌, map, refl, sym, ap, ◌∙◌, arith, Bool, true, false, cond, Option, Some, slice_set}
 use Rattle.std.specs.List.{slice_get, range_with_len}
 use Rattle.enet_throttle.specs.Throttle.{Throttling}
 use Rattle.enet_sender.specs.Due.{SendingEnd}

@@ -1,8 +1,7 @@
 -- The commands of channel 0xFF, turn by turn.
-use Rattle.std.proofs.Common.{◌≡◌, ℕ, zero, suc, ◌+◌, ◌-◌, ◌<◌, ◌≤◌, List, ◌∷◌, length, refl, sym, ap, ◌∙◌, subst, arith, Bool, true, false, cond, Option, Some, None}
-use Rattle.enet_codec.specs.Message.{Message, canonical}
+use Rattle.std.proofs.Common.{◌≡◌, ℕ, zero, suc, ◌+◌, ◌-◌, ◌<◌, ◌≤◌, List, length, refl, sym, ap, ◌∙◌, subst, arith, Bool, true, false, cond, Option, Some, None}
+use Rattle.enet_codec.specs.Message.{canonical}
 use Rattle.enet_codec.specs.Writing.{Puts}
-use Rattle.enet_control.specs.declared.outgoing.Written.{Written}
 use Rattle.enet_control.specs.declared.outgoing.Written.TheVariants as written
 use Rattle.enet_control.specs.Controlling.{Commands, Next, next, message_of, Did}
 use Rattle.enet_outbox.specs.declared.parts.Pace.{Pace}

@@ -15,7 +15,7 @@ use Rattle.enet_outbox.specs.declared.parts.Destination.{Destination}
 use Rattle.enet_outbox.specs.declared.packing.Progress.{Progress}
 use Rattle.enet_outbox.specs.declared.packing.Flow.{Flow}
 use Rattle.enet_outbox.specs.Outbox.{Outbox, transit_of}
-use Rattle.enet_outbox.specs.Emission.{Filling, empty_datagram, with_acknowledgements, with_acknowledgements_of, with_controls_of, with_unsequenced, with_unsequenced_of, with_channels, unless_closed, turn_order, filled, asks, datagram, Emits}
+use Rattle.enet_outbox.specs.Emission.{Filling, empty_datagram, with_acknowledgements_of, with_controls_of, with_unsequenced, with_unsequenced_of, with_channels, unless_closed, turn_order, filled, asks, datagram, Emits}
 use Rattle.enet_outbox.specs.Packing.{Holds, Leads, with_flow, Shares, PacksAcknowledgements, PacksControls, PacksUnsequenced, PacksChannels, turns, header_asking}
 
 -- an empty datagram

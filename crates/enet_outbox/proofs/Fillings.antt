@@ -1,5 +1,5 @@
 -- A command more in a datagram.
-use Rattle.std.proofs.Common.{◌≡◌, ℕ, ◌+◌, ◌-◌, ◌*◌, ◌<◌, ◌≤◌, ◌⊎◌, inl, inr, List, [], ◌∷◌, ◌++◌, length, take, drop, get_or, flat_map, slice_range, refl, sym, ap, subst, ◌∙◌, arith, append_assoc, Bool, true, false, cond, ◌==◌, ◌≢◌, ◌||◌, ◌&&◌, nat_le, nat_lt, Option, Some, None}
+use Rattle.std.proofs.Common.{◌≡◌, ℕ, ◌+◌, ◌-◌, ◌*◌, ◌<◌, ◌≤◌, ◌⊎◌, inl, inr, List, [], ◌∷◌, ◌++◌, length, take, drop, get_or, flat_map, slice_range, refl, sym, ap, subst, ◌∙◌, arith, append_assoc, Bool, true, false, cond, ◌==◌, ◌≢◌, ◌||◌, ◌&&◌, nat_le, nat_lt}
 use Rattle.std.specs.List.{list_any}
 use Rattle.std.proofs.lemmas.Bool.{le-leb, lt-leb, lt-ltb, le-ltb, eqb-true, eqb-false}
 use Rattle.std.proofs.lemmas.List.{length-append, length-take, length-drop, take_at, drop_at, drop-take, drop-append-le, get_or-drop}

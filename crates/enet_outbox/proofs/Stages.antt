@@ -1,5 +1,5 @@
 -- A stage goes on by one command, or ends.
-use Rattle.std.proofs.Common.{◌≡◌, ℕ, zero, suc, ◌+◌, ◌-◌, ◌<◌, ◌≤◌, List, [], ◌∷◌, ◌++◌, length, drop, refl, sym, ap, subst, ◌∙◌, arith, Bool, true, false, cond, Option, Some, None}
+use Rattle.std.proofs.Common.{◌≡◌, ℕ, List, [], ◌∷◌, drop, refl, sym, ap, subst, ◌∙◌, Bool, true, false, cond, Some, None}
 use Rattle.std.specs.List.{slice_get}
 use Rattle.enet_throttle.specs.Throttle.{is_admitted}
 use Rattle.enet_outbox.specs.declared.parts.Acknowledgement.{Acknowledgement}

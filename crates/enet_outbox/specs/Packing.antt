@@ -1,5 +1,5 @@
 -- A datagram while it is filled, as its buffer and its progress show it, and what each stage makes of it.
-use Rattle.std.specs.Prelude.{◌≡◌, ℕ, ◌+◌, ◌%◌, ◌==◌, not, Bool, if◌then◌else◌, ◌-◌, ◌≤◌, ◌||◌, nat_le, true, false, List, [], length, map, flat_map, Option, Some, None, slice_range, slice_get, slice_set, slice_index}
+use Rattle.std.specs.Prelude.{◌≡◌, ℕ, ◌+◌, ◌%◌, ◌==◌, not, Bool, if◌then◌else◌, ◌-◌, ◌≤◌, ◌||◌, nat_le, true, false, List, length, map, flat_map, Option, Some, None, slice_range, slice_get, slice_set, slice_index}
 use Rattle.std.specs.List.{list_any, range_with_len}
 use Rattle.enet_codec.specs.Message.{Message, canonical}
 use Rattle.enet_throttle.specs.Throttle.{Throttling, is_admitted, next_counter}
@@ -15,7 +15,7 @@ use Rattle.enet_outbox.specs.declared.packing.Flow.{Flow}
 use Rattle.enet_sender.specs.declared.outgoing.Kind.{Kind}
 use Rattle.enet_sender.specs.declared.outgoing.Kind.TheVariants.{Begins}
 use Rattle.enet_outbox.specs.Outbox.{Outbox, transit_of}
-use Rattle.enet_outbox.specs.Emission.{Filling, asks, fits, with_command, shut, with_acknowledgements, with_controls, control_turns, with_unsequenced, with_channel, channel_turns, with_channels, unless_closed}
+use Rattle.enet_outbox.specs.Emission.{Filling, asks, fits, with_command, with_acknowledgements, with_controls, control_turns, with_unsequenced, with_channel, channel_turns, with_channels, unless_closed}
 
 -- the commands of the filling stand in the buffer from 4 on, and the progress shows how much more it takes
 pub record Holds (f : Filling) (p : Progress) (buf : List ℕ) : Type 0 where

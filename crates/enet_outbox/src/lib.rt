@@ -9,3 +9,8 @@ mod parts;
 
 pub use outbox::Outbox;
 pub use parts::{Acknowledgement, Destination, Matched, Pace, Unsequenced};
+
+#[cfg(test)]
+mod packing_tests;
+#[cfg(test)]
+mod tests;

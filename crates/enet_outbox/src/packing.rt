@@ -431,7 +431,7 @@ impl Outbox {
     /// `pace.mtu` bytes, 576 to 4,096, and at most 32 commands: first the acknowledgements in the order of their arrival, then
     /// the commands of channel 0xFF, then the unsequenced packets as submitted, then the channels, cyclically from the one
     /// after the last that had a data command in an earlier datagram. On a channel first goes what is due to go again, then
-    /// what is queued. The datagram ends before the first command that does not fit, and the next one begins with it (our
+    /// what is queued. Nothing goes behind the first command that does not fit: that one waits for a later datagram (our
     /// profile).
     ///
     /// The throttle is asked of each unsequenced packet that fits, and of the first command of each unreliable packet that

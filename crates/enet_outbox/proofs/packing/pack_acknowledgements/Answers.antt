@@ -1,9 +1,9 @@
-use Rattle.std.proofs.Common.{◌≡◌, List, Option, arith, Some, None, ap, ◌∙◌, sym, refl, true, false, subst}
+use Rattle.std.proofs.Common.{List, Option, arith, Some, None, ap, ◌∙◌, sym, refl, subst}
 use Rattle.enet_outbox.specs.declared.parts.Acknowledgement.{Acknowledgement}
 use Rattle.enet_outbox.specs.declared.packing.Progress.{Progress}
 use Rattle.enet_codec.specs.Message.{Message, view}
 use Rattle.enet_outbox.specs.Outbox.{Outbox}
-use Rattle.enet_outbox.specs.Emission.{Filling, acknowledgement_of, with_command, fits, shut}
+use Rattle.enet_outbox.specs.Emission.{acknowledgement_of, with_command}
 use Rattle.enet_outbox.specs.Packing.{TakesIn}
 use Rattle.enet_outbox.proofs.Fillings.{leads-by, holds-shut}
 use Rattle.enet_outbox.proofs.Stages.{acknowledgements-go, acknowledgements-stop, acknowledgements-end}

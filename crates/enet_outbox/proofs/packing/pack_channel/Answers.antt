@@ -1,9 +1,8 @@
-use Rattle.std.proofs.Common.{◌≡◌, ◌≤◌, ◌<◌, ◌+◌, ℕ, ap, ◌∙◌, sym, refl, subst, arith, length, List, Option, Some, None, true, false}
+use Rattle.std.proofs.Common.{◌≡◌, ◌≤◌, ◌<◌, ℕ, ◌∙◌, sym, subst, arith, true, false}
 use Rattle.enet_seq.specs.Numbering.{wire}
-use Rattle.enet_throttle.specs.Throttle.{Throttling, transit}
+use Rattle.enet_throttle.specs.Throttle.{transit}
 use Rattle.enet_sender.specs.Sender.{next, with_skipped}
 use Rattle.enet_sender.specs.Due.{SendingEnd, Did}
-use Rattle.enet_sender.specs.declared.outgoing.Due.{Due}
 use Rattle.enet_sender.specs.declared.outgoing.Due.TheVariants as due
 use Rattle.enet_outbox.specs.Packing.{place_in, refuses}
 use Rattle.enet_outbox.proofs.Channel.{did-sent, channel-begin, channel-put, channel-drop, channel-full, channel-none}

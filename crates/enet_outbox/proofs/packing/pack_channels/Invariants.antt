@@ -1,4 +1,4 @@
-use Rattle.std.proofs.Common.{◌≡◌, length}
+use Rattle.std.proofs.Common.{◌≡◌}
 use Rattle.enet_outbox.specs.Emission.{Filling}
 use Rattle.enet_outbox.specs.Packing.{Holds, Shares}
 use Rattle.enet_outbox.proofs.Channels.{ChannelsAt}

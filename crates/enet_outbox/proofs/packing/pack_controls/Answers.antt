@@ -1,10 +1,8 @@
-use Rattle.std.proofs.Common.{◌≡◌, ◌≤◌, ◌<◌, ℕ, ap, ◌∙◌, sym, refl, subst, arith, length, List, Option, Some, None}
+use Rattle.std.proofs.Common.{◌<◌, ℕ, ◌∙◌, sym, subst, arith}
 use Rattle.enet_control.specs.Controlling.{Commands, Did, next}
-use Rattle.enet_control.specs.declared.outgoing.Written.{Written}
 use Rattle.enet_control.specs.declared.outgoing.Written.TheVariants as written
 use Rattle.enet_outbox.specs.Emission.{with_controls, control_turns}
 use Rattle.enet_outbox.specs.Packing.{place_in}
-use Rattle.enet_outbox.proofs.Fillings.{leads-by}
 use Rattle.enet_outbox.proofs.Stages.{open-leads}
 use Rattle.enet_outbox.proofs.Controls.{did-sent, control-begin, control-room, control-put, control-full, control-none}
 use Rattle.enet_outbox.proofs.Turns.{control_left, control-falls}

@@ -1,11 +1,9 @@
 use Rattle.std.proofs.lemmas.Option.{slice_get_read, slice_get_past}
 use Rattle.std.specs.List.{slice_get}
-use Rattle.std.proofs.Common.{◌≡◌, ℕ, ◌<◌, ◌≤◌, arith, length, drop, List, Option, Some, None, Bool, ap, ◌∙◌, sym, refl, true, false, subst}
+use Rattle.std.proofs.Common.{◌≡◌, ℕ, ◌<◌, ◌≤◌, arith, length, drop, Option, Some, ap, ◌∙◌, sym, refl}
 use Rattle.enet_throttle.specs.Throttle.{Throttling, is_admitted}
-use Rattle.enet_outbox.specs.declared.parts.Unsequenced.{Unsequenced}
 use Rattle.enet_outbox.specs.Outbox.{Outbox}
-use Rattle.enet_outbox.specs.Emission.{Filling, asked, unsequenced_of, with_command, with_unsequenced, fits, shut}
-use Rattle.enet_outbox.specs.Packing.{Holds}
+use Rattle.enet_outbox.specs.Emission.{asked, unsequenced_of, with_command, with_unsequenced}
 use Rattle.enet_outbox.proofs.Fillings.{leads-by, holds-shut, holds-other}
 use Rattle.enet_outbox.proofs.Stages.{unsequenced-go, unsequenced-drop, unsequenced-stop, unsequenced-end, open-goes}
 use Rattle.enet_outbox.proofs.packing.pack_unsequenced.Goals as goal

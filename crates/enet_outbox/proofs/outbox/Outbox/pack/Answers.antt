@@ -1,6 +1,5 @@
-use Rattle.std.proofs.Common.{◌≡◌, ◌≤◌, ℕ, ap, ◌∙◌, sym, refl, subst, arith, length}
-use Rattle.enet_outbox.specs.Outbox.{Outbox, Sending, transit_of}
-use Rattle.enet_outbox.specs.Kept.{KeepsOutbox}
+use Rattle.std.proofs.Common.{sym, subst, arith}
+use Rattle.enet_outbox.specs.Outbox.{Outbox, Sending}
 use Rattle.enet_outbox.specs.Emission.{filled}
 use Rattle.enet_outbox.specs.Packing.{Leads}
 use Rattle.enet_outbox.specs.contracts.outbox.Outbox.{the_view}

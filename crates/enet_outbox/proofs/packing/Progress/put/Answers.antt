@@ -1,4 +1,4 @@
-use Rattle.std.proofs.Common.{◌≡◌, ◌+◌, ◌≤◌, length, arith, inl, inr}
+use Rattle.std.proofs.Common.{arith}
 use Rattle.enet_codec.specs.Message.{view}
 use Rattle.enet_outbox.proofs.Fillings.{fits-written, holds-written, holds-back}
 use Rattle.enet_outbox.proofs.packing.Progress.put.Goals as goal

@@ -1,0 +1,4 @@
+pub mod Fronts
+pub mod Outcomes
+pub mod Keeping
+pub mod StandIn

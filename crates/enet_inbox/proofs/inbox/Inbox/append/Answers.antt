@@ -1,0 +1,21 @@
+use Rattle.std.proofs.Common.{◌≡◌, ◌<◌, ◌^◌, length, sym, subst, ◌∙◌, arith}
+use Rattle.enet_inbox.specs.Kept.{KeepsInbox}
+use Rattle.enet_inbox.specs.Parts.{inbox_of}
+use Rattle.enet_inbox.proofs.Keeping.{keeps_pushed, push_fits}
+use Rattle.enet_inbox.proofs.inbox.Inbox.append.Goals as goal
+
+pub overflow_add-self : goal.overflow_add-self
+overflow_add-self c =
+    let i = c.self.inside in
+    let b = inbox_of i.max_packet i.max_waiting i.receivers.items i.groups i.untaken.items in
+    let few : length i.untaken.items < 2 ^ 63 = omega (arith, i.untaken.ok.0, i.untaken.small.0, i.untaken.small.1) in
+    let short : length c.args.payload.now < 2 ^ 63 = omega arith in
+    let fits = push_fits b i.waiting (length c.args.payload.now) c.self.invariant few short in
+    omega arith
+
+pub invariant_of-self-2 : goal.invariant_of-self-2
+invariant_of-self-2 c =
+    let i = c.self.inside in
+    let b = inbox_of i.max_packet i.max_waiting i.receivers.items i.groups i.untaken.items in
+    let short : length c.args.payload.now < 2 ^ 63 = omega arith in
+    keeps_pushed b i.waiting c.mark.new.self (record { channel = c.args.channel; flags = 2; body = c.args.payload.now }) c.append.new.untaken.items c.self.invariant short (c.append.ensures.added c.if-not-append.false)

@@ -1,0 +1,17 @@
+use Rattle.std.proofs.Common.{◌≡◌, ◌-◌, sym, ap, subst, ◌∙◌, List}
+use Rattle.enet_receiver.specs.Foresight.{ReceivingEnd}
+use Rattle.enet_inbox.specs.Inbox.{Inbox, cleared}
+use Rattle.enet_inbox.specs.Kept.{KeepsInbox, held_in}
+use Rattle.enet_inbox.specs.Parts.{inbox_of}
+use Rattle.enet_inbox.proofs.Keeping.{keeps_cleared}
+use Rattle.enet_inbox.proofs.inbox.Inbox.clear.Goals as goal
+
+pub invariant_of-self : goal.invariant_of-self
+invariant_of-self c =
+    let i = c.self.inside in
+    let b = inbox_of i.max_packet i.max_waiting i.receivers.items i.groups i.untaken.items in
+    let freed : c.held_in.result ≡ held_in i.receivers.items = c.held_in.ensures ∙ ap (λ (rs : List ReceivingEnd). held_in rs) c.deref.ensures.value in
+    let now : inbox_of i.max_packet i.max_waiting c.clear_all.new.receivers.items i.groups i.untaken.items ≡ cleared b =
+    ap (λ (rs : List ReceivingEnd). inbox_of i.max_packet i.max_waiting rs i.groups i.untaken.items) c.clear_all.ensures in
+    subst (λ n. KeepsInbox (inbox_of i.max_packet i.max_waiting c.clear_all.new.receivers.items i.groups i.untaken.items) (i.waiting - n)) (sym freed)
+    (subst (λ (x : Inbox). KeepsInbox x (i.waiting - held_in i.receivers.items)) (sym now) (keeps_cleared b i.waiting c.self.invariant))

@@ -1,0 +1,14 @@
+use Rattle.std.proofs.Common.{◌≡◌, sym, subst}
+use Rattle.enet_inbox.specs.Inbox.{Inbox, forgotten}
+use Rattle.enet_inbox.specs.Kept.{KeepsInbox}
+use Rattle.enet_inbox.specs.Parts.{inbox_of}
+use Rattle.enet_inbox.proofs.Keeping.{keeps_forgotten}
+use Rattle.enet_inbox.proofs.inbox.Inbox.forget.Goals as goal
+
+pub invariant_of-self : goal.invariant_of-self
+invariant_of-self c =
+    let i = c.self.inside in
+    let b = inbox_of i.max_packet i.max_waiting i.receivers.items i.groups i.untaken.items in
+    let now : inbox_of i.max_packet i.max_waiting c.clear_all.new.receivers.items i.groups c.clear.new.self.items ≡ forgotten b =
+    λ j. inbox_of i.max_packet i.max_waiting (c.clear_all.ensures j) i.groups (c.clear.ensures.items j) in
+    subst (λ (x : Inbox). KeepsInbox x 0) (sym now) (keeps_forgotten b i.waiting c.self.invariant)

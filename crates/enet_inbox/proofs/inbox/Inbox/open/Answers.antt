@@ -1,0 +1,13 @@
+use Rattle.std.proofs.Common.{◌≡◌, ◌<◌, sym, subst, arith}
+use Rattle.enet_inbox.specs.Inbox.{Inbox, empty_inbox}
+use Rattle.enet_inbox.specs.Kept.{KeepsInbox}
+use Rattle.enet_inbox.specs.Parts.{inbox_of}
+use Rattle.enet_inbox.proofs.Keeping.{keeps_new}
+use Rattle.enet_inbox.proofs.inbox.Inbox.open.Goals as goal
+
+pub invariant_of-result : goal.invariant_of-result
+invariant_of-result c =
+    let few : c.args.channels < 256 = omega arith in
+    let now : inbox_of c.args.max_packet c.args.max_waiting c.in_ok-open_all.field-0.items c.new.result c.new-2.result.items ≡ empty_inbox c.args.channels c.args.max_packet c.args.max_waiting =
+    λ j. inbox_of c.args.max_packet c.args.max_waiting (c.in_ok-open_all.ensures.ok j) (c.new.ensures j) (c.new-2.ensures.items j) in
+    subst (λ (x : Inbox). KeepsInbox x 0) (sym now) (keeps_new c.args.channels c.args.max_packet c.args.max_waiting few)

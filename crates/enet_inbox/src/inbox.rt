@@ -1,0 +1,313 @@
+//! All that comes to a peer.
+
+ghost use Rattle.std.specs.Prelude.{◌≡◌, ◌≤◌, ◌<◌, drop, IsTrue, IfOk, IfErr, Ok, false, length, slice_get, slice_index_or};
+ghost use Rattle.std.specs.Option.{option_copied};
+ghost use Rattle.enet_codec.specs.Message.{view};
+ghost use Rattle.enet_fragment.specs.DataCommand.{data_of};
+ghost use Rattle.enet_unsequenced.specs.Groups.{dispatches};
+ghost use Rattle.enet_inbox.specs.Inbox.{empty_inbox, is_full, cleared, forgotten, narrowed};
+ghost use Rattle.enet_inbox.specs.Arrivals.{arrival, sequenced, unsequenced, unsequenced_taken, passed_over, passed_length, passed_sequenced, Arrives};
+ghost use Rattle.enet_inbox.specs.Parts.{foresight_of, unsequenced_verdict};
+
+use crate::arriving::{Sequenced, acknowledges, answer_of};
+use crate::receivers::{clear_all, held_in, open_all};
+use crate::taking::{append, take_in};
+use enet_codec::{Command, Packet, Refusal, Stop};
+use enet_receiver::{Foresight, Incoming, Took};
+use enet_unsequenced::Groups;
+use std::alloc::Global;
+use std::collections::VecDeque;
+use std::marker::Model;
+
+/// All that comes to a peer: what its channels hold until it can be dispatched, the unsequenced groups that were dispatched,
+/// and the dispatched packets until the user takes them. Contracts see it as the record `Inbox`.
+#[derive(Drop)]
+pub struct Inbox {
+    alloc: Global,
+    max_packet: u32,
+    max_waiting: u32,
+    receivers: Vec<Incoming>,
+    groups: Groups,
+    untaken: VecDeque<Packet>,
+    /// The bytes that are held at the receivers or wait to be taken.
+    waiting: u128,
+}
+
+impl Model for Inbox {
+    ghost use Rattle.enet_inbox.specs.Inbox as specs;
+    ghost use Rattle.enet_inbox.specs.Codes.{inbox_code};
+
+    ghost Value = { specs.Inbox };
+
+    ghost coded = { inbox_code };
+
+    ghost use Rattle.enet_inbox.specs.Kept.{KeepsInbox};
+    ghost use Rattle.enet_inbox.specs.Parts.{inbox_of};
+
+    ghost view = { λ b. inbox_of b.max_packet b.max_waiting b.receivers.items b.groups b.untaken.items };
+
+    ghost invariant = { λ b. KeepsInbox (inbox_of b.max_packet b.max_waiting b.receivers.items b.groups b.untaken.items) b.waiting };
+}
+
+impl Inbox {
+    /// An inbox of so many channels to which nothing came. It takes packets of at most `max_packet` bytes, and begins none
+    /// once `max_waiting` bytes or more wait. E1 where memory is refused.
+    pub fn open(
+        alloc: Global,
+        channels: u8,
+        max_packet: u32,
+        max_waiting: u32,
+    ) -> Result<Inbox, Refusal>
+        ensures ok { IfOk result (λ b. b ≡ empty_inbox channels max_packet max_waiting) }
+        ensures memory { IfErr result (λ why. why ≡ Refusal.Memory) }
+    {
+        Ok(Inbox {
+            alloc,
+            max_packet,
+            max_waiting,
+            receivers: open_all(alloc, channels, max_packet)?,
+            groups: Groups::new(),
+            untaken: VecDeque::new(alloc),
+            waiting: 0,
+        })
+    }
+
+    /// What `data` would answer to a command with ample memory.
+    pub fn foresee(&self, command: &Command<'_>) -> Result<bool, Stop>
+        ensures { result ≡ (arrival self.now (view command.now)).answer }
+    {
+        if let Command::SendUnsequenced {
+            head,
+            group,
+            payload,
+        } = command
+        {
+            self.is_new(head.channel, *group, payload)?;
+            return Ok(true);
+        }
+        self.foresee_sequenced(command)
+    }
+
+    /// Takes a data command in: SEND_RELIABLE, SEND_UNRELIABLE, SEND_FRAGMENT, SEND_UNRELIABLE_FRAGMENT or SEND_UNSEQUENCED.
+    /// What it dispatches waits to be taken from then on. The answer is whether the command may be acknowledged, if it asks
+    /// for it: late and repeated ones may, those just past the window may not (ENet 1.3).
+    ///
+    /// A stop is the first that applies: S6 for a command that is no data; S8 where the channel is not below the channel
+    /// count; S9 where the payload or the packet is above the maximum packet size, or a fragment's fields fit together
+    /// neither with themselves nor with the pieces before (fields and sizes before the window: our profile); S10 where it
+    /// begins a packet while the bytes that are held, wait or weren't taken are at their limit or above; S11 where memory is
+    /// refused (our profile). After a stop nothing has changed.
+    pub fn data(&mut self, command: &Command<'_>) -> Result<bool, Stop>
+        ensures { Arrives result (arrival self.old (view command.now)) self.old self.new }
+    {
+        if let Command::SendUnsequenced {
+            head,
+            group,
+            payload,
+        } = command
+        {
+            return self.unsequenced(head.channel, *group, payload);
+        }
+        self.sequenced(command)
+    }
+
+    /// Passes a data command over, as a peer does that dispatches nothing more: S6, S8 and S9 as in `data`, where only
+    /// the length of the payload is tested for S9, and else whether the command may be acknowledged. Nothing changes.
+    pub fn pass_over(&self, command: &Command<'_>) -> Result<bool, Stop>
+        ensures { result ≡ passed_over self.now (view command.now) }
+    {
+        if let Command::SendUnsequenced { head, payload, .. } = command {
+            if head.channel as usize >= self.receivers.len() {
+                return Err(Stop::BadChannel);
+            }
+            return self.pass_payload(payload, true);
+        }
+        self.pass_sequenced(command)
+    }
+
+    /// The next packet, in the order of dispatch; None, with nothing changed, where none waits. It takes no memory.
+    pub fn take(&mut self) -> Option<Packet>
+        ensures first { result ≡ slice_get self.old.untaken 0 }
+        ensures rest { self.new ≡ record self.old { untaken = drop 1 self.old.untaken } }
+    {
+        let packet = self.untaken.pop_front()?;
+        self.waiting -= packet.body.len() as u128;
+        Some(packet)
+    }
+
+    /// The packet that `take` would give.
+    pub fn next(&self) -> Option<&Packet>
+        ensures { option_copied result ≡ slice_get self.now.untaken 0 }
+    {
+        self.untaken.front()
+    }
+
+    /// Drops all that is not dispatched yet. What wasn't taken stays, and the numbers go on from where they stand.
+    pub fn clear(&mut self)
+        ensures { self.new ≡ cleared self.old }
+    {
+        self.waiting -= held_in(&self.receivers);
+        clear_all(&mut self.receivers);
+    }
+
+    /// Drops all that is not dispatched yet, and what wasn't taken.
+    pub fn forget(&mut self)
+        ensures { self.new ≡ forgotten self.old }
+    {
+        clear_all(&mut self.receivers);
+        self.untaken.clear();
+        self.waiting = 0;
+    }
+
+    /// Only so many channels stay, from channel 0 on; what the others hold is dropped. Where there are no more than so many
+    /// nothing changes.
+    pub fn narrow(&mut self, channels: u8)
+        ensures { self.new ≡ narrowed self.old channels }
+    {
+        let channels = channels as usize;
+        if channels < self.receivers.len() {
+            self.waiting -= held_in(&self.receivers[channels..]);
+            self.receivers.truncate(channels);
+        }
+    }
+
+    /// Whether so many bytes wait that no further packet begins.
+    fn is_full(&self) -> bool
+        ensures { result ≡ is_full self.now }
+    {
+        u128::from(self.max_waiting) <= self.waiting
+    }
+
+    /// What the receiver of its channel would do with a sequenced data command.
+    fn foresight(&self, command: &Command<'_>) -> Result<Foresight, Stop>
+        ensures { result ≡ foresight_of self.now (view command.now).head.channel (data_of (view command.now)) }
+    {
+        let Some(arriving) = Sequenced::of(command) else {
+            return Err(Stop::BadCommand);
+        };
+        let channel = arriving.head.channel as usize;
+        if channel >= self.receivers.len() {
+            return Err(Stop::BadChannel);
+        }
+        Ok(self.receivers[channel].foresee(command, self.is_full()))
+    }
+
+    /// What `sequenced` would answer with ample memory.
+    fn foresee_sequenced(&self, command: &Command<'_>) -> Result<bool, Stop>
+        ensures { result ≡ (sequenced self.now (view command.now).head.channel (data_of (view command.now))).answer }
+    {
+        let _receivers = &self.receivers;
+        let foresight = self.foresight(command)?;
+        answer_of(foresight)
+    }
+
+    /// Takes a sequenced data command in.
+    fn sequenced(&mut self, command: &Command<'_>) -> Result<bool, Stop>
+        ensures { Arrives result (sequenced self.old (view command.now).head.channel (data_of (view command.now))) self.old self.new }
+    {
+        let _receivers = &self.receivers;
+        let foresight = self.foresight(command)?;
+        let may = answer_of(foresight)?;
+        if foresight.took != Took::Held {
+            return Ok(may);
+        }
+        if !self.take_in(command, foresight) {
+            return Err(Stop::Memory);
+        }
+        Ok(may)
+    }
+
+    /// Takes a sequenced data command in that its channel's receiver takes in, where memory is not refused.
+    fn take_in(&mut self, command: &Command<'_>, foresight: Foresight) -> bool
+        requires foreseen { foresight_of self.old (view command.now).head.channel (data_of (view command.now)) ≡ Ok foresight }
+        requires held { foresight.took ≡ Took.Held }
+        ensures taken { IsTrue result → self.new ≡ (sequenced self.old (view command.now).head.channel (data_of (view command.now))).after }
+        ensures unchanged { result ≡ false → self.new ≡ self.old }
+    {
+        let Some(arriving) = Sequenced::of(command) else {
+            return false;
+        };
+        let full = self.is_full();
+        let receiver = &mut self.receivers[arriving.head.channel as usize];
+        let before = receiver.held();
+        let Some(bytes) = take_in(
+            receiver,
+            &mut self.untaken,
+            command,
+            full,
+            foresight.dispatches,
+        ) else {
+            return false;
+        };
+        self.waiting = self.waiting - u128::from(before) + u128::from(receiver.held()) + bytes;
+        true
+    }
+
+    /// Takes an unsequenced packet in.
+    fn unsequenced(&mut self, channel: u8, group: u16, payload: &[u8]) -> Result<bool, Stop>
+        ensures { Arrives result (unsequenced self.old channel group payload.now) self.old self.new }
+    {
+        if self.is_new(channel, group, payload)? && !self.append(channel, group, payload) {
+            return Err(Stop::Memory);
+        }
+        Ok(true)
+    }
+
+    /// Whether an unsequenced packet would be dispatched, or why it stops the datagram.
+    fn is_new(&self, channel: u8, group: u16, payload: &[u8]) -> Result<bool, Stop>
+        ensures { result ≡ unsequenced_verdict self.now channel group payload.now }
+    {
+        if channel as usize >= self.receivers.len() {
+            return Err(Stop::BadChannel);
+        }
+        if payload.len() > self.max_packet as usize {
+            return Err(Stop::BadFragment);
+        }
+        if !self.groups.check(group) {
+            return Ok(false);
+        }
+        if self.is_full() {
+            return Err(Stop::Waiting);
+        }
+        Ok(true)
+    }
+
+    /// Dispatches an unsequenced packet of a group that is new, where memory is not refused.
+    fn append(&mut self, channel: u8, group: u16, payload: &[u8]) -> bool
+        requires { IsTrue (dispatches self.old.seen group) }
+        ensures added { IsTrue result → self.new ≡ unsequenced_taken self.old channel group payload.now }
+        ensures unchanged { result ≡ false → self.new ≡ self.old }
+    {
+        if !append(self.alloc, &mut self.untaken, channel, payload) {
+            return false;
+        }
+        self.waiting += payload.len() as u128;
+        self.groups.mark(group);
+        true
+    }
+
+    /// Passes a sequenced data command over.
+    fn pass_sequenced(&self, command: &Command<'_>) -> Result<bool, Stop>
+        ensures { result ≡ passed_sequenced self.now (view command.now).head.channel (data_of (view command.now)) }
+    {
+        let Some(arriving) = Sequenced::of(command) else {
+            return Err(Stop::BadCommand);
+        };
+        let channel = arriving.head.channel as usize;
+        if channel >= self.receivers.len() {
+            return Err(Stop::BadChannel);
+        }
+        let may = acknowledges(&self.receivers[channel], arriving.head);
+        self.pass_payload(arriving.payload, may)
+    }
+
+    /// Tests the length of a payload that is passed over.
+    fn pass_payload(&self, payload: &[u8], may: bool) -> Result<bool, Stop>
+        ensures { result ≡ passed_length self.now payload.now may }
+    {
+        if payload.len() > self.max_packet as usize {
+            return Err(Stop::BadFragment);
+        }
+        Ok(may)
+    }
+}

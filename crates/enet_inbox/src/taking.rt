@@ -1,0 +1,106 @@
+//! How what comes is put to the packets that wait to be taken.
+
+ghost use Rattle.std.specs.Prelude.{◌≡◌, ◌≢◌, ◌+◌, ◌++◌, ◌≤◌, [], ◌∷◌, All, IsTrue, IfSome, IfNone, false, length, map, sum_by};
+ghost use Rattle.std.specs.VecDeque.{deque_len, deque_capacity};
+ghost use Rattle.enet_codec.specs.Message.{view};
+ghost use Rattle.enet_codec.specs.declared.shared.Packet.{Packet};
+ghost use Rattle.enet_fragment.specs.DataCommand.{data_of};
+ghost use Rattle.enet_receiver.specs.Foresight.{outcome_for, after_command, foreseen};
+ghost use Rattle.enet_inbox.specs.Arrivals.{packet_of, emptied};
+ghost use Rattle.enet_inbox.specs.Kept.{IsShort, bytes_in};
+
+use bytes::Bytes;
+use enet_codec::{Command, Packet};
+use enet_receiver::{Incoming, Took};
+use std::alloc::Global;
+use std::collections::VecDeque;
+
+/// A received packet's flags where it was unsequenced.
+const UNSEQUENCED: u8 = 2;
+
+/// Takes a sequenced data command in by the call that its receiver has for it. What is none is `Bad`.
+fn receive(receiver: &mut Incoming, command: &Command<'_>, full: bool) -> Took
+    ensures took { result ≢ Took.Memory → result ≡ outcome_for receiver.old (data_of (view command.now)) full }
+    ensures memory { result ≡ Took.Memory → outcome_for receiver.old (data_of (view command.now)) full ≡ Took.Held }
+    ensures held { result ≡ Took.Held → receiver.new ≡ after_command receiver.old (data_of (view command.now)) full }
+    ensures unchanged { result ≢ Took.Held → receiver.new ≡ receiver.old }
+{
+    match command {
+        Command::SendReliable { .. } => receiver.reliable(command, full),
+        Command::SendUnreliable { .. } => receiver.unreliable(command, full),
+        Command::SendFragment { .. } => receiver.fragment(command, full),
+        Command::SendUnreliableFragment { .. } => receiver.unreliable_fragment(command, full),
+        _ => Took::Bad,
+    }
+}
+
+/// Hands over all that a receiver dispatched, and answers how many bytes it has.
+fn hand_over(receiver: &mut Incoming, untaken: &mut VecDeque<Packet>) -> u128
+    requires room { deque_len untaken.old + length receiver.old.receiver.dispatched ≤ deque_capacity untaken.old }
+    requires short { All IsShort untaken.old.items }
+    ensures receiver { receiver.new ≡ emptied receiver.old }
+    ensures untaken { untaken.new.items ≡ untaken.old.items ++ map (packet_of receiver.old.channel) receiver.old.receiver.dispatched }
+    ensures bytes { bytes_in untaken.new.items ≡ bytes_in untaken.old.items + result }
+    ensures short { All IsShort untaken.new.items }
+{
+    let mut bytes = 0;
+    while let Some(packet) = receiver.pop() {
+        bytes += packet.body.len() as u128;
+        untaken.push_back_reserved(packet);
+    }
+    bytes
+}
+
+/// Takes a command in that the receiver would take in, and hands over what that dispatches, so many packets. Answers how many
+/// bytes they have; None, with nothing changed, where memory is refused.
+pub(crate) fn take_in(
+    receiver: &mut Incoming,
+    untaken: &mut VecDeque<Packet>,
+    command: &Command<'_>,
+    full: bool,
+    dispatches: u32,
+) -> Option<u128>
+    requires held { outcome_for receiver.old (data_of (view command.now)) full ≡ Took.Held }
+    requires dispatches { dispatches ≡ (foreseen receiver.old (data_of (view command.now)) full).dispatches }
+    requires none_left { receiver.old.receiver.dispatched ≡ [] }
+    requires short { All IsShort untaken.old.items }
+    ensures receiver { IfSome result (λ _. receiver.new ≡ emptied (after_command receiver.old (data_of (view command.now)) full)) }
+    ensures untaken { IfSome result (λ _. untaken.new.items
+        ≡ untaken.old.items ++ map (packet_of receiver.old.channel) (after_command receiver.old (data_of (view command.now)) full).receiver.dispatched) }
+    ensures bytes { IfSome result (λ bytes. bytes_in untaken.new.items ≡ bytes_in untaken.old.items + bytes) }
+    ensures short { All IsShort untaken.new.items }
+    ensures same_receiver { IfNone result (receiver.new ≡ receiver.old) }
+    ensures same_untaken { IfNone result (untaken.new.items ≡ untaken.old.items) }
+{
+    if untaken.reserve(dispatches as usize).is_err() {
+        return None;
+    }
+    if receive(receiver, command, full) != Took::Held {
+        return None;
+    }
+    Some(hand_over(receiver, untaken))
+}
+
+/// Adds an unsequenced packet, where memory is not refused.
+pub(crate) fn append(
+    alloc: Global,
+    untaken: &mut VecDeque<Packet>,
+    channel: u8,
+    payload: &[u8],
+) -> bool
+    ensures added { IsTrue result → untaken.new.items ≡ untaken.old.items ++ (record { channel = channel; flags = 2; body = payload.now }) ∷ [] }
+    ensures unchanged { result ≡ false → untaken.new.items ≡ untaken.old.items }
+{
+    if untaken.reserve(1).is_err() {
+        return false;
+    }
+    let Ok(body) = Bytes::copy_from_slice(alloc, payload) else {
+        return false;
+    };
+    untaken.push_back_reserved(Packet {
+        channel,
+        flags: UNSEQUENCED,
+        body,
+    });
+    true
+}
