@@ -1,0 +1,4 @@
+pub mod Submitting
+pub mod Taking
+pub mod Arriving
+pub mod Unmatched

@@ -1,0 +1,21 @@
+use Rattle.std.proofs.Common.{◌≡◌, subst}
+use Rattle.enet_outbox.specs.declared.parts.Pace.{Pace}
+use Rattle.enet_outbox.specs.declared.parts.Destination.{Destination}
+use Rattle.enet_outbox.specs.Outbox.{Outbox}
+use Rattle.enet_outbox.specs.Emission.{Emits}
+use Rattle.enet_peer.specs.Peered.{Peered}
+use Rattle.enet_peer.specs.Calls.{pace_of, gone_on}
+use Rattle.enet_peer.proofs.peer.Peer.emit.Goals as goal
+
+pub returns : goal.returns
+returns c =
+    let now = c.args.now in
+    let old = c.args.self.now in
+    let left : Outbox = c.emit-len.new.self.outbox in
+    let len = c.emit-len.result in
+    let buf = c.emit-len.new.buf in
+    let from_view = subst (λ (v : Peered). Emits c.pace-pace.result c.destination-to.result len v.peer.outbox left buf) c.self.view_is c.emit-len.ensures.emits in
+    let at_pace = subst (λ (pace : Pace). Emits pace c.destination-to.result len old.peer.outbox left buf) c.pace-pace.ensures.pace from_view in
+    let emits = subst (λ (to : Destination). Emits (pace_of old.peer now) to len old.peer.outbox left buf) c.destination-to.ensures at_pace in
+    let after = subst (λ (v : Peered). c.go_on.new.self.peer ≡ gone_on (record v.peer { outbox = left })) c.self.view_is c.go_on.ensures in
+    record { outbox = left; emits = emits; after = after }

@@ -1,0 +1,7 @@
+pub mod Peering
+pub mod Peered
+pub mod Endings
+pub mod Arrivals
+pub mod Calls
+pub mod Acting
+pub mod Next

@@ -1,0 +1,16 @@
+//! The machine of one peer in ENet 1.3: what each command, datagram, moment and call makes of it.
+#![tactic(auto)]
+
+mod arrivals;
+mod endings;
+mod events;
+mod leaving;
+mod opening;
+mod parts;
+mod peer;
+mod sending;
+mod settings;
+mod time;
+
+pub use parts::{Limits, PeerEvent, PeerState};
+pub use peer::Peer;

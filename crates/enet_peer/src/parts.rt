@@ -1,0 +1,49 @@
+//! What a peer is made of.
+
+use enet_codec::Packet;
+
+/// How far a connection has come.
+#[derive(Clone, Copy, Debug, PartialEq, Eq)]
+pub enum PeerState {
+    /// There is no connection.
+    Free,
+    /// A client has asked, and waits for the server's answer.
+    Connecting,
+    /// A server has answered, and waits for the client's acknowledgement.
+    Answering,
+    Connected,
+    /// The user has asked for the end; what is queued and unacknowledged goes first.
+    DisconnectLater,
+    /// DISCONNECT waits for its acknowledgement.
+    Disconnecting,
+    /// The other end's DISCONNECT is to be acknowledged.
+    AckDisconnect,
+    /// The connection has ended, and the user hasn't been told yet.
+    Ended,
+    /// One unsequenced DISCONNECT is still to go.
+    Parting,
+}
+
+/// What a host allows a peer.
+#[derive(Clone, Copy, Debug, PartialEq, Eq)]
+pub struct Limits {
+    /// The greatest packet that is taken in or submitted, in bytes: 1 to 33,554,432.
+    pub max_packet: u32,
+    /// Bytes of packets, held or not yet taken by the user, at which no further packet begins: 1 to 33,554,432.
+    pub max_waiting: u32,
+    /// Bytes per second that the host can take in; 0 says that no limit is known.
+    pub incoming: u32,
+    /// Bytes per second that the host can send; 0 says that no limit is known.
+    pub outgoing: u32,
+}
+
+/// What a peer tells its user.
+#[derive(Debug, Drop)]
+pub enum PeerEvent {
+    /// The connection stands. `info` is the word that the connecting end gave, at that end itself 0.
+    Connect { info: u32 },
+    /// A packet came.
+    Receive { packet: Packet },
+    /// The connection has ended. `info` is the word of the other end's DISCONNECT where that ended it, else 0.
+    Disconnect { info: u32 },
+}

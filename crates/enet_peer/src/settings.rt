@@ -1,0 +1,75 @@
+//! What the user sets.
+
+ghost use Rattle.std.specs.Prelude.{◌≡◌, ◌≤◌, IsTrue, OnOk, OnErr, IfErr};
+ghost use Rattle.enet_peer.specs.Calls.{is_connected, with_bandwidth, with_throttle, with_throttle_limit, with_ping_interval, with_timeout};
+
+use crate::Peer;
+use enet_codec::Refusal;
+use enet_control::Control;
+use enet_rtt::Patience;
+
+impl Peer {
+    /// Makes room for one command more of channel 0xFF. E1 where memory is refused, with nothing changed.
+    pub fn reserve(&mut self) -> Result<(), Refusal>
+        ensures peer { self.new.peer ≡ self.old.peer }
+        ensures room { OnOk result (1 ≤ self.new.room) }
+        ensures refused { OnErr result (self.new ≡ self.old) }
+        ensures memory { IfErr result (λ why. why ≡ Refusal.Memory) }
+    {
+        self.outbox.reserve_control()
+    }
+
+    /// Sets the host's bandwidths, in bytes per second, where 0 says that no limit is known. A connected peer is told, for
+    /// which there must be room.
+    pub fn bandwidth(&mut self, incoming: u32, outgoing: u32)
+        requires { IsTrue (is_connected self.old.peer.state) → 1 ≤ self.old.room }
+        ensures { self.new.peer ≡ with_bandwidth self.old.peer incoming outgoing }
+    {
+        if self.is_connected() {
+            self.outbox
+                .queue_control(Control::BandwidthLimit { incoming, outgoing });
+        }
+        self.limits.incoming = incoming;
+        self.limits.outgoing = outgoing;
+    }
+
+    /// Sets the throttle's interval in milliseconds, its acceleration and its deceleration, of which the other end is told:
+    /// the peer must be connected, and there must be room for the command.
+    pub fn throttle_configure(&mut self, interval: u32, acceleration: u32, deceleration: u32)
+        requires room { 1 ≤ self.old.room }
+        requires connected { IsTrue (is_connected self.old.peer.state) }
+        ensures { self.new.peer ≡ with_throttle self.old.peer interval acceleration deceleration }
+    {
+        self.outbox
+            .configure_throttle(interval, acceleration, deceleration);
+        self.outbox.queue_control(Control::ThrottleConfigure {
+            interval,
+            acceleration,
+            deceleration,
+        });
+    }
+
+    /// Sets the throttle's limit, where more than 32 counts as 32, and cuts the throttle to it.
+    pub fn throttle_limit(&mut self, limit: u32)
+        ensures peer { self.new.peer ≡ with_throttle_limit self.old.peer limit }
+        ensures room { self.new.room ≡ self.old.room }
+    {
+        self.outbox.limit_throttle(limit);
+    }
+
+    /// Sets after how many milliseconds a peer that was not heard is pinged; 0 stands for the default of 500.
+    pub fn ping_interval(&mut self, ms: u32)
+        ensures peer { self.new.peer ≡ with_ping_interval self.old.peer ms }
+        ensures room { self.new.room ≡ self.old.room }
+    {
+        self.ping_interval = if ms == 0 { 500 } else { ms };
+    }
+
+    /// Sets how long the other end may leave a command unacknowledged; a 0 stands for the standard number.
+    pub fn timeout(&mut self, limit: u32, minimum: u32, maximum: u32)
+        ensures peer { self.new.peer ≡ with_timeout self.old.peer limit minimum maximum }
+        ensures room { self.new.room ≡ self.old.room }
+    {
+        self.patience = Patience::with_defaults(limit, minimum, maximum);
+    }
+}

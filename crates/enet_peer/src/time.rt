@@ -1,0 +1,60 @@
+//! What a moment brings.
+
+ghost use Rattle.std.specs.Prelude.{◌≡◌, ◌≤◌, IsTrue};
+ghost use Rattle.enet_peer.specs.Endings.{cut_off};
+ghost use Rattle.enet_peer.specs.Calls.{after_timeouts, is_pinged, pinged, ticked};
+
+use crate::{Peer, PeerState};
+use enet_control::Control;
+use enet_rtt::{Expiry, elapsed};
+
+impl Peer {
+    /// Time has come to `now`, in milliseconds. Where a sent command has waited out its timeout it is due to go again, unless
+    /// the peer's patience is over: then the connection has ended, with the word 0, and a server that still waits for the
+    /// client is free at once. A connected peer that has no reliable command on the way and was not heard for the ping
+    /// interval is pinged (our profile).
+    pub fn tick(&mut self, now: u32)
+        ensures { self.new.peer ≡ ticked self.old.peer now }
+    {
+        self.time_out(now);
+        self.ping(now);
+    }
+
+    /// Marks what waited out its timeout, or ends a peer whose patience is over.
+    fn time_out(&mut self, now: u32)
+        ensures { self.new.peer ≡ after_timeouts self.old.peer now }
+    {
+        if self.outbox.late(now, &self.patience) == Expiry::End {
+            self.cut_off();
+        }
+    }
+
+    /// Ends a peer whose patience is over.
+    fn cut_off(&mut self)
+        ensures { self.new.peer ≡ cut_off self.old.peer }
+    {
+        match self.state {
+            PeerState::Answering => self.free(),
+            _ => self.end(0),
+        }
+    }
+
+    /// Queues a PING where one is wanted.
+    fn ping(&mut self, now: u32)
+        ensures { self.new.peer ≡ pinged self.old.peer now }
+    {
+        if self.is_pinged(now) {
+            self.outbox.queue_control(Control::Ping);
+        }
+    }
+
+    /// Whether a PING is wanted. Then there is room for it.
+    fn is_pinged(&self, now: u32) -> bool
+        ensures pinged { result ≡ is_pinged self.now.peer now }
+        ensures room { IsTrue result → 1 ≤ self.now.room }
+    {
+        self.is_connected()
+            && self.outbox.is_quiet()
+            && self.ping_interval <= elapsed(now, self.heard)
+    }
+}
