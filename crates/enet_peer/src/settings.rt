@@ -9,10 +9,13 @@ use enet_control::Control;
 use enet_rtt::Patience;
 
 impl Peer {
-    /// Makes room for one command more of channel 0xFF. E1 where memory is refused, with nothing changed.
+    /// Makes room for one command more of channel 0xFF; where there is some, it takes no memory. E1 where memory is refused,
+    /// with nothing changed.
     pub fn reserve(&mut self) -> Result<(), Refusal>
         ensures peer { self.new.peer ≡ self.old.peer }
         ensures room { OnOk result (1 ≤ self.new.room) }
+        ensures grows { self.old.room ≤ self.new.room }
+        ensures full { OnErr result (self.old.room ≡ 0) }
         ensures refused { OnErr result (self.new ≡ self.old) }
         ensures memory { IfErr result (λ why. why ≡ Refusal.Memory) }
     {
