@@ -1,7 +1,7 @@
 use crate::{Assembly, DataCommand, Gathering, Place, Put, piece, plan};
 use bytes::Bytes;
 use enet_codec::{Command, Fragment, Head};
-use std::test::Fail;
+use std::alloc::{AllocError, Global};
 
 const MTU: u32 = 1392;
 
@@ -16,33 +16,71 @@ fn fragment_counts(rt: HostRuntime) {
         (22_347_776, Some(16_384)),
         (22_347_777, None),
     ] {
-        assert_eq!(rt; plan(len, MTU), count, "at {len}");
+        assert!(rt; plan(len, MTU) == count, "at {len}");
+    }
+}
+
+// The helpers say nothing of what they do, which keeps the proofs of the tests short.
+
+/// So many bytes, each a 7.
+fn sevens(alloc: Global, len: usize) -> Result<Bytes, AllocError> {
+    Ok(Bytes::from_vec(vec![in alloc; 7; len]?)?)
+}
+
+fn assembly(alloc: Global, count: u32, total: u32) -> Option<Assembly> {
+    if count == 0 {
+        return None;
+    }
+    Assembly::new(alloc, count, total).ok()
+}
+
+/// Puts a piece of a packet of so many pieces and bytes, by its number and its place.
+fn put(packet: &mut Assembly, of: (u32, u32), number: u32, offset: u32, bytes: &[u8]) -> Put {
+    let (count, total) = of;
+    packet.put(number, count, total, offset, bytes)
+}
+
+/// The packet's bytes. None where it is not whole, or for want of memory.
+fn finish(packet: Assembly) -> Option<Bytes> {
+    if !packet.is_whole() {
+        return None;
+    }
+    packet.finish().ok()
+}
+
+fn finishes_as(packet: Assembly, body: &[u8]) -> bool {
+    match finish(packet) {
+        Some(bytes) => bytes.as_slice() == body,
+        None => false,
     }
 }
 
 #[test]
-fn pieces_of_a_body(rt: HostRuntime) -> Result<(), Fail> {
-    let body: Bytes = Bytes::from_vec(vec![in rt.alloc(); 7; 1_365]?)?;
+fn pieces_of_a_body(rt: HostRuntime) {
+    let body = sevens(rt.alloc(), 1_365).expect(&rt, "memory");
     for (i, span) in [
         (0, Some((0, 1_364))),
         (1, Some((1_364, 1))),
         (2, None),
         (u32::MAX, None),
     ] {
-        assert_eq!(rt; piece(&body, i, MTU), span, "at {i}");
+        assert!(rt; piece(&body, i, MTU) == span, "at {i}");
     }
     let empty: Bytes = Bytes::new();
-    assert_eq!(rt; piece(&empty, 0, MTU), Some((0, 0)));
-    Ok(())
+    assert!(rt; piece(&empty, 0, MTU) == Some((0, 0)));
 }
 
 #[test]
-fn assembly_by_hand(rt: HostRuntime) -> Result<(), Fail> {
-    let mut packet = Assembly::new(rt.alloc(), 2, 3)?;
-    assert_eq!(rt; packet.put(1, 2, 3, 2, b"c"), Put::New);
-    assert_eq!(rt; packet.put(1, 2, 3, 2, b"c"), Put::Again);
-    assert_eq!(rt; packet.put(0, 2, 4, 0, b"ab"), Put::Bad);
-    assert!(rt; !packet.is_whole());
+fn assembly_by_hand(rt: HostRuntime) {
+    let mut packet = assembly(rt.alloc(), 2, 3).expect(&rt, "memory");
+    for (number, total, offset, bytes, want) in [
+        (1u32, 3u32, 2u32, b"c".as_slice(), Put::New),
+        (1, 3, 2, b"c", Put::Again),
+        (0, 4, 0, b"ab", Put::Bad),
+    ] {
+        assert!(rt; put(&mut packet, (2, total), number, offset, bytes) == want);
+        assert!(rt; !packet.is_whole());
+    }
     let place = Place {
         number: 0,
         count: 2,
@@ -51,31 +89,29 @@ fn assembly_by_hand(rt: HostRuntime) -> Result<(), Fail> {
         len: 2,
     };
     assert!(rt; place.is_sound());
-    assert_eq!(rt; packet.foresee(place), Put::Whole);
-    assert_eq!(rt; packet.put(0, 2, 3, 0, b"ab"), Put::Whole);
-    assert!(rt; packet.is_whole());
-    let body = packet.finish().map_err(|_| "memory")?;
-    assert_eq!(rt; body.as_slice(), b"abc".as_slice());
-    Ok(())
+    assert!(rt; packet.foresee(place) == Put::Whole);
+    assert!(rt; put(&mut packet, (2, 3), 0, 0, b"ab") == Put::Whole);
+    assert!(rt; finishes_as(packet, b"abc"));
 }
 
 #[test]
-fn a_piece_taken_back(rt: HostRuntime) -> Result<(), Fail> {
-    let mut packet = Assembly::new(rt.alloc(), 3, 5)?;
-    assert_eq!(rt; packet.put(0, 3, 5, 0, b"ab"), Put::New);
+fn a_piece_taken_back(rt: HostRuntime) {
+    let mut packet = assembly(rt.alloc(), 3, 5).expect(&rt, "memory");
+    assert!(rt; put(&mut packet, (3, 5), 0, 0, b"ab") == Put::New);
     packet.unmark(0);
-    assert_eq!(rt; packet.put(1, 3, 5, 1, b"x"), Put::Bad);
-    assert_eq!(rt; packet.put(2, 3, 5, 4, b"e"), Put::New);
-    assert_eq!(rt; packet.put(1, 3, 5, 2, b"cd"), Put::New);
-    assert_eq!(rt; packet.put(0, 3, 5, 0, b"AB"), Put::Whole);
-    assert!(rt; packet.is_whole());
-    let body = packet.finish().map_err(|_| "memory")?;
-    assert_eq!(rt; body.as_slice(), b"ABcde".as_slice());
-    Ok(())
+    for (number, offset, bytes, want) in [
+        (1u32, 1u32, b"x".as_slice(), Put::Bad),
+        (2, 4, b"e", Put::New),
+        (1, 2, b"cd", Put::New),
+        (0, 0, b"AB", Put::Whole),
+    ] {
+        assert!(rt; put(&mut packet, (3, 5), number, offset, bytes) == want);
+    }
+    assert!(rt; finishes_as(packet, b"ABcde"));
 }
 
 #[test]
-fn pieces_that_do_not_fit(rt: HostRuntime) -> Result<(), Fail> {
+fn pieces_that_do_not_fit(rt: HostRuntime) {
     for (number, count, total, offset, len) in [
         (3, 3, 5, 4, 1),
         (2, 3, 5, 4, 2),
@@ -86,54 +122,68 @@ fn pieces_that_do_not_fit(rt: HostRuntime) -> Result<(), Fail> {
         (0, 3, 5, 0, 3),
         (u32::MAX, u32::MAX, u32::MAX, u32::MAX, 5),
     ] {
-        let mut packet = Assembly::new(rt.alloc(), 3, 5)?;
-        let bytes = vec![in rt.alloc(); 7; len]?;
-        assert_eq!(rt;
-            packet.put(number, count, total, offset, &bytes),
-            Put::Bad,
-            "at {number} {offset} {len}"
+        let mut packet = assembly(rt.alloc(), 3, 5).expect(&rt, "memory");
+        let bytes = sevens(rt.alloc(), len).expect(&rt, "memory");
+        let put = put(
+            &mut packet,
+            (count, total),
+            number,
+            offset,
+            bytes.as_slice(),
         );
+        assert!(rt; put == Put::Bad, "at {number} {offset} {len}");
     }
-    Ok(())
 }
 
-#[test]
-fn an_assembly_of_each_count(rt: HostRuntime) -> Result<(), Fail> {
-    for count in 1..101u32 {
-        let total = 3 * count - 2;
-        let mut packet = Assembly::new(rt.alloc(), count, total)?;
-        let first = packet.put(count - 1, count, total, total - 1, b"z");
-        assert_eq!(rt; first == Put::Whole, count == 1);
-        for i in (0..count - 1).rev() {
-            assert!(rt; !packet.is_whole());
-            let put = packet.put(i, count, total, 3 * i, b"abc");
-            assert_eq!(rt; put == Put::Whole, i == 0);
+/// A packet of so many pieces, `abc` each and the last `z`, which come from the last to the first. None where it is whole before
+/// the first one, or not with it.
+fn from_the_back(alloc: Global, count: u32) -> Option<Assembly> {
+    let total = count.wrapping_mul(3).wrapping_sub(2);
+    let mut packet = assembly(alloc, count, total)?;
+    for i in (0..count).rev() {
+        let is_last = i.wrapping_add(1) == count;
+        let bytes = if is_last { b"z".as_slice() } else { b"abc" };
+        let put = put(&mut packet, (count, total), i, i.wrapping_mul(3), bytes);
+        let is_whole = i == 0;
+        if (put == Put::Whole) != is_whole || packet.is_whole() != is_whole {
+            return None;
         }
-        assert!(rt; packet.is_whole());
-        let body = packet.finish().map_err(|_| "memory")?;
-        assert_eq!(rt; body.len(), total as usize);
-        assert_eq!(rt; body.as_slice().last().copied(), Some(b'z'));
-        assert!(rt;
-            body.as_slice()
-                .iter()
-                .take(3 * count as usize - 3)
-                .enumerate()
-                .all(|(at, byte)| *byte == b"abc"[at % 3])
-        );
     }
-    Ok(())
+    Some(packet)
+}
+
+/// Whether the bytes are `abc` again and again, and a `z` behind them.
+fn counts_abc(body: &[u8]) -> bool {
+    match body.split_last() {
+        None => false,
+        Some((last, rest)) => {
+            *last == b'z'
+                && rest
+                    .iter()
+                    .enumerate()
+                    .all(|(at, byte)| *byte == b"abc"[at % 3])
+        }
+    }
 }
 
 #[test]
-fn a_packet_of_one_piece(rt: HostRuntime) -> Result<(), Fail> {
-    let mut packet = Assembly::new(rt.alloc(), 1, 2)?;
-    assert_eq!(rt; packet.put(0, 1, 2, 0, b"a"), Put::Bad);
-    assert_eq!(rt; packet.put(0, 1, 2, 0, b"ab"), Put::Whole);
-    let body = packet.finish().map_err(|_| "memory")?;
-    assert_eq!(rt; body.as_slice(), b"ab".as_slice());
-    let empty = Assembly::new(rt.alloc(), 1, 0)?;
+fn an_assembly_of_each_count(rt: HostRuntime) {
+    for count in 1..101u32 {
+        let packet = from_the_back(rt.alloc(), count).expect(&rt, "whole with its first piece");
+        let body = finish(packet).expect(&rt, "memory");
+        assert!(rt; body.len() == count as usize * 3 - 2, "at {count}");
+        assert!(rt; counts_abc(body.as_slice()), "at {count}");
+    }
+}
+
+#[test]
+fn a_packet_of_one_piece(rt: HostRuntime) {
+    let mut packet = assembly(rt.alloc(), 1, 2).expect(&rt, "memory");
+    assert!(rt; put(&mut packet, (1, 2), 0, 0, b"a") == Put::Bad);
+    assert!(rt; put(&mut packet, (1, 2), 0, 0, b"ab") == Put::Whole);
+    assert!(rt; finishes_as(packet, b"ab"));
+    let empty = assembly(rt.alloc(), 1, 0).expect(&rt, "memory");
     assert!(rt; !empty.is_whole());
-    Ok(())
 }
 
 #[test]
@@ -146,12 +196,42 @@ fn most_pieces(rt: HostRuntime) {
             offset: 0,
             len: 1,
         };
-        assert_eq!(rt; place.is_sound(), sound, "at {count}");
+        assert!(rt; place.is_sound() == sound, "at {count}");
     }
 }
 
+/// A packet of which one piece came.
+fn first(alloc: Global, place: Place, bytes: &[u8]) -> Option<Gathering> {
+    if !place.is_sound() || place.len != bytes.len() {
+        return None;
+    }
+    Gathering::first(alloc, place, bytes).ok()
+}
+
+/// Adds a piece that belongs to the packet and has not come.
+fn add(packet: &mut Gathering, place: Place, bytes: &[u8]) -> bool {
+    if place.len != bytes.len() || !packet.belongs(place) || packet.has(place.number) {
+        return false;
+    }
+    packet.add(place, bytes).is_ok()
+}
+
+/// Which of the pieces 0, 1 and 2 came.
+fn came(packet: &Gathering) -> (bool, bool, bool) {
+    (packet.has(0), packet.has(1), packet.has(2))
+}
+
+fn foresee(packet: &Gathering, place: Place) -> Put {
+    packet.foresee(place)
+}
+
+/// Whether the packet is whole and has these bytes.
+fn has_body(packet: Gathering, body: &[u8]) -> bool {
+    packet.is_whole() && packet.into_body().as_slice() == body
+}
+
 #[test]
-fn a_gathering_of_two(rt: HostRuntime) -> Result<(), Fail> {
+fn a_gathering_of_two(rt: HostRuntime) {
     let last = Place {
         number: 1,
         count: 2,
@@ -165,27 +245,31 @@ fn a_gathering_of_two(rt: HostRuntime) -> Result<(), Fail> {
         len: 2,
         ..last
     };
-    assert!(rt; last.is_sound());
-    let mut packet = Gathering::first(rt.alloc(), last, b"c").map_err(|_| "memory")?;
-    assert_eq!(rt; packet.count(), 2);
-    assert_eq!(rt; packet.total(), 3);
-    assert!(rt; packet.has(1) && !packet.has(0) && !packet.has(2));
-    assert_eq!(rt; packet.foresee(last), Put::Again);
+    let mut packet = first(rt.alloc(), last, b"c").expect(&rt, "memory");
+    assert!(rt; (packet.count(), packet.total()) == (2, 3));
+    assert!(rt; came(&packet) == (false, true, false));
+    assert!(rt; foresee(&packet, last) == Put::Again);
     assert!(rt; !packet.belongs(Place { total: 4, ..front }));
-    assert_eq!(rt; packet.foresee(front), Put::Whole);
+    assert!(rt; foresee(&packet, front) == Put::Whole);
     assert!(rt; !packet.is_whole());
-    assert!(rt; packet.belongs(front) && !packet.has(front.number));
-    packet.add(front, b"ab").map_err(|_| "memory")?;
-    assert!(rt; packet.has(0) && packet.has(1) && !packet.has(2));
-    assert_eq!(rt; packet.foresee(front), Put::Again);
-    assert_eq!(rt; packet.foresee(Place { offset: 1, ..front }), Put::Bad);
-    assert!(rt; packet.is_whole());
-    assert_eq!(rt; packet.into_body().as_slice(), b"abc".as_slice());
-    Ok(())
+    assert!(rt; add(&mut packet, front, b"ab"));
+    assert!(rt; came(&packet) == (true, true, false));
+    assert!(rt; foresee(&packet, front) == Put::Again);
+    assert!(rt; foresee(&packet, Place { offset: 1, ..front }) == Put::Bad);
+    assert!(rt; has_body(packet, b"abc"));
+}
+
+/// A packet of one piece, of so many sevens.
+fn single(alloc: Global, len: usize) -> Option<Gathering> {
+    let body = sevens(alloc, len).ok()?;
+    if body.len() > 9 {
+        return None;
+    }
+    Some(Gathering::single(body))
 }
 
 #[test]
-fn a_gathering_of_one(rt: HostRuntime) -> Result<(), Fail> {
+fn a_gathering_of_one(rt: HostRuntime) {
     let place = Place {
         number: 0,
         count: 1,
@@ -193,24 +277,21 @@ fn a_gathering_of_one(rt: HostRuntime) -> Result<(), Fail> {
         offset: 0,
         len: 2,
     };
-    assert!(rt; place.is_sound());
-    let piece = Gathering::first(rt.alloc(), place, b"ab").map_err(|_| "memory")?;
-    let whole = Gathering::single(Bytes::from_vec(vec![in rt.alloc(); 7; 2]?)?);
+    let piece = first(rt.alloc(), place, b"ab").expect(&rt, "memory");
+    let whole = single(rt.alloc(), 2).expect(&rt, "memory");
     for packet in [&piece, &whole] {
         assert!(rt; packet.is_whole());
-        assert_eq!(rt; (packet.count(), packet.total()), (1, 2));
-        assert_eq!(rt; packet.foresee(place), Put::Again);
+        assert!(rt; (packet.count(), packet.total()) == (1, 2));
+        assert!(rt; foresee(packet, place) == Put::Again);
         assert!(rt; packet.has(0) && !packet.has(1));
         assert!(rt; !packet.belongs(Place { count: 2, ..place }));
     }
-    assert!(rt; piece.is_whole() && whole.is_whole());
-    assert_eq!(rt; piece.into_body().as_slice(), b"ab".as_slice());
-    assert_eq!(rt; whole.into_body().as_slice(), [7, 7].as_slice());
-    Ok(())
+    assert!(rt; has_body(piece, b"ab"));
+    assert!(rt; has_body(whole, b"\x07\x07"));
 }
 
 #[test]
-fn data_commands(rt: HostRuntime) -> Result<(), Fail> {
+fn data_commands(rt: HostRuntime) {
     let fragment = Fragment {
         start: 9,
         count: 2,
@@ -267,9 +348,8 @@ fn data_commands(rt: HostRuntime) -> Result<(), Fail> {
             number: 10,
             count: if reliable { 0 } else { 9 },
             fragment,
-            body: Bytes::from_vec(vec![in rt.alloc(); 7; 2]?)?,
+            body: sevens(rt.alloc(), 2).expect(&rt, "memory"),
         };
-        assert_eq!(rt; command.command(3), expected);
+        assert!(rt; command.command(3) == expected);
     }
-    Ok(())
 }

@@ -3,7 +3,8 @@ use bytes::Bytes;
 use enet_fragment::{Gathering, Place};
 use std::alloc::Global;
 use std::collections::VecDeque;
-use std::test::Fail;
+
+// The helpers say nothing of what they do, which keeps the proofs of the tests short.
 
 /// A piece of the packet `xyz` in two pieces, of which the first has two bytes.
 fn piece(number: u32) -> (Place, &'static [u8]) {
@@ -18,70 +19,36 @@ fn piece(number: u32) -> (Place, &'static [u8]) {
     (place, bytes)
 }
 
-/// A packet of one piece.
-fn whole(alloc: Global, flags: u8, body: &[u8]) -> Result<Coming, &'static str> {
-    let Ok(body) = Bytes::copy_from_slice(alloc, body) else {
-        return Err("memory");
-    };
+/// A packet of one piece, of at most 9 bytes. None for want of memory.
+fn whole(alloc: Global, flags: u8, body: &[u8]) -> Option<Coming> {
+    let body = Bytes::copy_from_slice(alloc, body).ok()?;
     if body.len() > 9 {
-        return Err("a long body");
+        return None;
     }
-    Ok(Coming {
+    Some(Coming {
         flags,
         making: Gathering::single(body),
     })
 }
 
-/// The packet `xyz`, of which this piece came.
-fn begun(alloc: Global, flags: u8, number: u32) -> Result<Coming, &'static str> {
+/// The packet `xyz`, of which this piece came. None for want of memory.
+fn begun(alloc: Global, flags: u8, number: u32) -> Option<Coming> {
     let (place, bytes) = piece(number);
     if !place.is_sound() || place.len != bytes.len() {
-        return Err("no piece");
+        return None;
     }
     match Gathering::first(alloc, place, bytes) {
-        Ok(making) => Ok(Coming { flags, making }),
-        Err(_) => Err("memory"),
+        Ok(making) => Some(Coming { flags, making }),
+        Err(_) => None,
     }
 }
 
-fn put(packets: &mut Packets, number: u16, coming: Coming) -> Result<(), &'static str> {
-    if packets.get(number).is_some() {
-        return Err("taken");
+/// Whether a packet is whole. None where it is not there.
+fn is_whole(coming: Option<&Coming>) -> Option<bool> {
+    match coming {
+        Some(coming) => Some(coming.making.is_whole()),
+        None => None,
     }
-    match packets.insert(number, coming) {
-        Ok(()) => Ok(()),
-        Err(_) => Err("memory"),
-    }
-}
-
-/// Adds a piece of `xyz`.
-fn add(packets: &mut Packets, number: u16, at: u32) -> Result<(), &'static str> {
-    let (place, bytes) = piece(at);
-    let Some(coming) = packets.get(number) else {
-        return Err("no packet");
-    };
-    if place.len != bytes.len()
-        || !coming.making.belongs(place)
-        || coming.making.has(place.number)
-    {
-        return Err("no piece");
-    }
-    match packets.add(number, place, bytes) {
-        Ok(()) => Ok(()),
-        Err(_) => Err("memory"),
-    }
-}
-
-fn dispatch(
-    packets: &mut Packets,
-    last: &mut u16,
-    dispatched: &mut VecDeque<Dispatched>,
-) -> Result<(), &'static str> {
-    if dispatched.reserve(packets.len()).is_err() {
-        return Err("memory");
-    }
-    packets.dispatch(last, dispatched);
-    Ok(())
 }
 
 /// Whether a packet was handed out with these flags and bytes.
@@ -92,181 +59,231 @@ fn is_packet(dispatched: Option<Dispatched>, flags: u8, body: &[u8]) -> bool {
     }
 }
 
-#[test]
-fn packets_come_and_go(rt: HostRuntime) -> Result<(), Fail> {
-    let mut packets = Packets::new(rt.alloc());
-    put(&mut packets, 7, whole(rt.alloc(), 1, b"ab")?)?;
-    put(&mut packets, 2, begun(rt.alloc(), 1, 1)?)?;
-    assert_eq!(rt; (packets.len(), packets.bytes()), (2, 5));
-    assert_eq!(rt;
-        packets.get(7).map(|coming| coming.making.is_whole()),
-        Some(true)
-    );
-    assert_eq!(rt;
-        packets.get(2).map(|coming| coming.making.is_whole()),
-        Some(false)
-    );
-    assert!(rt; packets.get(3).is_none());
-    add(&mut packets, 2, 0)?;
-    assert_eq!(rt;
-        packets.get(2).map(|coming| coming.making.is_whole()),
-        Some(true)
-    );
-    assert_eq!(rt; (packets.len(), packets.bytes()), (2, 5));
-    Ok(())
-}
-
-#[test]
-fn packets_taken_out(rt: HostRuntime) -> Result<(), Fail> {
-    let mut packets = Packets::new(rt.alloc());
-    put(&mut packets, 7, whole(rt.alloc(), 1, b"ab")?)?;
-    put(&mut packets, 2, begun(rt.alloc(), 1, 1)?)?;
-    assert!(rt; packets.remove(3).is_none());
-    assert_eq!(rt; packets.remove(2).map(|coming| coming.flags), Some(1));
-    assert_eq!(rt; (packets.len(), packets.bytes()), (1, 2));
-    assert!(rt; packets.get(2).is_none());
-    packets.clear();
-    assert_eq!(rt; (packets.len(), packets.bytes()), (0, 0));
-    assert!(rt; packets.get(7).is_none());
-    Ok(())
-}
-
-// The packet in the middle has a piece missing: it falls behind, and the third is handed out.
-#[test]
-fn incomplete_packet_falls_behind(rt: HostRuntime) -> Result<(), Fail> {
-    let mut packets = Packets::new(rt.alloc());
-    let mut dispatched = VecDeque::new(rt.alloc());
-    let mut last = 4;
-    put(&mut packets, 9, whole(rt.alloc(), 0, b"cde")?)?;
-    put(&mut packets, 5, whole(rt.alloc(), 0, b"a")?)?;
-    put(&mut packets, 7, begun(rt.alloc(), 8, 0)?)?;
-    assert_eq!(rt; (packets.last_fresh(4), packets.fresh_count(4)), (9, 2));
-    dispatch(&mut packets, &mut last, &mut dispatched)?;
-    assert_eq!(rt; (last, packets.len(), packets.bytes()), (9, 0, 0));
-    assert!(rt; is_packet(dispatched.pop_front(), 0, b"a"));
-    assert!(rt; is_packet(dispatched.pop_front(), 0, b"cde"));
-    assert!(rt; dispatched.pop_front().is_none());
-    Ok(())
-}
-
-// What is at or below the last goes only where a packet above it is handed out; what is above the new last stays.
-#[test]
-fn packets_at_the_last(rt: HostRuntime) -> Result<(), Fail> {
-    let mut packets = Packets::new(rt.alloc());
-    let mut dispatched = VecDeque::new(rt.alloc());
-    let mut last = 5;
-    put(&mut packets, 5, whole(rt.alloc(), 0, b"a")?)?;
-    put(&mut packets, 6, whole(rt.alloc(), 0, b"bb")?)?;
-    put(&mut packets, 8, begun(rt.alloc(), 8, 0)?)?;
-    assert_eq!(rt; (packets.last_fresh(6), packets.fresh_count(6)), (6, 0));
-    dispatch(&mut packets, &mut last, &mut dispatched)?;
-    assert_eq!(rt; (last, packets.len(), packets.bytes()), (6, 1, 3));
-    assert!(rt; is_packet(dispatched.pop_front(), 0, b"bb"));
-    add(&mut packets, 8, 1)?;
-    dispatch(&mut packets, &mut last, &mut dispatched)?;
-    assert_eq!(rt; (last, packets.len(), packets.bytes()), (8, 0, 0));
-    assert!(rt; is_packet(dispatched.pop_front(), 8, b"xyz"));
-    Ok(())
-}
-
-fn wait(
-    waiting: &mut Waiting,
-    number: u16,
-    count: u16,
-    coming: Coming,
-) -> Result<(), &'static str> {
-    if waiting.get(number, count).is_some() {
-        return Err("taken");
-    }
-    match waiting.insert(number, count, coming) {
-        Ok(()) => Ok(()),
-        Err(_) => Err("memory"),
+fn put(packets: &mut Packets, number: u16, coming: Option<Coming>) -> bool {
+    match coming {
+        Some(coming) => packets.get(number).is_none() && packets.insert(number, coming).is_ok(),
+        None => false,
     }
 }
 
 /// Adds a piece of `xyz`.
-fn add_waiting(
-    waiting: &mut Waiting,
-    number: u16,
-    count: u16,
-    at: u32,
-) -> Result<(), &'static str> {
+fn add(packets: &mut Packets, number: u16, at: u32) -> bool {
     let (place, bytes) = piece(at);
-    let Some(coming) = waiting.get(number, count) else {
-        return Err("no packet");
+    let Some(coming) = packets.get(number) else {
+        return false;
     };
     if place.len != bytes.len()
         || !coming.making.belongs(place)
         || coming.making.has(place.number)
     {
-        return Err("no piece");
+        return false;
     }
-    match waiting.add(number, count, place, bytes) {
-        Ok(()) => Ok(()),
-        Err(_) => Err("memory"),
-    }
+    packets.add(number, place, bytes).is_ok()
 }
 
-fn flush(
-    waiting: &mut Waiting,
-    number: u16,
-    last: &mut u16,
-    dispatched: &mut VecDeque<Dispatched>,
-) -> Result<(), &'static str> {
-    if dispatched.reserve(waiting.packets()).is_err() {
-        return Err("memory");
-    }
-    waiting.flush(number, last, dispatched);
-    Ok(())
+/// How many packets there are, and their bytes.
+fn size(packets: &Packets) -> (usize, u64) {
+    (packets.len(), packets.bytes())
 }
 
 #[test]
-fn lines_come_and_go(rt: HostRuntime) -> Result<(), Fail> {
-    let mut waiting = Waiting::new(rt.alloc());
-    wait(&mut waiting, 3, 1, whole(rt.alloc(), 0, b"a")?)?;
-    wait(&mut waiting, 3, 2, begun(rt.alloc(), 8, 0)?)?;
-    wait(&mut waiting, 4, 1, whole(rt.alloc(), 0, b"bb")?)?;
-    assert_eq!(rt; (waiting.packets(), waiting.bytes()), (3, 6));
-    assert!(rt;
-        waiting.get(3, 1).is_some() && waiting.get(4, 2).is_none() && waiting.get(5, 1).is_none()
-    );
-    waiting.forget(3);
-    assert_eq!(rt; (waiting.packets(), waiting.bytes()), (1, 2));
-    assert!(rt; waiting.get(3, 1).is_none() && waiting.get(4, 1).is_some());
-    waiting.forget(3);
-    assert_eq!(rt; (waiting.packets(), waiting.bytes()), (1, 2));
-    waiting.clear();
-    assert_eq!(rt; (waiting.packets(), waiting.bytes()), (0, 0));
-    assert!(rt; waiting.get(4, 1).is_none());
-    Ok(())
+fn packets_come_and_go(rt: HostRuntime) {
+    let mut packets = Packets::new(rt.alloc());
+    assert!(rt; put(&mut packets, 7, whole(rt.alloc(), 1, b"ab")));
+    assert!(rt; put(&mut packets, 2, begun(rt.alloc(), 1, 1)));
+    assert!(rt; size(&packets) == (2, 5));
+    for (number, want) in [(7u16, Some(true)), (2, Some(false)), (3, None)] {
+        assert!(rt; is_whole(packets.get(number)) == want, "{number}");
+    }
+    assert!(rt; add(&mut packets, 2, 0));
+    assert!(rt; is_whole(packets.get(2)) == Some(true));
+    assert!(rt; size(&packets) == (2, 5));
 }
 
 #[test]
-fn line_is_flushed(rt: HostRuntime) -> Result<(), Fail> {
-    let mut waiting = Waiting::new(rt.alloc());
-    let mut dispatched = VecDeque::new(rt.alloc());
-    let mut last = 0;
-    wait(&mut waiting, 3, 1, begun(rt.alloc(), 8, 1)?)?;
-    wait(&mut waiting, 3, 2, whole(rt.alloc(), 0, b"a")?)?;
-    wait(&mut waiting, 3, 5, begun(rt.alloc(), 8, 1)?)?;
-    wait(&mut waiting, 4, 1, whole(rt.alloc(), 0, b"bb")?)?;
-    assert_eq!(rt;
+fn packets_taken_out(rt: HostRuntime) {
+    let mut packets = Packets::new(rt.alloc());
+    assert!(rt; put(&mut packets, 7, whole(rt.alloc(), 1, b"ab")));
+    assert!(rt; put(&mut packets, 2, begun(rt.alloc(), 1, 1)));
+    assert!(rt; packets.remove(3).is_none());
+    assert!(rt; packets.remove(2).is_some_and(|coming| coming.flags == 1));
+    assert!(rt; size(&packets) == (1, 2));
+    assert!(rt; packets.get(2).is_none());
+    packets.clear();
+    assert!(rt; size(&packets) == (0, 0));
+    assert!(rt; packets.get(7).is_none());
+}
+
+/// Packets, the number of the last one that was handed out, and what was handed out.
+#[derive(Drop)]
+struct Line {
+    packets: Packets,
+    last: u16,
+    dispatched: VecDeque<Dispatched>,
+}
+
+impl Line {
+    fn new(alloc: Global, last: u16) -> Line {
+        Line {
+            packets: Packets::new(alloc),
+            last,
+            dispatched: VecDeque::new(alloc),
+        }
+    }
+
+    fn put(&mut self, number: u16, coming: Option<Coming>) -> bool {
+        put(&mut self.packets, number, coming)
+    }
+
+    fn add(&mut self, number: u16, at: u32) -> bool {
+        add(&mut self.packets, number, at)
+    }
+
+    /// The last number, how many packets there are, and their bytes, after a dispatch. None for want of memory.
+    fn dispatch(&mut self) -> Option<(u16, usize, u64)> {
+        self.dispatched.reserve(self.packets.len()).ok()?;
+        self.packets.dispatch(&mut self.last, &mut self.dispatched);
+        Some((self.last, self.packets.len(), self.packets.bytes()))
+    }
+
+    /// The last fresh packet after `last`, and how many of them are whole.
+    fn fresh(&self, last: u16) -> (u16, u32) {
         (
-            waiting.fresh_count(3, 0),
-            waiting.fresh_count(3, 2),
-            waiting.fresh_count(5, 0)
-        ),
-        (1, 0, 0)
-    );
-    flush(&mut waiting, 3, &mut last, &mut dispatched)?;
-    assert_eq!(rt; (last, waiting.packets(), waiting.bytes()), (2, 2, 5));
-    assert!(rt; is_packet(dispatched.pop_front(), 0, b"a"));
-    add_waiting(&mut waiting, 3, 5, 0)?;
-    flush(&mut waiting, 3, &mut last, &mut dispatched)?;
-    assert_eq!(rt; (last, waiting.packets(), waiting.bytes()), (5, 1, 2));
-    assert!(rt; is_packet(dispatched.pop_front(), 8, b"xyz"));
-    flush(&mut waiting, 3, &mut last, &mut dispatched)?;
-    assert_eq!(rt; (last, waiting.packets(), waiting.bytes()), (5, 1, 2));
-    assert!(rt; dispatched.pop_front().is_none());
-    Ok(())
+            self.packets.last_fresh(last),
+            self.packets.fresh_count(last),
+        )
+    }
+
+    fn hands_out(&mut self, flags: u8, body: &[u8]) -> bool {
+        is_packet(self.dispatched.pop_front(), flags, body)
+    }
+}
+
+// The packet in the middle has a piece missing: it falls behind, and the third is handed out.
+#[test]
+fn incomplete_packet_falls_behind(rt: HostRuntime) {
+    let mut line = Line::new(rt.alloc(), 4);
+    assert!(rt; line.put(9, whole(rt.alloc(), 0, b"cde")));
+    assert!(rt; line.put(5, whole(rt.alloc(), 0, b"a")));
+    assert!(rt; line.put(7, begun(rt.alloc(), 8, 0)));
+    assert!(rt; line.fresh(4) == (9, 2));
+    assert!(rt; line.dispatch() == Some((9, 0, 0)));
+    assert!(rt; line.hands_out(0, b"a"));
+    assert!(rt; line.hands_out(0, b"cde"));
+    assert!(rt; line.dispatched.is_empty());
+}
+
+// What is at or below the last goes only where a packet above it is handed out; what is above the new last stays.
+#[test]
+fn packets_at_the_last(rt: HostRuntime) {
+    let mut line = Line::new(rt.alloc(), 5);
+    assert!(rt; line.put(5, whole(rt.alloc(), 0, b"a")));
+    assert!(rt; line.put(6, whole(rt.alloc(), 0, b"bb")));
+    assert!(rt; line.put(8, begun(rt.alloc(), 8, 0)));
+    assert!(rt; line.fresh(6) == (6, 0));
+    assert!(rt; line.dispatch() == Some((6, 1, 3)));
+    assert!(rt; line.hands_out(0, b"bb"));
+    assert!(rt; line.add(8, 1));
+    assert!(rt; line.dispatch() == Some((8, 0, 0)));
+    assert!(rt; line.hands_out(8, b"xyz"));
+}
+
+/// Adds a piece of `xyz`.
+fn add_waiting(waiting: &mut Waiting, number: u16, count: u16, at: u32) -> bool {
+    let (place, bytes) = piece(at);
+    let Some(coming) = waiting.get(number, count) else {
+        return false;
+    };
+    if place.len != bytes.len()
+        || !coming.making.belongs(place)
+        || coming.making.has(place.number)
+    {
+        return false;
+    }
+    waiting.add(number, count, place, bytes).is_ok()
+}
+
+/// Packets in lines, the unreliable number of the last one that was handed out, and what was handed out.
+#[derive(Drop)]
+struct Lines {
+    waiting: Waiting,
+    last: u16,
+    dispatched: VecDeque<Dispatched>,
+}
+
+impl Lines {
+    fn new(alloc: Global) -> Lines {
+        Lines {
+            waiting: Waiting::new(alloc),
+            last: 0,
+            dispatched: VecDeque::new(alloc),
+        }
+    }
+
+    fn has(&self, number: u16, count: u16) -> bool {
+        self.waiting.get(number, count).is_some()
+    }
+
+    fn put(&mut self, number: u16, count: u16, coming: Option<Coming>) -> bool {
+        let Some(coming) = coming else {
+            return false;
+        };
+        self.waiting.get(number, count).is_none()
+            && self.waiting.insert(number, count, coming).is_ok()
+    }
+
+    /// How many packets there are, and their bytes.
+    fn size(&self) -> (usize, u64) {
+        (self.waiting.packets(), self.waiting.bytes())
+    }
+
+    /// The last unreliable number, how many packets there are, and their bytes, after a line is flushed. None for want of
+    /// memory.
+    fn flush(&mut self, number: u16) -> Option<(u16, usize, u64)> {
+        self.dispatched.reserve(self.waiting.packets()).ok()?;
+        self.waiting
+            .flush(number, &mut self.last, &mut self.dispatched);
+        Some((self.last, self.waiting.packets(), self.waiting.bytes()))
+    }
+
+    fn hands_out(&mut self, flags: u8, body: &[u8]) -> bool {
+        is_packet(self.dispatched.pop_front(), flags, body)
+    }
+}
+
+#[test]
+fn lines_come_and_go(rt: HostRuntime) {
+    let mut lines = Lines::new(rt.alloc());
+    assert!(rt; lines.put(3, 1, whole(rt.alloc(), 0, b"a")));
+    assert!(rt; lines.put(3, 2, begun(rt.alloc(), 8, 0)));
+    assert!(rt; lines.put(4, 1, whole(rt.alloc(), 0, b"bb")));
+    assert!(rt; lines.size() == (3, 6));
+    assert!(rt; lines.has(3, 1) && !lines.has(4, 2) && !lines.has(5, 1));
+    for _ in 0..2 {
+        lines.waiting.forget(3);
+        assert!(rt; lines.size() == (1, 2));
+        assert!(rt; !lines.has(3, 1) && lines.has(4, 1));
+    }
+    lines.waiting.clear();
+    assert!(rt; lines.size() == (0, 0));
+    assert!(rt; !lines.has(4, 1));
+}
+
+#[test]
+fn line_is_flushed(rt: HostRuntime) {
+    let mut lines = Lines::new(rt.alloc());
+    assert!(rt; lines.put(3, 1, begun(rt.alloc(), 8, 1)));
+    assert!(rt; lines.put(3, 2, whole(rt.alloc(), 0, b"a")));
+    assert!(rt; lines.put(3, 5, begun(rt.alloc(), 8, 1)));
+    assert!(rt; lines.put(4, 1, whole(rt.alloc(), 0, b"bb")));
+    for (number, last, count) in [(3u16, 0u16, 1u32), (3, 2, 0), (5, 0, 0)] {
+        assert!(rt; lines.waiting.fresh_count(number, last) == count);
+    }
+    assert!(rt; lines.flush(3) == Some((2, 2, 5)));
+    assert!(rt; lines.hands_out(0, b"a"));
+    assert!(rt; add_waiting(&mut lines.waiting, 3, 5, 0));
+    assert!(rt; lines.flush(3) == Some((5, 1, 2)));
+    assert!(rt; lines.hands_out(8, b"xyz"));
+    assert!(rt; lines.flush(3) == Some((5, 1, 2)));
+    assert!(rt; lines.dispatched.is_empty());
 }

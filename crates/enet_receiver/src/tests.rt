@@ -1,6 +1,6 @@
 use super::*;
 use enet_codec::{Command, Fragment, Head, Packet};
-use std::test::Fail;
+use std::alloc::Global;
 
 fn head(number: u16) -> Head {
     Head {
@@ -34,6 +34,25 @@ fn fragment(number: u16, fragment: Fragment, payload: &[u8]) -> Command<'_> {
     }
 }
 
+fn unreliable_fragment(number: u16, fragment: Fragment, payload: &[u8]) -> Command<'_> {
+    Command::SendUnreliableFragment {
+        head: head(number),
+        fragment,
+        payload,
+    }
+}
+
+/// One of two pieces of a packet of so many bytes, whose first command has the number 1.
+fn piece_of_two(number: u32, total: u32, offset: u32) -> Fragment {
+    Fragment {
+        start: 1,
+        count: 2,
+        number,
+        total,
+        offset,
+    }
+}
+
 fn is_packet(packet: Option<Packet>, flags: u8, body: &[u8]) -> bool {
     match packet {
         None => false,
@@ -43,242 +62,203 @@ fn is_packet(packet: Option<Packet>, flags: u8, body: &[u8]) -> bool {
     }
 }
 
+// The helpers say nothing of what they do, which keeps the proofs of the tests short.
+
+fn open(alloc: Global, max_packet: u32) -> Option<Incoming> {
+    Incoming::open(alloc, 0, max_packet).ok()
+}
+
+/// Takes a command in by the call of its kind; `full` where too many bytes wait.
+fn take(receiver: &mut Incoming, command: &Command<'_>, full: bool) -> Took {
+    match command {
+        Command::SendReliable { .. } => receiver.reliable(command, full),
+        Command::SendUnreliable { .. } => receiver.unreliable(command, full),
+        Command::SendFragment { .. } => receiver.fragment(command, full),
+        Command::SendUnreliableFragment { .. } => receiver.unreliable_fragment(command, full),
+        _ => Took::Bad,
+    }
+}
+
+/// Whether each of the commands in turn is taken in.
+fn holds(receiver: &mut Incoming, commands: &[Command<'_>]) -> bool {
+    for command in commands {
+        if take(receiver, command, false) != Took::Held {
+            return false;
+        }
+    }
+    true
+}
+
+/// Whether the packets that are dispatched next are these, each by its flags and bytes.
+fn pops(receiver: &mut Incoming, packets: &[(u8, &[u8])]) -> bool {
+    for (flags, body) in packets {
+        if !is_packet(receiver.pop(), *flags, body) {
+            return false;
+        }
+    }
+    true
+}
+
+fn pops_none(receiver: &mut Incoming) -> bool {
+    receiver.pop().is_none()
+}
+
+/// What a command would do.
+fn foresee(receiver: &Incoming, command: &Command<'_>, full: bool) -> Foresight {
+    receiver.foresee(command, full)
+}
+
+/// What is foreseen of a command that would not be taken in.
+fn refused(took: Took, acknowledged: bool) -> Foresight {
+    Foresight {
+        took,
+        acknowledged,
+        dispatches: 0,
+    }
+}
+
+/// Whether the reliable packets 1 to `last`, without bytes, are taken in and dispatched one after another.
+fn runs(receiver: &mut Incoming, last: u16) -> bool {
+    for number in 1..=last {
+        let took = receiver.reliable(&reliable(number, b""), false);
+        if took != Took::Held || receiver.pop().is_none() {
+            return false;
+        }
+    }
+    true
+}
+
 // The packets of two commands that come in the other order are dispatched in the order of submission, once.
 #[test]
-fn reliable_out_of_order(rt: HostRuntime) -> Result<(), Fail> {
-    let mut receiver = Incoming::open(rt.alloc(), 0, 1000).ok().ok_or("open")?;
+fn reliable_out_of_order(rt: HostRuntime) {
+    let mut receiver = open(rt.alloc(), 1000).expect(&rt, "open");
     let first = reliable(1, b"a");
-    assert_eq!(rt; receiver.reliable(&reliable(2, b"b"), false), Took::Held);
-    assert!(rt; receiver.pop().is_none());
-    assert_eq!(rt; receiver.reliable(&first, false), Took::Held);
-    assert!(rt; is_packet(receiver.pop(), 1, b"a"));
-    assert!(rt; is_packet(receiver.pop(), 1, b"b"));
-    let repeated = Foresight {
-        took: Took::Outside,
-        acknowledged: true,
-        dispatches: 0,
-    };
-    assert_eq!(rt; receiver.foresee(&first, false), repeated);
-    assert_eq!(rt; receiver.reliable(&first, false), Took::Outside);
-    assert!(rt; receiver.pop().is_none());
-    Ok(())
+    assert!(rt; holds(&mut receiver, &[reliable(2, b"b")]));
+    assert!(rt; pops_none(&mut receiver));
+    assert!(rt; take(&mut receiver, &first, false) == Took::Held);
+    assert!(rt; pops(&mut receiver, &[(1, b"a"), (1, b"b")]));
+    assert!(rt; foresee(&receiver, &first, false) == refused(Took::Outside, true));
+    assert!(rt; take(&mut receiver, &first, false) == Took::Outside);
+    assert!(rt; pops_none(&mut receiver));
 }
 
 // Of two unreliable packets that come in the other order the earlier one is dropped.
 #[test]
-fn unreliable_fallen_behind(rt: HostRuntime) -> Result<(), Fail> {
-    let mut receiver = Incoming::open(rt.alloc(), 0, 1000).ok().ok_or("open")?;
-    assert_eq!(rt;
-        receiver.unreliable(&unreliable(0, 2, b""), false),
-        Took::Held
-    );
-    assert_eq!(rt;
-        receiver.unreliable(&unreliable(0, 1, b"1"), false),
-        Took::Again
-    );
-    assert!(rt; is_packet(receiver.pop(), 0, b""));
-    assert!(rt; receiver.pop().is_none());
-    Ok(())
+fn unreliable_fallen_behind(rt: HostRuntime) {
+    let mut receiver = open(rt.alloc(), 1000).expect(&rt, "open");
+    for (command, took) in [
+        (unreliable(0, 2, b""), Took::Held),
+        (unreliable(0, 1, b"1"), Took::Again),
+    ] {
+        assert!(rt; take(&mut receiver, &command, false) == took);
+    }
+    assert!(rt; pops(&mut receiver, &[(0, b"")]));
+    assert!(rt; pops_none(&mut receiver));
 }
 
 // An unreliable packet that was sent after a reliable one waits for it.
 #[test]
-fn unreliable_waits_for_reliable(rt: HostRuntime) -> Result<(), Fail> {
-    let mut receiver = Incoming::open(rt.alloc(), 0, 1000).ok().ok_or("open")?;
-    assert_eq!(rt;
-        receiver.unreliable(&unreliable(1, 1, b"u"), false),
-        Took::Held
-    );
-    assert!(rt; receiver.pop().is_none());
-    assert_eq!(rt; receiver.reliable(&reliable(1, b"r"), false), Took::Held);
-    assert!(rt; is_packet(receiver.pop(), 1, b"r"));
-    assert!(rt; is_packet(receiver.pop(), 0, b"u"));
-    assert!(rt; receiver.pop().is_none());
-    Ok(())
+fn unreliable_waits_for_reliable(rt: HostRuntime) {
+    let mut receiver = open(rt.alloc(), 1000).expect(&rt, "open");
+    assert!(rt; holds(&mut receiver, &[unreliable(1, 1, b"u")]));
+    assert!(rt; pops_none(&mut receiver));
+    assert!(rt; holds(&mut receiver, &[reliable(1, b"r")]));
+    assert!(rt; pops(&mut receiver, &[(1, b"r"), (0, b"u")]));
+    assert!(rt; pops_none(&mut receiver));
 }
 
 // It keeps its place between two reliable ones that come together.
 #[test]
-fn unreliable_keeps_its_place_between(rt: HostRuntime) -> Result<(), Fail> {
-    let mut receiver = Incoming::open(rt.alloc(), 0, 1000).ok().ok_or("open")?;
-    assert_eq!(rt;
-        receiver.unreliable(&unreliable(1, 1, b"u"), false),
-        Took::Held
-    );
-    assert_eq!(rt; receiver.reliable(&reliable(2, b"s"), false), Took::Held);
-    assert_eq!(rt; receiver.reliable(&reliable(1, b"r"), false), Took::Held);
-    assert!(rt; is_packet(receiver.pop(), 1, b"r"));
-    assert!(rt; is_packet(receiver.pop(), 0, b"u"));
-    assert!(rt; is_packet(receiver.pop(), 1, b"s"));
-    assert!(rt; receiver.pop().is_none());
-    Ok(())
+fn unreliable_keeps_its_place_between(rt: HostRuntime) {
+    let mut receiver = open(rt.alloc(), 1000).expect(&rt, "open");
+    let commands = [unreliable(1, 1, b"u"), reliable(2, b"s"), reliable(1, b"r")];
+    assert!(rt; holds(&mut receiver, &commands));
+    assert!(rt; pops(&mut receiver, &[(1, b"r"), (0, b"u"), (1, b"s")]));
+    assert!(rt; pops_none(&mut receiver));
 }
 
 // Five commands in the other order: each packet has its place.
 #[test]
-fn unreliable_keep_their_places(rt: HostRuntime) -> Result<(), Fail> {
-    let mut receiver = Incoming::open(rt.alloc(), 0, 1000).ok().ok_or("open")?;
-    assert_eq!(rt;
-        receiver.unreliable(&unreliable(2, 1, b"w"), false),
-        Took::Held
-    );
-    assert_eq!(rt; receiver.reliable(&reliable(2, b"s"), false), Took::Held);
-    assert_eq!(rt;
-        receiver.unreliable(&unreliable(1, 2, b"v"), false),
-        Took::Held
-    );
-    assert_eq!(rt;
-        receiver.unreliable(&unreliable(1, 1, b"u"), false),
-        Took::Held
-    );
-    assert_eq!(rt; receiver.reliable(&reliable(1, b"r"), false), Took::Held);
-    assert!(rt; is_packet(receiver.pop(), 1, b"r"));
-    assert!(rt; is_packet(receiver.pop(), 0, b"u"));
-    assert!(rt; is_packet(receiver.pop(), 0, b"v"));
-    assert!(rt; is_packet(receiver.pop(), 1, b"s"));
-    assert!(rt; is_packet(receiver.pop(), 0, b"w"));
-    Ok(())
+fn unreliable_keep_their_places(rt: HostRuntime) {
+    let mut receiver = open(rt.alloc(), 1000).expect(&rt, "open");
+    let commands = [
+        unreliable(2, 1, b"w"),
+        reliable(2, b"s"),
+        unreliable(1, 2, b"v"),
+        unreliable(1, 1, b"u"),
+        reliable(1, b"r"),
+    ];
+    let packets: [(u8, &[u8]); 5] = [(1, b"r"), (0, b"u"), (0, b"v"), (1, b"s"), (0, b"w")];
+    assert!(rt; holds(&mut receiver, &commands));
+    assert!(rt; pops(&mut receiver, &packets));
 }
 
-// An unreliable packet of 1,365 bytes in two fragments; the last one is its byte 1,364.
-#[test]
-fn unreliable_fragments(rt: HostRuntime) -> Result<(), Fail> {
-    let mut receiver = Incoming::open(rt.alloc(), 0, 2000).ok().ok_or("open")?;
+/// The bytes 0 to 250 again and again.
+fn counting() -> [u8; 1365] {
     let mut body = [0u8; 1365];
     for i in 0..1365 {
         body[i] = (i % 251) as u8;
     }
-    let first = Fragment {
-        start: 1,
-        count: 2,
-        number: 0,
-        total: 1365,
-        offset: 0,
-    };
-    let second = Fragment {
-        number: 1,
-        offset: 1364,
-        ..first
-    };
-    let first = Command::SendUnreliableFragment {
-        head: head(0),
-        fragment: first,
-        payload: &body[..1364],
-    };
-    let second = Command::SendUnreliableFragment {
-        head: head(0),
-        fragment: second,
-        payload: &body[1364..],
-    };
-    assert_eq!(rt; receiver.unreliable_fragment(&first, false), Took::Held);
-    assert!(rt; receiver.pop().is_none());
-    assert_eq!(rt; receiver.held(), 1365);
-    assert_eq!(rt; receiver.foresee(&second, true).dispatches, 1);
-    assert_eq!(rt; receiver.unreliable_fragment(&second, true), Took::Held);
-    assert_eq!(rt; body[1364], 0x6d);
-    assert!(rt; is_packet(receiver.pop(), 8, &body));
-    assert_eq!(rt; receiver.unreliable_fragment(&first, false), Took::Again);
-    Ok(())
+    body
+}
+
+// An unreliable packet of 1,365 bytes in two fragments; the last one is its byte 1,364.
+#[test]
+fn unreliable_fragments(rt: HostRuntime) {
+    let mut receiver = open(rt.alloc(), 2000).expect(&rt, "open");
+    let body = counting();
+    let (front, back) = body.split_at(1364);
+    let first = unreliable_fragment(0, piece_of_two(0, 1365, 0), front);
+    let second = unreliable_fragment(0, piece_of_two(1, 1365, 1364), back);
+    assert!(rt; take(&mut receiver, &first, false) == Took::Held);
+    assert!(rt; pops_none(&mut receiver));
+    assert!(rt; receiver.held() == 1365);
+    assert!(rt; foresee(&receiver, &second, true).dispatches == 1);
+    assert!(rt; take(&mut receiver, &second, true) == Took::Held);
+    assert!(rt; back == b"\x6d".as_slice());
+    assert!(rt; pops(&mut receiver, &[(8, &body)]));
+    assert!(rt; take(&mut receiver, &first, false) == Took::Again);
 }
 
 // A reliable packet of two fragments, and the one behind it.
 #[test]
-fn reliable_fragments(rt: HostRuntime) -> Result<(), Fail> {
-    let mut receiver = Incoming::open(rt.alloc(), 0, 1000).ok().ok_or("open")?;
-    let first = Fragment {
-        start: 1,
-        count: 2,
-        number: 0,
-        total: 3,
-        offset: 0,
-    };
-    let second = Fragment {
-        number: 1,
-        offset: 2,
-        ..first
-    };
-    assert_eq!(rt; receiver.reliable(&reliable(3, b"d"), false), Took::Held);
-    assert_eq!(rt;
-        receiver.fragment(&fragment(2, second, b"c"), false),
-        Took::Held
-    );
-    assert_eq!(rt;
-        receiver.fragment(&fragment(2, second, b"c"), false),
-        Took::Again
-    );
-    assert_eq!(rt; receiver.held(), 4);
-    assert_eq!(rt;
-        receiver
-            .foresee(&fragment(1, first, b"ab"), false)
-            .dispatches,
-        2
-    );
-    assert_eq!(rt;
-        receiver.fragment(&fragment(1, first, b"ab"), false),
-        Took::Held
-    );
-    assert!(rt; is_packet(receiver.pop(), 1, b"abc"));
-    assert!(rt; is_packet(receiver.pop(), 1, b"d"));
-    assert_eq!(rt; receiver.held(), 0);
-    Ok(())
+fn reliable_fragments(rt: HostRuntime) {
+    let mut receiver = open(rt.alloc(), 1000).expect(&rt, "open");
+    let first = fragment(1, piece_of_two(0, 3, 0), b"ab");
+    let second = fragment(2, piece_of_two(1, 3, 2), b"c");
+    assert!(rt; holds(&mut receiver, &[reliable(3, b"d")]));
+    assert!(rt; take(&mut receiver, &second, false) == Took::Held);
+    assert!(rt; take(&mut receiver, &second, false) == Took::Again);
+    assert!(rt; receiver.held() == 4);
+    assert!(rt; foresee(&receiver, &first, false).dispatches == 2);
+    assert!(rt; take(&mut receiver, &first, false) == Took::Held);
+    assert!(rt; pops(&mut receiver, &[(1, b"abc"), (1, b"d")]));
+    assert!(rt; receiver.held() == 0);
 }
 
 // What waits for the first number of a packet of two is dropped with it.
 #[test]
-fn passed_line_is_dropped(rt: HostRuntime) -> Result<(), Fail> {
-    let mut receiver = Incoming::open(rt.alloc(), 0, 1000).ok().ok_or("open")?;
-    let first = Fragment {
-        start: 1,
-        count: 2,
-        number: 0,
-        total: 2,
-        offset: 0,
-    };
-    let second = Fragment {
-        number: 1,
-        offset: 1,
-        ..first
-    };
-    assert_eq!(rt;
-        receiver.unreliable(&unreliable(1, 1, b"u"), false),
-        Took::Held
-    );
-    assert_eq!(rt;
-        receiver.unreliable(&unreliable(2, 1, b"v"), false),
-        Took::Held
-    );
-    assert_eq!(rt;
-        receiver.fragment(&fragment(1, first, b"a"), false),
-        Took::Held
-    );
-    assert_eq!(rt;
-        receiver
-            .foresee(&fragment(2, second, b"b"), false)
-            .dispatches,
-        2
-    );
-    assert_eq!(rt;
-        receiver.fragment(&fragment(2, second, b"b"), false),
-        Took::Held
-    );
-    assert!(rt; is_packet(receiver.pop(), 1, b"ab"));
-    assert!(rt; is_packet(receiver.pop(), 0, b"v"));
-    assert!(rt; receiver.pop().is_none());
-    assert_eq!(rt; receiver.held(), 0);
-    Ok(())
+fn passed_line_is_dropped(rt: HostRuntime) {
+    let mut receiver = open(rt.alloc(), 1000).expect(&rt, "open");
+    let commands = [
+        unreliable(1, 1, b"u"),
+        unreliable(2, 1, b"v"),
+        fragment(1, piece_of_two(0, 2, 0), b"a"),
+    ];
+    let second = fragment(2, piece_of_two(1, 2, 1), b"b");
+    assert!(rt; holds(&mut receiver, &commands));
+    assert!(rt; foresee(&receiver, &second, false).dispatches == 2);
+    assert!(rt; take(&mut receiver, &second, false) == Took::Held);
+    assert!(rt; pops(&mut receiver, &[(1, b"ab"), (0, b"v")]));
+    assert!(rt; pops_none(&mut receiver));
+    assert!(rt; receiver.held() == 0);
 }
 
 // 28,636 ahead modulo 65536, the start of the packet is inside the window; the fragment's own number is not.
 #[test]
-fn own_number_outside(rt: HostRuntime) -> Result<(), Fail> {
-    let mut receiver = Incoming::open(rt.alloc(), 0, 10_000).ok().ok_or("open")?;
-    for number in 1..=40_960u16 {
-        assert_eq!(rt;
-            receiver.reliable(&reliable(number, b""), false),
-            Took::Held
-        );
-        assert!(rt; receiver.pop().is_some());
-    }
+fn own_number_outside(rt: HostRuntime) {
+    let mut receiver = open(rt.alloc(), 10_000).expect(&rt, "open");
+    assert!(rt; runs(&mut receiver, 40_960));
     let place = Fragment {
         start: 4060,
         count: 7000,
@@ -287,21 +267,15 @@ fn own_number_outside(rt: HostRuntime) -> Result<(), Fail> {
         offset: 6900,
     };
     let own_outside = fragment(10_960, place, b"x");
-    let answer = Foresight {
-        took: Took::Outside,
-        acknowledged: false,
-        dispatches: 0,
-    };
-    assert_eq!(rt; receiver.foresee(&own_outside, false), answer);
-    assert_eq!(rt; receiver.fragment(&own_outside, false), Took::Outside);
-    assert_eq!(rt; receiver.held(), 0);
-    Ok(())
+    assert!(rt; foresee(&receiver, &own_outside, false) == refused(Took::Outside, false));
+    assert!(rt; take(&mut receiver, &own_outside, false) == Took::Outside);
+    assert!(rt; receiver.held() == 0);
 }
 
 // A fragment of 16,385, one whose number is not that of its piece, a packet above the maximum, another command.
 #[test]
-fn pieces_that_are_bad(rt: HostRuntime) -> Result<(), Fail> {
-    let mut receiver = Incoming::open(rt.alloc(), 0, 20_000).ok().ok_or("open")?;
+fn pieces_that_are_bad(rt: HostRuntime) {
+    let mut receiver = open(rt.alloc(), 20_000).expect(&rt, "open");
     let long = Fragment {
         start: 1,
         count: 16_385,
@@ -309,156 +283,93 @@ fn pieces_that_are_bad(rt: HostRuntime) -> Result<(), Fail> {
         total: 16_385,
         offset: 0,
     };
-    let two = Fragment {
-        start: 1,
-        count: 2,
-        number: 1,
-        total: 2,
-        offset: 1,
-    };
     let above = Fragment {
         count: 1,
         total: 20_001,
-        offset: 0,
-        number: 0,
-        start: 1,
+        ..long
     };
+    let two = piece_of_two(1, 2, 1);
     let body = [0u8; 20_001];
-    assert_eq!(rt;
-        receiver.fragment(&fragment(1, long, b"x"), false),
-        Took::Bad
-    );
-    assert_eq!(rt;
-        receiver.fragment(&fragment(1, two, b"x"), false),
-        Took::Bad
-    );
-    assert_eq!(rt;
-        receiver.fragment(&fragment(1, above, &body), false),
-        Took::Bad
-    );
-    assert_eq!(rt; receiver.reliable(&reliable(1, &body), false), Took::Bad);
-    assert_eq!(rt;
-        receiver.reliable(&unreliable(0, 1, b"x"), false),
-        Took::Bad
-    );
-    assert_eq!(rt; receiver.unreliable(&reliable(1, b"x"), false), Took::Bad);
-    assert!(rt;
-        !receiver
-            .foresee(&fragment(1, long, b"x"), false)
-            .acknowledged
-    );
-    assert_eq!(rt;
-        receiver.fragment(&fragment(2, two, b"x"), false),
-        Took::Held
-    );
-    Ok(())
+    for (command, took) in [
+        (fragment(1, long, b"x"), Took::Bad),
+        (fragment(1, two, b"x"), Took::Bad),
+        (fragment(1, above, &body), Took::Bad),
+        (reliable(1, &body), Took::Bad),
+    ] {
+        assert!(rt; take(&mut receiver, &command, false) == took);
+    }
+    assert!(rt; !foresee(&receiver, &fragment(1, long, b"x"), false).acknowledged);
+    assert!(rt; receiver.reliable(&unreliable(0, 1, b"x"), false) == Took::Bad);
+    assert!(rt; receiver.unreliable(&reliable(1, b"x"), false) == Took::Bad);
+    assert!(rt; holds(&mut receiver, &[fragment(2, two, b"x")]));
 }
 
 // After 41,000 packets: one that is 32,768 late is left out and not acknowledged, one that is 40,960 late is read as new.
 #[test]
-fn late_and_too_late(rt: HostRuntime) -> Result<(), Fail> {
-    let mut receiver = Incoming::open(rt.alloc(), 0, 1000).ok().ok_or("open")?;
-    for number in 1..=41_000u16 {
-        assert_eq!(rt;
-            receiver.reliable(&reliable(number, b""), false),
-            Took::Held
-        );
-        assert!(rt; receiver.pop().is_some());
-    }
+fn late_and_too_late(rt: HostRuntime) {
+    let mut receiver = open(rt.alloc(), 1000).expect(&rt, "open");
+    assert!(rt; runs(&mut receiver, 41_000));
     let late = reliable(8232, b"x");
-    assert!(rt; !receiver.foresee(&late, false).acknowledged);
-    assert_eq!(rt; receiver.reliable(&late, false), Took::Outside);
-    assert!(rt;
-        receiver
-            .foresee(&reliable(40_999, b"x"), false)
-            .acknowledged
-    );
-    assert_eq!(rt; receiver.reliable(&reliable(40, b"x"), false), Took::Held);
-    assert!(rt; receiver.pop().is_none());
-    assert_eq!(rt; receiver.held(), 1);
-    Ok(())
+    assert!(rt; !foresee(&receiver, &late, false).acknowledged);
+    assert!(rt; take(&mut receiver, &late, false) == Took::Outside);
+    assert!(rt; foresee(&receiver, &reliable(40_999, b"x"), false).acknowledged);
+    assert!(rt; holds(&mut receiver, &[reliable(40, b"x")]));
+    assert!(rt; pops_none(&mut receiver));
+    assert!(rt; receiver.held() == 1);
 }
 
 // After number 65,535 comes 0.
 #[test]
-fn numbers_wrap_to_zero(rt: HostRuntime) -> Result<(), Fail> {
-    let mut receiver = Incoming::open(rt.alloc(), 0, 1000).ok().ok_or("open")?;
-    for number in 1..=65_535u16 {
-        assert_eq!(rt;
-            receiver.reliable(&reliable(number, b""), false),
-            Took::Held
-        );
-        assert!(rt; receiver.pop().is_some());
-    }
-    assert_eq!(rt; receiver.reliable(&reliable(1, b"b"), false), Took::Held);
-    assert!(rt; receiver.pop().is_none());
-    assert_eq!(rt; receiver.reliable(&reliable(0, b"a"), false), Took::Held);
-    assert!(rt; is_packet(receiver.pop(), 1, b"a"));
-    assert!(rt; is_packet(receiver.pop(), 1, b"b"));
-    Ok(())
+fn numbers_wrap_to_zero(rt: HostRuntime) {
+    let mut receiver = open(rt.alloc(), 1000).expect(&rt, "open");
+    assert!(rt; runs(&mut receiver, 65_535));
+    assert!(rt; holds(&mut receiver, &[reliable(1, b"b")]));
+    assert!(rt; pops_none(&mut receiver));
+    assert!(rt; holds(&mut receiver, &[reliable(0, b"a")]));
+    assert!(rt; pops(&mut receiver, &[(1, b"a"), (1, b"b")]));
 }
 
 // While too many bytes wait, a packet is not begun; one that was begun goes on.
 #[test]
-fn full_for_a_packet_that_begins(rt: HostRuntime) -> Result<(), Fail> {
-    let mut receiver = Incoming::open(rt.alloc(), 0, 1000).ok().ok_or("open")?;
-    let first = Fragment {
-        start: 1,
-        count: 2,
-        number: 0,
-        total: 2,
-        offset: 0,
-    };
-    let second = Fragment {
-        number: 1,
-        offset: 1,
-        ..first
-    };
-    let begins = fragment(1, first, b"a");
-    let waiting = Foresight {
-        took: Took::Waiting,
-        acknowledged: false,
-        dispatches: 0,
-    };
-    assert_eq!(rt; receiver.fragment(&begins, true), Took::Waiting);
-    assert_eq!(rt; receiver.foresee(&begins, true), waiting);
-    assert_eq!(rt;
-        receiver.unreliable(&unreliable(0, 1, b"x"), true),
-        Took::Waiting
-    );
-    assert_eq!(rt; receiver.fragment(&begins, false), Took::Held);
-    assert_eq!(rt;
-        receiver.fragment(&fragment(2, second, b"b"), true),
-        Took::Held
-    );
-    assert!(rt; is_packet(receiver.pop(), 1, b"ab"));
-    Ok(())
+fn full_for_a_packet_that_begins(rt: HostRuntime) {
+    let mut receiver = open(rt.alloc(), 1000).expect(&rt, "open");
+    let begins = fragment(1, piece_of_two(0, 2, 0), b"a");
+    let ends = fragment(2, piece_of_two(1, 2, 1), b"b");
+    assert!(rt; take(&mut receiver, &begins, true) == Took::Waiting);
+    assert!(rt; foresee(&receiver, &begins, true) == refused(Took::Waiting, false));
+    for (command, full, took) in [
+        (unreliable(0, 1, b"x"), true, Took::Waiting),
+        (begins, false, Took::Held),
+        (ends, true, Took::Held),
+    ] {
+        assert!(rt; take(&mut receiver, &command, full) == took);
+    }
+    assert!(rt; pops(&mut receiver, &[(1, b"ab")]));
 }
 
 // What is held and waits goes, what was dispatched stays.
 #[test]
-fn cleared_all_but_the_dispatched(rt: HostRuntime) -> Result<(), Fail> {
-    let mut receiver = Incoming::open(rt.alloc(), 0, 1000).ok().ok_or("open")?;
-    assert_eq!(rt; receiver.reliable(&reliable(1, b"a"), false), Took::Held);
-    assert_eq!(rt; receiver.reliable(&reliable(3, b"cc"), false), Took::Held);
-    assert_eq!(rt;
-        receiver.unreliable(&unreliable(2, 1, b"b"), false),
-        Took::Held
-    );
-    assert_eq!(rt; receiver.held(), 3);
+fn cleared_all_but_the_dispatched(rt: HostRuntime) {
+    let mut receiver = open(rt.alloc(), 1000).expect(&rt, "open");
+    let commands = [
+        reliable(1, b"a"),
+        reliable(3, b"cc"),
+        unreliable(2, 1, b"b"),
+    ];
+    assert!(rt; holds(&mut receiver, &commands));
+    assert!(rt; receiver.held() == 3);
     receiver.clear();
-    assert_eq!(rt; receiver.held(), 0);
-    assert!(rt; is_packet(receiver.pop(), 1, b"a"));
-    assert_eq!(rt; receiver.reliable(&reliable(2, b"b"), false), Took::Held);
-    assert!(rt; is_packet(receiver.pop(), 1, b"b"));
-    assert!(rt; receiver.pop().is_none());
-    Ok(())
+    assert!(rt; receiver.held() == 0);
+    assert!(rt; pops(&mut receiver, &[(1, b"a")]));
+    assert!(rt; holds(&mut receiver, &[reliable(2, b"b")]));
+    assert!(rt; pops(&mut receiver, &[(1, b"b")]));
+    assert!(rt; pops_none(&mut receiver));
 }
 
 // One packet completes two reliable ones behind it, with the unreliable one that goes with the last.
 #[test]
-fn foreseen_with_all_that_follows(rt: HostRuntime) -> Result<(), Fail> {
-    let mut receiver = Incoming::open(rt.alloc(), 0, 1000).ok().ok_or("open")?;
+fn foreseen_with_all_that_follows(rt: HostRuntime) {
+    let mut receiver = open(rt.alloc(), 1000).expect(&rt, "open");
     let two = Fragment {
         start: 2,
         count: 1,
@@ -466,35 +377,21 @@ fn foreseen_with_all_that_follows(rt: HostRuntime) -> Result<(), Fail> {
         total: 1,
         offset: 0,
     };
-    assert_eq!(rt;
-        receiver.fragment(&fragment(2, two, b"2"), false),
-        Took::Held
-    );
-    assert_eq!(rt; receiver.reliable(&reliable(3, b"3"), false), Took::Held);
-    assert_eq!(rt;
-        receiver.unreliable(&unreliable(3, 7, b"u"), false),
-        Took::Held
-    );
-    assert_eq!(rt;
-        receiver.unreliable(&unreliable(0, 5, b"v"), false),
-        Took::Held
-    );
+    let commands = [
+        fragment(2, two, b"2"),
+        reliable(3, b"3"),
+        unreliable(3, 7, b"u"),
+        unreliable(0, 5, b"v"),
+    ];
+    assert!(rt; holds(&mut receiver, &commands));
     let all = Foresight {
         took: Took::Held,
         acknowledged: true,
         dispatches: 4,
     };
-    assert_eq!(rt; receiver.foresee(&reliable(1, b"1"), false), all);
-    assert_eq!(rt;
-        receiver.foresee(&unreliable(0, 6, b"w"), false).dispatches,
-        1
-    );
-    assert_eq!(rt; receiver.reliable(&reliable(1, b"1"), false), Took::Held);
-    assert!(rt; is_packet(receiver.pop(), 0, b"v"));
-    assert!(rt; is_packet(receiver.pop(), 1, b"1"));
-    assert_eq!(rt;
-        receiver.unreliable(&unreliable(3, 7, b"u"), false),
-        Took::Again
-    );
-    Ok(())
+    assert!(rt; foresee(&receiver, &reliable(1, b"1"), false) == all);
+    assert!(rt; foresee(&receiver, &unreliable(0, 6, b"w"), false).dispatches == 1);
+    assert!(rt; holds(&mut receiver, &[reliable(1, b"1")]));
+    assert!(rt; pops(&mut receiver, &[(0, b"v"), (1, b"1")]));
+    assert!(rt; take(&mut receiver, &unreliable(3, 7, b"u"), false) == Took::Again);
 }

@@ -7,7 +7,6 @@ use enet_host::{Event, PeerRef};
 use std::alloc::{AllocError, Global};
 use std::sync::Wait;
 use std::sync::atomic::{AtomicBool, AtomicU64, Ordering};
-use std::test::Fail;
 use std::thread;
 use std::thread::Threads;
 
@@ -159,16 +158,23 @@ fn one_round<R: Threads + Wait + Sync>(
     Some((account, all))
 }
 
-#[test]
-fn four_takers_fifty_times(rt: HostRuntime) -> Result<(), Fail> {
-    for _ in 0..50 {
-        let (account, all) = one_round(&rt, rt.alloc(), 4000).ok_or("no round")?;
-        assert_eq!(rt; (account.total, all.len()), (4000, 4000));
-        let mut next = 0u32;
-        for pair in &all {
-            assert_eq!(rt; *pair, (u64::from(next), next));
-            next = next.wrapping_add(1);
+// Whether the numbers count up from 0, each beside the word of the same value.
+fn counts_up(taken: &[(u64, u32)]) -> bool {
+    let mut next = 0u32;
+    for pair in taken {
+        if *pair != (u64::from(next), next) {
+            return false;
         }
+        next = next.wrapping_add(1);
     }
-    Ok(())
+    true
+}
+
+#[test]
+fn four_takers_fifty_times(rt: HostRuntime) {
+    for _ in 0..50 {
+        let (account, all) = one_round(&rt, rt.alloc(), 4000).expect(&rt, "no round");
+        assert!(rt; account.total == 4000 && all.len() == 4000);
+        assert!(rt; counts_up(all.as_slice()));
+    }
 }
