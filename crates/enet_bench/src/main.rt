@@ -1,8 +1,12 @@
 //! `enet_bench [ORDERS [time]]`: sends that many orders (1,000,000 where none is given) through a submit queue of 4,096
 //! places, from one seat and then from four, each in a thread of its own, and prints how many were settled. With the word
 //! `time` it also prints how many orders went through in a second.
+//!
+//! `enet_bench peer`: has a peer receive 100,000 empty reliable packets that are not taken, and another one submit as many
+//! that are not put out, and prints how long the first 1,000 and the last 1,000 took.
 #![tactic(auto)]
 
+mod peer;
 mod traffic;
 
 use anyhow::{Context, Result};
@@ -15,9 +19,13 @@ use std::{env, io};
 
 const DEFAULT: u32 = 1_000_000;
 
+/// How many thousands of packets pile up at a peer.
+const THOUSANDS: u32 = 100;
+
 fn main(rt: HostRuntime) -> Result<()> {
     let mut args = env::args(&rt)?.skip(1);
     let orders = match args.next() {
+        Some(text) if text.as_str() == "peer" => return pile_up(&rt, rt.alloc()),
         Some(text) => text
             .as_str()
             .parse::<u32>()
@@ -43,6 +51,17 @@ where
     if timed {
         let per_second = traffic::rate(total, elapsed.as_micros());
         println!(rt; "{per_second} a second")?;
+    }
+    Ok(())
+}
+
+fn pile_up<R: Clock + Print>(rt: &R, alloc: Global) -> Result<()> {
+    for work in [peer::Work::Receive, peer::Work::Submit] {
+        let times = peer::time_packets(rt, alloc, work, THOUSANDS)?;
+        let first = times.first;
+        let last = times.last;
+        let percent = times.percent();
+        println!(rt; "{work:?}: first 1000 in {first} ns, last 1000 in {last} ns, {percent} %")?;
     }
     Ok(())
 }

@@ -2,7 +2,7 @@
 
 use crate::words::{end, peer_word, side_word, u8_word, u32_word, u64_word, word};
 use bytes::Bytes;
-use enet_host::PeerRef;
+use enet_host::{DisconnectMode, PeerRef};
 use enet_world::{Side, WorldEvent};
 use hex::FromHexError;
 use std::alloc::{AllocError, Global};
@@ -46,6 +46,9 @@ fn plain_step(form: &[u8], text: &[u8]) -> Option<WorldEvent> {
         b"turn" => turn(text),
         b"tick" => tick(text),
         b"take" => take(text),
+        b"now" => disconnect(DisconnectMode::Now, text),
+        b"ask" => disconnect(DisconnectMode::Ask, text),
+        b"later" => disconnect(DisconnectMode::Later, text),
         _ => None,
     }
 }
@@ -74,6 +77,19 @@ fn take(text: &[u8]) -> Option<WorldEvent> {
     let (side, rest) = side_word(text)?;
     end(rest)?;
     Some(WorldEvent::Take { side })
+}
+
+fn disconnect(how: DisconnectMode, text: &[u8]) -> Option<WorldEvent> {
+    let (side, rest) = side_word(text)?;
+    let (peer, rest) = peer_word(rest)?;
+    let (info, rest) = u32_word(rest)?;
+    end(rest)?;
+    Some(WorldEvent::Disconnect {
+        side,
+        peer,
+        how,
+        info,
+    })
 }
 
 // The words of `submit`, the last of which still spells its bytes.

@@ -1,3 +1,7 @@
 pub mod RunLemmas
-pub mod PackingLemmas
 pub mod MarkLemmas
+pub mod EventLemmas
+pub mod Refusals
+pub mod ArrivalLemmas
+pub mod LogLemmas
+pub mod EndLemmas

@@ -3,7 +3,8 @@ use Rattle.std.proofs.Common.{◌≡◌, ℕ, zero, suc, List, [], ◌++◌, tak
 use Rattle.std.proofs.lemmas.List.{take-append-drop}
 use Rattle.enet_codec.specs.Message.{Message, Spells}
 use Rattle.enet_world.specs.declared.log.Mark.{Mark}
-use Rattle.enet_world.specs.Marks.{mark_of, SpellsNone, MarksOf}
+use Rattle.enet_datagram.specs.Handling.{SpellsNone}
+use Rattle.enet_world.specs.Marks.{mark_of, MarksOf}
 
 -- none is left
 pub marks-none : (most : ℕ) (bytes : List ℕ) → SpellsNone bytes → MarksOf most bytes []

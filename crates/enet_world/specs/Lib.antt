@@ -1,6 +1,5 @@
 pub mod Lateness
-pub mod Hosting
 pub mod Log
 pub mod Marks
-pub mod Packing
+pub mod Arriving
 pub mod World

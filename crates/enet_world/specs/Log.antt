@@ -1,8 +1,10 @@
 -- What the world keeps of the two hosts.
-use Rattle.std.specs.Prelude.{ℕ, ◌+◌, ◌%◌, ◌^◌, ◌-◌, ◌==◌, min, if◌then◌else◌, List, [], ◌∷◌, ◌++◌, slice_set}
+use Rattle.std.specs.Prelude.{ℕ, ◌+◌, ◌%◌, ◌^◌, ◌-◌, ◌==◌, min, if◌then◌else◌, List, [], ◌∷◌, ◌++◌, replicate, slice_set}
 use Rattle.std.specs.List.{slice_index_or, fold}
 use Rattle.enet_codec.specs.declared.shared.Packet.{Packet}
 use Rattle.enet_world.specs.declared.log.Mark.{Mark}
+use Rattle.enet_world.specs.declared.log.MarkKind.{MarkKind}
+use Rattle.enet_world.specs.declared.log.MarkKind.TheVariants.{Data, Acknowledgement, Control}
 
 -- a datagram that was put out
 pub record Logged : Type 0 where
@@ -19,6 +21,10 @@ pub record Kept : Type 0 where
 -- a channel on which nothing has happened
 abbrev pub fresh_kept : Kept
 fresh_kept = record { submitted = []; taken = []; greatest = 0 }
+
+-- what is kept at first of a side of a joined pair, by the channel's number up to 0xFF: number 1 of that one counts as sent
+unfoldable pub joined_channels : List Kept
+joined_channels = replicate 255 fresh_kept ++ record fresh_kept { greatest = 1 } ∷ []
 
 abbrev pub kept_at : List Kept → ℕ → Kept
 kept_at channels channel = slice_index_or channels channel fresh_kept
@@ -41,13 +47,27 @@ with_taken p k = record k { taken = k.taken ++ p ∷ [] }
 abbrev pub greatest_after : ℕ → ℕ → ℕ
 greatest_after greatest number = if min (greatest + 1) (2 ^ 64 - 1) % 65536 == number then min (greatest + 1) (2 ^ 64 - 1) else greatest
 
+abbrev pub with_number : Mark → Kept → Kept
+with_number m k = record k { greatest = greatest_after k.greatest m.number }
+
+-- a command that is put out counts for the side that gave its number
+abbrev pub counted_by : MarkKind → List Kept → Mark → List Kept
+counted_by Acknowledgement channels m = channels
+counted_by Data channels m = with_kept channels m.channel (with_number m)
+counted_by Control channels m = with_kept channels m.channel (with_number m)
+
 abbrev pub counted : List Kept → Mark → List Kept
-counted channels m = if m.acknowledges then channels else with_kept channels m.channel (λ k. record k { greatest = greatest_after k.greatest m.number })
+counted channels m = counted_by m.kind channels m
 
 -- the channels after the commands of a datagram were put out
 abbrev pub counted_all : List Kept → List Mark → List Kept
 counted_all channels marks = fold counted channels marks
 
+abbrev pub side_of : MarkKind → List Kept → List Kept → List Kept
+side_of Acknowledgement own other = other
+side_of Data own other = own
+side_of Control own other = own
+
 -- a mark with how far its number's end has come
 abbrev pub reached : List Kept → List Kept → Mark → Mark
-reached own other m = record m { reach = greatest_at (if m.acknowledges then other else own) m.channel }
+reached own other m = record m { reach = greatest_at (side_of m.kind own other) m.channel }

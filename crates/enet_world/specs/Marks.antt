@@ -1,19 +1,27 @@
 -- The marks of a datagram's commands, by what its bytes spell.
-use Rattle.std.specs.Prelude.{◌≡◌, ℕ, zero, suc, true, false, List, [], ◌++◌, ◌⊎◌, Option, Some, None, option_to_list}
+use Rattle.std.specs.Prelude.{◌≡◌, ℕ, zero, suc, true, false, List, [], ◌++◌, ◌⊎◌, Option, Some, None, map, option_to_list}
 use Rattle.enet_codec.specs.declared.command.Head.{Head}
 use Rattle.enet_codec.specs.declared.header.Header.{Header}
 use Rattle.enet_codec.specs.Header.{SpellsHeader}
-use Rattle.enet_codec.specs.Message.{Message, Body, acknowledge, send_reliable, send_unreliable, send_fragment, send_unreliable_fragment, Spells}
+use Rattle.enet_codec.specs.Message.{Message, Body, acknowledge, send_reliable, send_unreliable, send_fragment, send_unsequenced, send_unreliable_fragment, Spells}
+use Rattle.enet_datagram.specs.Handling.{SpellsNone}
+use Rattle.enet_world.specs.Log.{Kept, counted_all, reached}
 use Rattle.enet_world.specs.declared.log.Mark.{Mark}
+use Rattle.enet_world.specs.declared.log.MarkKind.{MarkKind}
+use Rattle.enet_world.specs.declared.log.MarkKind.TheVariants.{Data, Acknowledgement, Control}
 
--- a sequenced data command has its own number, and an acknowledgement that of the command that it acknowledges
+abbrev pub mark_as : MarkKind → ℕ → ℕ → Mark
+mark_as kind channel number = record { kind = kind; channel = channel; number = number; reach = 0 }
+
+-- an acknowledgement has the number of the command that it acknowledges, any other command its own
 abbrev pub mark_by_body : Head → Body → Option Mark
-mark_by_body h (acknowledge number time) = Some (record { channel = h.channel; acknowledges = true; number = number; reach = 0 })
-mark_by_body h (send_reliable payload) = Some (record { channel = h.channel; acknowledges = false; number = h.number; reach = 0 })
-mark_by_body h (send_unreliable unreliable payload) = Some (record { channel = h.channel; acknowledges = false; number = h.number; reach = 0 })
-mark_by_body h (send_fragment fragment payload) = Some (record { channel = h.channel; acknowledges = false; number = h.number; reach = 0 })
-mark_by_body h (send_unreliable_fragment fragment payload) = Some (record { channel = h.channel; acknowledges = false; number = h.number; reach = 0 })
-mark_by_body h _ = None
+mark_by_body h (acknowledge number time) = Some (mark_as Acknowledgement h.channel number)
+mark_by_body h (send_reliable payload) = Some (mark_as Data h.channel h.number)
+mark_by_body h (send_unreliable unreliable payload) = Some (mark_as Data h.channel h.number)
+mark_by_body h (send_fragment fragment payload) = Some (mark_as Data h.channel h.number)
+mark_by_body h (send_unreliable_fragment fragment payload) = Some (mark_as Data h.channel h.number)
+mark_by_body h (send_unsequenced group payload) = None
+mark_by_body h _ = Some (mark_as Control h.channel h.number)
 
 -- the mark of a command, if it has one, before its reach is noted
 abbrev pub mark_of : Message → Option Mark
@@ -29,10 +37,6 @@ pub record Begins (Later : List ℕ → List Mark → Type 0) (bytes : List ℕ)
   pub spelled : Spells text message
   pub follow : Later rest later
   pub joined : marks ≡ option_to_list (mark_of message) ++ later
-
--- no command stands at the front of the bytes
-abbrev pub SpellsNone : List ℕ → Type 0
-SpellsNone bytes = (m : Message) (text rest : List ℕ) → bytes ≡ text ++ rest → Spells text m → ⊥
 
 -- the marks of the first so many commands that bytes spell, one after another
 unfoldable pub MarksOf : ℕ → List ℕ → List Mark → Type 0
@@ -51,3 +55,11 @@ pub record AfterHeader (text : List ℕ) (marks : List Mark) : Type 0 where
 -- the marks of a datagram: those of the at most 32 commands that stand after its header
 abbrev pub MarksIn : List ℕ → List Mark → Type 0
 MarksIn text marks = AfterHeader text marks ⊎ (((h : Header) (front rest : List ℕ) → text ≡ front ++ rest → SpellsHeader front h → ⊥) × (marks ≡ []))
+
+-- a datagram is put out: its commands are counted, which leaves the channels of its side so, and then marked with how far the
+-- numbers have come
+pub record Counts (text : List ℕ) (old new other : List Kept) (marks : List Mark) : Type 0 where
+  pub read : List Mark
+  pub marked : MarksIn text read
+  pub counted : new ≡ counted_all old read
+  pub noted : marks ≡ map (reached new other) read

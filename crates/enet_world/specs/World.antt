@@ -1,11 +1,24 @@
--- The world: two ends, each a host with what was seen of it.
-use Rattle.std.specs.Prelude.{◌≡◌, ℕ, List, [], ◌∷◌, ◌++◌, length, map, replicate, min, Result, Err, OnErr, IfOk, IfErr, MatchOption, slice_get, if◌then◌else◌, ◌==◌, Option, Some, None}
+-- The world: two ends, each a clock and a peer with what was seen of them.
+use Rattle.std.specs.Prelude.{◌≡◌, ℕ, ◌+◌, ◌%◌, ◌^◌, List, [], ◌∷◌, ◌++◌, length, take, min, Result, Err, OnErr, IfOk, IfErr, MatchOption, slice_get, Bool, true, false, ◌&&◌, ◌||◌, not, if◌then◌else◌, ◌==◌, Option, Some, None}
 use Rattle.enet_codec.specs.declared.shared.Packet.{Packet}
 use Rattle.enet_codec.specs.declared.shared.Refusal.{Refusal}
-use Rattle.enet_codec.specs.declared.shared.Refusal.TheVariants.{Memory, NoSuchDatagram, Late}
+use Rattle.enet_codec.specs.declared.shared.Refusal.TheVariants.{Memory, NoSuchPeer, NotConnected, NoSuchDatagram, Late}
+use Rattle.enet_throttle.specs.Bandwidth.{window_size}
+use Rattle.enet_connect.specs.declared.terms.Terms.{Terms}
 use Rattle.enet_host.specs.declared.config.Config.{Config}
+use Rattle.enet_host.specs.declared.event.DisconnectMode.{DisconnectMode}
+use Rattle.enet_host.specs.declared.event.DisconnectMode.TheVariants.{Now, Ask, Later}
 use Rattle.enet_host.specs.declared.event.Event.{Event}
 use Rattle.enet_host.specs.declared.event.Event.TheVariants as events
+use Rattle.enet_host.specs.declared.event.PeerRef.{PeerRef}
+use Rattle.enet_host.specs.declared.event.Received.{Received}
+use Rattle.enet_peer.specs.declared.parts.Limits.{Limits}
+use Rattle.enet_peer.specs.declared.parts.PeerEvent.{PeerEvent}
+use Rattle.enet_peer.specs.declared.parts.PeerEvent.TheVariants as told
+use Rattle.enet_peer.specs.declared.parts.PeerState.{PeerState}
+use Rattle.enet_peer.specs.declared.parts.PeerState.TheVariants as state
+use Rattle.enet_peer.specs.Peering.{Peering, joined}
+use Rattle.enet_peer.specs.Calls as calls
 use Rattle.enet_world.specs.declared.event.Side.{Side}
 use Rattle.enet_world.specs.declared.event.Side.TheVariants as sides
 use Rattle.enet_world.specs.declared.event.WorldEvent.{WorldEvent}
@@ -14,27 +27,50 @@ use Rattle.enet_world.specs.Lateness.{has_late}
 use Rattle.enet_world.specs.declared.event.Answer.{Answer}
 use Rattle.enet_world.specs.declared.event.Answer.TheVariants as answers
 use Rattle.enet_world.specs.declared.log.Mark.{Mark}
-use Rattle.enet_world.specs.Marks.{MarksIn}
-use Rattle.enet_world.specs.Log.{Logged, Kept, fresh_kept, kept_at, greatest_at, with_kept, with_submission, with_taken, counted_all, reached}
-use Rattle.enet_world.specs.Hosting.{Hosting, IsFresh, settings_of, submission_refusal, ticked, Takes}
+use Rattle.enet_world.specs.Arriving.{Comes}
+use Rattle.enet_world.specs.Marks.{Counts}
+use Rattle.enet_world.specs.Log.{Logged, Kept, joined_channels, kept_at, greatest_at, with_kept, with_submission, with_taken}
 
--- one side: its host, the datagrams that it has put out, what is kept of its channels, and the events that its user took
+-- one side: its clock and its peer, the datagrams that it has put out, what is kept of each of the 256 channel numbers, and
+-- the events that its user took
 pub record Ending : Type 0 where
-  pub host : Hosting
+  pub clock : ℕ
+  pub peer : Peering
   pub log : List Logged
   pub channels : List Kept
   pub events : List Event
 
--- what holds of each side: what is kept has each of the host's channels
-abbrev pub IsEnding : Hosting → List Kept → Type 0
-IsEnding host channels = length channels ≡ host.settings.channels
+-- what holds of each side
+abbrev pub IsEnding : List Kept → Type 0
+IsEnding channels = length channels ≡ 256
+
+-- the terms of a joined pair with so many channels and this mtu
+abbrev pub joined_terms : Config → ℕ → ℕ → Terms
+joined_terms c channels mtu = record {
+  slot = 0;
+  channels = channels;
+  mtu = mtu;
+  window = window_size c.outgoing 0;
+  incoming_session = 0;
+  outgoing_session = 0;
+  throttle_interval = 5000;
+  acceleration = 2;
+  deceleration = 2;
+  connect_id = 0;
+}
+
+abbrev pub limits_of : Config → Limits
+limits_of c = record { max_packet = c.max_packet; max_waiting = c.max_waiting; incoming = c.incoming; outgoing = c.outgoing }
 
 -- a side to which nothing has happened
-pub record IsFreshEnd (config : Config) (channels mtu : ℕ) (e : Ending) : Type 0 where
-  pub fresh_host : IsFresh (settings_of config channels mtu) config.clock e.host
-  pub no_log : e.log ≡ []
-  pub nothing_kept : e.channels ≡ replicate channels fresh_kept
-  pub no_events : e.events ≡ []
+abbrev pub fresh_end : Config → ℕ → ℕ → Ending
+fresh_end c channels mtu = record {
+  clock = c.clock;
+  peer = joined c.clock (joined_terms c channels mtu) (limits_of c);
+  log = [];
+  channels = joined_channels;
+  events = [];
+}
 
 pub record Joined : Type 0 where
   pub a : Ending
@@ -48,6 +84,32 @@ abbrev pub other : Side → Side
 other sides.A = sides.B
 other sides.B = sides.A
 
+-- whether a side has no such peer: it is another than that of slot 0 and generation 0, or that one is gone
+abbrev pub is_free : PeerState → Bool
+is_free state.Free = true
+is_free _ = false
+
+abbrev pub is_spent : Peering → PeerRef → Bool
+is_spent p name = not (name.slot == 0 && name.generation == 0) || is_free p.state
+
+-- the first refusal but want of memory that a submission meets
+abbrev pub submission_refusal : Ending → PeerRef → ℕ → ℕ → Option Refusal
+submission_refusal e peer channel len = if is_spent e.peer peer then Some NoSuchPeer else calls.submission_refusal e.peer channel len
+
+-- the peer after a disconnect call of a mode; None where the call is refused
+abbrev pub left_by : DisconnectMode → Peering → ℕ → Option Peering
+left_by Now p info = calls.left (calls.leave_now p.state) p info
+left_by Ask p info = calls.left (calls.leave_by_asking p.state) p info
+left_by Later p info = calls.left (calls.leave_later p.state) p info
+
+abbrev pub leave_refusal : Option Peering → Option Refusal
+leave_refusal None = Some NotConnected
+leave_refusal (Some after) = None
+
+-- the refusal that a disconnect meets
+abbrev pub disconnect_refusal : Ending → PeerRef → DisconnectMode → ℕ → Option Refusal
+disconnect_refusal e peer how info = if is_spent e.peer peer then Some NoSuchPeer else leave_refusal (left_by how e.peer info)
+
 -- a datagram that the network has is refused where it is late
 abbrev pub late_refusal : Ending → Ending → Option Logged → Option Refusal
 late_refusal from to None = Some NoSuchDatagram
@@ -59,54 +121,93 @@ delivery_refusal from to k = late_refusal from to (slice_get from.log k)
 
 -- the first refusal but want of memory that an event meets
 abbrev pub refusal_of : Joined → WorldEvent → Option Refusal
-refusal_of w (happen.Submit side peer channel flags body) = submission_refusal (end_of w side).host peer channel (length body)
+refusal_of w (happen.Submit side peer channel flags body) = submission_refusal (end_of w side) peer channel (length body)
 refusal_of w (happen.Deliver side k) = delivery_refusal (end_of w (other side)) (end_of w side) k
 refusal_of w (happen.Turn side) = None
 refusal_of w (happen.Tick side ms) = None
 refusal_of w (happen.Take side) = None
+refusal_of w (happen.Disconnect side peer how info) = disconnect_refusal (end_of w side) peer how info
 
 -- the answer where this is the first refusal but want of memory that applies, or none is
 abbrev pub Refuses : {T : Type 0} → Option Refusal → Result T Refusal → Type 0
 Refuses first result = MatchOption first (IfErr result (λ why. why ≡ Memory)) (λ why. result ≡ Err why)
 
--- the user submits a packet: it is kept, and no list of the host but those of the senders changes
-abbrev pub Submits : ℕ → ℕ → List ℕ → Ending → Ending → Type 0
-Submits channel flags body old new =
-    new ≡ record old {
-      host = record old.host { outgoing = new.host.outgoing };
-      channels = with_kept old.channels channel (with_submission (record { channel = channel; flags = flags; body = body }));
-    }
+-- the user submits a packet, which is kept
+abbrev pub submitted_end : ℕ → ℕ → List ℕ → Ending → Ending
+submitted_end channel flags body e = record e {
+  peer = calls.submitted e.peer channel (record { flags = flags; body = body });
+  channels = with_kept e.channels channel (with_submission (record { channel = channel; flags = flags; body = body }));
+}
 
--- a datagram comes: what is kept stays
-abbrev pub Receives : Ending → Ending → Type 0
-Receives old new = new ≡ record old { host = new.host }
+-- a datagram of the other side comes, of which no more than the answer is kept
+abbrev pub Receives : Option Logged → Received → Ending → Ending → Type 0
+Receives None answer old new = ⊥
+Receives (Some d) answer old new = Comes old.clock d.text old.peer answer new.peer × (new ≡ record old { peer = new.peer })
 
--- a datagram is put out: it is logged last, its commands are counted, and then marked with how far the numbers have come
-pub record PutsOut (other old new : Ending) : Type 0 where
+-- the peer is asked for a datagram: it writes one into a buffer, or none
+abbrev pub Emits : ℕ → Peering → Option (List ℕ) → Peering → Type 0
+Emits now old None new = (buf : List ℕ) × calls.PutsOut now None old new buf
+Emits now old (Some text) new = (len : ℕ) × (buf : List ℕ) × calls.PutsOut now (Some len) old new buf × (text ≡ take len buf)
+
+-- it is logged last, and its commands are counted
+pub record Logs (other old new : Ending) : Type 0 where
   pub text : List ℕ
   pub marks : List Mark
-  pub read : MarksIn text marks
-  pub kept : new ≡ record old {
-    host = new.host;
-    channels = counted_all old.channels marks;
-    log = old.log ++ (record { text = text; marks = map (reached (counted_all old.channels marks) other.channels) marks }) ∷ [];
-  }
+  pub emitted : Emits old.clock old.peer (Some text) new.peer
+  pub counts : Counts text old.channels new.channels other.channels marks
+  pub kept : new ≡ record old { peer = new.peer; channels = new.channels; log = old.log ++ (record { text = text; marks = marks }) ∷ [] }
 
+-- where there is nothing to send, the peer may still go on
 abbrev pub Turns : Ending → Ending → Option ℕ → Ending → Type 0
-Turns other old None new = new ≡ record old { host = new.host }
-Turns other old (Some n) new = (n ≡ length old.log) × PutsOut other old new
+Turns other old None new = Emits old.clock old.peer None new.peer × (new ≡ record old { peer = new.peer })
+Turns other old (Some n) new = (n ≡ length old.log) × Logs other old new
 
-abbrev pub receive_event : Packet → Event
-receive_event p = events.Receive (record { slot = 0; generation = 0 }) p
+abbrev pub first_peer : PeerRef
+first_peer = record { slot = 0; generation = 0 }
 
--- the user takes an event: the next packet, which is kept
+-- an event of the peer, as the host tells it
+abbrev pub event_of : PeerEvent → Event
+event_of (told.Connect info) = events.Connect first_peer info
+event_of (told.Receive packet) = events.Receive first_peer packet
+event_of (told.Disconnect info) = events.Disconnect first_peer info
+
+-- a packet that was taken is kept
+abbrev pub with_event : PeerEvent → List Kept → List Kept
+with_event (told.Connect info) channels = channels
+with_event (told.Receive packet) channels = with_kept channels packet.channel (with_taken packet)
+with_event (told.Disconnect info) channels = channels
+
+abbrev pub is_word : PeerEvent → Bool
+is_word (told.Connect info) = true
+is_word (told.Receive packet) = false
+is_word (told.Disconnect info) = true
+
+-- the next event of a peer is taken, which is no packet: it is told twice over
+abbrev pub TakesWord : Peering → Option (Event × Event) → Peering → Type 0
+TakesWord old None new = (calls.next_event old ≡ None) × (new ≡ old)
+TakesWord old (Some e) new = (p : PeerEvent) × (is_word p ≡ true) × (e.0 ≡ event_of p) × (e.1 ≡ event_of p)
+    × (calls.next_event old ≡ Some (record { event = p; after = new }))
+
+-- it is taken, which is this packet
+abbrev pub TakesPacket : Peering → Packet → Option Event → Peering → Type 0
+TakesPacket old q event new = (event ≡ Some (event_of (told.Receive q))) × (calls.next_event old ≡ Some (record { event = told.Receive q; after = new }))
+
+-- the user takes the next event, if there is one
 abbrev pub Took : Ending → Option Event → Ending → Type 0
-Took old None new = (old.host.dispatched ≡ []) × (new ≡ old)
-Took old (Some e) new = (p : Packet) × (e ≡ receive_event p) × Takes old.host new.host p
-    × (new ≡ record old { host = new.host; channels = with_kept old.channels p.channel (with_taken p); events = old.events ++ e ∷ [] })
+Took old None new = (calls.next_event old.peer ≡ None) × (new ≡ old)
+Took old (Some e) new = (p : PeerEvent) × (e ≡ event_of p) × (calls.next_event old.peer ≡ Some (record { event = p; after = new.peer }))
+    × (new ≡ record old { peer = new.peer; channels = with_event p old.channels; events = old.events ++ e ∷ [] })
+
+-- the clock goes on by at most 60,000 milliseconds
+abbrev pub clock_after : ℕ → ℕ → ℕ
+clock_after clock ms = (clock + min ms 60000) % 2 ^ 32
 
 abbrev pub ticked_end : Ending → ℕ → Ending
-ticked_end e ms = record e { host = ticked e.host ms }
+ticked_end e ms = record e { clock = clock_after e.clock ms; peer = calls.ticked e.peer (clock_after e.clock ms) }
+
+-- the user ends the connection
+abbrev pub Disconnects : DisconnectMode → ℕ → Ending → Ending → Type 0
+Disconnects how info old new = (left_by how old.peer info ≡ Some new.peer) × (new ≡ record old { peer = new.peer })
 
 -- what happens at one side, the other staying as it was
 pub record AtSide (side : Side) (Happens : Ending → Ending → Type 0) (old new : Joined) : Type 0 where
@@ -115,11 +216,12 @@ pub record AtSide (side : Side) (Happens : Ending → Ending → Type 0) (old ne
 
 -- what a step that is not refused makes happen, and what it answers
 abbrev pub Happens : Joined → WorldEvent → Answer → Joined → Type 0
-Happens old (happen.Submit side peer channel flags body) answers.Done new = AtSide side (Submits channel flags body) old new
-Happens old (happen.Deliver side k) (answers.Received received) new = AtSide side Receives old new
+Happens old (happen.Submit side peer channel flags body) answers.Done new = AtSide side (λ e f. f ≡ submitted_end channel flags body e) old new
+Happens old (happen.Deliver side k) (answers.Received answer) new = AtSide side (Receives (slice_get (end_of old (other side)).log k) answer) old new
 Happens old (happen.Turn side) (answers.Sent n) new = AtSide side (λ e f. Turns (end_of old (other side)) e n f) old new
 Happens old (happen.Tick side ms) answers.Done new = AtSide side (λ e f. f ≡ ticked_end e ms) old new
 Happens old (happen.Take side) (answers.Taken event) new = AtSide side (λ e f. Took e event f) old new
+Happens old (happen.Disconnect side peer how info) answers.Done new = AtSide side (Disconnects how info) old new
 Happens old _ _ new = ⊥
 
 -- what a step answers, and the world after it: the first refusal that applies, with nothing changed, or what happens
@@ -135,9 +237,11 @@ Runs old (e ∷ es) (a ∷ as') new = (between : Joined) × Steps old e a betwee
 Runs old _ _ new = ⊥
 
 -- a pair of hosts to which nothing has happened, with the lesser channel count and mtu of both configurations
-pub record IsFreshWorld (cfg_a cfg_b : Config) (w : Joined) : Type 0 where
-  pub fresh_a : IsFreshEnd cfg_a (min cfg_a.channels cfg_b.channels) (min cfg_a.mtu cfg_b.mtu) w.a
-  pub fresh_b : IsFreshEnd cfg_b (min cfg_a.channels cfg_b.channels) (min cfg_a.mtu cfg_b.mtu) w.b
+abbrev pub fresh_world : Config → Config → Joined
+fresh_world a b = record {
+  a = fresh_end a (min a.channels b.channels) (min a.mtu b.mtu);
+  b = fresh_end b (min a.channels b.channels) (min a.mtu b.mtu);
+}
 
 -- what the user of a side submitted on a channel of a connection; a joined pair has connection 0 alone
 abbrev pub submitted_of : Joined → ℕ → Side → ℕ → List Packet

@@ -1,27 +1,40 @@
-//! One side of a world: its host, and what was seen of it.
+//! One side of a world: its clock and its peer, and what was seen of them.
 
-ghost use Rattle.std.specs.Prelude.{◌≡◌, ℕ, ◌≤◌, ◌<◌, length, replicate, OnOk, OnErr, IfOk, IfErr, IfSome, IfNone, IsTrue, slice_get};
+ghost use Rattle.std.specs.Prelude.{◌≡◌, ℕ, ◌+◌, ◌≤◌, ◌<◌, [], true, length, vec_len, vec_capacity, OnOk, OnErr, IfOk, IfErr, IfSome, IfNone, IsTrue, slice_get, Some, None};
 ghost use Rattle.std.specs.Bool.{OnFalse};
 ghost use Rattle.std.specs.Option.{option_copied};
-ghost use Rattle.enet_world.specs.Hosting.{submission_refusal};
-ghost use Rattle.enet_world.specs.Log.{fresh_kept, kept_at, with_kept, with_taken};
-ghost use Rattle.enet_world.specs.World.{delivery_refusal, Refuses, Submits, Receives, Turns, Took, ticked_end, receive_event, text_of, IsFreshEnd};
+ghost use Rattle.enet_codec.specs.declared.shared.Packet.{Packet};
+ghost use Rattle.enet_peer.specs.Next.{next_packet};
+ghost use Rattle.enet_world.specs.Log.{kept_at, with_kept, with_taken};
+ghost use Rattle.enet_world.specs.World.{fresh_end, is_spent, submission_refusal, submitted_end, disconnect_refusal, left_by, Disconnects, delivery_refusal, Refuses, Receives, Emits, Turns, Took, TakesWord, TakesPacket, is_word, event_of, ticked_end, clock_after, text_of};
 
-use crate::host::{FIRST_PEER, Host};
-use crate::log::{Datagram, Kept, MAX_COMMANDS, count_all, has_late, note_reach, read_marks};
+use crate::arriving::receive;
+use crate::joining::{joined_channels, joined_terms, limits_of};
+use crate::log::{Datagram, Kept, MAX_COMMANDS, has_late, marks_of};
 use bytes::Bytes;
 use enet_codec::{Packet, Refusal};
-use enet_host::{Config, Event, PeerRef, Received};
+use enet_host::{Config, DisconnectMode, Event, PeerRef, Received};
+use enet_peer::{Peer, PeerEvent, PeerState};
 use std::alloc::Global;
 use std::marker::Model;
 
 /// The greatest length of a datagram, in bytes.
 const MAX_DATAGRAM: usize = 4096;
 
-/// One side of a world: its host, and what was seen of it.
+/// The longest tick, in milliseconds.
+const LONGEST_TICK: u32 = 60_000;
+
+/// The one peer of a host of a joined pair.
+const FIRST_PEER: PeerRef = PeerRef {
+    slot: 0,
+    generation: 0,
+};
+
+/// One side of a world: its clock, in milliseconds, and its peer, and what was seen of them.
 #[derive(Drop)]
 pub(crate) struct End {
-    host: Host,
+    clock: u32,
+    peer: Peer,
     log: Vec<Datagram>,
     channels: Vec<Kept>,
     events: Vec<Event>,
@@ -30,32 +43,15 @@ pub(crate) struct End {
 impl Model for End {
     ghost use Rattle.enet_world.specs.World.{Ending, IsEnding};
     ghost use Rattle.std.specs.Coded.{codes};
-    ghost use Rattle.enet_receiver.specs.Codes.{receiving_code};
+    ghost use Rattle.enet_inbox.specs.Codes.{inbox_code};
 
     ghost Value = { Ending };
 
-    ghost coded = { Prim.hlevel (codes, receiving_code) };
+    ghost coded = { Prim.hlevel (codes, inbox_code) };
 
-    ghost view = { λ e. record { host = e.host; log = e.log.items; channels = e.channels.items; events = e.events.items } };
+    ghost view = { λ e. record { clock = e.clock; peer = e.peer.peer; log = e.log.items; channels = e.channels.items; events = e.events.items } };
 
-    ghost invariant = { λ e. IsEnding e.host e.channels.items };
-}
-
-fn open_channels(alloc: Global, channels: u8) -> Result<Vec<Kept>, Refusal>
-    ensures memory { IfErr result (λ why. why ≡ Refusal.Memory) }
-    ensures fresh { IfOk result (λ all. all.items ≡ replicate channels fresh_kept) }
-{
-    let Ok(mut all) = Vec::with_capacity(alloc, usize::from(channels)) else {
-        return Err(Refusal::Memory);
-    };
-    for _channel in 0..channels {
-        all.push_reserved(Kept {
-            submitted: Vec::new(alloc),
-            taken: Vec::new(alloc),
-            greatest: 0,
-        });
-    }
-    Ok(all)
+    ghost invariant = { λ e. IsEnding e.channels.items };
 }
 
 /// A second owner of the same bytes.
@@ -81,14 +77,66 @@ fn copy_of(packet: &Packet) -> Result<Packet, Refusal>
     })
 }
 
-/// What the user is told of a packet that came.
-fn receive_event(packet: Packet) -> Event
-    ensures { result ≡ receive_event packet }
+/// An event of the peer, as the host tells it.
+fn event_of(event: PeerEvent) -> Event
+    ensures { result ≡ event_of event }
 {
-    Event::Receive {
-        peer: FIRST_PEER,
-        packet,
+    let peer = FIRST_PEER;
+    match event {
+        PeerEvent::Connect { info } => Event::Connect { peer, info },
+        PeerEvent::Receive { packet } => Event::Receive { peer, packet },
+        PeerEvent::Disconnect { info } => Event::Disconnect { peer, info },
     }
+}
+
+/// An event that is no packet, as the host tells it, twice over.
+fn told_twice(event: PeerEvent) -> Option<(Event, Event)>
+    ensures { is_word event ≡ true → result ≡ Some (event_of event, event_of event) }
+{
+    match event {
+        PeerEvent::Connect { info } => Some((
+            event_of(PeerEvent::Connect { info }),
+            event_of(PeerEvent::Connect { info }),
+        )),
+        PeerEvent::Disconnect { info } => Some((
+            event_of(PeerEvent::Disconnect { info }),
+            event_of(PeerEvent::Disconnect { info }),
+        )),
+        PeerEvent::Receive { .. } => None,
+    }
+}
+
+/// The next event of a peer, which is no packet, twice over.
+fn next_word(peer: &mut Peer) -> Option<(Event, Event)>
+    requires { next_packet peer.old.peer ≡ None }
+    ensures { TakesWord peer.old.peer result peer.new.peer }
+{
+    told_twice(peer.next_event()?)
+}
+
+/// The next event of a peer, which is a packet.
+fn next_receive(peer: &mut Peer) -> Option<Event>
+    ensures { (q : Packet) → next_packet peer.old.peer ≡ Some q → TakesPacket peer.old.peer q result peer.new.peer }
+{
+    match peer.next_event() {
+        Some(event) => Some(event_of(event)),
+        None => None,
+    }
+}
+
+/// The bytes of the peer's next datagram, put into a vector that has room for them.
+fn emit(peer: &mut Peer, now: u32, room: Vec<u8>) -> Option<Vec<u8>>
+    requires empty { room.items ≡ [] }
+    requires room { vec_len room + 4096 ≤ vec_capacity room }
+    ensures none { IfNone result (Emits now peer.old.peer None peer.new.peer) }
+    ensures text { IfSome result (λ text. Emits now peer.old.peer (Some text.items) peer.new.peer) }
+{
+    let mut buf = [0; MAX_DATAGRAM];
+    let len = peer.emit(now, &mut buf)?;
+    let mut text = room;
+    let _ = text.extend_from_slice(&buf[..len]);
+    text.shrink_to_fit();
+    Some(text)
 }
 
 /// Keeps a packet that was taken. Where there is no memory it answers false, and nothing is changed.
@@ -105,19 +153,38 @@ fn keep_taken(channels: &mut [Kept], packet: Packet) -> bool
 }
 
 impl End {
-    /// A side with these settings, with so many channels and this mtu. E1 is its only refusal.
+    /// A side of a joined pair with these settings, with so many channels and this mtu. E1 is its only refusal.
     pub fn joined(alloc: Global, config: &Config, channels: u8, mtu: u32) -> Result<End, Refusal>
         requires low { 576 ≤ mtu }
         requires high { mtu ≤ 4096 }
         ensures memory { IfErr result (λ why. why ≡ Refusal.Memory) }
-        ensures fresh { IfOk result (IsFreshEnd config.now channels mtu) }
+        ensures fresh { IfOk result (λ e. e ≡ fresh_end config.now channels mtu) }
     {
+        let terms = joined_terms(config, channels, mtu);
         Ok(End {
-            host: Host::joined(alloc, config, channels, mtu)?,
+            clock: config.clock,
+            peer: Peer::joined(alloc, config.clock, terms, limits_of(config))?,
             log: Vec::new(alloc),
-            channels: open_channels(alloc, channels)?,
+            channels: joined_channels(alloc)?,
             events: Vec::new(alloc),
         })
+    }
+
+    /// Whether there is no such peer.
+    fn is_spent(&self, peer: PeerRef) -> bool
+        ensures { result ≡ is_spent self.now.peer peer }
+    {
+        peer != FIRST_PEER || matches!(self.peer.state(), PeerState::Free)
+    }
+
+    /// The first refusal but want of memory that a submission meets, if there is one.
+    fn submission_refusal(&self, peer: PeerRef, channel: u8, len: usize) -> Option<Refusal>
+        ensures { result ≡ submission_refusal self.now peer channel len }
+    {
+        if self.is_spent(peer) {
+            return Some(Refusal::NoSuchPeer);
+        }
+        self.peer.submission_refusal(channel, len)
     }
 
     /// The user submits a packet. A refusal changes nothing.
@@ -128,11 +195,11 @@ impl End {
         flags: u8,
         body: &Bytes,
     ) -> Result<(), Refusal>
-        ensures refused { Refuses (submission_refusal self.old.host peer channel (length body.now)) result }
+        ensures refused { Refuses (submission_refusal self.old peer channel (length body.now)) result }
         ensures unchanged { OnErr result (self.new ≡ self.old) }
-        ensures submits { OnOk result (Submits channel flags body.now self.old self.new) }
+        ensures submits { OnOk result (self.new ≡ submitted_end channel flags body.now self.old) }
     {
-        if let Some(why) = self.host.refusal(peer, channel, body.len()) {
+        if let Some(why) = self.submission_refusal(peer, channel, body.len()) {
             return Err(why);
         }
         let packet = Packet {
@@ -145,9 +212,32 @@ impl End {
         if kept.submitted.reserve(1).is_err() {
             return Err(Refusal::Memory);
         }
-        self.host.submit(channel, flags, copy)?;
+        if let Err((why, _body)) = self.peer.submit(channel, flags, copy) {
+            return Err(why);
+        }
         kept.submitted.push_reserved(packet);
         Ok(())
+    }
+
+    /// The user ends the connection. A refusal changes nothing.
+    pub fn disconnect(
+        &mut self,
+        peer: PeerRef,
+        how: DisconnectMode,
+        info: u32,
+    ) -> Result<(), Refusal>
+        ensures refused { Refuses (disconnect_refusal self.old peer how info) result }
+        ensures unchanged { OnErr result (self.new ≡ self.old) }
+        ensures disconnects { OnOk result (Disconnects how info self.old self.new) }
+    {
+        if self.is_spent(peer) {
+            return Err(Refusal::NoSuchPeer);
+        }
+        match how {
+            DisconnectMode::Now => self.peer.disconnect_now(info),
+            DisconnectMode::Ask => self.peer.disconnect(info),
+            DisconnectMode::Later => self.peer.disconnect_later(info),
+        }
     }
 
     fn logged(&self, k: u64) -> Option<&Datagram>
@@ -160,7 +250,7 @@ impl End {
     pub fn deliver(&mut self, from: &End, k: u64) -> Result<Received, Refusal>
         ensures refused { Refuses (delivery_refusal from.now self.old k) result }
         ensures unchanged { OnErr result (self.new ≡ self.old) }
-        ensures receives { OnOk result (Receives self.old self.new) }
+        ensures receives { IfOk result (λ answer. Receives (slice_get from.now.log k) answer self.old self.new) }
     {
         let Some(datagram) = from.logged(k) else {
             return Err(Refusal::NoSuchDatagram);
@@ -168,7 +258,7 @@ impl End {
         if has_late(&datagram.marks, &from.channels, &self.channels) {
             return Err(Refusal::Late);
         }
-        Ok(self.host.receive(&datagram.text))
+        Ok(receive(&mut self.peer, self.clock, &datagram.text))
     }
 
     /// The host may put out a datagram, which is logged. A refusal changes nothing.
@@ -177,25 +267,19 @@ impl End {
         ensures unchanged { OnErr result (self.new ≡ self.old) }
         ensures turns { IfOk result (λ sent. Turns other.now self.old sent self.new) }
     {
-        let Ok(mut text) = Vec::with_capacity(alloc, MAX_DATAGRAM) else {
+        let Ok(room) = Vec::with_capacity(alloc, MAX_DATAGRAM) else {
             return Err(Refusal::Memory);
         };
-        let Ok(mut marks) = Vec::with_capacity(alloc, MAX_COMMANDS) else {
+        let Ok(marks) = Vec::with_capacity(alloc, MAX_COMMANDS) else {
             return Err(Refusal::Memory);
         };
         if self.log.reserve(1).is_err() {
             return Err(Refusal::Memory);
         }
-        let mut buf = [0; MAX_DATAGRAM];
-        let Some(len) = self.host.service(&mut buf) else {
+        let Some(text) = emit(&mut self.peer, self.clock, room) else {
             return Ok(None);
         };
-        let _ = text.extend_from_slice(&buf[..len]);
-        text.shrink_to_fit();
-        read_marks(&text, &mut marks);
-        marks.shrink_to_fit();
-        count_all(&mut self.channels, &marks);
-        note_reach(&mut marks, &self.channels, &other.channels);
+        let marks = marks_of(&text, marks, &mut self.channels, &other.channels);
         let number = self.log.len() as u64;
         self.log.push_reserved(Datagram { text, marks });
         Ok(Some(number))
@@ -207,29 +291,32 @@ impl End {
         ensures unchanged { OnErr result (self.new ≡ self.old) }
         ensures took { IfOk result (λ event. Took self.old event self.new) }
     {
-        let Some(next) = self.host.next() else {
-            return Ok(None);
-        };
-        let packet = copy_of(next)?;
-        let told = copy_of(next)?;
         if self.events.reserve(1).is_err() {
             return Err(Refusal::Memory);
         }
+        let Some(next) = self.peer.next_packet() else {
+            let Some((event, told)) = next_word(&mut self.peer) else {
+                return Ok(None);
+            };
+            self.events.push_reserved(told);
+            return Ok(Some(event));
+        };
+        let packet = copy_of(next)?;
+        let told = copy_of(next)?;
         if !keep_taken(&mut self.channels, packet) {
             return Err(Refusal::Memory);
         }
-        self.events.push_reserved(receive_event(told));
-        match self.host.take() {
-            Some(packet) => Ok(Some(receive_event(packet))),
-            None => Ok(None),
-        }
+        self.events
+            .push_reserved(event_of(PeerEvent::Receive { packet: told }));
+        Ok(next_receive(&mut self.peer))
     }
 
-    /// The clock goes on.
+    /// The clock goes on, and the peer is told.
     pub fn tick(&mut self, ms: u32)
         ensures { self.new ≡ ticked_end self.old ms }
     {
-        self.host.tick(ms);
+        self.clock = self.clock.wrapping_add(ms.min(LONGEST_TICK));
+        self.peer.tick(self.clock);
     }
 
     /// What the user submitted on a channel.

@@ -1,7 +1,7 @@
 //! What can happen in a world, and what is answered.
 
 use bytes::Bytes;
-use enet_host::{Event, PeerRef, Received};
+use enet_host::{DisconnectMode, Event, PeerRef, Received};
 
 /// One of the two hosts.
 #[derive(Clone, Copy, Debug, PartialEq, Eq)]
@@ -30,7 +30,7 @@ impl Side {
 /// What happens in a world. The refusals that it can meet are named in the order in which they are tested.
 #[derive(Debug, Drop)]
 pub enum WorldEvent {
-    /// The user of a side submits a packet to a peer: E2, E4, E5, E1.
+    /// The user of a side submits a packet to a peer: E2, E3, E4, E5, E1.
     Submit {
         side: Side,
         peer: PeerRef,
@@ -56,6 +56,13 @@ pub enum WorldEvent {
     Take {
         side: Side,
     },
+    /// The user of a side ends a connection, with a word for the other's user: E2, E3.
+    Disconnect {
+        side: Side,
+        peer: PeerRef,
+        how: DisconnectMode,
+        info: u32,
+    },
 }
 
 /// What a step answers.
@@ -63,7 +70,7 @@ pub enum WorldEvent {
 pub enum Answer {
     /// The peer that was made.
     Peer(PeerRef),
-    /// A submission or a tick was done.
+    /// A submission, a tick or a disconnect was done.
     Done,
     /// What the host answered to a datagram.
     Received(Received),

@@ -2,11 +2,11 @@
 //! and each host sees of the other only the bytes that the network brings.
 #![tactic(auto)]
 
+mod arriving;
 mod end;
 mod event;
-mod host;
+mod joining;
 mod log;
-mod packing;
 mod world;
 
 pub use event::{Answer, Side, WorldEvent};

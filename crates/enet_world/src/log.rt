@@ -1,9 +1,9 @@
 //! The datagrams that were put out, each with what tells later whether one of its commands is late.
 
 ghost use Rattle.std.specs.Prelude.{◌≡◌, ℕ, ◌+◌, ◌≤◌, ◌<◌, ◌^◌, [], ◌++◌, drop, length, map, option_to_list, vec_len, vec_capacity};
-ghost use Rattle.enet_world.specs.Lateness.{number_below, is_late, has_late};
 ghost use Rattle.enet_codec.specs.Message.{view};
-ghost use Rattle.enet_world.specs.Marks.{mark_of, MarksOf, MarksIn};
+ghost use Rattle.enet_world.specs.Lateness.{number_below, is_late, has_late};
+ghost use Rattle.enet_world.specs.Marks.{mark_as, mark_of, MarksOf, MarksIn, Counts};
 ghost use Rattle.enet_world.specs.Log.{greatest_at, counted, counted_all, reached};
 
 use enet_codec::{Command, Packet, read_command, read_header};
@@ -16,13 +16,23 @@ pub(crate) const MAX_COMMANDS: usize = 32;
 /// By how many numbers a command may be late.
 const LATEST: u64 = 32_768;
 
+/// What a command is to the test for lateness.
+#[derive(Clone, Copy, Debug, PartialEq, Eq)]
+pub(crate) enum MarkKind {
+    /// Sequenced data.
+    Data,
+    /// An acknowledgement: the other end gave the number.
+    Acknowledgement,
+    /// A command of channel 0xFF, which is counted and never late.
+    Control,
+}
+
 /// What is kept of a command of a datagram.
 #[derive(Clone, Copy, Debug)]
 pub(crate) struct Mark {
+    pub kind: MarkKind,
     /// The channel of the command, or of the command that it acknowledges.
     pub channel: u8,
-    /// Whether it is an acknowledgement, which means that the other end gave the number.
-    pub acknowledges: bool,
     /// The reliable number on the wire.
     pub number: u16,
     /// The greatest number that the end which gave it had sent on the channel, just after the datagram was put out.
@@ -63,31 +73,42 @@ impl Model for Kept {
     ghost view = { λ k. record { submitted = k.submitted.items; taken = k.taken.items; greatest = k.greatest } };
 }
 
-/// The mark of a command that takes part in the test for lateness: one of sequenced data, or an acknowledgement.
+/// The mark of a command, before its reach is noted. An unsequenced packet has none.
 fn mark_of(command: &Command<'_>) -> Option<Mark>
     ensures { result ≡ mark_of (view command.now) }
 {
-    match command {
+    match *command {
         Command::Acknowledge {
             head,
             received_number,
             ..
-        } => Some(Mark {
-            channel: head.channel,
-            acknowledges: true,
-            number: *received_number,
-            reach: 0,
-        }),
+        } => Some(mark_as(MarkKind::Acknowledgement, head.channel, received_number)),
         Command::SendReliable { head, .. }
         | Command::SendUnreliable { head, .. }
         | Command::SendFragment { head, .. }
-        | Command::SendUnreliableFragment { head, .. } => Some(Mark {
-            channel: head.channel,
-            acknowledges: false,
-            number: head.number,
-            reach: 0,
-        }),
-        _ => None,
+        | Command::SendUnreliableFragment { head, .. } => {
+            Some(mark_as(MarkKind::Data, head.channel, head.number))
+        }
+        Command::SendUnsequenced { .. } => None,
+        Command::Connect { head, .. }
+        | Command::VerifyConnect { head, .. }
+        | Command::Disconnect { head, .. }
+        | Command::Ping { head }
+        | Command::BandwidthLimit { head, .. }
+        | Command::ThrottleConfigure { head, .. } => {
+            Some(mark_as(MarkKind::Control, head.channel, head.number))
+        }
+    }
+}
+
+fn mark_as(kind: MarkKind, channel: u8, number: u16) -> Mark
+    ensures { result ≡ mark_as kind channel number }
+{
+    Mark {
+        kind,
+        channel,
+        number,
+        reach: 0,
     }
 }
 
@@ -104,7 +125,7 @@ fn push_mark(marks: &mut Vec<Mark>, command: &Command<'_>)
 }
 
 /// The bytes from a place on.
-fn bytes_after(bytes: &[u8], place: usize) -> &[u8]
+pub(crate) fn bytes_after(bytes: &[u8], place: usize) -> &[u8]
     requires { place ≤ length bytes.now }
     ensures { result.now ≡ drop place bytes.now }
 {
@@ -128,7 +149,7 @@ fn read_command_marks(commands: &[u8], marks: &mut Vec<Mark>)
 }
 
 /// Reads the marks of a datagram's commands, for which there is room.
-pub(crate) fn read_marks(text: &[u8], marks: &mut Vec<Mark>)
+fn read_marks(text: &[u8], marks: &mut Vec<Mark>)
     requires room { vec_len marks.old + 32 ≤ vec_capacity marks.old }
     requires empty { marks.old.items ≡ [] }
     ensures { MarksIn text.now marks.new.items }
@@ -153,7 +174,7 @@ fn count(channels: &mut [Kept], mark: Mark)
     ensures { channels.new ≡ counted channels.old mark }
 {
     let i = usize::from(mark.channel);
-    if mark.acknowledges || i >= channels.len() {
+    if mark.kind == MarkKind::Acknowledgement || i >= channels.len() {
         return;
     }
     let kept = &mut channels[i];
@@ -164,7 +185,7 @@ fn count(channels: &mut [Kept], mark: Mark)
 }
 
 /// Counts the commands of a datagram that is put out.
-pub(crate) fn count_all(channels: &mut [Kept], marks: &[Mark])
+fn count_all(channels: &mut [Kept], marks: &[Mark])
     ensures { channels.new ≡ counted_all channels.old marks.now }
 {
     for mark in marks {
@@ -176,7 +197,10 @@ pub(crate) fn count_all(channels: &mut [Kept], marks: &[Mark])
 fn reached(mark: Mark, own: &[Kept], other: &[Kept]) -> Mark
     ensures { result ≡ reached own.now other.now mark }
 {
-    let channels = if mark.acknowledges { other } else { own };
+    let channels = match mark.kind {
+        MarkKind::Acknowledgement => other,
+        MarkKind::Data | MarkKind::Control => own,
+    };
     Mark {
         reach: greatest_at(channels, mark.channel),
         ..mark
@@ -185,12 +209,26 @@ fn reached(mark: Mark, own: &[Kept], other: &[Kept]) -> Mark
 
 /// Notes in the marks of a datagram how far its numbers have come: on its own side for its commands, and on the other for
 /// what it acknowledges.
-pub(crate) fn note_reach(marks: &mut [Mark], own: &[Kept], other: &[Kept])
+fn note_reach(marks: &mut [Mark], own: &[Kept], other: &[Kept])
     ensures { marks.new ≡ map (reached own.now other.now) marks.old }
 {
     for mark in marks.iter_mut() {
         *mark = reached(*mark, own, other);
     }
+}
+
+/// Counts the commands of a datagram that is put out, and gives their marks, in a vector that has room for them.
+pub(crate) fn marks_of(text: &[u8], room: Vec<Mark>, own: &mut [Kept], other: &[Kept]) -> Vec<Mark>
+    requires room { vec_len room + 32 ≤ vec_capacity room }
+    requires empty { room.items ≡ [] }
+    ensures { Counts text.now own.old own.new other.now result.items }
+{
+    let mut marks = room;
+    read_marks(text, &mut marks);
+    marks.shrink_to_fit();
+    count_all(own, &marks);
+    note_reach(&mut marks, own, other);
+    marks
 }
 
 /// The greatest number that has this wire number and is at most `reach`.
@@ -204,7 +242,11 @@ fn number_below(reach: u64, wire: u16) -> u64
 fn is_late(mark: &Mark, sender: &[Kept], taker: &[Kept]) -> bool
     ensures { result ≡ is_late (greatest_at sender.now) (greatest_at taker.now) mark.now }
 {
-    let channels = if mark.acknowledges { taker } else { sender };
+    let channels = match mark.kind {
+        MarkKind::Acknowledgement => taker,
+        MarkKind::Data => sender,
+        MarkKind::Control => return false,
+    };
     let sent = greatest_at(channels, mark.channel);
     sent.saturating_sub(number_below(mark.reach, mark.number)) > LATEST
 }

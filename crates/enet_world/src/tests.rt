@@ -1,7 +1,7 @@
 use super::*;
 use bytes::Bytes;
 use enet_codec::Refusal;
-use enet_host::{Config, PeerRef, Received};
+use enet_host::{Config, DisconnectMode, PeerRef, Received};
 use std::alloc::{AllocError, Global};
 use std::test::Fail;
 
@@ -311,5 +311,99 @@ fn late_and_too_late(rt: HostRuntime) -> Result<(), Fail> {
         "[Ok(Received(Received { handled: 1, stop: None })), Ok(Taken(None)), Ok(Sent(None)), Err(Late), \
 Ok(Received(Received { handled: 1, stop: None })), Err(Late), Err(NoSuchDatagram)]";
     assert_eq!(rt; told.as_str(), want);
+    Ok(())
+}
+
+// A number more than 8,191 ahead of the oldest unacknowledged one is not sent: 256 datagrams of 32 commands go, so number 1
+// is never more than 8,191 late.
+#[test]
+fn resend_of_the_oldest_is_not_late(rt: HostRuntime) -> Result<(), Fail> {
+    let alloc = rt.alloc();
+    let mut world = World::joined(alloc, Config::standard(1, 1), Config::standard(1, 1))?;
+    for n in 0..40_000u32 {
+        let answer = world.step(submit(Side::A, PEER, 0, b""));
+        assert!(rt; answer.is_ok(), "packet {n}");
+    }
+    for k in 0..256u32 {
+        let answer = world.step(WorldEvent::Turn { side: Side::A });
+        assert!(rt;
+            matches!(&answer, Ok(Answer::Sent(Some(_)))),
+            "datagram {k}"
+        );
+    }
+    let events = vec![in alloc;
+        WorldEvent::Turn { side: Side::A },
+        WorldEvent::Tick {
+            side: Side::A,
+            ms: 500
+        },
+        WorldEvent::Turn { side: Side::A },
+        deliver(Side::B, 256),
+    ]?;
+    let told = steps(alloc, &mut world, events)?;
+    let want =
+        "[Ok(Sent(None)), Ok(Done), Ok(Sent(Some(256))), Ok(Received(Received { handled: 32, stop: None }))]";
+    assert_eq!(rt; told.as_str(), want);
+    Ok(())
+}
+
+fn disconnect(how: DisconnectMode) -> WorldEvent {
+    WorldEvent::Disconnect {
+        side: Side::A,
+        peer: PEER,
+        how,
+        info: 5,
+    }
+}
+
+// A peer that parts is refused what needs a connection, and takes nothing in; once its DISCONNECT has gone it has no name.
+#[test]
+fn peer_of_a_freed_slot(rt: HostRuntime) -> Result<(), Fail> {
+    let alloc = rt.alloc();
+    let mut world = World::joined(alloc, Config::standard(1, 1), Config::standard(1, 1))?;
+    let events = vec![in alloc;
+        submit(Side::B, PEER, 0, b"a"),
+        WorldEvent::Turn { side: Side::B },
+        disconnect(DisconnectMode::Now),
+        submit(Side::A, PEER, 0, b"b"),
+        disconnect(DisconnectMode::Ask),
+        deliver(Side::A, 0),
+        WorldEvent::Turn { side: Side::A },
+        submit(Side::A, PEER, 1, b"c"),
+        disconnect(DisconnectMode::Later),
+        deliver(Side::A, 0),
+    ]?;
+    let told = steps(alloc, &mut world, events)?;
+    let want = "[Ok(Done), Ok(Sent(Some(0))), Ok(Done), Err(NotConnected), Err(NotConnected), \
+Ok(Received(Received { handled: 0, stop: Some(UnknownPeer) })), Ok(Sent(Some(0))), Err(NoSuchPeer), Err(NoSuchPeer), \
+Ok(Received(Received { handled: 0, stop: Some(UnknownPeer) }))]";
+    assert_eq!(rt; told.as_str(), want);
+    Ok(())
+}
+
+// The PING is number 2 of channel 0xFF, since number 1 counts as sent.
+#[test]
+fn acknowledged_ping_is_not_late(rt: HostRuntime) -> Result<(), Fail> {
+    let alloc = rt.alloc();
+    let mut world = World::joined(alloc, Config::standard(1, 1), Config::standard(1, 1))?;
+    let events = vec![in alloc;
+        WorldEvent::Tick {
+            side: Side::A,
+            ms: 500
+        },
+        WorldEvent::Turn { side: Side::A },
+        deliver(Side::B, 0),
+        WorldEvent::Turn { side: Side::B },
+        deliver(Side::A, 0),
+    ]?;
+    let told = steps(alloc, &mut world, events)?;
+    let want =
+        "[Ok(Done), Ok(Sent(Some(0))), Ok(Received(Received { handled: 1, stop: None })), Ok(Sent(Some(0))), \
+Ok(Received(Received { handled: 1, stop: None }))]";
+    assert_eq!(rt; told.as_str(), want);
+    assert_eq!(rt;
+        world.datagram(Side::A, 0),
+        Some([0x80, 0, 0x01, 0xf4, 0x85, 0xff, 0, 2].as_slice())
+    );
     Ok(())
 }

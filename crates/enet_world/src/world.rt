@@ -3,7 +3,7 @@
 ghost use Rattle.std.specs.Prelude.{◌≡◌, ◌&&◌, true, false, OnErr, IfOk, IfErr};
 ghost use Rattle.std.specs.Option.{option_copied};
 ghost use Rattle.enet_host.specs.Config.{is_in_range};
-ghost use Rattle.enet_world.specs.World.{IsFreshWorld, Refuses, Happens, Runs, refusal_of, end_of, submitted_of, dispatched_of, events_of, datagram_of};
+ghost use Rattle.enet_world.specs.World.{fresh_world, Refuses, Happens, Runs, refusal_of, end_of, submitted_of, dispatched_of, events_of, datagram_of};
 
 use crate::end::End;
 use crate::event::{Answer, Side, WorldEvent};
@@ -24,11 +24,11 @@ pub struct World {
 impl Model for World {
     ghost use Rattle.enet_world.specs.World.{Joined};
     ghost use Rattle.std.specs.Coded.{codes};
-    ghost use Rattle.enet_receiver.specs.Codes.{receiving_code};
+    ghost use Rattle.enet_inbox.specs.Codes.{inbox_code};
 
     ghost Value = { Joined };
 
-    ghost coded = { Prim.hlevel (codes, receiving_code) };
+    ghost coded = { Prim.hlevel (codes, inbox_code) };
 
     ghost view = { λ w. record { a = w.a; b = w.b } };
 }
@@ -39,7 +39,7 @@ impl World {
     pub fn joined(alloc: Global, cfg_a: Config, cfg_b: Config) -> Result<World, Refusal>
         ensures out_of_range { is_in_range cfg_a && is_in_range cfg_b ≡ false → result ≡ Err Refusal.BadConfig }
         ensures in_range { is_in_range cfg_a && is_in_range cfg_b ≡ true → IfErr result (λ why. why ≡ Refusal.Memory) }
-        ensures fresh { IfOk result (IsFreshWorld cfg_a cfg_b) }
+        ensures fresh { IfOk result (λ w. w ≡ fresh_world cfg_a cfg_b) }
     {
         if !cfg_a.is_in_range() || !cfg_b.is_in_range() {
             return Err(Refusal::BadConfig);
@@ -124,6 +124,18 @@ impl World {
                     Side::B => self.b.take()?,
                 };
                 Ok(Answer::Taken(taken))
+            }
+            WorldEvent::Disconnect {
+                side,
+                peer,
+                how,
+                info,
+            } => {
+                match side {
+                    Side::A => self.a.disconnect(*peer, *how, *info)?,
+                    Side::B => self.b.disconnect(*peer, *how, *info)?,
+                }
+                Ok(Answer::Done)
             }
         }
     }

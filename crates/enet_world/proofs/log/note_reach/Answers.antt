@@ -1,12 +1,13 @@
-use Rattle.std.proofs.Common.{length, ◌<◌, arith, false, get_or}
+use Rattle.std.proofs.Common.{length, ◌<◌, arith, get_or}
 use Rattle.std.proofs.lemmas.List.{get_or_default}
 use Rattle.std.proofs.lemmas.List.Edits.{map_over_more}
 use Rattle.enet_world.specs.declared.log.Mark.{Mark}
+use Rattle.enet_world.specs.declared.log.MarkKind.TheVariants.{Data}
 use Rattle.enet_world.specs.Log.{reached}
 use Rattle.enet_world.proofs.log.note_reach.Goals as goal
 
 blank : Mark
-blank = record { channel = 0; acknowledges = false; number = 0; reach = 0 }
+blank = record { kind = Data; channel = 0; number = 0; reach = 0 }
 
 pub loop-mark-preserved : goal.loop-mark-preserved
 unfolding blank

@@ -1,0 +1,14 @@
+use Rattle.std.proofs.Common.{ℕ, List, length}
+use Rattle.enet_host.specs.declared.event.Received.{Received}
+use Rattle.enet_peer.specs.Peering.{Peering}
+use Rattle.enet_datagram.specs.Handling.{Handles}
+use Rattle.enet_datagram.proofs.obey.Given as goal
+
+-- what comes of the bytes that are left is what comes of all
+abbrev pub invariant-loop-rest : goal.invariant-loop-rest
+invariant-loop-rest l =
+    (answer : Received) (after : Peering) → Handles l.now l.sent l.handled l.rest l.peer.peer answer after
+    → Handles l.now l.sent 0 l.commands l.fn.peer.peer answer after
+
+abbrev pub decreases-loop-rest : goal.decreases-loop-rest
+decreases-loop-rest l = length l.rest

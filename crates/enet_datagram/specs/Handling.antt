@@ -1,0 +1,34 @@
+-- The commands of a datagram, one after another.
+use Rattle.std.specs.Prelude.{◌≡◌, ℕ, ◌+◌, ◌<◌, ◌≢◌, min, List, [], ◌++◌, Option, Some, None, Result, Ok, Err}
+use Rattle.enet_codec.specs.declared.shared.Stop.{Stop}
+use Rattle.enet_codec.specs.declared.shared.Stop.TheVariants as stop
+use Rattle.enet_codec.specs.Message.{Message, Spells}
+use Rattle.enet_host.specs.declared.event.Received.{Received}
+use Rattle.enet_peer.specs.Peering.{Peering}
+use Rattle.enet_peer.specs.Arrivals.{obeyed, Obeys}
+
+-- no command stands at the front of the bytes
+abbrev pub SpellsNone : List ℕ → Type 0
+SpellsNone bytes = (m : Message) (text rest : List ℕ) → bytes ≡ text ++ rest → Spells text m → ⊥
+
+-- the count stops at 2 ^ 32 - 1
+abbrev pub one_more : ℕ → ℕ
+one_more handled = min (handled + 1) 4294967295
+
+-- a command that stops the datagram counts only where it took effect
+abbrev pub counted : ℕ → Stop → ℕ
+counted handled stop.NoSentTime = one_more handled
+counted handled _ = handled
+
+-- the commands that bytes spell come to a peer at the time `now`, in a datagram that tells this sent time or none, `handled`
+-- having counted before: what is answered, and the peer after them
+pub data Handles (now : ℕ) (sent : Option ℕ) : ℕ → List ℕ → Peering → Received → Peering → Type 0 where
+  nothing_left : (handled : ℕ) (p : Peering) → Handles now sent handled [] p (record { handled = handled; stop = None }) p
+  no_command : (handled : ℕ) (bytes : List ℕ) (p : Peering) → bytes ≢ [] → SpellsNone bytes
+      → Handles now sent handled bytes p (record { handled = handled; stop = Some stop.BadCommand }) p
+  stops : (handled : ℕ) (text rest : List ℕ) (m : Message) (why : Stop) (p q : Peering) → Spells text m
+      → Obeys {T = Unit {0}} (Err why) (obeyed p now sent m) p q
+      → Handles now sent handled (text ++ rest) p (record { handled = counted handled why; stop = Some why }) q
+  goes_on : (handled : ℕ) (text rest : List ℕ) (m : Message) (answer : Received) (p q r : Peering) → Spells text m
+      → Obeys {T = Unit {0}} (Ok tt) (obeyed p now sent m) p q → Handles now sent (one_more handled) rest q answer r
+      → Handles now sent handled (text ++ rest) p answer r

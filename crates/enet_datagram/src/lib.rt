@@ -1,0 +1,64 @@
+//! The commands of a datagram of ENet 1.3, as they come to a peer one after another.
+#![tactic(auto)]
+
+ghost use Rattle.std.specs.Prelude.{◌≡◌, ◌≤◌, drop, length};
+ghost use Rattle.enet_datagram.specs.Handling.{Handles, counted, one_more};
+
+use enet_codec::{Stop, read_command};
+use enet_host::Received;
+use enet_peer::Peer;
+
+#[cfg(test)]
+mod tests;
+
+/// The commands of a datagram come to a peer at the time `now`, in milliseconds, one after another, until none is left or
+/// one stops the datagram. `sent` is the sent time that the datagram's header tells, and `commands` is all that stands behind
+/// the header.
+///
+/// S6 where no command stands at the front of what is left, else the stop of the peer's call. The commands before a stop have
+/// taken effect, and none after it is looked at. `handled` counts the commands that took effect or were passed over, and that
+/// of S12, which took effect too; it stops at 4,294,967,295.
+pub fn obey(peer: &mut Peer, now: u32, sent: Option<u16>, commands: &[u8]) -> Received
+    ensures { Handles now sent 0 commands.now peer.old.peer result peer.new.peer }
+{
+    let mut handled: u32 = 0;
+    let mut rest = commands;
+    while !rest.is_empty() {
+        let Some((command, len)) = read_command(rest) else {
+            return Received {
+                handled,
+                stop: Some(Stop::BadCommand),
+            };
+        };
+        if let Err(stop) = peer.command(now, sent, &command) {
+            return Received {
+                handled: counted(handled, stop),
+                stop: Some(stop),
+            };
+        }
+        rest = bytes_after(rest, len);
+        handled = handled.saturating_add(1);
+    }
+    Received {
+        handled,
+        stop: None,
+    }
+}
+
+/// How many commands count once one has stopped the datagram: that of S12 took effect.
+fn counted(handled: u32, stop: Stop) -> u32
+    ensures { result ≡ counted handled stop }
+{
+    match stop {
+        Stop::NoSentTime => handled.saturating_add(1),
+        _ => handled,
+    }
+}
+
+/// The bytes from a place on.
+fn bytes_after(bytes: &[u8], place: usize) -> &[u8]
+    requires { place ≤ length bytes.now }
+    ensures { result.now ≡ drop place bytes.now }
+{
+    &bytes[place..]
+}

@@ -1,0 +1,202 @@
+//! What is drawn: the setting of a list, and its events.
+
+ghost use Rattle.std.specs.Prelude.{◌<◌, ◌≤◌};
+
+use bytes::Bytes;
+use enet_host::{DisconnectMode, PeerRef};
+use enet_world::{Side, WorldEvent};
+use rand_core::{Rng, SeedableRng};
+use rand_pcg::Pcg32;
+use std::alloc::{AllocError, Global};
+
+/// The only peer of each side.
+const PEER: PeerRef = PeerRef {
+    slot: 0,
+    generation: 0,
+};
+
+/// What a datagram needs in bytes beside a piece of a packet.
+const OVERHEAD: u32 = 28;
+
+/// The flags that are drawn: RELIABLE 1, UNSEQUENCED 2, UNRELIABLE_FRAGMENT 8.
+const FLAGS: [u8; 8] = [1, 1, 1, 0, 0, 2, 8, 11];
+
+/// What both sides of a list have in common.
+#[derive(Clone, Copy, Debug)]
+pub struct Setting {
+    pub channels: u8,
+    pub mtu: u32,
+    /// Bytes per second that each side sends; 0 says that there is no limit.
+    pub outgoing: u32,
+    /// Bytes of a peer's packets at which no further packet begins.
+    pub max_waiting: u32,
+    /// The clock at the beginning, in milliseconds.
+    pub clock: u32,
+    ghost least: { 576 ≤ mtu },
+    ghost most: { mtu ≤ 4096 },
+}
+
+/// The datagrams from one side to the other.
+#[derive(Clone, Copy, Debug)]
+pub struct Way {
+    /// How many were put out.
+    pub sent: u64,
+    /// The first after all those that came.
+    pub first: u64,
+}
+
+/// A generator, and how many packets were drawn of the list that is being drawn.
+#[derive(Drop)]
+pub struct Draw {
+    generator: Pcg32,
+    packets: u8,
+}
+
+impl Draw {
+    pub fn new(seed: u64) -> Draw {
+        Draw {
+            generator: Pcg32::seed_from_u64(seed),
+            packets: 0,
+        }
+    }
+
+    /// A number below a bound.
+    fn below(&mut self, bound: u32) -> u32
+        requires { 0 < bound }
+        ensures { result < bound }
+    {
+        self.generator.next_u32() % bound
+    }
+
+    fn mtu(&mut self) -> u32
+        ensures least { 576 ≤ result }
+        ensures most { result ≤ 4096 }
+    {
+        match self.below(4) {
+            0 => 1392,
+            1 => 600,
+            _ => 576,
+        }
+    }
+
+    /// The setting of the next list.
+    pub fn setting(&mut self) -> Setting {
+        self.packets = 0;
+        let channels = (1 + self.below(3)) as u8;
+        let mtu = self.mtu();
+        let outgoing = if self.below(4) == 0 { 65536 } else { 0 };
+        let max_waiting = if self.below(4) == 0 { 3000 } else { 33_554_432 };
+        Setting {
+            channels,
+            mtu,
+            outgoing,
+            max_waiting,
+            clock: self.generator.next_u32(),
+        }
+    }
+
+    /// A side.
+    pub fn side(&mut self) -> Side {
+        if self.below(2) == 0 { Side::A } else { Side::B }
+    }
+
+    /// Something that happens at a side, to which so much is on its way.
+    pub fn event(
+        &mut self,
+        alloc: Global,
+        setting: Setting,
+        side: Side,
+        way: Way,
+    ) -> Result<WorldEvent, AllocError> {
+        match self.below(512) {
+            0 => Ok(self.disconnect(side)),
+            1..100 => self.submit(alloc, setting, side),
+            100..240 => {
+                let k = self.datagram(way);
+                Ok(WorldEvent::Deliver { side, k })
+            }
+            240..340 => Ok(WorldEvent::Turn { side }),
+            340..370 => {
+                let ms = self.below(2001);
+                Ok(WorldEvent::Tick { side, ms })
+            }
+            _ => Ok(WorldEvent::Take { side }),
+        }
+    }
+
+    fn disconnect(&mut self, side: Side) -> WorldEvent {
+        let how = match self.below(3) {
+            0 => DisconnectMode::Now,
+            1 => DisconnectMode::Ask,
+            _ => DisconnectMode::Later,
+        };
+        WorldEvent::Disconnect {
+            side,
+            peer: PEER,
+            how,
+            info: 7,
+        }
+    }
+
+    /// The number of a datagram that comes: mostly the first after all those that came or the one after that, else one of the
+    /// last four, or any. It may name one that wasn't put out.
+    fn datagram(&mut self, way: Way) -> u64 {
+        match self.below(8) {
+            0..5 => way.first,
+            5 => way.first.saturating_add(1),
+            6 => self.back(way.sent, 4),
+            _ => self.back(way.sent, 1000),
+        }
+    }
+
+    /// The number of one of the last few of so many datagrams.
+    fn back(&mut self, sent: u64, few: u64) -> u64 {
+        let among = sent.min(few).clamp(1, 1000) as u32;
+        let back = self.below(among);
+        sent.saturating_sub(1).saturating_sub(u64::from(back))
+    }
+
+    fn submit(
+        &mut self,
+        alloc: Global,
+        setting: Setting,
+        side: Side,
+    ) -> Result<WorldEvent, AllocError> {
+        let channel = (self.below(255) % u32::from(setting.channels.max(1))) as u8;
+        let flags = FLAGS[self.below(8) as usize];
+        let len = self.length(setting.mtu - OVERHEAD);
+        self.packets = self.packets.wrapping_add(1);
+        Ok(WorldEvent::Submit {
+            side,
+            peer: PEER,
+            channel,
+            flags,
+            body: body(alloc, self.packets, len)?,
+        })
+    }
+
+    /// The length of a body, where a piece has so many bytes: empty, short, just cut or not, or cut into two to four pieces.
+    fn length(&mut self, piece: u32) -> u32
+        requires least { 0 < piece }
+        requires most { piece ≤ 4096 }
+    {
+        match self.below(8) {
+            0 => 0,
+            1 => 1 + self.below(3),
+            2..6 => 4 + self.below(60),
+            6 => piece + self.below(2),
+            _ => piece + 1 + self.below(3 * piece),
+        }
+    }
+}
+
+/// A body whose bytes count up from `first`. Two of one list that aren't empty differ in their first byte.
+fn body(alloc: Global, first: u8, len: u32) -> Result<Bytes, AllocError> {
+    let mut bytes = Vec::with_capacity(alloc, len as usize)?;
+    let mut next = first;
+    for _ in 0..len {
+        bytes.push(next)?;
+        next = next.wrapping_add(1);
+    }
+    Ok(Bytes::from_vec(bytes)?)
+}

@@ -1,0 +1,42 @@
+//! Draws 1,000 lists of 200 events on a joined pair of peers, lets each happen, and tests after each that what the users
+//! were given follows what was submitted. The draws begin at seed 1, so each run is the same. It prints how much was
+//! submitted and dispatched; where a list does not follow it ends with status 1 and that list's number.
+#![tactic(auto)]
+
+mod counting;
+mod drawing;
+mod following;
+mod list;
+mod outcome;
+#[cfg(test)]
+mod tests;
+
+use anyhow::{Result, bail};
+use counting::Counts;
+use drawing::Draw;
+use outcome::verdict;
+use std::alloc::Global;
+
+const LISTS: u32 = 1000;
+
+const SEED: u64 = 1;
+
+fn main(rt: HostRuntime) -> Result<()> {
+    run(&rt, rt.alloc())
+}
+
+fn run<R: Print>(rt: &R, alloc: Global) -> Result<()> {
+    let mut draw = Draw::new(SEED);
+    let mut counts = Counts::none();
+    for number in 1..=LISTS {
+        let setting = draw.setting();
+        let world = list::happens(alloc, &mut draw, setting)?;
+        if let Err(fault) = verdict(&world, setting) {
+            bail!("list {number}: {fault}");
+        }
+        counts.add_world(&world, setting);
+    }
+    println!(rt; "{LISTS} lists of {} events: all follow", list::EVENTS)?;
+    println!(rt; "{counts}")?;
+    Ok(())
+}

@@ -1,0 +1,102 @@
+//! What the reading calls of a world tell, as one number.
+
+use enet_codec::Packet;
+use enet_host::Event;
+use enet_world::{Side, World};
+
+/// How many channels and datagrams of a side are read. No row has more.
+const CHANNELS: u8 = 2;
+
+const DATAGRAMS: u64 = 4;
+
+/// A sum over all that the reading calls of a world tell: each list with its length and each packet, event and datagram with
+/// its bytes. What tells the same has the same sum, and what differs hardly ever has.
+#[derive(Clone, Copy, PartialEq, Eq)]
+pub(crate) struct Seen {
+    sum: u64,
+}
+
+impl Seen {
+    /// What a world tells now.
+    pub(crate) fn of(world: &World) -> Seen {
+        let mut seen = Seen { sum: 0 };
+        seen.add_side(world, Side::A);
+        seen.add_side(world, Side::B);
+        seen
+    }
+
+    fn add(&mut self, word: u64) {
+        self.sum = self
+            .sum
+            .wrapping_add(word)
+            .wrapping_add(1)
+            .wrapping_mul(0x9e37_79b9_7f4a_7c15)
+            .rotate_left(29);
+    }
+
+    fn add_bytes(&mut self, bytes: &[u8]) {
+        self.add(bytes.len() as u64);
+        for byte in bytes {
+            self.add(u64::from(*byte));
+        }
+    }
+
+    fn add_packet(&mut self, packet: &Packet) {
+        self.add(u64::from(packet.channel));
+        self.add(u64::from(packet.flags));
+        self.add_bytes(packet.body.as_slice());
+    }
+
+    fn add_packets(&mut self, packets: &[Packet]) {
+        self.add(packets.len() as u64);
+        for packet in packets {
+            self.add_packet(packet);
+        }
+    }
+
+    fn add_event(&mut self, event: &Event) {
+        match event {
+            Event::Connect { info, .. } => {
+                self.add(1);
+                self.add(u64::from(*info));
+            }
+            Event::Receive { packet, .. } => {
+                self.add(2);
+                self.add_packet(packet);
+            }
+            Event::Disconnect { info, .. } => {
+                self.add(3);
+                self.add(u64::from(*info));
+            }
+            Event::Refused { number, .. } => {
+                self.add(4);
+                self.add(u64::from(*number));
+            }
+        }
+    }
+
+    fn add_events(&mut self, events: &[Event]) {
+        self.add(events.len() as u64);
+        for event in events {
+            self.add_event(event);
+        }
+    }
+
+    fn add_datagrams(&mut self, world: &World, side: Side) {
+        for k in 0..DATAGRAMS {
+            match world.datagram(side, k) {
+                Some(bytes) => self.add_bytes(bytes),
+                None => self.add(u64::MAX),
+            }
+        }
+    }
+
+    fn add_side(&mut self, world: &World, side: Side) {
+        for channel in 0..CHANNELS {
+            self.add_packets(world.submitted(0, side, channel));
+            self.add_packets(world.dispatched(0, side, channel));
+        }
+        self.add_events(world.events(0, side));
+        self.add_datagrams(world, side);
+    }
+}

@@ -1,0 +1,18 @@
+use Rattle.std.proofs.Common.{◌≡◌, List, length, map, rules, ap, ◌∙◌}
+use Rattle.std.proofs.lemmas.List.{with_items_is}
+use Rattle.enet_world.specs.declared.log.Mark.{Mark}
+use Rattle.enet_world.specs.Log.{reached}
+use Rattle.enet_world.proofs.log.marks_of.Goals as goal
+
+pub returns : goal.returns
+returns c =
+    let long : length c.note_reach.new.marks ≡ c.shrink_to_fit.new.self.len = search rules in
+    let was : c.deref_mut.result.now ≡ c.read_marks.new.marks.items = search rules in
+    record {
+      read = c.read_marks.new.marks.items;
+      marked = search rules;
+      counted = search rules;
+      noted =
+          with_items_is c.shrink_to_fit.new.self c.note_reach.new.marks long
+          ∙ (c.note_reach.ensures ∙ ap (λ (x : List Mark). map (reached c.count_all.new.channels c.args.other.now) x) was);
+    }
