@@ -1,5 +1,5 @@
 -- A header at the front of a datagram.
-use Rattle.std.proofs.Common.{◌≡◌, ℕ, List, take, drop}
+use Rattle.std.proofs.Common.{ℕ, List, take, drop}
 use Rattle.enet_codec.specs.declared.header.Header.{Header}
 use Rattle.enet_codec.specs.Header.{SpellsHeader}
 use Rattle.enet_world.specs.Arriving.{Heads}

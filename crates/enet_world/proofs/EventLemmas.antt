@@ -1,17 +1,17 @@
 -- The events of a peer.
-use Rattle.std.proofs.Common.{◌≡◌, ℕ, Bool, true, false, List, [], ◌∷◌, ◌++◌, Option, Some, None, slice_get, refl, sym, subst, ap, ◌∙◌}
+use Rattle.std.proofs.Common.{◌≡◌, ℕ, true, List, [], ◌∷◌, ◌++◌, Option, Some, None, slice_get, refl, sym, subst, ap, ◌∙◌}
 use Rattle.enet_codec.specs.declared.shared.Packet.{Packet}
 use Rattle.enet_peer.specs.declared.parts.PeerEvent.{PeerEvent}
 use Rattle.enet_peer.specs.declared.parts.PeerEvent.TheVariants as told
 use Rattle.enet_peer.specs.declared.parts.PeerState.{PeerState}
 use Rattle.enet_peer.specs.declared.parts.PeerState.TheVariants as state
 use Rattle.enet_peer.specs.Peering.{Peering}
-use Rattle.enet_peer.specs.Calls.{Taken, last_event, packet_event, event_after, next_event, Takes}
+use Rattle.enet_peer.specs.Calls.{Taken, last_event, packet_event, event_after, next_event}
 use Rattle.enet_peer.specs.Next.{packet_after, next_packet}
 use Rattle.enet_host.specs.declared.event.Event.{Event}
 use Rattle.enet_world.proofs.EndLemmas.{same-end}
 use Rattle.enet_world.specs.Log.{Kept, with_kept, with_taken}
-use Rattle.enet_world.specs.World.{Ending, is_word, event_of, with_event, TakesWord, TakesPacket, Took}
+use Rattle.enet_world.specs.World.{Ending, is_word, event_of, TakesWord, TakesPacket, Took}
 
 -- one who takes no packet takes a word
 is-word : (e f : PeerEvent) → is_word f ≡ true → e ≡ f → is_word e ≡ true

@@ -1,5 +1,5 @@
 -- Which refusal comes first.
-use Rattle.std.proofs.Common.{◌≡◌, ℕ, Bool, true, false, if◌then◌else◌, Option, Some, None, Result, Err, List, length, refl, sym, subst}
+use Rattle.std.proofs.Common.{◌≡◌, ℕ, Bool, true, false, if◌then◌else◌, Option, Some, None, Err, List, length, refl, sym, subst}
 use Rattle.enet_codec.specs.declared.shared.Refusal.{Refusal}
 use Rattle.enet_codec.specs.declared.shared.Refusal.TheVariants.{Memory, NoSuchPeer}
 use Rattle.enet_host.specs.declared.event.PeerRef.{PeerRef}
@@ -16,14 +16,14 @@ second true why first h = absurd (cc)
 second false why first h = h
 
 refused-memory : (b : Bool) (spent why : Refusal) (first : Option Refusal) → calls.Refuses why first
-    → (if b then Some spent else first) ≡ None → Refuses {T = Unit {0}} (if b then Some spent else first) (Err why)
+    → (if b then Some spent else first) ≡ None → Refuses {T = Unit {0}} true (if b then Some spent else first) (Err why)
 refused-memory b spent why first h none =
-    subst (λ (f : Option Refusal). Refuses {T = Unit {0}} f (Err why)) (sym none) (memory-alone why first h (second b spent first none))
+    subst (λ (f : Option Refusal). Refuses {T = Unit {0}} true f (Err why)) (sym none) (refl, memory-alone why first h (second b spent first none))
 
 -- what the peer refuses of a packet that no earlier refusal meets; `v` is what was seen of the side before
 pub submit-refused : (v e : Ending) (peer : PeerRef) (channel len : ℕ) (why : Refusal) (copy body : List ℕ) → v ≡ e → copy ≡ body → len ≡ length body
     → calls.Refuses why (calls.submission_refusal v.peer channel (length copy)) → submission_refusal e peer channel len ≡ None
-    → Refuses {T = Unit {0}} (submission_refusal e peer channel (length body)) (Err why)
+    → Refuses {T = Unit {0}} true (submission_refusal e peer channel (length body)) (Err why)
 submit-refused v e peer channel len why copy body seen same long refuses none =
     let here : calls.Refuses why (calls.submission_refusal e.peer channel (length body)) =
     subst (λ (b : List ℕ). calls.Refuses why (calls.submission_refusal e.peer channel (length b))) same

@@ -1,5 +1,5 @@
 -- The world: two ends, each a clock and a peer with what was seen of them.
-use Rattle.std.specs.Prelude.{◌≡◌, ℕ, ◌+◌, ◌%◌, ◌^◌, List, [], ◌∷◌, ◌++◌, length, take, min, Result, Err, OnErr, IfOk, IfErr, MatchOption, slice_get, Bool, true, false, ◌&&◌, ◌||◌, not, if◌then◌else◌, ◌==◌, Option, Some, None}
+use Rattle.std.specs.Prelude.{◌≡◌, ℕ, ◌+◌, ◌%◌, ◌^◌, List, [], ◌∷◌, ◌++◌, length, take, min, Result, Err, OnErr, IfOk, IfErr, MatchOption, slice_get, Bool, true, false, ◌&&◌, ◌||◌, not, if◌then◌else◌, ◌==◌, Option, Some, None, IsTrue}
 use Rattle.enet_codec.specs.declared.shared.Packet.{Packet}
 use Rattle.enet_codec.specs.declared.shared.Refusal.{Refusal}
 use Rattle.enet_codec.specs.declared.shared.Refusal.TheVariants.{Memory, NoSuchPeer, NotConnected, NoSuchDatagram, Late}
@@ -128,9 +128,18 @@ refusal_of w (happen.Tick side ms) = None
 refusal_of w (happen.Take side) = None
 refusal_of w (happen.Disconnect side peer how info) = disconnect_refusal (end_of w side) peer how info
 
--- the answer where this is the first refusal but want of memory that applies, or none is
-abbrev pub Refuses : {T : Type 0} → Option Refusal → Result T Refusal → Type 0
-Refuses first result = MatchOption first (IfErr result (λ why. why ≡ Memory)) (λ why. result ≡ Err why)
+-- the events that may find no memory
+abbrev pub takes_memory : WorldEvent → Bool
+takes_memory (happen.Submit side peer channel flags body) = true
+takes_memory (happen.Deliver side k) = false
+takes_memory (happen.Turn side) = true
+takes_memory (happen.Tick side ms) = false
+takes_memory (happen.Take side) = true
+takes_memory (happen.Disconnect side peer how info) = false
+
+-- the answer where this is the first refusal but want of memory that applies, or none is: then only what takes memory is refused
+abbrev pub Refuses : {T : Type 0} → Bool → Option Refusal → Result T Refusal → Type 0
+Refuses takes first result = MatchOption first (IfErr result (λ why. IsTrue takes × (why ≡ Memory))) (λ why. result ≡ Err why)
 
 -- the user submits a packet, which is kept
 abbrev pub submitted_end : ℕ → ℕ → List ℕ → Ending → Ending
@@ -226,7 +235,7 @@ Happens old _ _ new = ⊥
 
 -- what a step answers, and the world after it: the first refusal that applies, with nothing changed, or what happens
 pub record Steps (old : Joined) (event : WorldEvent) (answer : Result Answer Refusal) (new : Joined) : Type 0 where
-  pub refused : Refuses (refusal_of old event) answer
+  pub refused : Refuses (takes_memory event) (refusal_of old event) answer
   pub unchanged : OnErr answer (new ≡ old)
   pub happened : IfOk answer (λ (a : Answer). Happens old event a new)
 

@@ -1,6 +1,6 @@
 //! One side of a world: its clock and its peer, and what was seen of them.
 
-ghost use Rattle.std.specs.Prelude.{◌≡◌, ℕ, ◌+◌, ◌≤◌, ◌<◌, [], true, length, vec_len, vec_capacity, OnOk, OnErr, IfOk, IfErr, IfSome, IfNone, IsTrue, slice_get, Some, None};
+ghost use Rattle.std.specs.Prelude.{◌≡◌, ℕ, ◌+◌, ◌≤◌, ◌<◌, [], true, length, vec_len, vec_capacity, OnOk, OnErr, IfOk, IfErr, IfSome, IfNone, IsTrue, slice_get, Some, None, false};
 ghost use Rattle.std.specs.Bool.{OnFalse};
 ghost use Rattle.std.specs.Option.{option_copied};
 ghost use Rattle.enet_codec.specs.declared.shared.Packet.{Packet};
@@ -195,7 +195,7 @@ impl End {
         flags: u8,
         body: &Bytes,
     ) -> Result<(), Refusal>
-        ensures refused { Refuses (submission_refusal self.old peer channel (length body.now)) result }
+        ensures refused { Refuses true (submission_refusal self.old peer channel (length body.now)) result }
         ensures unchanged { OnErr result (self.new ≡ self.old) }
         ensures submits { OnOk result (self.new ≡ submitted_end channel flags body.now self.old) }
     {
@@ -226,7 +226,7 @@ impl End {
         how: DisconnectMode,
         info: u32,
     ) -> Result<(), Refusal>
-        ensures refused { Refuses (disconnect_refusal self.old peer how info) result }
+        ensures refused { Refuses false (disconnect_refusal self.old peer how info) result }
         ensures unchanged { OnErr result (self.new ≡ self.old) }
         ensures disconnects { OnOk result (Disconnects how info self.old self.new) }
     {
@@ -248,7 +248,7 @@ impl End {
 
     /// The network brings a datagram of the other side. A refusal changes nothing.
     pub fn deliver(&mut self, from: &End, k: u64) -> Result<Received, Refusal>
-        ensures refused { Refuses (delivery_refusal from.now self.old k) result }
+        ensures refused { Refuses false (delivery_refusal from.now self.old k) result }
         ensures unchanged { OnErr result (self.new ≡ self.old) }
         ensures receives { IfOk result (λ answer. Receives (slice_get from.now.log k) answer self.old self.new) }
     {

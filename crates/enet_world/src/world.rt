@@ -3,7 +3,7 @@
 ghost use Rattle.std.specs.Prelude.{◌≡◌, ◌&&◌, true, false, OnErr, IfOk, IfErr};
 ghost use Rattle.std.specs.Option.{option_copied};
 ghost use Rattle.enet_host.specs.Config.{is_in_range};
-ghost use Rattle.enet_world.specs.World.{fresh_world, Refuses, Happens, Runs, refusal_of, end_of, submitted_of, dispatched_of, events_of, datagram_of};
+ghost use Rattle.enet_world.specs.World.{fresh_world, Refuses, Happens, Runs, refusal_of, takes_memory, end_of, submitted_of, dispatched_of, events_of, datagram_of};
 
 use crate::end::End;
 use crate::event::{Answer, Side, WorldEvent};
@@ -53,9 +53,9 @@ impl World {
         })
     }
 
-    /// Makes one event happen. A refusal changes nothing.
+    /// Makes one event happen. A refusal changes nothing. E1 comes for a submission, a turn and a take alone.
     pub fn step(&mut self, event: WorldEvent) -> Result<Answer, Refusal>
-        ensures refused { Refuses (refusal_of self.old event) result }
+        ensures refused { Refuses (takes_memory event) (refusal_of self.old event) result }
         ensures unchanged { OnErr result (self.new ≡ self.old) }
         ensures happens { IfOk result (λ answer. Happens self.old event answer self.new) }
     {
@@ -79,7 +79,7 @@ impl World {
     }
 
     fn happen(&mut self, event: &WorldEvent) -> Result<Answer, Refusal>
-        ensures refused { Refuses (refusal_of self.old event.now) result }
+        ensures refused { Refuses (takes_memory event.now) (refusal_of self.old event.now) result }
         ensures unchanged { OnErr result (self.new ≡ self.old) }
         ensures happens { IfOk result (λ answer. Happens self.old event.now answer self.new) }
     {

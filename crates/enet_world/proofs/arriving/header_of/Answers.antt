@@ -1,4 +1,4 @@
-use Rattle.std.proofs.Common.{◌≡◌, ℕ, drop, arith, rules, sym, ap, ◌∙◌}
+use Rattle.std.proofs.Common.{ℕ, drop, arith, rules, sym, ap, ◌∙◌}
 use Rattle.enet_connect.specs.declared.terms.Terms.{Terms}
 use Rattle.enet_world.specs.Arriving.{too_short, compressed, cut_short, unknown_peer, wrong_session}
 use Rattle.enet_world.proofs.ArrivalLemmas.{heads-at}

@@ -1,4 +1,4 @@
-use Rattle.std.proofs.Common.{◌≡◌, arith}
+use Rattle.std.proofs.Common.{arith}
 use Rattle.enet_world.proofs.LogLemmas.{joined-of}
 use Rattle.enet_world.proofs.joining.joined_channels.Goals as goal
 

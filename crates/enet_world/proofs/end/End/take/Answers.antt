@@ -1,4 +1,4 @@
-use Rattle.std.proofs.Common.{◌≡◌, length, rules, arith, sym, refl, ◌∙◌}
+use Rattle.std.proofs.Common.{◌≡◌, length, rules, sym, refl, ◌∙◌}
 use Rattle.std.specs.Vec.{with_items}
 use Rattle.std.proofs.lemmas.List.{with_items_is}
 use Rattle.enet_world.specs.World.{Ending}
