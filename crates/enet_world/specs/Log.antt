@@ -1,7 +1,8 @@
 -- What the world keeps of the two hosts.
-use Rattle.std.specs.Prelude.{ℕ, ◌+◌, ◌%◌, ◌^◌, ◌-◌, ◌==◌, min, if◌then◌else◌, List, [], ◌∷◌, ◌++◌, replicate, slice_set}
+use Rattle.std.specs.Prelude.{ℕ, ◌+◌, ◌%◌, ◌^◌, ◌-◌, min, nat_lt, if◌then◌else◌, List, [], ◌∷◌, ◌++◌, replicate, slice_set}
 use Rattle.std.specs.List.{slice_index_or, fold}
 use Rattle.enet_codec.specs.declared.shared.Packet.{Packet}
+use Rattle.enet_seq.specs.Windows.{ahead}
 use Rattle.enet_world.specs.declared.log.Mark.{Mark}
 use Rattle.enet_world.specs.declared.log.MarkKind.{MarkKind}
 use Rattle.enet_world.specs.declared.log.MarkKind.TheVariants.{Data, Acknowledgement, Control}
@@ -42,10 +43,11 @@ with_submission p k = record k { submitted = k.submitted ++ p ∷ [] }
 abbrev pub with_taken : Packet → Kept → Kept
 with_taken p k = record k { taken = k.taken ++ p ∷ [] }
 
--- the greatest number after a command of this number was put out: one more where the command has the next number, and
--- at most 2 ^ 64 - 1
+-- the greatest number after a command of this number was put out: a number less than 32,768 ahead of it is sent for the first time,
+-- whatever numbers were dropped unsent in between. It is at most 2 ^ 64 - 1
 abbrev pub greatest_after : ℕ → ℕ → ℕ
-greatest_after greatest number = if min (greatest + 1) (2 ^ 64 - 1) % 65536 == number then min (greatest + 1) (2 ^ 64 - 1) else greatest
+greatest_after greatest number =
+    if nat_lt (ahead (greatest % 65536) number) 32768 then min (greatest + ahead (greatest % 65536) number) (2 ^ 64 - 1) else greatest
 
 abbrev pub with_number : Mark → Kept → Kept
 with_number m k = record k { greatest = greatest_after k.greatest m.number }

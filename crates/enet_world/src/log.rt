@@ -169,7 +169,8 @@ pub(crate) fn greatest_at(channels: &[Kept], channel: u8) -> u64
     }
 }
 
-/// Counts a command that is put out: the greatest number of its channel grows by one where it has the next number.
+/// Counts a command that is put out: a number less than 32,768 ahead of the greatest of its channel is sent for the first time,
+/// whatever numbers were dropped unsent in between.
 fn count(channels: &mut [Kept], mark: Mark)
     ensures { channels.new ≡ counted channels.old mark }
 {
@@ -178,9 +179,9 @@ fn count(channels: &mut [Kept], mark: Mark)
         return;
     }
     let kept = &mut channels[i];
-    let next = kept.greatest.saturating_add(1);
-    if next % 65536 == u64::from(mark.number) {
-        kept.greatest = next;
+    let distance = ahead((kept.greatest % 65536) as u16, mark.number);
+    if distance < 32_768 {
+        kept.greatest = kept.greatest.saturating_add(u64::from(distance));
     }
 }
 

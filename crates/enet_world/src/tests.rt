@@ -1,7 +1,7 @@
 use super::*;
 use bytes::Bytes;
 use enet_codec::Refusal;
-use enet_host::{Config, DisconnectMode, PeerRef, Received};
+use enet_host::{Config, DisconnectMode, Event, PeerRef, Received};
 use std::alloc::{AllocError, Global};
 use std::test::Fail;
 
@@ -406,4 +406,54 @@ Ok(Received(Received { handled: 1, stop: None }))]";
         Some([0x80, 0, 0x01, 0xf4, 0x85, 0xff, 0, 2].as_slice())
     );
     Ok(())
+}
+
+/// A PING is put out, delivered and acknowledged. It tells whether each step was done.
+fn ping(world: &mut World, n: u64) -> bool {
+    let done = [
+        world
+            .step(WorldEvent::Tick {
+                side: Side::A,
+                ms: 500,
+            })
+            .is_ok(),
+        world.step(WorldEvent::Turn { side: Side::A }).is_ok(),
+        world.step(deliver(Side::B, n)).is_ok(),
+        world.step(WorldEvent::Turn { side: Side::B }).is_ok(),
+        world.step(deliver(Side::A, n)).is_ok(),
+    ];
+    done == [true; 5]
+}
+
+// The last PING is dropped unsent, so its number is passed over. DISCONNECT is the last that was sent all the same, and its
+// acknowledgement isn't late.
+#[test]
+fn dropped_number_is_passed_over(rt: HostRuntime) {
+    let Ok(mut world) = World::joined(rt.alloc(), Config::standard(1, 1), Config::standard(1, 1))
+    else {
+        panic!(rt; "not joined");
+    };
+    for n in 0..32_768 {
+        assert!(rt; ping(&mut world, n), "ping {n}");
+    }
+    let tick = world.step(WorldEvent::Tick {
+        side: Side::A,
+        ms: 500,
+    });
+    assert!(rt; tick.is_ok());
+    let asked = world.step(disconnect(DisconnectMode::Ask));
+    assert!(rt; asked.is_ok());
+    let told = [
+        world.step(WorldEvent::Turn { side: Side::A }).is_ok(),
+        world.step(deliver(Side::B, 32_768)).is_ok(),
+        world.step(WorldEvent::Turn { side: Side::B }).is_ok(),
+        world.step(deliver(Side::A, 32_768)).is_ok(),
+    ];
+    assert!(rt; told == [true; 4]);
+    assert!(rt;
+        matches!(
+            world.step(WorldEvent::Take { side: Side::A }),
+            Ok(Answer::Taken(Some(Event::Disconnect { info: 0, .. })))
+        )
+    );
 }
