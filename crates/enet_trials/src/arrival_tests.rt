@@ -75,6 +75,7 @@ fn waiting_data(rt: HostRuntime) -> Result<(), Fail> {
 fn bandwidth_and_throttle_commands(rt: HostRuntime) -> Result<(), Fail> {
     let scripts = [
         "joined; bandwidth 131072 0; turn = 800000008aff00020002000000000000; terms = 1392 65536 0",
+        "DisconnectLater; deliver 800000008aff00020002000000000000 = handled 1; terms = 1392 8192 131072",
         "joined; deliver 800000008aff00020002000000000000 = handled 1; terms = 1392 8192 131072;
             turn = 000001ff000200020000",
         "joined; throttle 1000 4 1; turn = 800000008bff0002000003e80000000400000001; turn = none",

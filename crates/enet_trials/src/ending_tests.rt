@@ -96,7 +96,7 @@ fn resends_and_timeout(rt: HostRuntime) -> Result<(), Fail> {
         "joined; timeout 1 1 1; timeout 0 0 0; submit 0 1 61; drain = 1; tick 29999; drain = 1;
             tick 999; state = Connected; tick 1; state = Ended",
         "joined; timeout 0 0 40000; submit 0 1 61; drain = 1; tick 30000; drain = 1; tick 9999;
-            state = Connected",
+            state = Connected; drain = 1; tick 1999; state = Connected; tick 1; state = Ended",
     ];
     play_all(&rt, rt.alloc(), &scripts)
 }

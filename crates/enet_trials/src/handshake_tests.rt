@@ -4,13 +4,15 @@ use crate::play::{play, play_all};
 use std::test::Fail;
 
 // CONNECT goes, VERIFY_CONNECT comes and is acknowledged. At the server an acknowledgement that comes before VERIFY_CONNECT went,
-// or for another number, has no effect.
+// or for another number, has no effect. At the client one of CONNECT ends its resending, and VERIFY_CONNECT is waited for.
 #[test]
 fn connect_handshake(rt: HostRuntime) -> Result<(), Fail> {
     let scripts = [
         "client; take = none; turn = connect; turn = none; state = Connecting;
             deliver verify = handled 1; state = Connected; take = connect 0;
             turn = 000001ff000100010000; take = none; turn = none",
+        "client; turn = connect; deliver 000001ff000100010000 = handled 1; state = Connecting;
+            ticks 63 = at; state = Connecting; deliver verify = handled 1; state = Connected",
         "server; deliver 000001ff000100010000 = handled 1; state = Answering; turn = verify;
             take = none; turn = none; deliver 000001ff000200020000 = handled 1; state = Answering;
             deliver 000001ff000100010000 = handled 1; state = Connected; take = connect 7;

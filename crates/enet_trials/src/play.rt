@@ -202,20 +202,19 @@ impl Scene {
             None => String::from_str(alloc, "nothing").ok()?,
             Some(body) => hex::encode(alloc, body.as_slice()).ok()?,
         };
-        let Some(event) = self.peer.next_event() else {
-            return String::from_str(alloc, "none").ok();
-        };
-        match event {
-            PeerEvent::Connect { info } => format!(in alloc; "connect {info}").ok(),
-            PeerEvent::Disconnect { info } => format!(in alloc; "disconnect {info}").ok(),
-            PeerEvent::Receive { packet } => {
+        let mut body = String::from_str(alloc, "nothing").ok()?;
+        let text = match self.peer.next_event() {
+            None => String::from_str(alloc, "none").ok()?,
+            Some(PeerEvent::Connect { info }) => format!(in alloc; "connect {info}").ok()?,
+            Some(PeerEvent::Disconnect { info }) => format!(in alloc; "disconnect {info}").ok()?,
+            Some(PeerEvent::Receive { packet }) => {
                 let channel = packet.channel;
                 let flags = packet.flags;
-                let body = hex::encode(alloc, packet.body.as_slice()).ok()?;
-                let text = format!(in alloc; "receive ch {channel} flags {flags} {body}").ok()?;
-                (body == lent).then_some(text)
+                body = hex::encode(alloc, packet.body.as_slice()).ok()?;
+                format!(in alloc; "receive ch {channel} flags {flags} {body}").ok()?
             }
-        }
+        };
+        (body == lent).then_some(text)
     }
 
     /// None where a refusal doesn't hand as many bytes back.

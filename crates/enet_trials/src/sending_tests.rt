@@ -16,9 +16,11 @@ fn refusals_of_a_submission(rt: HostRuntime) -> Result<(), Fail> {
         "Answering; submit 0 0 61 = E3 NotConnected; drain = 1; bandwidth 131072 0; drain = 0",
         "DisconnectLater; submit 0 0 61 = E3 NotConnected; drain = 1; bandwidth 131072 0; drain = 0",
         "Disconnecting; submit 0 0 61 = E3 NotConnected; drain = 1; bandwidth 131072 0; drain = 0",
-        "AckDisconnect; submit 0 0 61 = E3 NotConnected; bandwidth 131072 0; drain = 1",
+        "AckDisconnect; submit 0 0 61 = E3 NotConnected; bandwidth 131072 0;
+            turn = 000001ff000100010000; turn = none",
         "Ended; submit 0 0 61 = E3 NotConnected; bandwidth 131072 0; drain = 0",
-        "Parting; submit 0 0 61 = E3 NotConnected; bandwidth 131072 0; drain = 1",
+        "Parting; submit 0 0 61 = E3 NotConnected; bandwidth 131072 0;
+            turn = 000044ff000200000003; turn = none",
     ];
     play_all(&rt, rt.alloc(), &scripts)
 }
@@ -34,6 +36,7 @@ fn ping_after_the_interval(rt: HostRuntime) -> Result<(), Fail> {
             turn = 8000044c85ff0003; deliver 000001ff00030003044c = handled 1; submit 0 1 61;
             turn = 8000044c86000001000161; pings 1; tick 2; turn = none",
         "joined; pings 700; ticks 1 = at; pings 0; tick 0; turn = 800001f485ff0002",
+        "joined; pings 700; tick 699; turn = none; tick 1; turn = 800002bc85ff0002",
         "client; turn = connect; tick 300; deliver verify = handled 1; turn = 000001ff000100010000;
             deliver verify = handled 1; turn = 000001ff000100010000; tick 199; turn = none; tick 1;
             turn = 800001f485ff0002",
