@@ -58,7 +58,7 @@ pub fn came_unsequenced(packet: &Packet) -> bool
 /// since the last reliable one.
 ///
 /// An unreliable packet with the bytes of the next one that was dispatched may be that one or have been left out: both are
-/// tried. In the lists that are drawn only empty packets are alike, so that this doesn't grow.
+/// tried. In the lists that are drawn only empty packets are alike, so that this stays cheap.
 pub fn follows(mtu: u32, unreliable: u32, submitted: &[Packet], dispatched: &[Packet]) -> bool
     requires mtu { 576 ≤ mtu }
     requires unreliable { unreliable ≤ 65535 }

@@ -70,8 +70,10 @@ impl Peer {
     /// Where it asks for an acknowledgement and may have one, that waits from then on to be put out.
     ///
     /// A stop is the first that applies: S6 for a CONNECT; S7 where the peer's state does not allow the command; for a data
-    /// command those of the inbox; S11 where memory is refused (our profile). After these nothing has changed. S12 comes
-    /// last, where the command is to be acknowledged and the datagram tells no sent time: it took effect (our profile).
+    /// command S8 where there is no such channel, S9 where its payload is too long or its fragment is bad, and S10 where it
+    /// begins a packet while too much waits (not where the peer is to disconnect later); S11 where memory is refused (our
+    /// profile). After these nothing has changed. S12 comes last, where the command is to be acknowledged and the datagram tells
+    /// no sent time: it took effect (our profile).
     pub fn command(
         &mut self,
         now: u32,

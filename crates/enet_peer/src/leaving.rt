@@ -7,9 +7,10 @@ use crate::{Peer, PeerState};
 use enet_codec::Refusal;
 
 impl Peer {
-    /// Disconnects with a word for the other end's user: all that is queued or unacknowledged is dropped, and DISCONNECT
-    /// waits to be put out. Where the peer still connects, it is free at once; where it still answers, one unsequenced
-    /// DISCONNECT goes. E3 where there is no connection or it ends already: then nothing has changed.
+    /// Disconnects with a word for the other end's user: all that is held, queued or unacknowledged is dropped,
+    /// acknowledgements too, and DISCONNECT waits to be put out. What was dispatched stays ahead of the last event. Where the
+    /// peer still connects, it is free at once; where it still answers, one unsequenced DISCONNECT goes. E3 where there is no
+    /// connection or it ends already: then nothing has changed.
     pub fn disconnect(&mut self, info: u32) -> Result<(), Refusal>
         ensures { Leaves result (left (leave_by_asking self.old.peer.state) self.old.peer info) self.old.peer self.new.peer }
     {
@@ -37,9 +38,10 @@ impl Peer {
         Ok(())
     }
 
-    /// Disconnects with this word once all that is queued has gone and is acknowledged. Where the peer still connects, it is
-    /// free at once; where it still answers, one unsequenced DISCONNECT goes. E3 where there is no connection, or it ends
-    /// already or is to end later: then nothing has changed.
+    /// Disconnects with this word once all that is queued has gone and no reliable command waits for its acknowledgement;
+    /// data that comes meanwhile is dropped. Where the peer still connects, it is free at once; where it still answers, one
+    /// unsequenced DISCONNECT goes. E3 where there is no connection, or it ends already or is to end later: then nothing has
+    /// changed.
     pub fn disconnect_later(&mut self, info: u32) -> Result<(), Refusal>
         ensures { Leaves result (left (leave_later self.old.peer.state) self.old.peer info) self.old.peer self.new.peer }
     {

@@ -76,7 +76,8 @@ impl Peer {
         self.state
     }
 
-    /// The terms on which this end stands.
+    /// The terms on which this end stands; while it still connects, those that it asked for, with slot 0xFFF. The window
+    /// follows what the other end tells of its bandwidths; the throttle's numbers stay as they were agreed.
     pub fn terms(&self) -> Terms
         ensures { result ≡ self.now.peer.terms }
     {

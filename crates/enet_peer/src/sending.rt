@@ -52,8 +52,8 @@ impl Peer {
     }
 
     /// Writes the next datagram at the front of the buffer, at the time `now` in milliseconds, and gives its length; None
-    /// where no command goes. Either may end the connection's last stage: a peer that is to disconnect later asks once it is
-    /// done, one that acknowledged a DISCONNECT has ended, and one that has sent its last DISCONNECT is free.
+    /// where no command goes. Then, also where it gives None, a peer that is to disconnect later asks once it is done, one
+    /// that acknowledged a DISCONNECT has ended, and one that has sent its last DISCONNECT is free.
     pub fn emit(&mut self, now: u32, buf: &mut [u8; 4096]) -> Option<usize>
         ensures { PutsOut now result self.old.peer self.new.peer buf.new }
     {

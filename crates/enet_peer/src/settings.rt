@@ -9,8 +9,8 @@ use enet_control::Control;
 use enet_rtt::Patience;
 
 impl Peer {
-    /// Makes room for one command more of channel 0xFF; where there is some, it takes no memory. E1 where memory is refused,
-    /// with nothing changed.
+    /// Makes room for at least one command of channel 0xFF; where there is some, it takes no memory and makes no second
+    /// place. E1 where memory is refused, with nothing changed.
     pub fn reserve(&mut self) -> Result<(), Refusal>
         ensures peer { self.new.peer ≡ self.old.peer }
         ensures room { OnOk result (1 ≤ self.new.room) }
@@ -22,8 +22,8 @@ impl Peer {
         self.outbox.reserve_control()
     }
 
-    /// Sets the host's bandwidths, in bytes per second, where 0 says that no limit is known. A connected peer is told, for
-    /// which there must be room.
+    /// Sets the host's bandwidths, in bytes per second, where 0 says that no limit is known. Where the connection stands the
+    /// other end is told, for which there must be room. The own window stays until the other end tells its own bandwidths.
     pub fn bandwidth(&mut self, incoming: u32, outgoing: u32)
         requires { IsTrue (is_connected self.old.peer.state) → 1 ≤ self.old.room }
         ensures { self.new.peer ≡ with_bandwidth self.old.peer incoming outgoing }
@@ -36,8 +36,8 @@ impl Peer {
         self.limits.outgoing = outgoing;
     }
 
-    /// Sets the throttle's interval in milliseconds, its acceleration and its deceleration, of which the other end is told:
-    /// the peer must be connected, and there must be room for the command.
+    /// Sets the throttle's interval in milliseconds, and its acceleration and deceleration in parts of 32, of which the other
+    /// end is told: the peer must be connected, and there must be room for the command.
     pub fn throttle_configure(&mut self, interval: u32, acceleration: u32, deceleration: u32)
         requires room { 1 ≤ self.old.room }
         requires connected { IsTrue (is_connected self.old.peer.state) }
@@ -68,7 +68,9 @@ impl Peer {
         self.ping_interval = if ms == 0 { 500 } else { ms };
     }
 
-    /// Sets how long the other end may leave a command unacknowledged; a 0 stands for the standard number.
+    /// Sets how long the other end may leave a command unacknowledged: the connection ends after `maximum` milliseconds
+    /// (30,000 by the standard), or after `minimum` milliseconds (5,000) once 2^(attempts - 1) is at least `limit` (32). A 0
+    /// stands for the standard number.
     pub fn timeout(&mut self, limit: u32, minimum: u32, maximum: u32)
         ensures peer { self.new.peer ≡ with_timeout self.old.peer limit minimum maximum }
         ensures room { self.new.room ≡ self.old.room }
