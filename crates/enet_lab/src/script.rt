@@ -183,7 +183,8 @@ fn run_script<R: Read, W: Write>(
 /// end of the script. Blank lines and lines that begin with `#` are counted and passed over. `pair <channels>` comes first
 /// and once; then `submit <side> <peer> <channel> <flags> <bytes>`, `deliver <side> <k>`, `turn <side>`, `tick <side> <ms>`,
 /// `take <side>`, and `now`, `ask` or `later <side> <peer> <data>`, which disconnect. Words are separated by spaces, numbers
-/// are decimal, a peer is `slot.generation`, bytes are hex of either case or `-` for none. A refusal of the world is answered by its number and its name, and the script goes on.
+/// are decimal, a peer is `slot.generation`, bytes are hex of either case or `-` for none. A refusal of the world is answered by
+/// its number and its name, and the script goes on.
 ///
 /// BadScript at the first line that can't be read, and at the first line behind a refused `pair`; Memory where a growth of
 /// the lab itself was refused; Io where a read or a write failed, and after 16,777,216 reads. The answers so far are
