@@ -1,5 +1,4 @@
-//! ENet 1.3 datagrams as bytes: the header, the twelve commands, reading and writing them. Also the types that all crates
-//! share: refusals, stops, addresses and packets. Integers on the wire are big-endian. The rules are ENet 1.3's; those of
+//! ENet 1.3 datagrams as bytes: the header, the twelve commands, reading and writing them. Integers on the wire are big-endian. The rules are ENet 1.3's; those of
 //! our own profile are marked so.
 #![tactic(auto)]
 
@@ -8,7 +7,6 @@ mod header;
 mod header_read;
 mod header_write;
 mod read;
-mod shared;
 mod write;
 
 pub use command::{Command, Fragment, Head, Offer, Verify};
@@ -16,8 +14,9 @@ pub use header::Header;
 pub use header_read::{one_header, read_header};
 pub use header_write::write_header;
 pub use read::{one_spelling, read_command};
-pub use shared::{Addr, Packet, Refusal, Stop};
 pub use write::write_command;
+
+pub use enet_types::{Addr, Packet, Refusal, Stop};
 
 #[cfg(test)]
 mod tests;

@@ -1,9 +1,9 @@
 -- The commands of a datagram, one after another.
 use Rattle.std.specs.Prelude.{◌≡◌, ℕ, ◌+◌, ◌<◌, ◌≢◌, min, List, [], ◌++◌, Option, Some, None, Result, Ok, Err}
-use Rattle.enet_codec.specs.declared.shared.Stop.{Stop}
-use Rattle.enet_codec.specs.declared.shared.Stop.TheVariants as stop
+use Rattle.enet_types.specs.declared.stop.Stop.{Stop}
+use Rattle.enet_types.specs.declared.stop.Stop.TheVariants as stop
 use Rattle.enet_codec.specs.Message.{Message, Spells}
-use Rattle.enet_host.specs.declared.event.Received.{Received}
+use Rattle.enet_types.specs.declared.event.Received.{Received}
 use Rattle.enet_peer.specs.Peering.{Peering}
 use Rattle.enet_peer.specs.Arrivals.{obeyed, Obeys}
 

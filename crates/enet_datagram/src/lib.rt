@@ -5,7 +5,7 @@ ghost use Rattle.std.specs.Prelude.{◌≡◌, ◌≤◌, drop, length};
 ghost use Rattle.enet_datagram.specs.Handling.{Handles, counted, one_more};
 
 use enet_codec::{Stop, read_command};
-use enet_host::Received;
+use enet_types::Received;
 use enet_peer::Peer;
 
 #[cfg(test)]

@@ -6,7 +6,7 @@ use crate::rule::{Posts, Settles, Takes};
 use crate::takers::{Ring, make_takers, take_in, widen};
 use crate::token::{Poster, Taker};
 use enet_codec::Refusal;
-use enet_host::Event;
+use enet_types::Event;
 use std::alloc::Global;
 use std::marker::Model;
 use std::sync::Wait;

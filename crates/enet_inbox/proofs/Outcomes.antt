@@ -2,8 +2,8 @@
 use Rattle.std.proofs.Common.{◌≡◌, ◌≢◌, ℕ, ◌%◌, ◌<◌, Bool, true, false, cond, Option, Some, None, Result, Ok, Err, List, refl, sym, ap, subst, ◌∙◌, arith}
 use Rattle.std.specs.Prelude.{◌&&◌, ◌||◌, not, slice_get}
 use Rattle.std.specs.Option.{is_none}
-use Rattle.enet_codec.specs.declared.shared.Stop.{Stop}
-use Rattle.enet_codec.specs.declared.shared.Stop.TheVariants as stop
+use Rattle.enet_types.specs.declared.stop.Stop.{Stop}
+use Rattle.enet_types.specs.declared.stop.Stop.TheVariants as stop
 use Rattle.enet_seq.specs.Numbering.{wire}
 use Rattle.enet_seq.specs.Windows.{acknowledges}
 use Rattle.enet_fragment.specs.declared.data.DataCommand.{DataCommand}

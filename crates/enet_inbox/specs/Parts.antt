@@ -1,9 +1,9 @@
 -- An inbox of its parts, and the parts of what it answers.
 use Rattle.std.specs.Prelude.{◌≡◌, ℕ, Bool, true, false, not, nat_le, nat_lt, if◌then◌else◌, Option, Some, None, Result, Ok, Err, List, length, slice_get}
 use Rattle.enet_codec.specs.declared.command.Head.{Head}
-use Rattle.enet_codec.specs.declared.shared.Packet.{Packet}
-use Rattle.enet_codec.specs.declared.shared.Stop.{Stop}
-use Rattle.enet_codec.specs.declared.shared.Stop.TheVariants as stop
+use Rattle.enet_types.specs.declared.packet.Packet.{Packet}
+use Rattle.enet_types.specs.declared.stop.Stop.{Stop}
+use Rattle.enet_types.specs.declared.stop.Stop.TheVariants as stop
 use Rattle.enet_unsequenced.specs.Groups.{Seen, dispatches}
 use Rattle.enet_fragment.specs.declared.data.DataCommand.{DataCommand}
 use Rattle.enet_receiver.specs.declared.took.Took.{Took}

@@ -1,7 +1,7 @@
 //! The text of an answer, without the line feed that ends it.
 
 use enet_codec::{Packet, Refusal};
-use enet_host::{Event, PeerRef, Received};
+use enet_types::{Event, PeerRef, Received};
 use enet_world::{Answer, Side, World};
 use std::alloc::{AllocError, Global};
 

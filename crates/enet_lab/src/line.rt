@@ -2,7 +2,7 @@
 
 use crate::words::{end, peer_word, side_word, u8_word, u32_word, u64_word, word};
 use bytes::Bytes;
-use enet_host::{DisconnectMode, PeerRef};
+use enet_types::{DisconnectMode, PeerRef};
 use enet_world::{Side, WorldEvent};
 use hex::FromHexError;
 use std::alloc::{AllocError, Global};

@@ -6,7 +6,7 @@ ghost use Rattle.enet_lab.specs.Stage.{IsBegin, HasWorld};
 use crate::answer::{answer_text, refusal_text};
 use crate::fault::LabFault;
 use crate::line::{Line, read_line};
-use enet_host::Config;
+use enet_types::Config;
 use enet_world::{Side, World, WorldEvent};
 use std::alloc::{AllocError, Global};
 use std::io::{ErrorKind, Read, Write};

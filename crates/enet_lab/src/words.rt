@@ -5,7 +5,7 @@ ghost use Rattle.std.specs.Prelude.{◌≡◌, ◌<◌, ◌^◌};
 ghost use Rattle.std.specs.Option.{SomeIff};
 ghost use Rattle.std.specs.Str.Parse.{IsNumeral, digits_value};
 
-use enet_host::PeerRef;
+use enet_types::PeerRef;
 use enet_world::Side;
 
 const SPACE: u8 = b' ';

@@ -1,8 +1,8 @@
 -- How a side's events end.
 use Rattle.std.specs.Prelude.{◌≡◌, ◌-◌, Bool, true, false, List, length, take}
 use Rattle.std.specs.List.{All}
-use Rattle.enet_host.specs.declared.event.Event.{Event}
-use Rattle.enet_host.specs.declared.event.Event.TheVariants.{Disconnect}
+use Rattle.enet_types.specs.declared.event.Event.{Event}
+use Rattle.enet_types.specs.declared.event.Event.TheVariants.{Disconnect}
 
 abbrev pub is_disconnect : Event → Bool
 is_disconnect (Disconnect peer info) = true

@@ -1,6 +1,6 @@
 -- When what a channel dispatched follows what was submitted on it, unsequenced packets apart.
 use Rattle.std.specs.Prelude.{ℕ, ◌==◌, if◌then◌else◌, List, [], ◌∷◌}
-use Rattle.enet_codec.specs.declared.shared.Packet.{Packet}
+use Rattle.enet_types.specs.declared.packet.Packet.{Packet}
 use Rattle.enet_sender.specs.Carriage as carriage
 use Rattle.enet_sender.specs.Carriage.{carried_from}
 use Rattle.enet_outbox.specs.Outbox.{is_unsequenced}

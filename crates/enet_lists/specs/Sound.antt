@@ -1,7 +1,7 @@
 -- What is to hold of a world, whatever happened in it.
 use Rattle.std.specs.Prelude.{◌≡◌, ◌<◌, ℕ}
 use Rattle.std.specs.List.{All}
-use Rattle.enet_codec.specs.declared.shared.Packet.{Packet}
+use Rattle.enet_types.specs.declared.packet.Packet.{Packet}
 use Rattle.enet_world.specs.declared.event.Side.{Side}
 use Rattle.enet_world.specs.World.{Joined, submitted_of, dispatched_of, events_of}
 use Rattle.enet_lists.specs.Ending.{EndsOnce}

@@ -4,7 +4,7 @@ use crate::drawing::Setting;
 use crate::following::came_unsequenced;
 use crate::outcome::is_disconnect;
 use enet_codec::Packet;
-use enet_host::Event;
+use enet_types::Event;
 use enet_world::{Side, World};
 use std::fmt;
 

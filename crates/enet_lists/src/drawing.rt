@@ -3,7 +3,7 @@
 ghost use Rattle.std.specs.Prelude.{◌<◌, ◌≤◌};
 
 use bytes::Bytes;
-use enet_host::{DisconnectMode, PeerRef};
+use enet_types::{DisconnectMode, PeerRef};
 use enet_world::{Side, WorldEvent};
 use rand_core::{Rng, SeedableRng};
 use rand_pcg::Pcg32;

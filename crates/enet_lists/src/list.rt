@@ -3,7 +3,7 @@
 use crate::drawing::{Draw, Setting, Way};
 use anyhow::{Result, bail};
 use enet_codec::Refusal;
-use enet_host::Config;
+use enet_types::Config;
 use enet_world::{Answer, Side, World, WorldEvent};
 use std::alloc::Global;
 

@@ -9,7 +9,7 @@ ghost use Rattle.enet_lists.specs.Sound.{IsOn, HoldsOn, IsSound};
 use crate::drawing::Setting;
 use crate::following::follows;
 use enet_codec::Packet;
-use enet_host::Event;
+use enet_types::Event;
 use enet_world::{Side, World};
 use thiserror::Error;
 

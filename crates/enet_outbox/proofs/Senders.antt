@@ -3,7 +3,7 @@ use Rattle.std.proofs.Common.{◌≡◌, ℕ, zero, suc, ◌+◌, ◌<◌, ◌�
 use Rattle.std.specs.List.{range_with_len}
 use Rattle.std.proofs.lemmas.List.{length-set, length-map, length-take, take_all, drop_all, append-nil}
 use Rattle.std.proofs.lemmas.List.FromFn.{map-range_with_len_more}
-use Rattle.enet_codec.specs.declared.shared.Refusal.{Refusal}
+use Rattle.enet_types.specs.declared.refusal.Refusal.{Refusal}
 use Rattle.std.proofs.lemmas.List.Edits.{map_over_more}
 use Rattle.std.proofs.lemmas.List.Sums.{sum_by-cons, sum_by-set, sum_by-take-le, get_or-le-sum_by}
 use Rattle.enet_sender.specs.Sender.{bytes_in_transit, acknowledged, acknowledged_bytes}

@@ -2,8 +2,8 @@
 use Rattle.std.proofs.Common.{◌≡◌, ◌≢◌, ℕ, ◌⊎◌, inl, inr, Bool, true, false, cond, ltb, leb, Option, Some, None, Result, Ok, Err, List, length, refl, sym, ap, subst, ◌∙◌}
 use Rattle.std.specs.Prelude.{◌&&◌, ◌||◌, not, slice_get, is_some, is_err}
 use Rattle.std.specs.Option.{is_none}
-use Rattle.enet_codec.specs.declared.shared.Stop.{Stop}
-use Rattle.enet_codec.specs.declared.shared.Stop.TheVariants as stop
+use Rattle.enet_types.specs.declared.stop.Stop.{Stop}
+use Rattle.enet_types.specs.declared.stop.Stop.TheVariants as stop
 use Rattle.enet_codec.specs.Message.{Message, Body, acknowledge, connect, verify_connect, disconnect, ping, send_reliable, send_unreliable, send_fragment, send_unsequenced, bandwidth_limit, throttle_configure, send_unreliable_fragment}
 use Rattle.enet_unsequenced.specs.Groups.{dispatches}
 use Rattle.enet_fragment.specs.declared.data.DataCommand.{DataCommand}

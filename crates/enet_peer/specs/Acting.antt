@@ -1,7 +1,7 @@
 -- A command that comes, in three steps: what is foreseen of it, what it does, and its acknowledgement.
 use Rattle.std.specs.Prelude.{◌≡◌, ℕ, ◌&&◌, Bool, true, if◌then◌else◌, Option, Some, None, Result, Ok, Err}
-use Rattle.enet_codec.specs.declared.shared.Stop.{Stop}
-use Rattle.enet_codec.specs.declared.shared.Stop.TheVariants as stop
+use Rattle.enet_types.specs.declared.stop.Stop.{Stop}
+use Rattle.enet_types.specs.declared.stop.Stop.TheVariants as stop
 use Rattle.enet_codec.specs.Message.{Message, Body, acknowledge, connect, verify_connect, disconnect, ping, bandwidth_limit, throttle_configure}
 use Rattle.enet_inbox.specs.Arrivals.{arrival, passed_over}
 use Rattle.enet_peer.specs.Peering.{Peering}

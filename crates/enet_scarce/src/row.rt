@@ -4,7 +4,7 @@ use crate::fault::Fault;
 use crate::seen::Seen;
 use crate::step::Step;
 use enet_codec::{Refusal, Stop};
-use enet_host::{Config, Received};
+use enet_types::{Config, Received};
 use enet_world::{Answer, World};
 use std::alloc::Global;
 

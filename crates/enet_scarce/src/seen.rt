@@ -1,7 +1,7 @@
 //! What the reading calls of a world tell, as one number.
 
 use enet_codec::Packet;
-use enet_host::Event;
+use enet_types::Event;
 use enet_world::{Side, World};
 
 /// How many channels and datagrams of a side are read. No row has more.

@@ -3,7 +3,7 @@
 use crate::fault::Fault;
 use crate::text::Text;
 use enet_codec::{Packet, Refusal};
-use enet_host::{DisconnectMode, Event, PeerRef, Received};
+use enet_types::{DisconnectMode, Event, PeerRef, Received};
 use enet_world::{Answer, Side, World, WorldEvent};
 use std::alloc::Global;
 

@@ -2,7 +2,7 @@
 
 use bytes::Bytes;
 use enet_codec::Addr;
-use enet_host::{DisconnectMode, PeerRef};
+use enet_types::{DisconnectMode, PeerRef};
 
 /// What a game thread asks of the host. The queue looks at nothing in it: the host's call says what it refuses.
 #[derive(Debug, Drop)]

@@ -1,6 +1,6 @@
 -- A side by its parts.
 use Rattle.std.proofs.Common.{◌≡◌, ℕ, List, refl, subst}
-use Rattle.enet_host.specs.declared.event.Event.{Event}
+use Rattle.enet_types.specs.declared.event.Event.{Event}
 use Rattle.enet_peer.specs.Peering.{Peering}
 use Rattle.enet_world.specs.Log.{Logged, Kept}
 use Rattle.enet_world.specs.World.{Ending}

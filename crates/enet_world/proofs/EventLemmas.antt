@@ -1,6 +1,6 @@
 -- The events of a peer.
 use Rattle.std.proofs.Common.{◌≡◌, ℕ, true, List, [], ◌∷◌, ◌++◌, Option, Some, None, slice_get, refl, sym, subst, ap, ◌∙◌}
-use Rattle.enet_codec.specs.declared.shared.Packet.{Packet}
+use Rattle.enet_types.specs.declared.packet.Packet.{Packet}
 use Rattle.enet_peer.specs.declared.parts.PeerEvent.{PeerEvent}
 use Rattle.enet_peer.specs.declared.parts.PeerEvent.TheVariants as told
 use Rattle.enet_peer.specs.declared.parts.PeerState.{PeerState}
@@ -8,7 +8,7 @@ use Rattle.enet_peer.specs.declared.parts.PeerState.TheVariants as state
 use Rattle.enet_peer.specs.Peering.{Peering}
 use Rattle.enet_peer.specs.Calls.{Taken, last_event, packet_event, event_after, next_event}
 use Rattle.enet_peer.specs.Next.{packet_after, next_packet}
-use Rattle.enet_host.specs.declared.event.Event.{Event}
+use Rattle.enet_types.specs.declared.event.Event.{Event}
 use Rattle.enet_world.proofs.EndLemmas.{same-end}
 use Rattle.enet_world.specs.Log.{Kept, with_kept, with_taken}
 use Rattle.enet_world.specs.World.{Ending, is_word, event_of, TakesWord, TakesPacket, Took}

@@ -1,8 +1,8 @@
 -- Which refusal comes first.
 use Rattle.std.proofs.Common.{◌≡◌, ℕ, Bool, true, false, if◌then◌else◌, Option, Some, None, Err, List, length, refl, sym, subst}
-use Rattle.enet_codec.specs.declared.shared.Refusal.{Refusal}
-use Rattle.enet_codec.specs.declared.shared.Refusal.TheVariants.{Memory, NoSuchPeer}
-use Rattle.enet_host.specs.declared.event.PeerRef.{PeerRef}
+use Rattle.enet_types.specs.declared.refusal.Refusal.{Refusal}
+use Rattle.enet_types.specs.declared.refusal.Refusal.TheVariants.{Memory, NoSuchPeer}
+use Rattle.enet_types.specs.declared.event.PeerRef.{PeerRef}
 use Rattle.enet_peer.specs.Calls as calls
 use Rattle.enet_world.specs.World.{Ending, Refuses, is_spent, submission_refusal}
 

@@ -1,6 +1,6 @@
 -- A run that goes on by one step.
 use Rattle.std.proofs.Common.{List, [], ◌∷◌, ◌++◌, Result, refl, subst}
-use Rattle.enet_codec.specs.declared.shared.Refusal.{Refusal}
+use Rattle.enet_types.specs.declared.refusal.Refusal.{Refusal}
 use Rattle.enet_world.specs.declared.event.WorldEvent.{WorldEvent}
 use Rattle.enet_world.specs.declared.event.Answer.{Answer}
 use Rattle.enet_world.specs.World.{Joined, Steps, Runs}

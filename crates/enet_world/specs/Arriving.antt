@@ -1,10 +1,10 @@
 -- A datagram comes to the one peer of a joined host, which has slot 0.
 use Rattle.std.specs.Prelude.{◌≡◌, ◌≢◌, ℕ, ◌<◌, ◌≤◌, ◌⊎◌, ◌==◌, ◌&&◌, not, Bool, true, false, List, ◌++◌, length, slice_index, bit_and, Some}
 use Rattle.enet_codec.specs.declared.header.Header.{Header}
-use Rattle.enet_codec.specs.declared.shared.Stop.{Stop}
-use Rattle.enet_codec.specs.declared.shared.Stop.TheVariants as stop
+use Rattle.enet_types.specs.declared.stop.Stop.{Stop}
+use Rattle.enet_types.specs.declared.stop.Stop.TheVariants as stop
 use Rattle.enet_codec.specs.Header.{SpellsHeader}
-use Rattle.enet_host.specs.declared.event.Received.{Received}
+use Rattle.enet_types.specs.declared.event.Received.{Received}
 use Rattle.enet_peer.specs.declared.parts.PeerState.{PeerState}
 use Rattle.enet_peer.specs.declared.parts.PeerState.TheVariants as state
 use Rattle.enet_peer.specs.Peering.{Peering}

@@ -1,7 +1,7 @@
 -- What the world keeps of the two hosts.
 use Rattle.std.specs.Prelude.{ℕ, ◌+◌, ◌%◌, ◌^◌, ◌-◌, min, nat_lt, if◌then◌else◌, List, [], ◌∷◌, ◌++◌, replicate, slice_set}
 use Rattle.std.specs.List.{slice_index_or, fold}
-use Rattle.enet_codec.specs.declared.shared.Packet.{Packet}
+use Rattle.enet_types.specs.declared.packet.Packet.{Packet}
 use Rattle.enet_seq.specs.Windows.{ahead}
 use Rattle.enet_world.specs.declared.log.Mark.{Mark}
 use Rattle.enet_world.specs.declared.log.MarkKind.{MarkKind}

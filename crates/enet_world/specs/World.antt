@@ -1,17 +1,17 @@
 -- The world: two ends, each a clock and a peer with what was seen of them.
 use Rattle.std.specs.Prelude.{◌≡◌, ℕ, ◌+◌, ◌%◌, ◌^◌, List, [], ◌∷◌, ◌++◌, length, take, min, Result, Err, OnErr, IfOk, IfErr, MatchOption, slice_get, Bool, true, false, ◌&&◌, ◌||◌, not, if◌then◌else◌, ◌==◌, Option, Some, None, IsTrue}
-use Rattle.enet_codec.specs.declared.shared.Packet.{Packet}
-use Rattle.enet_codec.specs.declared.shared.Refusal.{Refusal}
-use Rattle.enet_codec.specs.declared.shared.Refusal.TheVariants.{Memory, NoSuchPeer, NotConnected, NoSuchDatagram, Late}
+use Rattle.enet_types.specs.declared.packet.Packet.{Packet}
+use Rattle.enet_types.specs.declared.refusal.Refusal.{Refusal}
+use Rattle.enet_types.specs.declared.refusal.Refusal.TheVariants.{Memory, NoSuchPeer, NotConnected, NoSuchDatagram, Late}
 use Rattle.enet_throttle.specs.Bandwidth.{window_size}
 use Rattle.enet_connect.specs.declared.terms.Terms.{Terms}
-use Rattle.enet_host.specs.declared.config.Config.{Config}
-use Rattle.enet_host.specs.declared.event.DisconnectMode.{DisconnectMode}
-use Rattle.enet_host.specs.declared.event.DisconnectMode.TheVariants.{Now, Ask, Later}
-use Rattle.enet_host.specs.declared.event.Event.{Event}
-use Rattle.enet_host.specs.declared.event.Event.TheVariants as events
-use Rattle.enet_host.specs.declared.event.PeerRef.{PeerRef}
-use Rattle.enet_host.specs.declared.event.Received.{Received}
+use Rattle.enet_types.specs.declared.config.Config.{Config}
+use Rattle.enet_types.specs.declared.event.DisconnectMode.{DisconnectMode}
+use Rattle.enet_types.specs.declared.event.DisconnectMode.TheVariants.{Now, Ask, Later}
+use Rattle.enet_types.specs.declared.event.Event.{Event}
+use Rattle.enet_types.specs.declared.event.Event.TheVariants as events
+use Rattle.enet_types.specs.declared.event.PeerRef.{PeerRef}
+use Rattle.enet_types.specs.declared.event.Received.{Received}
 use Rattle.enet_peer.specs.declared.parts.Limits.{Limits}
 use Rattle.enet_peer.specs.declared.parts.PeerEvent.{PeerEvent}
 use Rattle.enet_peer.specs.declared.parts.PeerEvent.TheVariants as told

@@ -3,7 +3,7 @@
 ghost use Rattle.std.specs.Prelude.{◌≡◌, ℕ, ◌+◌, ◌≤◌, ◌<◌, [], true, length, vec_len, vec_capacity, OnOk, OnErr, IfOk, IfErr, IfSome, IfNone, IsTrue, slice_get, Some, None, false};
 ghost use Rattle.std.specs.Bool.{OnFalse};
 ghost use Rattle.std.specs.Option.{option_copied};
-ghost use Rattle.enet_codec.specs.declared.shared.Packet.{Packet};
+ghost use Rattle.enet_types.specs.declared.packet.Packet.{Packet};
 ghost use Rattle.enet_peer.specs.Next.{next_packet};
 ghost use Rattle.enet_world.specs.Log.{kept_at, with_kept, with_taken};
 ghost use Rattle.enet_world.specs.World.{fresh_end, is_spent, submission_refusal, submitted_end, disconnect_refusal, left_by, Disconnects, delivery_refusal, Refuses, Receives, Emits, Turns, Took, TakesWord, TakesPacket, is_word, event_of, ticked_end, clock_after, text_of};
@@ -13,7 +13,7 @@ use crate::joining::{joined_channels, joined_terms, limits_of};
 use crate::log::{Datagram, Kept, MAX_COMMANDS, has_late, marks_of};
 use bytes::Bytes;
 use enet_codec::{Packet, Refusal};
-use enet_host::{Config, DisconnectMode, Event, PeerRef, Received};
+use enet_types::{Config, DisconnectMode, Event, PeerRef, Received};
 use enet_peer::{Peer, PeerEvent, PeerState};
 use std::alloc::Global;
 use std::marker::Model;

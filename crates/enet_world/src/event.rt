@@ -1,7 +1,7 @@
 //! What can happen in a world, and what is answered.
 
 use bytes::Bytes;
-use enet_host::{DisconnectMode, Event, PeerRef, Received};
+use enet_types::{DisconnectMode, Event, PeerRef, Received};
 
 /// One of the two hosts.
 #[derive(Clone, Copy, Debug, PartialEq, Eq)]

@@ -7,7 +7,7 @@ ghost use Rattle.enet_world.specs.World.{joined_terms, limits_of};
 use crate::log::Kept;
 use enet_codec::Refusal;
 use enet_connect::Terms;
-use enet_host::Config;
+use enet_types::Config;
 use enet_peer::Limits;
 use enet_throttle::window_of;
 use std::alloc::Global;

@@ -1,7 +1,7 @@
 use super::*;
 use bytes::Bytes;
 use enet_codec::Refusal;
-use enet_host::{Config, DisconnectMode, Event, PeerRef, Received};
+use enet_types::{Config, DisconnectMode, Event, PeerRef, Received};
 use std::alloc::{AllocError, Global};
 use std::test::Fail;
 

@@ -2,13 +2,13 @@
 
 ghost use Rattle.std.specs.Prelude.{◌≡◌, ◌&&◌, true, false, OnErr, IfOk, IfErr};
 ghost use Rattle.std.specs.Option.{option_copied};
-ghost use Rattle.enet_host.specs.Config.{is_in_range};
+ghost use Rattle.enet_types.specs.Config.{is_in_range};
 ghost use Rattle.enet_world.specs.World.{fresh_world, Refuses, Happens, Runs, refusal_of, takes_memory, end_of, submitted_of, dispatched_of, events_of, datagram_of};
 
 use crate::end::End;
 use crate::event::{Answer, Side, WorldEvent};
 use enet_codec::{Packet, Refusal};
-use enet_host::{Config, Event};
+use enet_types::{Config, Event};
 use std::alloc::Global;
 use std::marker::Model;
 

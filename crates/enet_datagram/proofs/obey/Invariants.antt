@@ -1,5 +1,5 @@
 use Rattle.std.proofs.Common.{ℕ, List, length}
-use Rattle.enet_host.specs.declared.event.Received.{Received}
+use Rattle.enet_types.specs.declared.event.Received.{Received}
 use Rattle.enet_peer.specs.Peering.{Peering}
 use Rattle.enet_datagram.specs.Handling.{Handles}
 use Rattle.enet_datagram.proofs.obey.Given as goal

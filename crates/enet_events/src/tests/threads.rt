@@ -3,7 +3,7 @@ ghost use Rattle.std.specs.List.{All};
 
 use crate::{Account, EventQueue, Poster, Taker};
 use enet_codec::Refusal;
-use enet_host::{Event, PeerRef};
+use enet_types::{Event, PeerRef};
 use std::alloc::{AllocError, Global};
 use std::sync::Wait;
 use std::sync::atomic::{AtomicBool, AtomicU64, Ordering};

@@ -6,7 +6,7 @@ ghost use Rattle.enet_submit.specs.Words.{IsSeatOf, IsDrainOf, IsFinishedOf};
 use crate::{Account, Drain, Finished, Order, Seat, SubmitQueue, Ticket};
 use bytes::Bytes;
 use enet_codec::{Addr, Refusal};
-use enet_host::{DisconnectMode, PeerRef};
+use enet_types::{DisconnectMode, PeerRef};
 use std::alloc::{AllocError, Global};
 use std::sync::Wait;
 use std::test::Fail;

@@ -1,7 +1,7 @@
 //! The settings of a host.
 
 ghost use Rattle.std.specs.Prelude.{◌≡◌};
-ghost use Rattle.enet_host.specs.Config.{standard_config, is_in_range};
+ghost use Rattle.enet_types.specs.Config.{standard_config, is_in_range};
 
 const MAX_PEERS: u16 = 4095;
 

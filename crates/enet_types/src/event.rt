@@ -1,6 +1,6 @@
 //! Peers as a caller names them, what a host tells of them, and what it answers to a datagram.
 
-use enet_codec::{Packet, Refusal, Stop};
+use crate::{Packet, Refusal, Stop};
 
 /// A peer of a host: its slot and the slot's generation. Each time that a slot is freed and taken again it gets the next
 /// generation, so a name of an earlier peer never means a later one (our profile: ENet names a peer by its slot alone).

@@ -1,6 +1,6 @@
 -- The settings of a host.
 use Rattle.std.specs.Prelude.{ℕ, Bool, ◌&&◌, nat_le}
-use Rattle.enet_host.specs.declared.config.Config.{Config}
+use Rattle.enet_types.specs.declared.config.Config.{Config}
 
 -- The numbers of `Config::standard`.
 abbrev pub standard_config : ℕ → ℕ → Config

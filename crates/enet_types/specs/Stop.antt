@@ -1,7 +1,7 @@
 -- The number and the name of each stop.
 use Rattle.std.specs.Prelude.{ℕ, List, codes}
-use Rattle.enet_codec.specs.declared.shared.Stop.{Stop}
-use Rattle.enet_codec.specs.declared.shared.Stop.TheVariants.{Short, Compressed, UnknownPeer, WrongAddress, WrongSession, BadCommand, NotConnected, BadChannel, BadFragment, Waiting, Memory, NoSentTime, NoSlot}
+use Rattle.enet_types.specs.declared.stop.Stop.{Stop}
+use Rattle.enet_types.specs.declared.stop.Stop.TheVariants.{Short, Compressed, UnknownPeer, WrongAddress, WrongSession, BadCommand, NotConnected, BadChannel, BadFragment, Waiting, Memory, NoSentTime, NoSlot}
 
 abbrev pub stop_number : Stop → ℕ
 stop_number Short = 1

@@ -1,7 +1,7 @@
 -- The number and the name of each refusal.
 use Rattle.std.specs.Prelude.{ℕ, List, codes}
-use Rattle.enet_codec.specs.declared.shared.Refusal.{Refusal}
-use Rattle.enet_codec.specs.declared.shared.Refusal.TheVariants.{Memory, NoSuchPeer, NotConnected, NoSuchChannel, TooLarge, WindowEnd, NoSlot, BadConfig, Full, SeatSpent, Late, Earlier, NoSuchDatagram, WireFault, BadScript, StillHeld, NoSuchHost}
+use Rattle.enet_types.specs.declared.refusal.Refusal.{Refusal}
+use Rattle.enet_types.specs.declared.refusal.Refusal.TheVariants.{Memory, NoSuchPeer, NotConnected, NoSuchChannel, TooLarge, WindowEnd, NoSlot, BadConfig, Full, SeatSpent, Late, Earlier, NoSuchDatagram, WireFault, BadScript, StillHeld, NoSuchHost}
 
 abbrev pub label_of : Refusal → List ℕ
 label_of Memory = codes "E1 Memory"

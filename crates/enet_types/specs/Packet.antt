@@ -1,6 +1,6 @@
 -- Packets are compared by channel and bytes.
 use Rattle.std.specs.Prelude.{◌≡◌}
-use Rattle.enet_codec.specs.declared.shared.Packet.{Packet}
+use Rattle.enet_types.specs.declared.packet.Packet.{Packet}
 
 -- Two packets with the same channel and the same bytes.
 abbrev pub IsSamePacket : Packet → Packet → Type 0

@@ -1,0 +1,4 @@
+pub mod Config
+pub mod Packet
+pub mod Refusal
+pub mod Stop

@@ -1,0 +1,20 @@
+//! The types that all crates share: addresses, packets, refusals and stops; a host's peers, events and settings, and what it
+//! answers to a datagram.
+#![tactic(auto)]
+
+mod address;
+mod config;
+mod event;
+mod packet;
+mod refusal;
+mod stop;
+
+pub use address::Addr;
+pub use config::Config;
+pub use event::{DisconnectMode, Event, PeerRef, Received};
+pub use packet::Packet;
+pub use refusal::Refusal;
+pub use stop::Stop;
+
+#[cfg(test)]
+mod tests;
