@@ -1,4 +1,4 @@
-mod Lists
+pub mod Lists
 mod Firsts
 mod Rising
 mod Makings
@@ -16,4 +16,4 @@ mod Shown
 mod SoundSender
 mod Sound
 mod WireSender
-mod Runs
+pub mod Runs

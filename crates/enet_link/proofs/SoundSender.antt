@@ -293,21 +293,19 @@ and_left true b h = refl
 and_left false b h = absurd (cc)
 
 -- the greatest number after a command
-grows_for : (g : ℕ) (c : DataCommand) → c.reliable ≡ true → c.number ≡ (g + 1) % 65536 → greatest_after g c ≡ g + 1
-grows_for g c r n =
-    let t : (c.number == (g + 1) % 65536) ≡ true = grind (arith, nat_tests) in
-    let both : (c.reliable && c.number == (g + 1) % 65536) ≡ true = λ i. r i && t i in
-    ap (λ b. cond b (g + 1) g) both
+stays_by : (g d : ℕ) → (d ≡ 0) ⊎ (32768 ≤ d) → cond (nat_lt d 32768) (g + d) g ≡ g
+stays_by g d (inl none) = ap (λ x. cond (nat_lt x 32768) (g + x) g) none ∙ (let e : g + 0 ≡ g = omega arith in e)
+stays_by g d (inr far) = let t : nat_lt d 32768 ≡ false = (let h : 32768 ≤ d = far in grind (arith, nat_tests)) in ap (λ b. cond b (g + d) g) t
 
-stays_for : (g : ℕ) (c : DataCommand) → (c.reliable ≡ true → c.number ≢ (g + 1) % 65536) → greatest_after g c ≡ g
-stays_for g c h =
-    elim c.reliable as (λ r. c.reliable ≡ r → cond (r && c.number == (g + 1) % 65536) (g + 1) g ≡ g) [
-      | true ↦ λ r. ap (λ b. cond b (g + 1) g) (apart c.number ((g + 1) % 65536) (h r))
-      | false ↦ λ r. refl
-    ] refl
+grows_for : (g n : ℕ) → n ≡ (g + 1) % 65536 → greatest_after g n ≡ g + 1
+grows_for g n e = let d : ahead (g % 65536) n ≡ 1 = omega arith in ap (λ x. cond (nat_lt x 32768) (g + x) g) d
+
+stays_for : (g m n : ℕ) → n ≡ m % 65536 → m ≤ g → g < m + 8192 → greatest_after g n ≡ g
+stays_for g m n e low high = stays_by g (ahead (g % 65536) n) (by (ahead (g % 65536) n) refl)
   where
-    apart : (a b : ℕ) → a ≢ b → (a == b) ≡ false
-    apart a b n = grind (arith, nat_tests)
+    by : (d : ℕ) → ahead (g % 65536) n ≡ d → (d ≡ 0) ⊎ (32768 ≤ d)
+    by zero is = inl refl
+    by (suc d) is = inr (omega arith)
 
 -- a sent command goes again
 Sound-resends : (mtu : ℕ) (v : WireLink) (now : ℕ) (n : Next) → Sound mtu v → v.is_sending ≡ true → Resends v.outgoing now n → Sound mtu (sends v n)
@@ -324,7 +322,7 @@ Sound-resends mtu v now n s sending r =
     let number : n.command.number ≡ m % 65536 = ap (λ (x : DataCommand). x.number) command ∙ ap (λ x. x % 65536) im.number in
     let g = h.greatest in
     let u0 = u.0 in let u1 = u.1 in let u2 = u.2 in
-    let stays : greatest_after v.greatest n.command ≡ v.greatest = stays_for v.greatest n.command (λ t e. grind arith) in
+    let stays : greatest_after v.greatest n.command.number ≡ v.greatest = stays_for v.greatest m n.command.number number (omega arith) (omega arith) in
     let out : n.sender ≡ (record v.outgoing { sent = slice_set v.outgoing.sent r.place (again now p) }) = ap (λ (x : Next). x.sender) r.is in
     record {
       link = l;
@@ -369,7 +367,7 @@ Sound-begins_reliable mtu v now timeout transit most n s sending b k kind =
     let span : is_in_span wire v.outgoing.sent c.number ≡ true = and_left (is_in_span wire v.outgoing.sent c.number) (nat_le (transit + length c.body) most) (or_left c.reliable _ b.allowed head_kind) in
     let room = room_from mtu l.carried l.unacked v.outgoing.sent c.number l.sent (h.images sending) h.rising (λ m j. let u = s.numbers.unacked m j in (u.1, u.2)) number span in
     let command : n.command ≡ c = ap (λ (x : Next). x.command) b.is in
-    let up : greatest_after v.greatest n.command ≡ v.greatest + 1 = ap (greatest_after v.greatest) command ∙ grows_for v.greatest c head_kind (number ∙ ap (λ g. (g + 1) % 65536) (sym h.greatest)) in
+    let up : greatest_after v.greatest n.command.number ≡ v.greatest + 1 = ap (λ (x : DataCommand). greatest_after v.greatest x.number) command ∙ grows_for v.greatest c.number (number ∙ ap (λ g. (g + 1) % 65536) (sym h.greatest)) in
     let out : n.sender ≡ (record v.outgoing { queued = b.rest; sent = v.outgoing.sent ++ begun now timeout c ∷ [] }) =
     ap (λ (x : Next). x.sender) b.is ∙ ap (λ r. record v.outgoing { queued = b.rest; sent = if r then v.outgoing.sent ++ begun now timeout c ∷ [] else v.outgoing.sent }) head_kind in
     let image : ImageOf mtu l.carried (l.sent + 1) (begun now timeout c) = record { meant = k.meant; piece = k.piece; reliable = kind; number = meant_number; command = k.command } in
@@ -419,7 +417,8 @@ Sound-begins_unreliable mtu v now timeout transit most n s sending b k kind =
     let head_kind : c.reliable ≡ false = ap (λ (x : DataCommand). x.reliable) k.command ∙ kind in
     let meant_number : k.meant.number ≡ l.sent = k.number ∙ ap (λ r. cond r (l.sent + 1) l.sent) kind in
     let command : n.command ≡ c = ap (λ (x : Next). x.command) b.is in
-    let stays : greatest_after v.greatest n.command ≡ v.greatest = ap (greatest_after v.greatest) command ∙ stays_for v.greatest c (λ t. absurd (let f : true ≡ false = sym t ∙ head_kind in cc)) in
+    let same : v.greatest ≡ l.sent = h.greatest in
+    let stays : greatest_after v.greatest n.command.number ≡ v.greatest = ap (λ (x : DataCommand). greatest_after v.greatest x.number) command ∙ stays_for v.greatest l.sent c.number (ap (λ (x : DataCommand). x.number) k.command ∙ ap (λ x. x % 65536) meant_number) (omega arith) (omega arith) in
     let out : n.sender ≡ (record v.outgoing { queued = b.rest; sent = v.outgoing.sent }) =
     ap (λ (x : Next). x.sender) b.is ∙ ap (λ r. record v.outgoing { queued = b.rest; sent = if r then v.outgoing.sent ++ begun now timeout c ∷ [] else v.outgoing.sent }) head_kind in
     record {

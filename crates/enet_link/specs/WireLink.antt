@@ -1,6 +1,7 @@
 -- One channel from a sender to a receiver and the acknowledgements back, as the two ends and the log show it: with wire numbers.
-use Rattle.std.specs.Prelude.{ℕ, Bool, false, ◌+◌, ◌%◌, ◌&&◌, ◌==◌, if◌then◌else◌, List, [], ◌∷◌, ◌++◌, map}
+use Rattle.std.specs.Prelude.{ℕ, Bool, false, ◌+◌, ◌%◌, nat_lt, if◌then◌else◌, List, [], ◌∷◌, ◌++◌, map}
 use Rattle.enet_seq.specs.Numbering.{wire}
+use Rattle.enet_seq.specs.Windows.{ahead}
 use Rattle.enet_sender.specs.Carriage.{Packet}
 use Rattle.enet_fragment.specs.declared.data.DataCommand.{DataCommand}
 use Rattle.enet_sender.specs.Sender.{Sender, Next, submitted, with_skipped, with_marked, acknowledged}
@@ -25,13 +26,14 @@ pub record WireLink : Type 0 where
 abbrev pub submits : ℕ → WireLink → Packet → WireLink
 submits mtu v p = record v { submitted = v.submitted ++ p ∷ []; outgoing = submitted wire mtu v.outgoing p }
 
--- the greatest number sent grows by one where a reliable command's number is the next
-abbrev pub greatest_after : ℕ → DataCommand → ℕ
-greatest_after greatest c = if c.reliable && c.number == (greatest + 1) % 65536 then greatest + 1 else greatest
+-- the greatest number after a command of this number went: one less than 32,768 ahead of it goes for the first time
+abbrev pub greatest_after : ℕ → ℕ → ℕ
+greatest_after greatest number =
+    if nat_lt (ahead (greatest % 65536) number) 32768 then greatest + ahead (greatest % 65536) number else greatest
 
 -- the command that is due next goes into the datagram
 abbrev pub sends : WireLink → Next → WireLink
-sends v n = record v { greatest = greatest_after v.greatest n.command; outgoing = n.sender; making = v.making ++ n.command ∷ [] }
+sends v n = record v { greatest = greatest_after v.greatest n.command.number; outgoing = n.sender; making = v.making ++ n.command ∷ [] }
 
 -- the throttle drops the unreliable packet that it begins
 abbrev pub drops : WireLink → Next → WireLink
