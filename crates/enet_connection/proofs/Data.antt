@@ -86,7 +86,7 @@ after-answered P p put number b sent may is k = by-if (m.head.acknowledge && may
 
 -- a receiver that dispatches has a front of 16 bits
 front-small : (own other : End) (channel : ℕ) (k : IsLinked other own channel) → k.link.is_open ≡ true → k.link.incoming.front < 65536
-front-small own other channel k open' = let f = keeps k.mtu k.events k.link k.big k.runs in let e = f.front open' in omega arith
+front-small own other channel k open' = let f = keeps k.mtu k.events k.link k.big k.runs in let s = f.shows open' in let e = s.front in omega arith
 
 -- it is taken in
 pub holds-taken_in : Forgets → (own other : End) (p q : Peering) (put : Put) (c : DataCommand) (r : ReceivingEnd) (answer : Bool) → dispatches_in p.state ≡ true → Logged other put c

@@ -137,8 +137,8 @@ pub both-stops : (own other : End) (p q : Peering) → own.peer ≡ Some p → S
 both-stops own other p q is c b = record {
   out = λ channel few. (let k = b.out channel few in let h = sending-of own p channel k.link is k.sending in
       let w : WireLink = stops_sending k.link nothing_sent in
-      let runs : Runs k.mtu (StopSending nothing_sent ∷ []) k.link w = (w, refl, refl) in
-      relinks own other (with_peer own q) other channel k w (record { events = StopSending nothing_sent ∷ []; runs = runs; same = ap (λ (l : List Rattle.enet_fragment.specs.declared.data.DataCommand.DataCommand). record w { making = l }) (sym k.between) }) refl refl refl
+      let runs : Runs k.mtu (StopSending nothing_sent ∷ []) k.link w = (w, record { between = k.between; after = refl }, refl) in
+      relinks own other (with_peer own q) other channel k w (record { events = StopSending nothing_sent ∷ []; runs = runs; same = refl }) refl refl refl
       (agreed-still own p q k.mtu is c.mtu k.agreed) (
         (λ t. false-true (sends_in q.state) c.sends t),
         (λ t. ap (λ (ss : List SendingEnd). (sender_in (slice_get ss channel)).queued) c.senders ∙ cleared-queued p.outbox.senders channel),

@@ -13,7 +13,9 @@ mod LinkLemmas
 mod QueueLemmas
 mod Reading
 mod Shown
+mod Counting
 mod SoundSender
 mod Sound
 mod WireSender
 pub mod Runs
+pub mod Greatest

@@ -14,7 +14,7 @@ use Rattle.enet_link.proofs.PieceLemmas.{IsPieceOf}
 use Rattle.enet_link.proofs.ReceiverLemmas.{IsReceived, Within, Grows, Lacks}
 use Rattle.enet_link.proofs.ArrivalLemmas.{Arrived, Arrived-command}
 
-number_below_true : (number reach : ℕ) → number ≤ reach → reach < number + 65536 → number_below reach (number % 65536) ≡ number
+pub number_below_true : (number reach : ℕ) → number ≤ reach → reach < number + 65536 → number_below reach (number % 65536) ≡ number
 number_below_true number reach low high = omega arith
 
 pub in_time : (sent number reach : ℕ) → number ≤ reach → reach < number + 65536 → is_late sent reach (number % 65536) ≡ false → sent ≤ number + 32768
@@ -84,6 +84,9 @@ Numbers-accept l c g = record {
   acks = λ a h. let k = g.acks a h in record { positive = k.positive; number = k.number; reach = k.reach; in_time = k.in_time; known = k.known };
 }
 
+pub order : (a b : ℕ) → (a ≤ b) ⊎ (b < a)
+order a b = grind arith
+
 -- the oldest unacknowledged number is at most that which the front lacks
 span_after : (l : Link) → Numbers l → ((m : ℕ) → Has l.unacked m → l.sent + 1 < m + 8192) → l.is_open ≡ true → l.sent + 1 ≤ l.receiver.front + 24575
 span_after l g room o =
@@ -97,9 +100,6 @@ span_after l g room o =
       ]
       | inr beyond ↦ omega arith
     ]
-  where
-    order : (a b : ℕ) → (a ≤ b) ⊎ (b < a)
-    order a b = grind arith
 
 Within-more : (sent : ℕ) (r : Receiver) → Within sent r → Within (sent + 1) r
 Within-more sent r w = record { front = let k = w.front in omega arith; held = λ n e h. let k = w.held n e h in (k.0, λ i t. let y = k.1 i t in omega arith) }

@@ -113,7 +113,7 @@ in_range mtu number count c from (suc len) (x ∷ before) d behind rest e =
       | inr w ↦ inr (record { more = w.more; before_is = (λ j. sym same j ∷ w.before_is j); rest_is = w.rest_is })
     ]
 
-reliable_count-range : (mtu number count : ℕ) (c : Carried) (from len : ℕ) → reliable_count (range mtu number count c from len) ≡ cond c.reliable len 0
+pub reliable_count-range : (mtu number count : ℕ) (c : Carried) (from len : ℕ) → reliable_count (range mtu number count c from len) ≡ cond c.reliable len 0
 reliable_count-range mtu number count c from zero = none_of c.reliable
 reliable_count-range mtu number count c from (suc len) =
     let e : len + 1 ≡ suc len = omega arith in

@@ -1,5 +1,5 @@
 -- Every run of a link keeps what holds of it.
-use Rattle.std.proofs.Common.{◌≡◌, ℕ, ◌%◌, ◌<◌, Bool, true, false, List, [], ◌∷◌, map, refl, sym, ap, subst, ◌∙◌, inl, inr, arith, Option, Some, None}
+use Rattle.std.proofs.Common.{◌≡◌, ℕ, ◌+◌, ◌%◌, ◌<◌, ◌≤◌, Bool, true, false, List, [], ◌∷◌, map, refl, sym, ap, subst, ◌∙◌, inl, inr, arith, Option, Some, None}
 use Rattle.std.specs.Prelude.{◌&&◌, unwrap_or}
 use Rattle.std.specs.Ordering.{nat_cmp}
 use Rattle.std.specs.FinMap.{FinMap, empty, get, get-empty}
@@ -11,15 +11,16 @@ use Rattle.enet_receiver.specs.Receiver.{nothing_received}
 use Rattle.enet_receiver.specs.Reception.{outcome, is_handled, place_read}
 use Rattle.enet_sender.specs.Carriage.{Carried}
 use Rattle.enet_sender.specs.declared.sent.Sent.{Sent}
-use Rattle.enet_link.specs.Link.{PutOut, is_late}
+use Rattle.enet_link.specs.Link.{PutOut, is_late, number_below}
 use Rattle.enet_link.specs.WireLink.{WireLink}
 use Rattle.enet_link.specs.Steps.{Has, Event, Submit, Send, Drop, Mark, PutsOut, Arrive, ArriveAnswered, PutsAnswer, Acknowledge, StopSending, StopReceiving, DropAnswers, Happens, Runs, fresh_link, bodies_of}
 use Rattle.enet_link.specs.Keeps.{Keeps}
-use Rattle.enet_link.specs.Meant.{OfReliable, IsReadAsMeant, IsReadAsItself}
+use Rattle.enet_link.specs.Meant.{OfReliable, OfUnreliable, IsReadAsMeant, IsReadAsItself}
 use Rattle.enet_link.proofs.ArrivalLemmas.{place_as_meant}
 use Rattle.enet_link.proofs.WireReceiver.{Shows-nothing}
-use Rattle.enet_link.proofs.LinkLemmas.{in_time}
+use Rattle.enet_link.proofs.LinkLemmas.{in_time, number_below_true, order}
 use Rattle.enet_link.proofs.Reading.{reads-piece}
+use Rattle.enet_link.proofs.Counting.{counted}
 use Rattle.enet_link.proofs.Shown.{Sound, Images, Sound-follows}
 use Rattle.enet_link.proofs.SoundSender.{Sound-submits, Sound-sends, Sound-drops, Sound-marks}
 use Rattle.enet_link.proofs.Sound.{Sound-puts_out, Sound-arrives, Sound-arrives_answered, Sound-logs_answer, Sound-answered, Sound-stops_sending, Sound-stops_receiving, Sound-drops_answers}
@@ -68,7 +69,7 @@ Sound-fresh mtu = record {
 }
 
 -- one event keeps it
-Sound-happens : (mtu : ℕ) (e : Event) (v w : WireLink) → 28 < mtu → Sound mtu v → Happens mtu e v w → Sound mtu w
+pub Sound-happens : (mtu : ℕ) (e : Event) (v w : WireLink) → 28 < mtu → Sound mtu v → Happens mtu e v w → Sound mtu w
 Sound-happens mtu (Submit packet) v w big s h = subst (λ x. Sound mtu x) (sym h.after) (Sound-submits mtu v packet big s h.sending h.few)
 Sound-happens mtu (Send now timeout transit most) v w big s h = subst (λ x. Sound mtu x) (sym h.after) (Sound-sends mtu v now timeout transit most h.due s h.sending h.is_due)
 Sound-happens mtu (Drop now timeout transit most) v w big s h = subst (λ x. Sound mtu x) (sym h.after) (Sound-drops mtu v now timeout transit most h.due s h.sending h.is_due h.unreliable)
@@ -84,11 +85,11 @@ Sound-happens mtu (ArriveAnswered command most full) v w big s h =
     handled false b t = absurd (cc)
 Sound-happens mtu (PutsAnswer number rest) v w big s h = subst (λ x. Sound mtu x) (sym h.after) (Sound-logs_answer mtu v number rest s h.oldest)
 Sound-happens mtu (Acknowledge answer) v w big s h = subst (λ x. Sound mtu x) (sym h.after) (Sound-answered mtu v answer s h.between h.logged h.in_time)
-Sound-happens mtu (StopSending left) v w big s h = subst (λ x. Sound mtu x) (sym h) (Sound-stops_sending mtu v left s)
+Sound-happens mtu (StopSending left) v w big s h = subst (λ x. Sound mtu x) (sym h.after) (Sound-stops_sending mtu v left s h.between)
 Sound-happens mtu (StopReceiving left kept gone) v w big s h = subst (λ x. Sound mtu x) (sym h.after) (Sound-stops_receiving mtu v left kept gone s h.dispatched)
 Sound-happens mtu DropAnswers v w big s h = subst (λ x. Sound mtu x) (sym h) (Sound-drops_answers mtu v s)
 
-Sound-runs : (mtu : ℕ) (es : List Event) (v w : WireLink) → 28 < mtu → Sound mtu v → Runs mtu es v w → Sound mtu w
+pub Sound-runs : (mtu : ℕ) (es : List Event) (v w : WireLink) → 28 < mtu → Sound mtu v → Runs mtu es v w → Sound mtu w
 Sound-runs mtu [] v w big s h = subst (λ x. Sound mtu x) h s
 Sound-runs mtu (e ∷ es) v w big s h = Sound-runs mtu es h.0 w big (Sound-happens mtu e v h.0 big s h.1) h.2
 
@@ -111,16 +112,36 @@ Keeps-sound mtu v s =
     record {
       receiver = l.receiver;
       waiting = l.unacked;
-      front = λ o. let i = h.incoming (sym h.is_open ∙ o) in i.front;
+      shows = λ o. h.incoming (sym h.is_open ∙ o);
+      behind = λ o. let w = g.within (sym h.is_open ∙ o) in let f = w.front in omega arith;
+      lines = λ o n k e t. subst (λ cs. OfUnreliable mtu cs n k e.making) h.carried (s.ready.waiting n k e t);
+      counted = counted mtu v s;
       sent = λ k. sent_numbers mtu l.carried l.unacked v.outgoing.sent (h.images k);
       removed = λ m low high. elim (g.removed m low (omega arith)) [ inl u ↦ inl u | inr k ↦ inr (λ o. k (sym h.is_open ∙ o)) ];
       span = λ m u. let k = g.unacked m u in let a = k.1 in let b = k.2 in (k.0, omega arith, omega arith);
+      oldest = λ o u high low. oldest (sym h.is_open ∙ o) u (omega arith) low;
+      marks = λ c t. (let y = h.commands c t in let k = g.commands (record { command = y.meant; reach = c.reach }) y.there in let m = k.reach in omega arith);
       near = λ o. let k = g.span (sym h.is_open ∙ o) in omega arith;
       held = λ o n e t. subst (λ cs. OfReliable mtu cs n e.making) h.carried (s.ready.held n e t);
-      read = λ o c t late. subst (λ cs. IsReadAsMeant mtu cs l.receiver c.command) h.carried (as_meant (sym h.is_open ∙ o) c t late);
+      read = λ o c t late. subst (λ cs. (m : IsReadAsMeant mtu cs l.receiver c.command) × (m.meant.number ≡ number_below c.reach c.command.number)) h.carried (as_meant (sym h.is_open ∙ o) c t late);
     }
   where
-    as_meant : s.link.is_open ≡ true → (c : PutOut) → Has v.commands c → is_late v.greatest c.reach c.command.number ≡ false → IsReadAsMeant mtu s.link.carried s.link.receiver c.command
+    -- the number that the receiver lacks waits, or did not go yet
+    oldest : s.link.is_open ≡ true → (u : ℕ) → u ≤ s.link.sent + 1 → ((m : ℕ) → Has s.link.unacked m → u ≤ m) → u ≤ s.link.receiver.front + 16384
+    oldest o u high low =
+        let g = s.numbers in
+        let w = g.gap o in
+        let below = w.1 in
+        let near = w.2 in
+        elim (order w.0 s.link.sent) [
+          | inl went ↦ elim (g.removed w.0 (omega arith) went) [
+            | inl h ↦ let k = low w.0 h in omega arith
+            | inr k ↦ absurd (w.3 (k o))
+          ]
+          | inr beyond ↦ omega arith
+        ]
+
+    as_meant : s.link.is_open ≡ true → (c : PutOut) → Has v.commands c → is_late v.greatest c.reach c.command.number ≡ false → (m : IsReadAsMeant mtu s.link.carried s.link.receiver c.command) × (m.meant.number ≡ number_below c.reach c.command.number)
     as_meant o c t late =
         let l = s.link in
         let h = s.shows in
@@ -134,16 +155,18 @@ Keeps-sound mtu v s =
         let w = g.within o in
         let now : is_late l.sent c.reach (d.number % 65536) ≡ false = ap (λ z. is_late z c.reach (d.number % 65536)) (sym h.greatest) ∙ ap (λ (x : DataCommand). is_late v.greatest c.reach x.number) (sym y.command) ∙ late in
         let low = in_time l.sent d.number c.reach out.number (omega arith) now in
-        let place = place_as_meant mtu l.carried l.sent l.receiver d p s.ready w.front (omega arith) (g.span o) low in
-        record {
-          meant = d;
-          piece = p;
-          command = y.command;
-          read = elim place [
-            | inl none ↦ inl (ap (place_read unbounded l.receiver) y.command ∙ none)
-            | inr some' ↦ inr (ap (place_read unbounded l.receiver) y.command ∙ some')
-          ];
-        }
+        let place = place_as_meant mtu l.carried l.sent l.receiver d p s.ready w.front (omega arith) (g.span o) low in (
+          record {
+            meant = d;
+            piece = p;
+            command = y.command;
+            read = elim place [
+              | inl none ↦ inl (ap (place_read unbounded l.receiver) y.command ∙ none)
+              | inr some' ↦ inr (ap (place_read unbounded l.receiver) y.command ∙ some')
+            ];
+          },
+          sym (number_below_true d.number c.reach out.number (omega arith)) ∙ sym (ap (λ (x : DataCommand). number_below c.reach x.number) y.command),
+        )
 
 pub follows : (mtu : ℕ) (events : List Event) (w : WireLink) → 28 < mtu → Runs mtu events fresh_link w → Follows mtu w.submitted (bodies_of w.incoming.dispatched)
 follows mtu events w big h = Sound-follows mtu w (Sound-runs mtu events fresh_link w big (Sound-fresh mtu) h)

@@ -298,8 +298,8 @@ Sound-answered mtu v a s nothing there late =
     }
 
 -- the ends of a channel
-pub Sound-stops_sending : (mtu : ℕ) (v : WireLink) (o : Sender) → Sound mtu v → Sound mtu (stops_sending v o)
-Sound-stops_sending mtu v o s =
+pub Sound-stops_sending : (mtu : ℕ) (v : WireLink) (o : Sender) → Sound mtu v → v.making ≡ [] → Sound mtu (stops_sending v o)
+Sound-stops_sending mtu v o s nothing =
     let h = s.shows in
     record {
       link = s.link;
@@ -312,7 +312,7 @@ Sound-stops_sending mtu v o s =
         is_open = h.is_open;
         queues = λ j. absurd (cc);
         images = λ j. absurd (cc);
-        making = λ d j. absurd j;
+        making = λ d j. absurd (subst (λ (y : List DataCommand). Has y d) nothing j);
         rising = h.rising;
         pieces = h.pieces;
         commands = h.commands;

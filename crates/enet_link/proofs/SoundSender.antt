@@ -1,5 +1,5 @@
 -- What the sending end of a link does keeps what holds of it.
-use Rattle.std.proofs.Common.{◌≡◌, ◌≢◌, ℕ, ◌+◌, ◌-◌, ◌/◌, ◌%◌, ◌<◌, ◌≤◌, Bool, true, false, not, cond, ◌==◌, ◌||◌, if◌then◌else◌, List, [], ◌∷◌, ◌++◌, length, map, refl, sym, ap, subst, ◌∙◌, inl, inr, ◌⊎◌, arith, Option, Some, None, zero, suc, append_assoc}
+use Rattle.std.proofs.Common.{◌≡◌, ℕ, ◌+◌, ◌-◌, ◌/◌, ◌%◌, ◌<◌, ◌≤◌, Bool, true, false, not, cond, ◌==◌, ◌||◌, if◌then◌else◌, List, [], ◌∷◌, ◌++◌, length, map, refl, sym, ap, subst, ◌∙◌, inl, inr, ◌⊎◌, arith, Option, Some, None, zero, suc, append_assoc}
 use Rattle.std.proofs.lemmas.Bool.Decides.{nat_tests}
 use Rattle.std.proofs.lemmas.List.{append-nil, map-append}
 use Rattle.std.proofs.lemmas.Nat.{div_below}
@@ -18,7 +18,8 @@ use Rattle.enet_sender.specs.Sender.{Sender, Next, commands_of, with_queued, aga
 use Rattle.enet_sender.specs.declared.sent.Sent.{Sent}
 use Rattle.enet_link.specs.Follows.{command_count, count_after}
 use Rattle.enet_link.specs.Link.{Link, accept, send, wired}
-use Rattle.enet_link.specs.WireLink.{WireLink, submits, greatest_after, sends, drops, marks}
+use Rattle.enet_link.specs.Greatest.{greatest_after}
+use Rattle.enet_link.specs.WireLink.{WireLink, submits, sends, drops, marks}
 use Rattle.enet_link.proofs.Lists.{Has, Has-push_cases, Has-push_left, Has-push, Has-slice_get}
 use Rattle.enet_link.proofs.CarriageLemmas.{IsCut, Stands, command_count-append, count_after-append}
 use Rattle.enet_link.proofs.ContentLemmas.{Ready}

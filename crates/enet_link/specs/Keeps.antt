@@ -2,11 +2,14 @@
 use Rattle.std.specs.Prelude.{◌≡◌, ℕ, true, false, ◌+◌, ◌-◌, ◌%◌, ◌<◌, ◌≤◌, ◌⊎◌, List, map, Some}
 use Rattle.std.specs.FinMap.{get}
 use Rattle.enet_packets.specs.declared.coming.Coming.{Coming}
+use Rattle.enet_packets.specs.Packets.{line_at}
 use Rattle.enet_receiver.specs.Receiver.{Receiver}
 use Rattle.enet_sender.specs.Carriage.{carried}
 use Rattle.enet_sender.specs.declared.sent.Sent.{Sent}
-use Rattle.enet_link.specs.Link.{PutOut, is_late}
-use Rattle.enet_link.specs.Meant.{OfReliable, IsReadAsMeant, has_piece}
+use Rattle.enet_link.specs.Follows.{command_count}
+use Rattle.enet_link.specs.Link.{PutOut, is_late, number_below}
+use Rattle.enet_link.specs.Image.{ShowsReceiver, reliable_count}
+use Rattle.enet_link.specs.Meant.{OfReliable, OfUnreliable, IsReadAsMeant, has_piece}
 use Rattle.enet_link.specs.WireLink.{WireLink}
 use Rattle.enet_link.specs.Steps.{Has}
 
@@ -14,22 +17,33 @@ use Rattle.enet_link.specs.Steps.{Has}
 abbrev pub IsReceived : Receiver → ℕ → Type 0
 IsReceived r m = (m ≤ r.front) ⊎ ((n : ℕ) × (e : Coming) × (get r.held n ≡ Some e) × (n ≤ m) × (has_piece e.making (m - n) ≡ true))
 
--- there is a receiver of unbounded numbers whose front the link shows, and unbounded numbers that wait for their
+-- there is a receiver of unbounded numbers that the link shows, and there are unbounded numbers that wait for their
 -- acknowledgements, such that
 pub record Keeps (mtu : ℕ) (v : WireLink) : Type 0 where
   pub receiver : Receiver
   pub waiting : List ℕ
-  -- the front on the wire is that receiver's
-  pub front : v.is_open ≡ true → v.incoming.front ≡ receiver.front % 65536
-  -- what a sending end keeps as sent has just these numbers
+  -- what the link keeps as the receiver is how that one is kept with wire numbers
+  pub shows : v.is_open ≡ true → ShowsReceiver v.incoming receiver
+  -- what a sending end keeps as sent has just the numbers that wait
   pub sent : v.is_sending ≡ true → map (λ (p : Sent). p.command.number) v.outgoing.sent ≡ map (λ n. n % 65536) waiting
-  -- an acknowledgement removed only what was dispatched or is held, where the receiver still dispatches
-  pub removed : (m : ℕ) → 0 < m → m ≤ v.greatest → Has waiting m ⊎ (v.is_open ≡ true → IsReceived receiver m)
+  -- of the reliable commands that were submitted those up to the greatest number went, and the others are queued
+  pub counted : v.is_sending ≡ true → command_count (carried mtu v.submitted) ≡ v.greatest + reliable_count v.outgoing.queued
   -- what waits was sent, and is within the span
   pub span : (m : ℕ) → Has waiting m → (0 < m) × (m ≤ v.greatest) × (v.greatest < m + 8192)
-  -- the front stays near what was sent: at most a packet and the span behind
+  -- an acknowledgement removed only what was dispatched or is held, where the receiver still dispatches
+  pub removed : (m : ℕ) → 0 < m → m ≤ v.greatest → Has waiting m ⊎ (v.is_open ≡ true → IsReceived receiver m)
+  -- the front isn't ahead of what was sent
+  pub behind : v.is_open ≡ true → receiver.front ≤ v.greatest
+  -- it is at most a packet behind the oldest number that was not acknowledged
+  pub oldest : v.is_open ≡ true → (u : ℕ) → u ≤ v.greatest + 1 → ((m : ℕ) → Has waiting m → u ≤ m) → u ≤ receiver.front + 16384
+  -- so it stays near what was sent: at most a packet and the span behind
   pub near : v.is_open ≡ true → v.greatest ≤ receiver.front + 24575
   -- all pieces that are held under one number are of one submitted packet
   pub held : v.is_open ≡ true → (n : ℕ) (e : Coming) → get receiver.held n ≡ Some e → OfReliable mtu (carried mtu v.submitted) n e.making
-  -- every command of the log that isn't late is read as it was meant, or as nothing
-  pub read : v.is_open ≡ true → (c : PutOut) → Has v.commands c → is_late v.greatest c.reach c.command.number ≡ false → IsReadAsMeant mtu (carried mtu v.submitted) receiver c.command
+  -- so are those that wait under one number and one unreliable number
+  pub lines : v.is_open ≡ true → (n k : ℕ) (e : Coming) → get (line_at receiver.waiting n) k ≡ Some e → OfUnreliable mtu (carried mtu v.submitted) n k e.making
+  -- the mark of a command of the log is not above the greatest number
+  pub marks : (c : PutOut) → Has v.commands c → c.reach ≤ v.greatest
+  -- every command of the log that isn't late was meant with the number below its mark, and is read so, or as nothing
+  pub read : v.is_open ≡ true → (c : PutOut) → Has v.commands c → is_late v.greatest c.reach c.command.number ≡ false
+      → (m : IsReadAsMeant mtu (carried mtu v.submitted) receiver c.command) × (m.meant.number ≡ number_below c.reach c.command.number)

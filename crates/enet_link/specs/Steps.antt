@@ -53,6 +53,11 @@ pub record Marks (now : ℕ) (v w : WireLink) : Type 0 where
   pub sending : v.is_sending ≡ true
   pub after : w ≡ marks v now
 
+-- the sending end stops between two datagrams
+pub record StopsSending (left : Sender) (v w : WireLink) : Type 0 where
+  pub between : v.making ≡ []
+  pub after : w ≡ stops_sending v left
+
 -- a command of the log comes, not more than 32,768 late
 pub record Arrives (command : PutOut) (max_packet : ℕ) (full answer : Bool) (v w : WireLink) : Type 0 where
   pub logged : Has v.commands command
@@ -91,7 +96,7 @@ Happens mtu (Arrive command max_packet full) v w = Arrives command max_packet fu
 Happens mtu (ArriveAnswered command max_packet full) v w = ArrivesAnswered command max_packet full v w
 Happens mtu (PutsAnswer number rest) v w = PutsAnswers number rest v w
 Happens mtu (Acknowledge answer) v w = Acknowledges answer v w
-Happens mtu (StopSending left) v w = w ≡ stops_sending v left
+Happens mtu (StopSending left) v w = StopsSending left v w
 Happens mtu (StopReceiving left kept gone) v w = StopsReceiving left kept gone v w
 Happens mtu DropAnswers v w = w ≡ drops_answers v
 

@@ -1,7 +1,6 @@
 -- One channel from a sender to a receiver and the acknowledgements back, as the two ends and the log show it: with wire numbers.
-use Rattle.std.specs.Prelude.{ℕ, Bool, false, ◌+◌, ◌%◌, nat_lt, if◌then◌else◌, List, [], ◌∷◌, ◌++◌, map}
+use Rattle.std.specs.Prelude.{ℕ, Bool, false, if◌then◌else◌, List, [], ◌∷◌, ◌++◌, map}
 use Rattle.enet_seq.specs.Numbering.{wire}
-use Rattle.enet_seq.specs.Windows.{ahead}
 use Rattle.enet_sender.specs.Carriage.{Packet}
 use Rattle.enet_fragment.specs.declared.data.DataCommand.{DataCommand}
 use Rattle.enet_sender.specs.Sender.{Sender, Next, submitted, with_skipped, with_marked, acknowledged}
@@ -9,10 +8,11 @@ use Rattle.enet_packets.specs.declared.coming.Dispatched.{Dispatched}
 use Rattle.enet_receiver.specs.Receiver.{Receiver}
 use Rattle.enet_receiver.specs.Reception.{received}
 use Rattle.enet_link.specs.Link.{PutOut, Answer}
+use Rattle.enet_link.specs.Greatest.{greatest_after}
 
 pub record WireLink : Type 0 where
   pub submitted : List Packet
-  pub greatest : ℕ  -- how many reliable commands were sent
+  pub greatest : ℕ  -- the greatest number sent
   pub is_sending : Bool
   pub outgoing : Sender
   pub making : List DataCommand  -- those of the datagram in the making
@@ -25,11 +25,6 @@ pub record WireLink : Type 0 where
 -- a packet is submitted
 abbrev pub submits : ℕ → WireLink → Packet → WireLink
 submits mtu v p = record v { submitted = v.submitted ++ p ∷ []; outgoing = submitted wire mtu v.outgoing p }
-
--- the greatest number after a command of this number went: one less than 32,768 ahead of it goes for the first time
-abbrev pub greatest_after : ℕ → ℕ → ℕ
-greatest_after greatest number =
-    if nat_lt (ahead (greatest % 65536) number) 32768 then greatest + ahead (greatest % 65536) number else greatest
 
 -- the command that is due next goes into the datagram
 abbrev pub sends : WireLink → Next → WireLink
@@ -68,7 +63,7 @@ answered v a = record v { outgoing = acknowledged v.outgoing a.number }
 
 -- the sending end stops, whatever it then keeps
 abbrev pub stops_sending : WireLink → Sender → WireLink
-stops_sending v o = record v { is_sending = false; outgoing = o; making = [] }
+stops_sending v o = record v { is_sending = false; outgoing = o }
 
 -- the receiving end no longer dispatches, and may forget what it holds and what wasn't taken
 abbrev pub stops_receiving : WireLink → Receiver → List Dispatched → WireLink

@@ -19,7 +19,9 @@ ghost use Rattle.enet_link.specs.Follows.{Follows};
 ghost use Rattle.enet_link.specs.Link.{PutOut};
 ghost use Rattle.enet_link.specs.Meant.{IsReadAsItself};
 ghost use Rattle.enet_link.specs.Image.{ShowsReceiver, ShowsSender, ShowsNext, reached};
-ghost use Rattle.enet_link.specs.Steps.{Has, Event, Runs, fresh_link, bodies_of};
+ghost use Rattle.enet_link.specs.Greatest.{greatest_after, greatest_over};
+ghost use Rattle.enet_link.specs.FirstSends.{first_sends, first_sends_of, numbers_sent};
+ghost use Rattle.enet_link.specs.Steps.{Has, Event, Happens, Runs, fresh_link, bodies_of};
 ghost use Rattle.enet_link.specs.WireLink.{WireLink};
 ghost use Rattle.enet_link.specs.Keeps.{Keeps};
 
@@ -29,15 +31,33 @@ ghost use Rattle.enet_link.specs.Keeps.{Keeps};
 ///
 /// `follows`: what was dispatched is a subsequence of what was submitted, each packet whole, that leaves out no reliable
 /// packet before its last. `keeps`: an acknowledgement removes only what was dispatched or is held, unless the receiver no
-/// longer dispatches; the receiver's front stays within 24,575 numbers of the greatest number sent; every command that isn't
-/// late is read as it was meant or as nothing, and all pieces that are held under one number are of one packet. `reads`: each
-/// command that was put out is read from its message as that very command.
+/// longer dispatches; the receiver's front is at most 16,384 numbers behind the oldest that was not acknowledged and at most
+/// 24,575 behind the greatest number sent, and never ahead of it; every command that isn't late is read as it was meant or as
+/// nothing, and all pieces that are held or wait under one number are of one packet. `reads`: each command that was put out is
+/// read from its message as that very command.
 pub fn one_link()
     ensures follows { (mtu : ℕ) (events : List Event) (link : WireLink) → 28 < mtu → Runs mtu events fresh_link link
         → Follows mtu link.submitted (bodies_of link.incoming.dispatched) }
     ensures keeps { (mtu : ℕ) (events : List Event) (link : WireLink) → 28 < mtu → Runs mtu events fresh_link link → Keeps mtu link }
     ensures reads { (mtu : ℕ) (events : List Event) (link : WireLink) → 28 < mtu → Runs mtu events fresh_link link
         → (c : PutOut) → Has link.commands c → IsReadAsItself c.command }
+{}
+
+/// The greatest number sent on one channel, over every list of events of it.
+///
+/// `counts`: it is how many reliable commands went for the first time. `grows`: each event adds what goes by it, which is at
+/// most one command. `reckoned`: it is told by the wire numbers of all commands that went, in order. `bounded`: it is at most
+/// as great as these are many. `steps`: whatever comes next, such a reckoning never falls, and rises by less than 32,768.
+pub fn greatest_sent()
+    ensures counts { (mtu : ℕ) (events : List Event) (link : WireLink) → 28 < mtu → (run : Runs mtu events fresh_link link)
+        → link.greatest ≡ first_sends_of mtu events fresh_link link run }
+    ensures grows { (mtu : ℕ) (events : List Event) (event : Event) (link after : WireLink) → 28 < mtu → Runs mtu events fresh_link link
+        → Happens mtu event link after → (after.greatest ≡ link.greatest + first_sends event link after) × (first_sends event link after ≤ 1) }
+    ensures reckoned { (mtu : ℕ) (events : List Event) (link : WireLink) → 28 < mtu → Runs mtu events fresh_link link
+        → link.greatest ≡ greatest_over 0 (numbers_sent link) }
+    ensures bounded { (mtu : ℕ) (events : List Event) (link : WireLink) → 28 < mtu → Runs mtu events fresh_link link
+        → link.greatest ≤ length link.commands + length link.making }
+    ensures steps { (greatest number : ℕ) → (greatest ≤ greatest_after greatest number) × (greatest_after greatest number < greatest + 32768) }
 {}
 
 /// A receiver that keeps wire numbers does with every command what one with unbounded numbers does: it begins as the other's
