@@ -87,11 +87,11 @@ data-by law own other p put c sent logged tidy (inr s) h =
     subst (λ b. Holds own other (cond b later takes).after) (sym s.0) (holds-passed own other p put c sent s.1 logged h)
 
 logged-of : (other : End) (put : Put) (c : DataCommand) → IsClean other → Has other.log put → data_of put.message ≡ Some c → put.message.head.number ≡ c.number
-    → is_late (sent_on put.message.head.channel other) put.reach c.number ≡ false → Logged other put c
+    → (put.message.head.channel < 255 → is_late (sent_on put.message.head.channel other) put.reach c.number ≡ false) → Logged other put c
 logged-of other put c clean there is number late = record {
   logged = there;
   is = is;
-  in_time = late;
+  in_time = late (clean.low put c there is);
   number = number;
   asks = λ t. (let a = clean.asks put there t (clean.low put c there is) in
       let both : Some a.0 ≡ Some c = sym a.1 ∙ is in
@@ -201,15 +201,15 @@ holds-verified own other p v s e tidy h = h
 
 -- whatever comes
 pub holds-coming : Forgets → (own other : End) (p : Peering) (h : Head) (reach now : ℕ) (sent : Option ℕ) (body : Body) → Has other.log (made h reach body) → IsClean other → Tidy own.submitted p
-    → ((c : DataCommand) → data_of (record { head = h; body = body }) ≡ Some c → is_late (sent_on h.channel other) reach c.number ≡ false)
-    → ((number time : ℕ) → body ≡ acknowledge number time → is_late (sent_on h.channel own) reach number ≡ false)
+    → (h.channel < 255 → (c : DataCommand) → data_of (record { head = h; body = body }) ≡ Some c → is_late (sent_on h.channel other) reach c.number ≡ false)
+    → (h.channel < 255 → (number time : ℕ) → body ≡ acknowledge number time → is_late (sent_on h.channel own) reach number ≡ false)
     → Holds own other p → Holds own other (obeyed p now sent (record { head = h; body = body })).after
 holds-coming law own other p h reach now sent (connect offer) there clean tidy late late' k = k
 holds-coming law own other p h reach now sent (acknowledge number time) there clean tidy late late' k =
     let m : Message = record { head = h; body = acknowledge number time } in
     outcome-if own other (is_allowed p.state m.body) (by_body p now sent m m.body) (stopped p stop.NotConnected)
     (λ t. holds-answered own other (on_acknowledge p now h.channel number time) m sent true (far-of other (made h reach m.body) clean there refl)
-    (holds-acknowledged own other p (made h reach m.body) now number time there refl (late' number time refl) k)) k
+    (holds-acknowledged own other p (made h reach m.body) now number time there refl (λ few. late' few number time refl) k)) k
 holds-coming law own other p h reach now sent (verify_connect v) there clean tidy late late' k =
     let m : Message = record { head = h; body = verify_connect v } in
     outcome-if own other (is_allowed p.state m.body) (by_body p now sent m m.body) (stopped p stop.NotConnected)
@@ -242,19 +242,19 @@ holds-coming law own other p h reach now sent (send_reliable payload) there clea
     let m : Message = record { head = h; body = send_reliable payload } in
     let c : DataCommand = record { reliable = true; number = h.number; count = 0; fragment = None; body = payload } in
     outcome-if own other (is_allowed p.state m.body) (by_body p now sent m m.body) (stopped p stop.NotConnected)
-    (λ t. data-by law own other p (made h reach m.body) c sent (logged-of other (made h reach m.body) c clean there refl refl (late c refl)) tidy (data-state p.state m.body refl t) k) k
+    (λ t. data-by law own other p (made h reach m.body) c sent (logged-of other (made h reach m.body) c clean there refl refl (λ few. late few c refl)) tidy (data-state p.state m.body refl t) k) k
 holds-coming law own other p h reach now sent (send_unreliable n payload) there clean tidy late late' k =
     let m : Message = record { head = h; body = send_unreliable n payload } in
     let c : DataCommand = record { reliable = false; number = h.number; count = n; fragment = None; body = payload } in
     outcome-if own other (is_allowed p.state m.body) (by_body p now sent m m.body) (stopped p stop.NotConnected)
-    (λ t. data-by law own other p (made h reach m.body) c sent (logged-of other (made h reach m.body) c clean there refl refl (late c refl)) tidy (data-state p.state m.body refl t) k) k
+    (λ t. data-by law own other p (made h reach m.body) c sent (logged-of other (made h reach m.body) c clean there refl refl (λ few. late few c refl)) tidy (data-state p.state m.body refl t) k) k
 holds-coming law own other p h reach now sent (send_fragment f payload) there clean tidy late late' k =
     let m : Message = record { head = h; body = send_fragment f payload } in
     let c : DataCommand = record { reliable = true; number = h.number; count = 0; fragment = Some f; body = payload } in
     outcome-if own other (is_allowed p.state m.body) (by_body p now sent m m.body) (stopped p stop.NotConnected)
-    (λ t. data-by law own other p (made h reach m.body) c sent (logged-of other (made h reach m.body) c clean there refl refl (late c refl)) tidy (data-state p.state m.body refl t) k) k
+    (λ t. data-by law own other p (made h reach m.body) c sent (logged-of other (made h reach m.body) c clean there refl refl (λ few. late few c refl)) tidy (data-state p.state m.body refl t) k) k
 holds-coming law own other p h reach now sent (send_unreliable_fragment f payload) there clean tidy late late' k =
     let m : Message = record { head = h; body = send_unreliable_fragment f payload } in
     let c : DataCommand = record { reliable = false; number = h.number; count = f.start; fragment = Some f; body = payload } in
     outcome-if own other (is_allowed p.state m.body) (by_body p now sent m m.body) (stopped p stop.NotConnected)
-    (λ t. data-by law own other p (made h reach m.body) c sent (logged-of other (made h reach m.body) c clean there refl refl (late c refl)) tidy (data-state p.state m.body refl t) k) k
+    (λ t. data-by law own other p (made h reach m.body) c sent (logged-of other (made h reach m.body) c clean there refl refl (λ few. late few c refl)) tidy (data-state p.state m.body refl t) k) k

@@ -125,7 +125,7 @@ both-happens law own other new (Emit now) tidy clean b h =
 both-happens law own other new (Come put now sent) tidy clean b h =
     let p : Peering = h.0 in
     let i = h.2 in
-    subst (λ x. Both x other) (sym h.3) (holds-coming law own other p put.message.head put.reach now sent put.message.body i.logged clean (tidy p h.1) i.data' i.answer (named own other p h.1 b))
+    subst (λ x. Both x other) (sym h.3) (holds-coming law own other p put.message.head put.reach now sent put.message.body i.logged clean (tidy p h.1) i.of_data i.of_acknowledgement (named own other p h.1 b))
 both-happens law own other new (Tick now) tidy clean b h = subst (λ x. Both x other) (sym h.2) (holds-ticked own other h.0 now (named own other h.0 h.1 b))
 both-happens law own other new Take tidy clean b h = subst (λ x. Both x other) (sym h.5) (both-took own other h.0 h.1 h.2 h.3 h.4 b)
 both-happens law own other new (Disconnect way info) tidy clean b h = subst (λ x. Both x other) (sym h.4) (holds-left own other h.0 h.1 way info h.3 (named own other h.0 h.2 b))

@@ -1,5 +1,5 @@
 -- The single changes of a peer that move links: an acknowledgement, a tick's marks, the end of dispatching, a packet taken.
-use Rattle.std.proofs.Common.{◌≡◌, ◌≢◌, ℕ, zero, suc, ◌<◌, Bool, true, false, cond, ◌==◌, List, [], ◌∷◌, ◌++◌, map, refl, sym, ap, ◌∙◌, inl, inr, arith, Option, Some, None, slice_set, append_assoc}
+use Rattle.std.proofs.Common.{◌≡◌, ◌≢◌, ℕ, zero, suc, ◌<◌, Bool, true, false, cond, ◌==◌, List, [], ◌∷◌, ◌++◌, map, refl, sym, ap, subst, ◌∙◌, inl, inr, arith, Option, Some, None, slice_set, append_assoc}
 use Rattle.std.proofs.lemmas.Bool.Decides.{nat_tests}
 use Rattle.std.proofs.lemmas.List.{append-nil}
 use Rattle.std.specs.List.{slice_get}
@@ -104,7 +104,7 @@ same-answers o j number = by-control (j == 0xFF)
     by-control false = by (slice_get o.senders j)
 
 pub both-acknowledged : (own other : End) (p : Peering) (put : Put) (number time : ℕ) → own.peer ≡ Some p → Has other.log put → put.message.body ≡ acknowledge number time
-    → is_late (sent_on put.message.head.channel own) put.reach number ≡ false → Both own other → Both (with_peer own (record p { outbox = acknowledged p.outbox put.message.head.channel number })) other
+    → (put.message.head.channel < 255 → is_late (sent_on put.message.head.channel own) put.reach number ≡ false) → Both own other → Both (with_peer own (record p { outbox = acknowledged p.outbox put.message.head.channel number })) other
 both-acknowledged own other p put number time is logged body late b = record {
   out = λ channel few. by channel few (b.out channel few) (j == channel) refl;
   back = λ channel few. back-quiet own other p q channel few is (record { dispatches = refl; receivers = refl; untaken = λ i h. refl; numbers = λ i h. ap (numbers_on i) (same-answers p.outbox j number) }) (b.back channel few);
@@ -123,7 +123,7 @@ both-acknowledged own other p put number time is logged body late b = record {
         let a : Answer = record { number = number; reach = put.reach } in
         let w : WireLink = answered k.link a in
         let there : Has k.link.acks a = k.acks put number time logged at body in
-        let time' : is_late k.link.greatest a.reach a.number ≡ false = ap (λ g. is_late g put.reach number) (k.greatest ∙ ap (λ i. sent_on i own) (sym at)) ∙ late in
+        let time' : is_late k.link.greatest a.reach a.number ≡ false = ap (λ g. is_late g put.reach number) (k.greatest ∙ ap (λ i. sent_on i own) (sym at)) ∙ late (subst (λ i. i < 255) (sym at) few) in
         let after' : sender_in (slice_get q.outbox.senders channel) ≡ sender.acknowledged (sender_in (slice_get p.outbox.senders channel)) number =
         ap (λ i. sender_in (slice_get (senders-after p.outbox i number) channel)) at ∙ after-own p.outbox channel number few in
         out-sender own other p q channel k w is refl refl

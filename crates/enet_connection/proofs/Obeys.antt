@@ -1,5 +1,5 @@
 -- A command of the log that comes to a peer keeps all links.
-use Rattle.std.proofs.Common.{◌≡◌, ◌≢◌, ℕ, ◌≤◌, Bool, true, false, cond, ◌==◌, ◌&&◌, not, List, [], ◌∷◌, ◌++◌, refl, sym, ap, subst, ◌∙◌, inl, inr, ◌⊎◌, arith, Option, Some, None}
+use Rattle.std.proofs.Common.{◌≡◌, ◌≢◌, ℕ, ◌<◌, ◌≤◌, Bool, true, false, cond, ◌==◌, ◌&&◌, not, List, [], ◌∷◌, ◌++◌, refl, sym, ap, subst, ◌∙◌, inl, inr, ◌⊎◌, arith, Option, Some, None}
 use Rattle.std.proofs.lemmas.Bool.Decides.{nat_tests}
 use Rattle.std.proofs.lemmas.List.{append-nil}
 use Rattle.enet_types.specs.declared.packet.Packet.{Packet}
@@ -111,7 +111,7 @@ holds-with_answer own other p state.Answering (control.VerifyConnect verify) e h
 holds-with_answer own other p state.Disconnecting (control.Disconnect info) e h = holds-stops own other p (ended p 0) (stops-ended p 0) h
 holds-with_answer own other p s what e h = h
 
-pub holds-acknowledged : (own other : End) (p : Peering) (put : Put) (now number time : ℕ) → Has other.log put → put.message.body ≡ acknowledge number time → is_late (sent_on put.message.head.channel own) put.reach number ≡ false
+pub holds-acknowledged : (own other : End) (p : Peering) (put : Put) (now number time : ℕ) → Has other.log put → put.message.body ≡ acknowledge number time → (put.message.head.channel < 255 → is_late (sent_on put.message.head.channel own) put.reach number ≡ false)
     → Holds own other p → Holds own other (on_acknowledge p now put.message.head.channel number time)
 holds-acknowledged own other p put now number time logged body late h = by (matched_by p.outbox put.message.head.channel number)
   where

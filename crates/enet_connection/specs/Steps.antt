@@ -1,5 +1,5 @@
 -- What can happen to a connection, one thing after another. Each happens at one end; where memory is wanting nothing happens.
-use Rattle.std.specs.Prelude.{◌≡◌, ℕ, true, false, List, [], ◌∷◌, ◌++◌, length, map, Option, Some, None, IsTrue}
+use Rattle.std.specs.Prelude.{◌≡◌, ℕ, ◌<◌, true, false, List, [], ◌∷◌, ◌++◌, length, map, Option, Some, None, IsTrue}
 use Rattle.enet_types.specs.declared.packet.Packet.{Packet}
 use Rattle.enet_codec.specs.declared.command.Offer.{Offer}
 use Rattle.enet_codec.specs.Message.{Message, acknowledge, connect}
@@ -66,11 +66,11 @@ has_peer e p = e.peer ≡ Some p
 abbrev pub with_peer : End → Peering → End
 with_peer e p = record e { peer = Some p }
 
--- a command of the other end's log that isn't over 32,768 numbers late
+-- a command of the other end's log. Where it is sequenced data of a channel below 255, or acknowledges a command of one, it isn't over 32,768 numbers late
 pub record InTime (own other : End) (put : Put) : Type 0 where
   pub logged : Has other.log put
-  pub data' : (c : DataCommand) → data_of put.message ≡ Some c → is_late (sent_on put.message.head.channel other) put.reach c.number ≡ false
-  pub answer : (number time : ℕ) → put.message.body ≡ acknowledge number time → is_late (sent_on put.message.head.channel own) put.reach number ≡ false
+  pub of_data : put.message.head.channel < 255 → (c : DataCommand) → data_of put.message ≡ Some c → is_late (sent_on put.message.head.channel other) put.reach c.number ≡ false
+  pub of_acknowledgement : put.message.head.channel < 255 → (number time : ℕ) → put.message.body ≡ acknowledge number time → is_late (sent_on put.message.head.channel own) put.reach number ≡ false
 
 abbrev pub with_submission : End → Peering → Packet → End
 with_submission e p q = record e { peer = Some (submitted p q.channel (record { flags = q.flags; body = q.body })); submitted = e.submitted ++ q ∷ [] }
