@@ -14,3 +14,4 @@ pub mod Steps
 pub mod Turns
 pub mod Taken
 pub mod Answered
+pub mod Sequenced

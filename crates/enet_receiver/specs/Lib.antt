@@ -6,5 +6,6 @@ pub mod Kept
 pub mod Codes
 pub mod Walk
 pub mod Laws
+pub mod Sequenced
 pub mod Parts
 pub mod Admitted

@@ -5,8 +5,10 @@ ghost use Rattle.std.specs.Prelude.{ℕ, Bool, List};
 ghost use Rattle.enet_seq.specs.Numbering.{Numbering, wire, unbounded};
 ghost use Rattle.enet_fragment.specs.declared.data.DataCommand.{DataCommand};
 ghost use Rattle.enet_packets.specs.declared.coming.Dispatched.{Dispatched};
-ghost use Rattle.enet_receiver.specs.Receiver.{Receiver};
+ghost use Rattle.enet_receiver.specs.Receiver.{Receiver, nothing_received, cleared};
+ghost use Rattle.enet_receiver.specs.Reception.{received};
 ghost use Rattle.enet_receiver.specs.Laws.{HavePieces, NothingIsDue, DoesTheSame};
+ghost use Rattle.enet_receiver.specs.Sequenced.{AreSequenced, HasSequenced};
 
 /// In as many turns as packets are held, all is dispatched that is due, since each dispatch takes at least one of them away:
 /// no whole packet stands just past the front then. Each packet is to have a piece, since one without would leave the front
@@ -20,4 +22,13 @@ pub fn turns_suffice()
 pub fn earlier_dispatches_do_not_matter()
     ensures { (g : Numbering) (most : ℕ) (r : Receiver) (c : DataCommand) (full : Bool) (earlier : List Dispatched)
         → DoesTheSame g most r c full earlier }
+{}
+
+/// No packet that comes in sequence has the flags 2, which are those of an unsequenced packet: a receiver has none at first
+/// (`nothing`), and none after a command (`received`) or a clearing (`cleared`) if it had none before.
+pub fn sequenced_has_other_flags()
+    ensures nothing { HasSequenced nothing_received }
+    ensures received { (g : Numbering) (most : ℕ) (r : Receiver) (c : DataCommand) (full : Bool) → HasSequenced r
+        → HasSequenced (received g most r c full) }
+    ensures cleared { (r : Receiver) → AreSequenced r.dispatched → HasSequenced (cleared r) }
 {}

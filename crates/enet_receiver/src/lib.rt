@@ -11,7 +11,7 @@ mod storing;
 mod took;
 
 pub use incoming::Incoming;
-pub use laws::{earlier_dispatches_do_not_matter, turns_suffice};
+pub use laws::{earlier_dispatches_do_not_matter, sequenced_has_other_flags, turns_suffice};
 pub use took::{Foresight, Took};
 
 #[cfg(test)]
