@@ -17,6 +17,7 @@ use Rattle.enet_inbox.specs.Inbox.{Inbox, is_full}
 use Rattle.enet_inbox.specs.Arrivals.{packet_of, emptied, by_took, sequenced_on}
 use Rattle.enet_connection.specs.Connection.{in_sequence}
 use Rattle.enet_connection.specs.Linked.{receiver_in}
+use Rattle.enet_receiver.specs.Sequenced.{AreSequenced}
 use Rattle.enet_connection.proofs.Runs.{get-set, get-set-other}
 
 -- packets that came in sequence
@@ -32,12 +33,7 @@ in_sequence-append channel (q ∷ qs) rs =
     by true e = ap (λ (l : List Dispatched). (record { flags = q.flags; body = q.body }) ∷ l) e
     by false e = e
 
--- none has the flags of an unsequenced packet
-abbrev pub AllSequenced : List Dispatched → Type 0
-AllSequenced [] = Unit {0}
-AllSequenced (d ∷ ds) = ((d.flags == 2) ≡ false) × AllSequenced ds
-
-in_sequence-own : (channel : ℕ) (ds : List Dispatched) → AllSequenced ds → in_sequence channel (map (packet_of channel) ds) ≡ ds
+in_sequence-own : (channel : ℕ) (ds : List Dispatched) → AreSequenced ds → in_sequence channel (map (packet_of channel) ds) ≡ ds
 in_sequence-own channel [] h = refl
 in_sequence-own channel (d ∷ ds) h =
     let own : (channel == channel) ≡ true = grind (arith, nat_tests) in
@@ -65,7 +61,7 @@ Moves channel taken b r c t = shown_in channel taken (by_took t b channel r c).a
 
 moves-by : (channel : ℕ) (taken : List Dispatched) (b : Inbox) (r : ReceivingEnd) (c : DataCommand) (t : Took) → slice_get b.receivers channel ≡ Some r → r.receiver.dispatched ≡ []
     → DoesTheSame wire r.max_packet r.receiver c (is_full b) (taken ++ in_sequence channel b.untaken)
-    → AllSequenced (received wire r.max_packet r.receiver c (is_full b)).dispatched
+    → AreSequenced (received wire r.max_packet r.receiver c (is_full b)).dispatched
     → outcome wire r.max_packet r.receiver c (is_full b) ≡ t → Moves channel taken b r c t
 moves-by channel taken b r c Bad there none same flags e = refl
 moves-by channel taken b r c Waiting there none same flags e = refl
@@ -93,7 +89,7 @@ moves-by channel taken b r c Held there none same flags e =
 -- on the channel of the command
 pub arrival-own : (channel : ℕ) (taken : List Dispatched) (b : Inbox) (r : ReceivingEnd) (c : DataCommand) → slice_get b.receivers channel ≡ Some r → r.receiver.dispatched ≡ []
     → DoesTheSame wire r.max_packet r.receiver c (is_full b) (taken ++ in_sequence channel b.untaken)
-    → AllSequenced (received wire r.max_packet r.receiver c (is_full b)).dispatched
+    → AreSequenced (received wire r.max_packet r.receiver c (is_full b)).dispatched
     → shown_in channel taken (sequenced_on b channel c (slice_get b.receivers channel)).after ≡ received wire r.max_packet (shown_in channel taken b) c (is_full b)
 arrival-own channel taken b r c there none same flags =
     let full = is_full b in

@@ -31,32 +31,12 @@ use Rattle.enet_link.specs.WireLink.{WireLink, drops_answers}
 use Rattle.enet_connection.specs.Connection.{Put, End, sent_on}
 use Rattle.enet_connection.specs.Steps.{with_peer}
 use Rattle.enet_connection.specs.Linked.{sends_in, dispatches_in, sender_in, receiver_in, dispatched_on, IsClean}
-use Rattle.enet_connection.proofs.Emission.{InPlace}
-use Rattle.enet_connection.proofs.Flags.{Flagged}
+use Rattle.enet_connection.specs.Kept.{AreInPlace, IsTidy, is_young, is_agreed}
+use Rattle.enet_receiver.specs.Sequenced.{HasSequenced}
 use Rattle.enet_connection.proofs.Relinks.{relinks, stays, sending-of, receiving-of, sending-by}
 use Rattle.enet_connection.proofs.Comes.{Forgets}
 use Rattle.enet_connection.proofs.Obeys.{Holds, holds-quiet, holds-stops, outcome-if, holds-answered, holds-acknowledged, holds-disconnect, holds-inbox, stops-ended, quiet-out}
 use Rattle.enet_connection.proofs.Data.{Logged, holds-sequenced, holds-passed}
-
--- the states before the connection stands
-abbrev pub is_young : PeerState → Bool
-is_young state.Connecting = true
-is_young state.Answering = true
-is_young _ = false
-
--- the states whose terms are agreed and that may come to submit
-abbrev pub is_agreed : PeerState → Bool
-is_agreed state.Answering = true
-is_agreed state.Connected = true
-is_agreed _ = false
-
--- what each end keeps of its own
-pub record Tidy (submitted : List Packet) (p : Peering) : Type 0 where
-  pub places : InPlace p.outbox.senders
-  pub few : length p.outbox.senders ≤ 255
-  pub receivers : (i : ℕ) (r : ReceivingEnd) → slice_get p.inbox.receivers i ≡ Some r → (r.receiver.dispatched ≡ []) × Flagged r.receiver
-  pub young : is_young p.state ≡ true → (submitted ≡ []) × ((i : ℕ) → sender_in (slice_get p.outbox.senders i) ≡ nothing_sent) × ((i : ℕ) → receiver_in (slice_get p.inbox.receivers i) ≡ nothing_received)
-  pub big : is_agreed p.state ≡ true → 28 < p.terms.mtu
 
 abbrev made : Head → ℕ → Body → Put
 made h reach body = record { message = record { head = h; body = body }; reach = reach }
@@ -74,7 +54,7 @@ data-state state.Ended body n e = absurd (let x : false ≡ true = e in cc)
 data-state state.Parting body n e = absurd (let x : false ≡ true = e in cc)
 
 -- sequenced data, by the state
-data-by : Forgets → (own other : End) (p : Peering) (put : Put) (c : DataCommand) (sent : Option ℕ) → Logged other put c → Tidy own.submitted p → ((is_later p.state ≡ false) × (dispatches_in p.state ≡ true)) ⊎ ((is_later p.state ≡ true) × (dispatches_in p.state ≡ false))
+data-by : Forgets → (own other : End) (p : Peering) (put : Put) (c : DataCommand) (sent : Option ℕ) → Logged other put c → IsTidy own.submitted p → ((is_later p.state ≡ false) × (dispatches_in p.state ≡ true)) ⊎ ((is_later p.state ≡ true) × (dispatches_in p.state ≡ false))
     → Holds own other p → Holds own other (cond (is_later p.state) (by_answer p put.message sent (passed_on p.inbox c (slice_get p.inbox.receivers put.message.head.channel)))
     (by_arrival p put.message sent (sequenced_on p.inbox put.message.head.channel c (slice_get p.inbox.receivers put.message.head.channel)))).after
 data-by law own other p put c sent logged tidy (inl s) h =
@@ -165,13 +145,13 @@ get-cleared [] i s e = cc
 get-cleared (x ∷ senders) zero s e = (x, refl, (let same : cleared_sender x ≡ s = (let f : Some (cleared_sender x) ≡ Some s = e in cc) in sym (ap (λ (y : SendingEnd). y.channel) same)))
 get-cleared (x ∷ senders) (suc i) s e = get-cleared senders i s e
 
-pub narrowed-places : (n : ℕ) (senders : List SendingEnd) → InPlace senders → InPlace (take n (map cleared_sender senders))
+pub narrowed-places : (n : ℕ) (senders : List SendingEnd) → AreInPlace senders → AreInPlace (take n (map cleared_sender senders))
 narrowed-places n senders places i s e = elim (get-take n (map cleared_sender senders) i) [
   | inl same ↦ (let g = get-cleared senders i s (sym same ∙ e) in g.2 ∙ places i g.0 g.1)
   | inr none ↦ absurd (let x : None ≡ Some s = sym none ∙ e in cc)
 ]
 
-holds-welcomed : (own other : End) (p : Peering) (v : Verify) (o : Option Terms) → p.state ≡ state.Connecting → Tidy own.submitted p → Holds own other p → Holds own other (welcomed p v o)
+holds-welcomed : (own other : End) (p : Peering) (v : Verify) (o : Option Terms) → p.state ≡ state.Connecting → IsTidy own.submitted p → Holds own other p → Holds own other (welcomed p v o)
 holds-welcomed own other p v None e tidy h = holds-stops own other p (ended p 0) (stops-ended p 0) h
 holds-welcomed own other p v (Some terms) e tidy h =
     let q : Peering = welcomed p v (Some terms) in
@@ -195,12 +175,12 @@ holds-welcomed own other p v (Some terms) e tidy h =
           ));
     }
 
-holds-verified : (own other : End) (p : Peering) (v : Verify) (s : PeerState) → p.state ≡ s → Tidy own.submitted p → Holds own other p → Holds own other (on_verify_in s p v)
+holds-verified : (own other : End) (p : Peering) (v : Verify) (s : PeerState) → p.state ≡ s → IsTidy own.submitted p → Holds own other p → Holds own other (on_verify_in s p v)
 holds-verified own other p v state.Connecting e tidy h = holds-welcomed own other p v (confirmed p.offer v) e tidy h
 holds-verified own other p v s e tidy h = h
 
 -- whatever comes
-pub holds-coming : Forgets → (own other : End) (p : Peering) (h : Head) (reach now : ℕ) (sent : Option ℕ) (body : Body) → Has other.log (made h reach body) → IsClean other → Tidy own.submitted p
+pub holds-coming : Forgets → (own other : End) (p : Peering) (h : Head) (reach now : ℕ) (sent : Option ℕ) (body : Body) → Has other.log (made h reach body) → IsClean other → IsTidy own.submitted p
     → (h.channel < 255 → (c : DataCommand) → data_of (record { head = h; body = body }) ≡ Some c → is_late (sent_on h.channel other) reach c.number ≡ false)
     → (h.channel < 255 → (number time : ℕ) → body ≡ acknowledge number time → is_late (sent_on h.channel own) reach number ≡ false)
     → Holds own other p → Holds own other (obeyed p now sent (record { head = h; body = body })).after

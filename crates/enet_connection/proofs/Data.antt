@@ -25,9 +25,10 @@ use Rattle.enet_link.proofs.Runs.{keeps}
 use Rattle.enet_connection.specs.Connection.{Put, End, sent_on, packets_of, in_sequence}
 use Rattle.enet_connection.specs.Steps.{with_peer}
 use Rattle.enet_connection.specs.Linked.{IsLinked, sends_in, dispatches_in, receiver_in, numbers_on}
+use Rattle.enet_connection.specs.Kept.{AreLinked}
+use Rattle.enet_receiver.specs.Sequenced.{HasSequenced}
 use Rattle.enet_connection.proofs.Arrival.{grown}
-use Rattle.enet_connection.proofs.Flags.{Flagged}
-use Rattle.enet_connection.proofs.Relinks.{Both, QuietOut, out-quiet, receiving-of}
+use Rattle.enet_connection.proofs.Relinks.{QuietOut, out-quiet, receiving-of}
 use Rattle.enet_connection.proofs.Comes.{Forgets, back-taken_in, back-elsewhere, back-passed}
 use Rattle.enet_connection.proofs.Obeys.{Holds, numbers-push, numbers-push_own}
 use Rattle.enet_connection.proofs.Runs.{either, and-left, and-right}
@@ -90,7 +91,7 @@ front-small own other channel k open' = let f = keeps k.mtu k.events k.link k.bi
 
 -- it is taken in
 pub holds-taken_in : Forgets → (own other : End) (p q : Peering) (put : Put) (c : DataCommand) (r : ReceivingEnd) (answer : Bool) → dispatches_in p.state ≡ true → Logged other put c
-    → slice_get p.inbox.receivers put.message.head.channel ≡ Some r → r.receiver.dispatched ≡ [] → Flagged r.receiver
+    → slice_get p.inbox.receivers put.message.head.channel ≡ Some r → r.receiver.dispatched ≡ [] → HasSequenced r.receiver
     → (answer ≡ true → (c.reliable ≡ true) × (is_handled (outcome wire r.max_packet r.receiver c (is_full p.inbox)) ≡ true) × (acknowledges r.receiver.front c.number ≡ true))
     → After p put c.number (sequenced_on p.inbox put.message.head.channel c (slice_get p.inbox.receivers put.message.head.channel)).after answer q → Holds own other p → Holds own other q
 holds-taken_in law own other p q put c r answer opens logged there none flagged rule after' b = record {
@@ -124,7 +125,7 @@ holds-taken_in law own other p q put c r answer opens logged there none flagged 
 
 -- sequenced data comes to a peer that dispatches
 pub holds-sequenced : Forgets → (own other : End) (p : Peering) (put : Put) (c : DataCommand) (sent : Option ℕ) → dispatches_in p.state ≡ true → Logged other put c
-    → ((i : ℕ) (r : ReceivingEnd) → slice_get p.inbox.receivers i ≡ Some r → (r.receiver.dispatched ≡ []) × Flagged r.receiver)
+    → ((i : ℕ) (r : ReceivingEnd) → slice_get p.inbox.receivers i ≡ Some r → (r.receiver.dispatched ≡ []) × HasSequenced r.receiver)
     → Holds own other p → Holds own other (by_arrival p put.message sent (sequenced_on p.inbox put.message.head.channel c (slice_get p.inbox.receivers put.message.head.channel))).after
 holds-sequenced law own other p put c sent opens logged tidy b = by (slice_get p.inbox.receivers j) refl
   where

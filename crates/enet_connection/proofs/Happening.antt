@@ -15,13 +15,13 @@ use Rattle.enet_peer.specs.Calls.{Taken, is_connected, next_event, event_after, 
 use Rattle.enet_connection.specs.Connection.{End}
 use Rattle.enet_connection.specs.Steps.{Event, Answer, Submit, Emit, Come, Tick, Take, Disconnect, Set, Happens, with_peer}
 use Rattle.enet_connection.specs.Linked.{sends_in, dispatches_in, IsClean}
+use Rattle.enet_connection.specs.Kept.{IsTidy, is_agreed, AreLinked}
 use Rattle.enet_connection.proofs.Comes.{Forgets}
-use Rattle.enet_connection.proofs.Relinks.{Both}
 use Rattle.enet_connection.proofs.Moves.{both-taken}
 use Rattle.enet_connection.proofs.Calls.{holds-ticked, holds-left, holds-set, both-emitted}
 use Rattle.enet_connection.proofs.Submits.{both-submitted}
 use Rattle.enet_connection.proofs.Starting.{both-answered}
-use Rattle.enet_connection.proofs.Coming.{Tidy, is_agreed, holds-coming}
+use Rattle.enet_connection.proofs.Coming.{holds-coming}
 
 -- where nothing refuses a submission
 pub accepted : (a b c : Bool) → cond (not a) (Some NotConnected) (cond b (Some NoSuchChannel) (cond c (Some TooLarge) None)) ≡ None → (a ≡ true) × (b ≡ false) × (c ≡ false)
@@ -95,38 +95,38 @@ took P p q e next greets receives ends = by-greeting p.greeting refl next
     by-greeting (Some info) g h = taken-some P (record { event = told.Connect info; after = record p { greeting = None } }) e q (greets info g) h
     by-greeting None g h = by-packets p.inbox.untaken refl g h
 
-both-took : (own other : End) (p q : Peering) (e : PeerEvent) → own.peer ≡ Some p → next_event p ≡ Some (record { event = e; after = q }) → Both own other → Both (record own { peer = Some q; events = own.events ++ e ∷ [] }) other
+both-took : (own other : End) (p q : Peering) (e : PeerEvent) → own.peer ≡ Some p → next_event p ≡ Some (record { event = e; after = q }) → AreLinked own other → AreLinked (record own { peer = Some q; events = own.events ++ e ∷ [] }) other
 both-took own other p q e is next b =
-    took (λ q e. Both (record own { peer = Some q; events = own.events ++ e ∷ [] }) other) p q e next
+    took (λ q e. AreLinked (record own { peer = Some q; events = own.events ++ e ∷ [] }) other) p q e next
     (λ info g. both-taken own other p (record p { greeting = None }) (told.Connect info) is refl refl refl refl refl refl b)
     (λ x rest g u. both-taken own other p (record p { inbox = record p.inbox { untaken = rest } }) (told.Receive x) is refl refl refl refl refl (sym u) b)
     (λ g u at. both-taken own other p (record p { state = state.Free }) (told.Disconnect p.info) is (sym (ap sends_in at)) (sym (ap dispatches_in at)) refl refl refl refl b)
 
 -- an end with its peer named
-named : (own other : End) (p : Peering) → own.peer ≡ Some p → Both own other → Both (with_peer own p) other
-named own other p is b = subst (λ (o : Option Peering). Both (record own { peer = o }) other) is b
+named : (own other : End) (p : Peering) → own.peer ≡ Some p → AreLinked own other → AreLinked (with_peer own p) other
+named own other p is b = subst (λ (o : Option Peering). AreLinked (record own { peer = o }) other) is b
 
 -- every event
-pub both-happens : Forgets → (own other new : End) (e : Event) → ((p : Peering) → own.peer ≡ Some p → Tidy own.submitted p) → IsClean other → Both own other → Happens own other e new → Both new other
-both-happens law own other new (Answer put offer now server limits) tidy clean b h = subst (λ x. Both x other) (sym h.4) (both-answered own other now offer server limits h.0 b)
+pub both-happens : Forgets → (own other new : End) (e : Event) → ((p : Peering) → own.peer ≡ Some p → IsTidy own.submitted p) → IsClean other → AreLinked own other → Happens own other e new → AreLinked new other
+both-happens law own other new (Answer put offer now server limits) tidy clean b h = subst (λ x. AreLinked x other) (sym h.4) (both-answered own other now offer server limits h.0 b)
 both-happens law own other new (Submit q) tidy clean b h =
     let p : Peering = h.0 in
     let a = accepted (is_connected p.state) (leb (length p.outbox.senders) q.channel) (ltb p.limits.max_packet (length q.body) || ltb fragment_limit (piece_count (length q.body) p.terms.mtu)) h.2 in
     let s = inside p.outbox.senders q.channel a.1 in
     let t = tidy p h.1 in
     let few : piece_count (length q.body) p.terms.mtu ≤ fragment_limit = at-most (piece_count (length q.body) p.terms.mtu) (or-right (ltb p.limits.max_packet (length q.body)) (ltb fragment_limit (piece_count (length q.body) p.terms.mtu)) a.2) in
-    subst (λ x. Both x other) (sym h.3) (both-submitted own other p q s.0 h.1 (t.big (connected-agreed p.state a.0)) (connected-sends p.state a.0) s.1 few b)
+    subst (λ x. AreLinked x other) (sym h.3) (both-submitted own other p q s.0 h.1 (t.big (connected-agreed p.state a.0)) (connected-sends p.state a.0) s.1 few b)
   where
     at-most : (n : ℕ) → ltb fragment_limit n ≡ false → n ≤ fragment_limit
     at-most n e = grind (arith, nat_tests)
 both-happens law own other new (Emit now) tidy clean b h =
     let p : Peering = h.0 in let t = tidy p h.1 in
-    subst (λ x. Both x other) (sym h.2) (both-emitted own other p now h.1 t.places b)
+    subst (λ x. AreLinked x other) (sym h.2) (both-emitted own other p now h.1 t.places b)
 both-happens law own other new (Come put now sent) tidy clean b h =
     let p : Peering = h.0 in
     let i = h.2 in
-    subst (λ x. Both x other) (sym h.3) (holds-coming law own other p put.message.head put.reach now sent put.message.body i.logged clean (tidy p h.1) i.of_data i.of_acknowledgement (named own other p h.1 b))
-both-happens law own other new (Tick now) tidy clean b h = subst (λ x. Both x other) (sym h.2) (holds-ticked own other h.0 now (named own other h.0 h.1 b))
-both-happens law own other new Take tidy clean b h = subst (λ x. Both x other) (sym h.5) (both-took own other h.0 h.1 h.2 h.3 h.4 b)
-both-happens law own other new (Disconnect way info) tidy clean b h = subst (λ x. Both x other) (sym h.4) (holds-left own other h.0 h.1 way info h.3 (named own other h.0 h.2 b))
-both-happens law own other new (Set setting) tidy clean b h = subst (λ x. Both x other) (sym h.3) (holds-set own other h.0 setting (named own other h.0 h.1 b))
+    subst (λ x. AreLinked x other) (sym h.3) (holds-coming law own other p put.message.head put.reach now sent put.message.body i.logged clean (tidy p h.1) i.of_data i.of_acknowledgement (named own other p h.1 b))
+both-happens law own other new (Tick now) tidy clean b h = subst (λ x. AreLinked x other) (sym h.2) (holds-ticked own other h.0 now (named own other h.0 h.1 b))
+both-happens law own other new Take tidy clean b h = subst (λ x. AreLinked x other) (sym h.5) (both-took own other h.0 h.1 h.2 h.3 h.4 b)
+both-happens law own other new (Disconnect way info) tidy clean b h = subst (λ x. AreLinked x other) (sym h.4) (holds-left own other h.0 h.1 way info h.3 (named own other h.0 h.2 b))
+both-happens law own other new (Set setting) tidy clean b h = subst (λ x. AreLinked x other) (sym h.3) (holds-set own other h.0 setting (named own other h.0 h.1 b))

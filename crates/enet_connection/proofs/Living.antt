@@ -28,7 +28,7 @@ use Rattle.enet_link.proofs.Lists.{Has-slice_get}
 use Rattle.enet_connection.specs.Connection.{End}
 use Rattle.enet_connection.specs.Steps.{Event, Answer, Submit, Emit, Come, Tick, Take, Disconnect, Set, Happens}
 use Rattle.enet_connection.specs.Law.{IsOneLife, AreLast}
-use Rattle.enet_connection.specs.Life.{ArePackets, HasBegun, IsUntold, IsUnderway, IsStill, IsOver, LivesIn, Lives}
+use Rattle.enet_connection.specs.Life.{ArePackets, HasBegun, IsUntold, IsUnderway, IsStill, IsOver, LivesIn, Lives, LivesAt, LivesOn}
 use Rattle.enet_connection.proofs.Emission.{idle-next}
 use Rattle.enet_connection.proofs.Emits.{Has-from_map}
 use Rattle.enet_connection.proofs.Changes.{Core, core, Changes, is_gone, stands, kept-ticked, kept-left, kept-set, kept-emitted, kept-obeyed}
@@ -331,13 +331,6 @@ lives-took joined es p q e is h =
     }
 
 -- the life of an end, with a peer or without
-
-abbrev pub LivesAt : Bool → List PeerEvent → Option Peering → Type 0
-LivesAt joined es None = (joined ≡ false) × (es ≡ [])
-LivesAt joined es (Some p) = Lives joined es p
-
-abbrev pub LivesOn : Bool → End → Type 0
-LivesOn joined e = LivesAt joined e.events e.peer
 
 pub one-life : (joined : Bool) (e : End) → LivesOn joined e → IsOneLife joined e.events
 one-life joined e h = by e.peer h

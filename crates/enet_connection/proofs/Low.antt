@@ -12,17 +12,11 @@ use Rattle.enet_inbox.specs.Inbox.{Inbox, cleared_receiver, is_full}
 use Rattle.enet_inbox.specs.Arrivals.{packet_of, emptied}
 use Rattle.enet_peer.specs.Peering.{Peering}
 use Rattle.enet_connection.specs.Connection.{in_sequence}
+use Rattle.enet_connection.specs.Kept.{AreLow, IsLow}
 use Rattle.enet_connection.proofs.Arrival.{in_sequence-append}
 use Rattle.enet_connection.proofs.Obeys.{unsequenced-end}
 use Rattle.enet_connection.proofs.Changes.{Core, Changes}
 use Rattle.enet_connection.proofs.Runs.{inside, take-few}
-
-abbrev pub AreLow : List Packet → Type 0
-AreLow qs = (channel : ℕ) → 255 ≤ channel → in_sequence channel qs ≡ []
-
-pub record IsLow (p : Peering) : Type 0 where
-  pub channels : length p.inbox.receivers ≤ 255
-  pub untaken : AreLow p.inbox.untaken
 
 pub low-append : (qs rs : List Packet) → AreLow qs → AreLow rs → AreLow (qs ++ rs)
 low-append qs rs a b channel far = in_sequence-append channel qs rs ∙ ap (λ l. l ++ in_sequence channel rs) (a channel far) ∙ b channel far

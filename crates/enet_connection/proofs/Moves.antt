@@ -22,9 +22,10 @@ use Rattle.enet_link.specs.Steps.{Has, Acknowledge, Mark, StopReceiving}
 use Rattle.enet_connection.specs.Connection.{Put, End, sent_on, packets_of, in_sequence}
 use Rattle.enet_connection.specs.Steps.{with_peer}
 use Rattle.enet_connection.specs.Linked.{IsLinked, sends_in, dispatches_in, sender_in, receiver_in, numbers_on, dispatched_on}
+use Rattle.enet_connection.specs.Kept.{AreLinked}
 use Rattle.enet_connection.proofs.Runs.{get-set, get-set-other, either}
 use Rattle.enet_connection.proofs.Arrival.{in_sequence-append}
-use Rattle.enet_connection.proofs.Relinks.{Both, Moved, stays, relinks, agreed-still, sending-of, receiving-of, sending-by, receiving-by, back-quiet}
+use Rattle.enet_connection.proofs.Relinks.{Moved, stays, relinks, agreed-still, sending-of, receiving-of, sending-by, receiving-by, back-quiet}
 
 -- a sender moves with its link, in the states that send
 out-sender : (own other : End) (p q : Peering) (channel : ℕ) (k : IsLinked own other channel) (w : WireLink) → own.peer ≡ Some p → sends_in q.state ≡ sends_in p.state → q.terms.mtu ≡ p.terms.mtu
@@ -104,7 +105,7 @@ same-answers o j number = by-control (j == 0xFF)
     by-control false = by (slice_get o.senders j)
 
 pub both-acknowledged : (own other : End) (p : Peering) (put : Put) (number time : ℕ) → own.peer ≡ Some p → Has other.log put → put.message.body ≡ acknowledge number time
-    → (put.message.head.channel < 255 → is_late (sent_on put.message.head.channel own) put.reach number ≡ false) → Both own other → Both (with_peer own (record p { outbox = acknowledged p.outbox put.message.head.channel number })) other
+    → (put.message.head.channel < 255 → is_late (sent_on put.message.head.channel own) put.reach number ≡ false) → AreLinked own other → AreLinked (with_peer own (record p { outbox = acknowledged p.outbox put.message.head.channel number })) other
 both-acknowledged own other p put number time is logged body late b = record {
   out = λ channel few. by channel few (b.out channel few) (j == channel) refl;
   back = λ channel few. back-quiet own other p q channel few is (record { dispatches = refl; receivers = refl; untaken = λ i h. refl; numbers = λ i h. ap (numbers_on i) (same-answers p.outbox j number) }) (b.back channel few);
@@ -158,7 +159,7 @@ marked-places now [] i channel h s e = cc
 marked-places now (x ∷ senders) zero channel h s e = (let d : marked_sender now x ≡ s = (let f : Some (marked_sender now x) ≡ Some s = e in cc) in ap (λ (y : SendingEnd). y.channel) (sym d) ∙ h x refl)
 marked-places now (x ∷ senders) (suc i) channel h s e = marked-places now senders i channel h s e
 
-pub both-marked : (own other : End) (p : Peering) (now : ℕ) → own.peer ≡ Some p → Both own other → Both (with_peer own (record p { outbox = outbox.marked p.outbox now })) other
+pub both-marked : (own other : End) (p : Peering) (now : ℕ) → own.peer ≡ Some p → AreLinked own other → AreLinked (with_peer own (record p { outbox = outbox.marked p.outbox now })) other
 both-marked own other p now is b = record {
   out = λ channel few. (let k = b.out channel few in let h = sending-of own p channel k.link is k.sending in
       let w : WireLink = marks k.link now in
@@ -174,7 +175,7 @@ both-marked own other p now is b = record {
     q = record p { outbox = outbox.marked p.outbox now }
 
 -- an end that no longer dispatches, but still sends
-pub both-later : (own other : End) (p : Peering) (info : ℕ) → own.peer ≡ Some p → sends_in p.state ≡ true → Both own other → Both (with_peer own (record p { state = state.DisconnectLater; info = info })) other
+pub both-later : (own other : End) (p : Peering) (info : ℕ) → own.peer ≡ Some p → sends_in p.state ≡ true → AreLinked own other → AreLinked (with_peer own (record p { state = state.DisconnectLater; info = info })) other
 both-later own other p info is sends b = record {
   out = λ channel few. (let k = b.out channel few in let h = sending-of own p channel k.link is k.sending in
       out-sender own other p q channel k k.link is (sym sends) refl (λ t. let r = h.0 t in (stays k.mtu k.link, r.0, r.1, refl, refl, refl)) (λ f. (h.1 f, h.2 f)) h.3);
@@ -199,7 +200,7 @@ packets-push (told.Disconnect info ∷ es) e = packets-push es e
 
 -- what was dispatched is the same, taken or not
 pub both-taken : (own other : End) (p q : Peering) (e : PeerEvent) → own.peer ≡ Some p → sends_in q.state ≡ sends_in p.state → dispatches_in q.state ≡ dispatches_in p.state → q.terms.mtu ≡ p.terms.mtu → q.outbox ≡ p.outbox
-    → q.inbox.receivers ≡ p.inbox.receivers → packets_of (e ∷ []) ++ q.inbox.untaken ≡ p.inbox.untaken → Both own other → Both (record own { peer = Some q; events = own.events ++ e ∷ [] }) other
+    → q.inbox.receivers ≡ p.inbox.receivers → packets_of (e ∷ []) ++ q.inbox.untaken ≡ p.inbox.untaken → AreLinked own other → AreLinked (record own { peer = Some q; events = own.events ++ e ∷ [] }) other
 both-taken own other p q e is sends dispatches mtu box receivers untaken b = record {
   out = λ channel few. (let k = b.out channel few in let h = sending-of own p channel k.link is k.sending in
       relinks own other new other channel k k.link (stays k.mtu k.link) refl refl refl (agreed-still own p q k.mtu is mtu k.agreed) (

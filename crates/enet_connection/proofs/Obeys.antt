@@ -23,8 +23,9 @@ use Rattle.enet_link.specs.Steps.{Has}
 use Rattle.enet_connection.specs.Connection.{Put, End, sent_on, in_sequence}
 use Rattle.enet_connection.specs.Steps.{with_peer}
 use Rattle.enet_connection.specs.Linked.{sends_in, dispatches_in, numbers_on}
+use Rattle.enet_connection.specs.Kept.{AreLinked}
 use Rattle.enet_connection.proofs.Arrival.{in_sequence-append}
-use Rattle.enet_connection.proofs.Relinks.{Both, QuietOut, QuietIn, Stops, both-quiet, both-stops}
+use Rattle.enet_connection.proofs.Relinks.{QuietOut, QuietIn, Stops, both-quiet, both-stops}
 use Rattle.enet_connection.proofs.Moves.{both-acknowledged}
 use Rattle.enet_connection.proofs.Runs.{and-left}
 
@@ -44,7 +45,7 @@ stops-parting p info = record { sends = refl; dispatches = refl; mtu = refl; sen
 
 -- all links between an end whose peer is this and another
 abbrev pub Holds : End → End → Peering → Type 0
-Holds own other p = Both (with_peer own p) other
+Holds own other p = AreLinked (with_peer own p) other
 
 pub holds-quiet : (own other : End) (p q : Peering) → QuietOut p q → QuietIn p q → Holds own other p → Holds own other q
 holds-quiet own other p q a b h = both-quiet (with_peer own p) other p q refl a b h

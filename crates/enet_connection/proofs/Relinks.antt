@@ -16,6 +16,7 @@ use Rattle.enet_connection.specs.Connection.{Put, End, sent_on, packets_of, in_s
 use Rattle.enet_connection.specs.Steps.{with_peer}
 use Rattle.enet_connection.specs.Law.{mtu_of}
 use Rattle.enet_connection.specs.Linked.{IsLinked, sends_in, dispatches_in, sender_in, receiver_in, numbers_on, ShowsSending, ShowsReceiving, dispatched_on}
+use Rattle.enet_connection.specs.Kept.{AreLinked}
 use Rattle.enet_connection.proofs.Runs.{Runs-append, get-map}
 
 -- a link after moves that leave the log, the submissions and the datagram in the making
@@ -75,11 +76,6 @@ pub record Stops (p q : Peering) : Type 0 where
   pub untaken : (q.inbox.untaken ≡ p.inbox.untaken) ⊎ (q.inbox.untaken ≡ [])
   pub numbers : (channel : ℕ) → channel < 255 → numbers_on channel q.outbox.acknowledgements ≡ []
 
--- all links between two ends
-pub record Both (own other : End) : Type 0 where
-  pub out : (channel : ℕ) → channel < 255 → IsLinked own other channel
-  pub back : (channel : ℕ) → channel < 255 → IsLinked other own channel
-
 pub agreed-still : (own : End) (p q : Peering) (mtu : ℕ) → own.peer ≡ Some p → q.terms.mtu ≡ p.terms.mtu → (own.submitted ≡ []) ⊎ (mtu_of own ≡ mtu) → (own.submitted ≡ []) ⊎ (mtu_of (with_peer own q) ≡ mtu)
 agreed-still own p q mtu is same (inl none) = inl none
 agreed-still own p q mtu is same (inr e) = inr (same ∙ sym (ap (λ (o : Option Peering). mtu_of (record own { peer = o })) is) ∙ e)
@@ -112,7 +108,7 @@ back-quiet own other p q channel few is c k =
       h.3 ∙ sym (c.numbers channel few),
     )
 
-pub both-quiet : (own other : End) (p q : Peering) → own.peer ≡ Some p → QuietOut p q → QuietIn p q → Both own other → Both (with_peer own q) other
+pub both-quiet : (own other : End) (p q : Peering) → own.peer ≡ Some p → QuietOut p q → QuietIn p q → AreLinked own other → AreLinked (with_peer own q) other
 both-quiet own other p q is c d b = record {
   out = λ channel few. out-quiet own other p q channel is c (b.out channel few);
   back = λ channel few. back-quiet own other p q channel few is d (b.back channel few);
@@ -133,7 +129,7 @@ cleared-sent (s ∷ senders) (suc i) = cleared-sent senders i
 false-true : {P : Type 0} (b : Bool) → b ≡ false → b ≡ true → P
 false-true b f t = absurd (let e : true ≡ false = sym t ∙ f in cc)
 
-pub both-stops : (own other : End) (p q : Peering) → own.peer ≡ Some p → Stops p q → Both own other → Both (with_peer own q) other
+pub both-stops : (own other : End) (p q : Peering) → own.peer ≡ Some p → Stops p q → AreLinked own other → AreLinked (with_peer own q) other
 both-stops own other p q is c b = record {
   out = λ channel few. (let k = b.out channel few in let h = sending-of own p channel k.link is k.sending in
       let w : WireLink = stops_sending k.link nothing_sent in

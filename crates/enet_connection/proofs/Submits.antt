@@ -19,8 +19,9 @@ use Rattle.enet_connection.specs.Connection.{End, of_channel}
 use Rattle.enet_connection.specs.Steps.{with_submission}
 use Rattle.enet_connection.specs.Law.{mtu_of}
 use Rattle.enet_connection.specs.Linked.{IsLinked, sends_in, sender_in, ShowsSending, ShowsReceiving}
+use Rattle.enet_connection.specs.Kept.{AreLinked}
 use Rattle.enet_connection.proofs.Runs.{Runs-push, get-set, get-set-other}
-use Rattle.enet_connection.proofs.Relinks.{Both, back-quiet, sending-of, receiving-by}
+use Rattle.enet_connection.proofs.Relinks.{back-quiet, sending-of, receiving-by}
 
 -- a list that grew isn't empty
 grown-some : {X : Type 0} (xs : List X) (x : X) → xs ++ x ∷ [] ≡ [] → ⊥
@@ -155,7 +156,7 @@ moved own other p q s is sends there few kind k at =
 
 -- a packet is accepted
 pub both-submitted : (own other : End) (p : Peering) (q : Packet) (s : SendingEnd) → own.peer ≡ Some p → 28 < p.terms.mtu → sends_in p.state ≡ true → slice_get p.outbox.senders q.channel ≡ Some s
-    → piece_count (length q.body) p.terms.mtu ≤ fragment_limit → Both own other → Both (with_submission own p q) other
+    → piece_count (length q.body) p.terms.mtu ≤ fragment_limit → AreLinked own other → AreLinked (with_submission own p q) other
 both-submitted own other p q s is big sends there few b = by (is_unsequenced mtu packet) refl
   where
     mtu : ℕ
@@ -190,7 +191,7 @@ both-submitted own other p q s is big sends there few b = by (is_unsequenced mtu
         by' true = ap not e
         by' false = refl
 
-    by : (t : Bool) → is_unsequenced mtu packet ≡ t → Both (new (cond t (with_unsequenced p.outbox q.channel packet) (with_sequenced p.outbox mtu q.channel packet (slice_get p.outbox.senders q.channel)))) other
+    by : (t : Bool) → is_unsequenced mtu packet ≡ t → AreLinked (new (cond t (with_unsequenced p.outbox q.channel packet) (with_sequenced p.outbox mtu q.channel packet (slice_get p.outbox.senders q.channel)))) other
     by true e =
         let o : Outbox = with_unsequenced p.outbox q.channel packet in
         record {
@@ -201,7 +202,7 @@ both-submitted own other p q s is big sends there few b = by (is_unsequenced mtu
     by false e =
         let t : SendingEnd = record s { sender = sender.submitted wire mtu s.sender packet } in
         let o : Outbox = record p.outbox { senders = slice_set p.outbox.senders q.channel t } in
-        subst (λ (x : Option SendingEnd). Both (new (with_sequenced p.outbox mtu q.channel packet x)) other) (sym there) (record {
+        subst (λ (x : Option SendingEnd). AreLinked (new (with_sequenced p.outbox mtu q.channel packet x)) other) (sym there) (record {
           out = λ channel low. (let a = agreed channel low in let k = a.0 in
               elim (either (q.channel == channel)) [
                 | inl on ↦ (let at : q.channel ≡ channel = grind (arith, nat_tests) in let c = agreed q.channel (subst (λ i. i < 255) (sym at) low) in

@@ -5,6 +5,7 @@ use Rattle.std.specs.List.{slice_get}
 use Rattle.enet_types.specs.declared.packet.Packet.{Packet}
 use Rattle.enet_seq.specs.Numbering.{wire}
 use Rattle.enet_receiver.specs.Reception.{received}
+use Rattle.enet_receiver.specs.Receiver.{Receiver}
 use Rattle.enet_receiver.specs.Foresight.{ReceivingEnd, after_command}
 use Rattle.enet_inbox.specs.Inbox.{cleared_receiver, is_full}
 use Rattle.enet_inbox.specs.Arrivals.{emptied}
@@ -17,16 +18,18 @@ use Rattle.enet_peer.specs.declared.parts.PeerState.{PeerState}
 use Rattle.enet_peer.specs.declared.parts.PeerState.TheVariants as state
 use Rattle.enet_peer.specs.Calls.{is_connected, submitted}
 use Rattle.enet_connection.specs.Linked.{sender_in, receiver_in}
-use Rattle.enet_connection.proofs.Emission.{InPlace, idle-next, places-set}
-use Rattle.enet_connection.proofs.Flags.{Flagged, flagged-received, flagged-cleared, flagged-emptied}
+use Rattle.enet_connection.specs.Kept.{AreInPlace, IsTidy, is_young, is_agreed}
+use Rattle.enet_receiver.proofs.Sequenced.{sequenced-received, sequenced-cleared}
+use Rattle.enet_receiver.specs.Sequenced.{HasSequenced}
+use Rattle.enet_connection.proofs.Emission.{idle-next, places-set}
 use Rattle.enet_connection.proofs.Moves.{senders-after, after-places, marked-at, marked-places}
-use Rattle.enet_connection.proofs.Coming.{Tidy, is_young, is_agreed, get-take, narrowed-places}
+use Rattle.enet_connection.proofs.Coming.{get-take, narrowed-places}
 use Rattle.enet_connection.proofs.Changes.{Core, core, Changes}
 use Rattle.enet_connection.proofs.Runs.{few-set, get-map, take-few}
 
 -- the receivers of a peer between two commands
 abbrev pub AreFlat : List ReceivingEnd → Type 0
-AreFlat rs = (i : ℕ) (r : ReceivingEnd) → slice_get rs i ≡ Some r → (r.receiver.dispatched ≡ []) × Flagged r.receiver
+AreFlat rs = (i : ℕ) (r : ReceivingEnd) → slice_get rs i ≡ Some r → (r.receiver.dispatched ≡ []) × HasSequenced r.receiver
 
 abbrev AreIdle : List SendingEnd → Type 0
 AreIdle ss = (i : ℕ) → sender_in (slice_get ss i) ≡ nothing_sent
@@ -46,18 +49,18 @@ idle-set (s ∷ ss) zero t e h (suc i) = h (suc i)
 idle-set (s ∷ ss) (suc k) t e h zero = h zero
 idle-set (s ∷ ss) (suc k) t e h (suc i) = idle-set ss k t e (λ j. h (suc j)) i
 
-cleared-places : (ss : List SendingEnd) → InPlace ss → InPlace (map cleared_sender ss)
+cleared-places : (ss : List SendingEnd) → AreInPlace ss → AreInPlace (map cleared_sender ss)
 cleared-places ss places i s e = (let r = get-map cleared_sender ss i s e in sym (ap (λ (x : SendingEnd). x.channel) r.2) ∙ places i r.0 r.1)
 
 cleared-flat : (rs : List ReceivingEnd) → AreFlat rs → AreFlat (map cleared_receiver rs)
 cleared-flat rs flat i r e = (let c = get-map cleared_receiver rs i r e in let was = flat i c.0 c.1 in
     let out = was.1 in
-    subst (λ (x : ReceivingEnd). (x.receiver.dispatched ≡ []) × Flagged x.receiver) c.2 (was.0, flagged-cleared c.0.receiver out.out))
+    subst (λ (x : ReceivingEnd). (x.receiver.dispatched ≡ []) × HasSequenced x.receiver) c.2 (was.0, sequenced-cleared c.0.receiver out.dispatched))
 
 -- a peer that stops
-tidy-stopped : (qs : List Packet) (p q : Peering) → is_young q.state ≡ false → is_agreed q.state ≡ false → q.outbox.senders ≡ map cleared_sender p.outbox.senders → q.inbox.receivers ≡ map cleared_receiver p.inbox.receivers → Tidy qs p → Tidy qs q
+tidy-stopped : (qs : List Packet) (p q : Peering) → is_young q.state ≡ false → is_agreed q.state ≡ false → q.outbox.senders ≡ map cleared_sender p.outbox.senders → q.inbox.receivers ≡ map cleared_receiver p.inbox.receivers → IsTidy qs p → IsTidy qs q
 tidy-stopped qs p q old shut senders receivers h = record {
-  places = subst InPlace (sym senders) (cleared-places p.outbox.senders h.places);
+  places = subst AreInPlace (sym senders) (cleared-places p.outbox.senders h.places);
   few = subst (λ (ss : List SendingEnd). length ss ≤ 255) (sym senders) (subst (λ n. n ≤ 255) (sym (length-map p.outbox.senders cleared_sender)) h.few);
   receivers = subst AreFlat (sym receivers) (cleared-flat p.inbox.receivers h.receivers);
   young = λ t. absurd (let x : true ≡ false = sym t ∙ old in cc);
@@ -65,7 +68,7 @@ tidy-stopped qs p q old shut senders receivers h = record {
 }
 
 -- other senders
-tidy-senders : (qs : List Packet) (p : Peering) (ss : List SendingEnd) → InPlace ss → length ss ≤ 255 → (AreIdle p.outbox.senders → AreIdle ss) → Tidy qs p → Tidy qs (record p { outbox = record p.outbox { senders = ss } })
+tidy-senders : (qs : List Packet) (p : Peering) (ss : List SendingEnd) → AreInPlace ss → length ss ≤ 255 → (AreIdle p.outbox.senders → AreIdle ss) → IsTidy qs p → IsTidy qs (record p { outbox = record p.outbox { senders = ss } })
 tidy-senders qs p ss places few idle h = record {
   places = places;
   few = few;
@@ -74,9 +77,9 @@ tidy-senders qs p ss places few idle h = record {
   big = h.big;
 }
 
-tidy-core : (qs : List Packet) (p q : Peering) → core q ≡ core p → Tidy qs p → Tidy qs q
+tidy-core : (qs : List Packet) (p q : Peering) → core q ≡ core p → IsTidy qs p → IsTidy qs q
 tidy-core qs p q e h = record {
-  places = subst (λ (c : Core). InPlace c.senders) (sym e) h.places;
+  places = subst (λ (c : Core). AreInPlace c.senders) (sym e) h.places;
   few = subst (λ (c : Core). length c.senders ≤ 255) (sym e) h.few;
   receivers = subst (λ (c : Core). AreFlat c.receivers) (sym e) h.receivers;
   young = λ t. (let y = h.young (ap (λ (c : Core). is_young c.state) (sym e) ∙ t) in
@@ -124,13 +127,17 @@ due-idle ss k now timeout transit most s n there due h =
     let none : s.sender ≡ nothing_sent = sym (ap sender_in there) ∙ h k in
     idle-next now timeout transit most s.sender n (ap (λ (x : Sender). x.queued) none) (ap (λ (x : Sender). x.sent) none) due
 
-flat-set : (rs : List ReceivingEnd) (k : ℕ) (t : ReceivingEnd) → t.receiver.dispatched ≡ [] → Flagged t.receiver → AreFlat rs → AreFlat (slice_set rs k t)
+-- what was dispatched may have gone
+sequenced-emptied : (r : Receiver) → HasSequenced r → HasSequenced (record r { dispatched = [] })
+sequenced-emptied r k = record { held = k.held; waiting = k.waiting; dispatched = tt }
+
+flat-set : (rs : List ReceivingEnd) (k : ℕ) (t : ReceivingEnd) → t.receiver.dispatched ≡ [] → HasSequenced t.receiver → AreFlat rs → AreFlat (slice_set rs k t)
 flat-set rs k t none flagged flat i r e = elim (set-cases rs k t i r e) [
-  | inl new ↦ subst (λ (x : ReceivingEnd). (x.receiver.dispatched ≡ []) × Flagged x.receiver) new (none, flagged)
+  | inl new ↦ subst (λ (x : ReceivingEnd). (x.receiver.dispatched ≡ []) × HasSequenced x.receiver) new (none, flagged)
   | inr old ↦ flat i r old
 ]
 
-pub tidies : (qs : List Packet) → Changes (Tidy qs)
+pub tidies : (qs : List Packet) → Changes (IsTidy qs)
 tidies qs = record {
   quiet = λ p q e h. tidy-core qs p q e h;
   controls = λ p what on h. record { places = h.places; few = h.few; receivers = h.receivers; young = h.young; big = h.big };
@@ -182,7 +189,7 @@ tidies qs = record {
     places = h.places;
     few = h.few;
     receivers = flat-set p.inbox.receivers j (emptied (after_command r (Some c) (is_full p.inbox))) refl
-        (flagged-emptied (received wire r.max_packet r.receiver c (is_full p.inbox)) (flagged-received r.max_packet r.receiver c (is_full p.inbox) (let f = h.receivers j r there in f.1))) h.receivers;
+        (sequenced-emptied (received wire r.max_packet r.receiver c (is_full p.inbox)) (sequenced-received wire r.max_packet r.receiver c (is_full p.inbox) (let f = h.receivers j r there in f.1))) h.receivers;
     young = λ t. absurd (let x : true ≡ false = sym t ∙ connected-old p.state on in cc);
     big = h.big;
   };
@@ -199,10 +206,10 @@ tidies qs = record {
 }
 
 -- a submission
-pub tidy-submitted : (qs rs : List Packet) (p : Peering) (channel : ℕ) (q : Rattle.enet_sender.specs.Carriage.Packet) → is_connected p.state ≡ true → Tidy qs p → Tidy rs (submitted p channel q)
+pub tidy-submitted : (qs rs : List Packet) (p : Peering) (channel : ℕ) (q : Rattle.enet_sender.specs.Carriage.Packet) → is_connected p.state ≡ true → IsTidy qs p → IsTidy rs (submitted p channel q)
 tidy-submitted qs rs p channel q on h = by (is_unsequenced p.terms.mtu q)
   where
-    at : (o : Option SendingEnd) → slice_get p.outbox.senders channel ≡ o → Tidy rs (record p { outbox = with_sequenced p.outbox p.terms.mtu channel q o })
+    at : (o : Option SendingEnd) → slice_get p.outbox.senders channel ≡ o → IsTidy rs (record p { outbox = with_sequenced p.outbox p.terms.mtu channel q o })
     at None there = record { places = h.places; few = h.few; receivers = h.receivers; young = λ t. absurd (let x : true ≡ false = sym t ∙ connected-old p.state on in cc); big = h.big }
     at (Some s) there =
         let t : SendingEnd = record s { sender = sender.submitted wire p.terms.mtu s.sender q } in
@@ -214,6 +221,6 @@ tidy-submitted qs rs p channel q on h = by (is_unsequenced p.terms.mtu q)
           big = h.big;
         }
 
-    by : (b : Bool) → Tidy rs (record p { outbox = cond b (with_unsequenced p.outbox channel q) (with_sequenced p.outbox p.terms.mtu channel q (slice_get p.outbox.senders channel)) })
+    by : (b : Bool) → IsTidy rs (record p { outbox = cond b (with_unsequenced p.outbox channel q) (with_sequenced p.outbox p.terms.mtu channel q (slice_get p.outbox.senders channel)) })
     by true = record { places = h.places; few = h.few; receivers = h.receivers; young = λ t. absurd (let x : true ≡ false = sym t ∙ connected-old p.state on in cc); big = h.big }
     by false = at (slice_get p.outbox.senders channel) refl
