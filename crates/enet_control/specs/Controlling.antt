@@ -1,7 +1,7 @@
 -- The sender of channel 0xFF: what is queued, and what is sent and not yet acknowledged. Times are in milliseconds.
 use Rattle.std.specs.Prelude.{◌≡◌, ℕ, ◌+◌, ◌<◌, Bool, true, false, ◌&&◌, not, ◌==◌, nat_lt, nat_le, if◌then◌else◌, List, [], ◌∷◌, ◌++◌, length, map, Option, Some, None, slice_get, slice_set, is_some}
 use Rattle.std.specs.List.{position, remove}
-use Rattle.enet_codec.specs.Message.{Message, Body, connect, verify_connect, disconnect, ping, bandwidth_limit, throttle_configure, canonical}
+use Rattle.enet_codec.specs.Message.{Message, Body, connect, verify_connect, disconnect, ping, bandwidth_limit, throttle_configure, IsMessage, canonical}
 use Rattle.enet_codec.specs.Writing.{Puts}
 use Rattle.enet_seq.specs.Windows.{after, ahead}
 use Rattle.enet_rtt.specs.Clock.{elapsed_time}
@@ -96,9 +96,11 @@ next_of now timeout c (Some i) = next_resent now c i (slice_get c.sent i)
 abbrev pub next : ℕ → ℕ → Commands → Option Next
 next now timeout c = next_of now timeout c (position (λ (p : SentControl). p.due) c.sent)
 
--- what a call of next_due does: it writes what is due where that fits, and else changes nothing
+-- what a call of next_due does: it writes what is due where that fits, and else changes nothing. What is written has its
+-- numbers in their ranges, so its bytes spell it
 abbrev pub Did : Option Next → Written → Commands → Commands → List ℕ → ℕ → List ℕ → Type 0
-Did (Some n) (written.Sent past) old new from at to = Puts from at (canonical (message_of n.command)) to past × (new ≡ n.commands)
+Did (Some n) (written.Sent past) old new from at to =
+    Puts from at (canonical (message_of n.command)) to past × (new ≡ n.commands) × IsMessage (message_of n.command)
 Did (Some n) written.NoRoom old new from at to = (length from < at + length (canonical (message_of n.command))) × (new ≡ old) × (to ≡ from)
 Did None written.Nothing old new from at to = (new ≡ old) × (to ≡ from)
 Did _ _ old new from at to = ⊥

@@ -3,7 +3,7 @@
 ghost use Rattle.std.specs.Prelude.{◌≡◌, ◌+◌, ◌<◌, ◌≤◌, List, ◌∷◌, [], ◌++◌, IsTrue, IfSome, IfNone, false, if◌then◌else◌, length, drop, slice_get, slice_set, Some, map};
 ghost use Rattle.std.specs.List.{position, list_any};
 ghost use Rattle.std.specs.VecDeque.{deque_len, deque_capacity};
-ghost use Rattle.enet_codec.specs.Message.{canonical};
+ghost use Rattle.enet_codec.specs.Message.{IsMessage, canonical};
 ghost use Rattle.enet_codec.specs.Writing.{Puts};
 ghost use Rattle.enet_control.specs.declared.control.Numbered.{Numbered};
 ghost use Rattle.enet_control.specs.declared.control.SentControl.{SentControl};
@@ -69,6 +69,7 @@ pub fn is_in_span(sent: &VecDeque<SentControl>, number: u16) -> bool
 /// Writes a command at a place, where it fits.
 pub fn put(buf: &mut [u8], at: usize, command: &Numbered) -> Option<usize>
     ensures some { IfSome result (λ past. Puts buf.old at (canonical (message_of command.now)) buf.new past) }
+    ensures message { IfSome result (λ past. IsMessage (message_of command.now)) }
     ensures none { IfNone result (buf.new ≡ buf.old) }
     ensures room { IfNone result (length buf.old < at + length (canonical (message_of command.now))) }
 {

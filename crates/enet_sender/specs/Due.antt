@@ -1,6 +1,6 @@
 -- What a call of `next_due` does: it writes what is due where that fits, and else changes nothing.
 use Rattle.std.specs.Prelude.{◌≡◌, ℕ, ◌+◌, ◌<◌, if◌then◌else◌, Option, Some, None, List, length}
-use Rattle.enet_codec.specs.Message.{canonical}
+use Rattle.enet_codec.specs.Message.{IsMessage, canonical}
 use Rattle.enet_codec.specs.Writing.{Puts}
 use Rattle.enet_fragment.specs.DataCommand.{message_of}
 use Rattle.enet_fragment.specs.declared.data.DataCommand.{DataCommand}
@@ -28,10 +28,12 @@ with_submitted mtu e flags body = record e { sender = submitted wire mtu e.sende
 abbrev pub kind_of : DataCommand → Kind
 kind_of c = if c.reliable then kind.Reliable else (if is_more c then kind.More else kind.Begins)
 
+-- what is written has its numbers in their ranges, so its bytes spell it
 abbrev pub Did : Option Next → Due → SendingEnd → SendingEnd → List ℕ → ℕ → List ℕ → Type 0
 Did (Some n) (due.Sent past added kind) old new from at to =
     Puts from at (canonical (message_of old.channel n.command)) to past
     × (added ≡ n.added) × (kind ≡ kind_of n.command) × (new ≡ record old { sender = n.sender })
+    × IsMessage (message_of old.channel n.command)
 Did (Some n) due.NoRoom old new from at to =
     (length from < at + length (canonical (message_of old.channel n.command))) × (new ≡ old) × (to ≡ from)
 Did None due.Nothing old new from at to = (new ≡ old) × (to ≡ from)

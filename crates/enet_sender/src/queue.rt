@@ -3,7 +3,7 @@
 ghost use Rattle.std.specs.Prelude.{Bool, ◌≡◌, ℕ, ◌+◌, ◌<◌, ◌≤◌, List, ◌∷◌, [], ◌++◌, IsTrue, IfSome, IfNone, IfErr, OnOk, OnErr, false, if◌then◌else◌, length, drop, slice_set, slice_get, Some, map};
 ghost use Rattle.std.specs.VecDeque.{deque_len, deque_capacity};
 ghost use Rattle.std.specs.List.{position, list_any};
-ghost use Rattle.enet_codec.specs.Message.{canonical};
+ghost use Rattle.enet_codec.specs.Message.{IsMessage, canonical};
 ghost use Rattle.enet_codec.specs.Writing.{Puts};
 ghost use Rattle.enet_seq.specs.Numbering.{wire};
 ghost use Rattle.enet_fragment.specs.Cutting.{piece_count};
@@ -164,6 +164,7 @@ pub fn bytes_of(command: &DataCommand) -> u32
 pub fn put(buf: &mut [u8], at: usize, channel: u8, command: &DataCommand) -> Option<usize>
     requires { IsShort command.now }
     ensures some { IfSome result (λ past. Puts buf.old at (canonical (message_of channel command.now)) buf.new past) }
+    ensures message { IfSome result (λ past. IsMessage (message_of channel command.now)) }
     ensures none { IfNone result (buf.new ≡ buf.old) }
     ensures room { IfNone result (length buf.old < at + length (canonical (message_of channel command.now))) }
 {

@@ -24,4 +24,4 @@ returns-clause-written c =
     subst
     (λ (next : Option Next). Did next (written.Sent c.in-Some-put.past) old new c.args.buf.now c.args.at c.put.new.buf)
     (sym due)
-    (c.in-Some-put.ensures.some, is_new)
+    (c.in-Some-put.ensures.some, is_new, c.in-Some-put.ensures.message)

@@ -21,4 +21,5 @@ returns c =
         channel = c.self.inside.channel;
         sender = record { number = c.self.inside.number; unreliable = c.self.inside.unreliable; queued = c.self.inside.queued.items; sent = c.send_again.ensures.sent p there i };
       },
+      c.in-Some-put.ensures.message,
     )
