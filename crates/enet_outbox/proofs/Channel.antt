@@ -2,7 +2,7 @@
 use Rattle.std.proofs.Common.{◌≡◌, ℕ, zero, suc, ◌+◌, ◌-◌, ◌<◌, ◌≤◌, List, [], ◌∷◌, length, refl, sym, ap, ◌∙◌, subst, arith, Bool, true, false, not, cond, Option, Some, None, slice_set, sum_by}
 use Rattle.std.specs.List.{slice_get}
 use Rattle.std.proofs.lemmas.List.Sums.{sum_by-cons}
-use Rattle.enet_codec.specs.Message.{Message, canonical}
+use Rattle.enet_codec.specs.Message.{IsMessage, Message, canonical}
 use Rattle.enet_codec.specs.Writing.{Puts}
 use Rattle.enet_seq.specs.Numbering.{wire}
 use Rattle.enet_throttle.specs.Throttle.{Throttling, is_admitted, transit}
@@ -60,8 +60,9 @@ transit-set senders i s t e = sum-set (λ (s : SendingEnd). bytes_in_transit s.s
 -- what a call did
 pub did-sent : (n : Option Next) (past added : ℕ) (k : Kind) (old new : SendingEnd) (from : List ℕ) (at : ℕ) (to : List ℕ) → Did n (due.Sent past added k) old new from at to →
     (m : Next) × (n ≡ Some m) × Puts from at (canonical (message_of old.channel m.command)) to past × (added ≡ m.added) × (k ≡ kind_of m.command) × (new ≡ record old { sender = m.sender })
+    × IsMessage (message_of old.channel m.command)
 did-sent None past added k old new from at to d = absurd d
-did-sent (Some m) past added k old new from at to d = (m, refl, d.0, d.1, d.2, d.3)
+did-sent (Some m) past added k old new from at to d = (m, refl, d.0, d.1, d.2, d.3, d.4)
 
 did-full : (n : Option Next) (old new : SendingEnd) (from : List ℕ) (at : ℕ) (to : List ℕ) → Did n due.NoRoom old new from at to →
     (m : Next) × (n ≡ Some m) × (length from < at + length (canonical (message_of old.channel m.command))) × (new ≡ old) × (to ≡ from)
@@ -190,7 +191,7 @@ channel-put {pace} {channel} {f} {s} {new} {w} {p} {from} {to} {past} added k a 
     let made : P t = record {
       g = with_command a.g m (G a.g.outbox);
       turns = a.turns - 1;
-      holds = holds-written m a.holds opened.0 opened.1 (G a.g.outbox);
+      holds = holds-written m a.holds opened.0 opened.1 r.6 (G a.g.outbox);
       there = get-set a.g.outbox.senders channel s t a.there;
       outbox = ap G a.outbox ∙ ap (λ (ss : List SendingEnd). with_flow f.outbox ss v) (set-twice f.outbox.senders channel s t);
       enough = omega arith;

@@ -1,6 +1,6 @@
 -- The commands of channel 0xFF, turn by turn.
 use Rattle.std.proofs.Common.{◌≡◌, ℕ, zero, suc, ◌+◌, ◌-◌, ◌<◌, ◌≤◌, List, length, refl, sym, ap, ◌∙◌, subst, arith, Bool, true, false, cond, Option, Some, None}
-use Rattle.enet_codec.specs.Message.{canonical}
+use Rattle.enet_codec.specs.Message.{IsMessage, canonical}
 use Rattle.enet_codec.specs.Writing.{Puts}
 use Rattle.enet_control.specs.declared.outgoing.Written.TheVariants as written
 use Rattle.enet_control.specs.Controlling.{Commands, Next, next, message_of, Did}
@@ -14,9 +14,9 @@ use Rattle.enet_outbox.proofs.Turns.{control_left, control-most, control-falls}
 
 -- what a call did
 pub did-sent : (n : Option Next) (past : ℕ) (old new : Commands) (from : List ℕ) (at : ℕ) (to : List ℕ) → Did n (written.Sent past) old new from at to →
-    (k : Next) × (n ≡ Some k) × Puts from at (canonical (message_of k.command)) to past × (new ≡ k.commands)
+    (k : Next) × (n ≡ Some k) × Puts from at (canonical (message_of k.command)) to past × (new ≡ k.commands) × IsMessage (message_of k.command)
 did-sent None past old new from at to d = absurd d
-did-sent (Some k) past old new from at to d = (k, refl, d.0, d.1)
+did-sent (Some k) past old new from at to d = (k, refl, d.0, d.1, d.2)
 
 did-full : (n : Option Next) (old new : Commands) (from : List ℕ) (at : ℕ) (to : List ℕ) → Did n written.NoRoom old new from at to →
     (k : Next) × (n ≡ Some k) × (length from < at + length (canonical (message_of k.command))) × (new ≡ old) × (to ≡ from)
@@ -91,7 +91,7 @@ control-put {pace} {f} {c} {new} {p} {from} {to} {past} a d =
     record {
       g = with_command a.g m o;
       turns = a.turns - 1;
-      holds = holds-written m a.holds w.0 w.1 o;
+      holds = holds-written m a.holds w.0 w.1 s.4 o;
       outbox = ap (λ (o : Outbox). record o { control = k.commands }) a.outbox ∙ ap (λ (c : Commands). record f.outbox { control = c }) (sym s.3);
       enough = let P : Commands → Type 0 = λ c. control_left c ≤ a.turns - 1 in subst P (sym s.3) (omega arith);
       stage = a.stage ∙ controls-go pace a.turns a.g k (omega arith) (here a ∙ s.1) (fits-written m a.holds w.0 w.1);

@@ -31,6 +31,8 @@ holds-start pace o buf long whole = record {
   more = refl;
   is_closed = refl;
   is_asking = refl;
+  messages = tt;
+  few = omega arith;
 }
 
 turns-all : (o : Outbox) (first : ℕ) → first ≡ unwrap_or (option_map (λ channel. channel + 1) o.last) 0 → turns first (length o.senders) 0 ≡ turn_order o
@@ -108,8 +110,10 @@ emits-some pace to old new p buf after len header l more is text ends =
     let same : length (flat_map canonical ms) ≡ p.at - 4 = ap (λ (xs : List ℕ). length xs) (sym h.text) ∙ size in
     let made : header ≡ header_asking pace.now to (list_any asks ms) = is ∙ ap (header_asking pace.now to) (sym h.is_asking) in
     let bytes : header_text header ++ slice_range buf 4 p.at ≡ datagram pace.now to ms = ap (λ (xs : List ℕ). header_text header ++ xs) h.text ∙ ap (λ (h : Header). header_text h ++ flat_map canonical ms) made in
-    let count : len ≡ length (header_text header ++ slice_range buf 4 p.at) = omega (arith, length-append (header_text header) (slice_range buf 4 p.at)) in
-    (some-from ms (omega arith), sym l.outbox, count ∙ ap (λ (xs : List ℕ). length xs) bytes, text ∙ bytes)
+    let count : len ≡ length (header_text header ++ slice_range buf 4 p.at) = omega (arith, length-append (header_text header) (slice_range buf 4 p.at)) in (
+      sym l.outbox,
+      record { some = some-from ms (omega arith); few = omega (arith, h.few); ranges = h.messages; ends = count ∙ ap (λ (xs : List ℕ). length xs) bytes; text = text ∙ bytes },
+    )
   where
     length-range : (xs : List ℕ) (from to : ℕ) → from ≤ to → to ≤ length xs → length (slice_range xs from to) ≡ to - from
     length-range xs from to low high = omega (arith, length-take (to - from) (Rattle.std.proofs.Common.drop from xs), Rattle.std.proofs.lemmas.List.length-drop from xs)
@@ -118,5 +122,6 @@ emits-some pace to old new p buf after len header l more is text ends =
 pub emits-longer : (pace : Pace) (to : Destination) (r : Option ℕ) (old new : Outbox) (buf rest : List ℕ) → Emits pace to r old new buf → Emits pace to r old new (buf ++ rest)
 emits-longer pace to None old new buf rest e = e
 emits-longer pace to (Some len) old new buf rest e =
-    let fits : len ≤ length buf = omega (arith, e.2, ap (λ (xs : List ℕ). length xs) e.3, length-take len buf) in
-    (e.0, e.1, e.2, take-append-le len buf rest fits ∙ e.3)
+    let d = e.1 in
+    let fits : len ≤ length buf = omega (arith, d.ends, ap (λ (xs : List ℕ). length xs) d.text, length-take len buf) in
+    (e.0, record { some = d.some; few = d.few; ranges = d.ranges; ends = d.ends; text = take-append-le len buf rest fits ∙ d.text })

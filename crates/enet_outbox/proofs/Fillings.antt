@@ -1,11 +1,11 @@
 -- A command more in a datagram.
 use Rattle.std.proofs.Common.{◌≡◌, ℕ, ◌+◌, ◌-◌, ◌*◌, ◌<◌, ◌≤◌, ◌⊎◌, inl, inr, List, [], ◌∷◌, ◌++◌, length, take, drop, get_or, flat_map, slice_range, refl, sym, ap, subst, ◌∙◌, arith, append_assoc, Bool, true, false, cond, ◌==◌, ◌≢◌, ◌||◌, ◌&&◌, nat_le, nat_lt}
-use Rattle.std.specs.List.{list_any}
+use Rattle.std.specs.List.{AllByRecursion, list_any}
 use Rattle.std.proofs.lemmas.Bool.{le-leb, lt-leb, lt-ltb, le-ltb, eqb-true, eqb-false}
 use Rattle.std.proofs.lemmas.List.{length-append, length-take, length-drop, take_at, drop_at, drop-take, drop-append-le, get_or-drop}
 use Rattle.std.proofs.lemmas.List.Concat.{flat_map-append}
 use Rattle.std.proofs.lemmas.List.Folds.{list_any-append}
-use Rattle.enet_codec.specs.Message.{Body, acknowledge, connect, verify_connect, disconnect, ping, send_reliable, send_unreliable, send_fragment, send_unsequenced, bandwidth_limit, throttle_configure, send_unreliable_fragment, Message, canonical, kind_of, bit}
+use Rattle.enet_codec.specs.Message.{Body, acknowledge, connect, verify_connect, disconnect, ping, send_reliable, send_unreliable, send_fragment, send_unsequenced, bandwidth_limit, throttle_configure, send_unreliable_fragment, IsMessage, Message, canonical, kind_of, bit}
 use Rattle.enet_codec.specs.Writing.{Puts}
 use Rattle.enet_outbox.specs.declared.packing.Progress.{Progress}
 use Rattle.enet_outbox.specs.Outbox.{Outbox}
@@ -80,9 +80,13 @@ fits-written {f} {p} {from} {to} {past} m h more w =
     let room : size_of m ≤ f.bytes = omega (arith, h.free, w.fits) in
     ap (λ (b : Bool). b && nat_le (size_of m) f.bytes) (lt-ltb 0 f.commands some) ∙ le-leb (size_of m) f.bytes room
 
-pub holds-written : {f : Filling} {p : Progress} {from to : List ℕ} {past : ℕ} (m : Message) → Holds f p from → 0 < p.commands → Puts from p.at (canonical m) to past →
+one-more : (ms : List Message) (m : Message) → AllByRecursion IsMessage ms → IsMessage m → AllByRecursion IsMessage (ms ++ m ∷ [])
+one-more [] m all is = (is, tt)
+one-more (n ∷ ms) m all is = (all.0, one-more ms m all.1 is)
+
+pub holds-written : {f : Filling} {p : Progress} {from to : List ℕ} {past : ℕ} (m : Message) → Holds f p from → 0 < p.commands → Puts from p.at (canonical m) to past → IsMessage m →
     (o : Outbox) → Holds (with_command f m o) (taken_in p past to) to
-holds-written {f} {p} {from} {to} {past} m h more w o = record {
+holds-written {f} {p} {from} {to} {past} m h more w is o = record {
   begins = omega (arith, h.begins, w.ends);
   within = omega (arith, w.ends, w.fits, puts-length w);
   text = puts-range w h.begins ∙ ap (λ (xs : List ℕ). xs ++ canonical m) h.text ∙ ap (λ (xs : List ℕ). flat_map canonical f.messages ++ xs) (sym (append-nil (canonical m)))
@@ -91,6 +95,8 @@ holds-written {f} {p} {from} {to} {past} m h more w o = record {
   more = ap (λ (n : ℕ). n - 1) h.more;
   is_closed = refl;
   is_asking = list_any-append asks f.messages (m ∷ []) ∙ ap (λ (b : Bool). b || list_any asks (m ∷ [])) h.is_asking ∙ ap (λ (b : Bool). p.asks || b) (last (asks m) ∙ sym (first-asks m) ∙ ap (nat_le 128) (sym (puts-first w)));
+  messages = one-more f.messages m h.messages is;
+  few = omega (arith, h.few, h.more, length-append f.messages (m ∷ []));
 }
   where
     last : (b : Bool) → (b || false) ≡ b
@@ -112,6 +118,8 @@ holds-back {f} {p} {from} {bytes} {to} {past} h w =
       more = h.more;
       is_closed = h.is_closed;
       is_asking = h.is_asking;
+      messages = h.messages;
+      few = h.few;
     }
 
 -- one for which there is no room
@@ -128,11 +136,11 @@ unfit {f} {p} {from} m h (inr long) =
     both false c e = refl
 
 pub holds-shut : {f : Filling} {p : Progress} {buf : List ℕ} → Holds f p buf → Holds (shut f) (record p { closed = true }) buf
-holds-shut {f} {p} {buf} h = record { begins = h.begins; within = h.within; text = h.text; free = h.free; more = h.more; is_closed = refl; is_asking = h.is_asking }
+holds-shut {f} {p} {buf} h = record { begins = h.begins; within = h.within; text = h.text; free = h.free; more = h.more; is_closed = refl; is_asking = h.is_asking; messages = h.messages; few = h.few }
 
 -- nothing of what the buffer shows is in the outbox
 pub holds-other : {f : Filling} {p : Progress} {buf : List ℕ} (o : Outbox) → Holds f p buf → Holds (record f { outbox = o }) p buf
-holds-other {f} {p} {buf} o h = record { begins = h.begins; within = h.within; text = h.text; free = h.free; more = h.more; is_closed = h.is_closed; is_asking = h.is_asking }
+holds-other {f} {p} {buf} o h = record { begins = h.begins; within = h.within; text = h.text; free = h.free; more = h.more; is_closed = h.is_closed; is_asking = h.is_asking; messages = h.messages; few = h.few }
 
 -- a stage that ends in this filling
 pub leads-by : {whole last : Filling} {o : Outbox} {q : Progress} {to : List ℕ} → whole ≡ last → Holds last q to → last.outbox ≡ o → Leads whole o q to

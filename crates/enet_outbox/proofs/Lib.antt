@@ -4,6 +4,7 @@ pub mod Controls
 pub mod Emissions
 pub mod Fillings
 pub mod Senders
+pub mod Spelled
 pub mod Stages
 pub mod Submitting
 pub mod Turns

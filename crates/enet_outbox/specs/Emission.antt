@@ -1,10 +1,10 @@
 -- What a peer puts into its next datagram.
-use Rattle.std.specs.Prelude.{◌≡◌, ℕ, zero, suc, ◌+◌, ◌-◌, ◌%◌, ◌<◌, ◌&&◌, ◌==◌, Bool, true, false, nat_lt, nat_le, if◌then◌else◌, Option, Some, None, List, [], ◌∷◌, ◌++◌, length, map, take, slice_get, slice_set, unwrap_or}
-use Rattle.std.specs.List.{range_with_len, flat_map, list_any}
+use Rattle.std.specs.Prelude.{◌≡◌, ℕ, zero, suc, ◌+◌, ◌-◌, ◌%◌, ◌<◌, ◌≤◌, ◌&&◌, ◌==◌, Bool, true, false, nat_lt, nat_le, if◌then◌else◌, Option, Some, None, List, [], ◌∷◌, ◌++◌, length, map, take, slice_get, slice_set, unwrap_or}
+use Rattle.std.specs.List.{AllByRecursion, range_with_len, flat_map, list_any}
 use Rattle.std.specs.Option.{option_map}
 use Rattle.enet_codec.specs.declared.header.Header.{Header}
 use Rattle.enet_codec.specs.Header.{header_text}
-use Rattle.enet_codec.specs.Message.{Message, acknowledge, send_unsequenced, canonical}
+use Rattle.enet_codec.specs.Message.{IsMessage, Message, acknowledge, send_unsequenced, canonical}
 use Rattle.enet_seq.specs.Numbering.{wire}
 use Rattle.enet_throttle.specs.Throttle.{is_admitted, next_counter, transit}
 use Rattle.enet_control.specs.Controlling as controlling
@@ -181,9 +181,15 @@ header_for now to messages = record {
 abbrev pub datagram : ℕ → Destination → List Message → List ℕ
 datagram now to messages = header_text (header_for now to messages) ++ flat_map canonical messages
 
+-- a datagram of 1 to 32 commands stands at the front of the buffer. The numbers of each are in their ranges, so that its bytes spell it
+pub record HasDatagram (now : ℕ) (to : Destination) (messages : List Message) (len : ℕ) (buf : List ℕ) : Type 0 where
+  pub some : 0 < length messages
+  pub few : length messages ≤ 32
+  pub ranges : AllByRecursion IsMessage messages
+  pub ends : len ≡ length (datagram now to messages)
+  pub text : take len buf ≡ datagram now to messages
+
 -- what a call of emit wrote at the front of the buffer, and left: nothing where no command goes
 abbrev pub Emits : Pace → Destination → Option ℕ → Outbox → Outbox → List ℕ → Type 0
 Emits pace to None old new buf = ((filled pace old).messages ≡ []) × (new ≡ (filled pace old).outbox)
-Emits pace to (Some len) old new buf =
-    (0 < length (filled pace old).messages) × (new ≡ (filled pace old).outbox)
-    × (len ≡ length (datagram pace.now to (filled pace old).messages)) × (take len buf ≡ datagram pace.now to (filled pace old).messages)
+Emits pace to (Some len) old new buf = (new ≡ (filled pace old).outbox) × HasDatagram pace.now to (filled pace old).messages len buf

@@ -1,7 +1,7 @@
 -- A datagram while it is filled, as its buffer and its progress show it, and what each stage makes of it.
 use Rattle.std.specs.Prelude.{◌≡◌, ℕ, ◌+◌, ◌%◌, ◌==◌, not, Bool, if◌then◌else◌, ◌-◌, ◌≤◌, ◌||◌, nat_le, true, false, List, length, map, flat_map, Option, Some, None, slice_range, slice_get, slice_set, slice_index}
-use Rattle.std.specs.List.{list_any, range_with_len}
-use Rattle.enet_codec.specs.Message.{Message, canonical}
+use Rattle.std.specs.List.{AllByRecursion, list_any, range_with_len}
+use Rattle.enet_codec.specs.Message.{IsMessage, Message, canonical}
 use Rattle.enet_throttle.specs.Throttle.{Throttling, is_admitted, next_counter}
 use Rattle.enet_control.specs.Controlling.{Commands}
 use Rattle.enet_sender.specs.Due.{SendingEnd}
@@ -26,6 +26,8 @@ pub record Holds (f : Filling) (p : Progress) (buf : List ℕ) : Type 0 where
   pub more : f.commands ≡ p.commands
   pub is_closed : f.closed ≡ p.closed
   pub is_asking : list_any asks f.messages ≡ p.asks
+  pub messages : AllByRecursion IsMessage f.messages
+  pub few : length f.messages + f.commands ≤ 32
 
 -- a command was written up to a place; its first bit asks for an acknowledgement
 abbrev pub taken_in : Progress → ℕ → List ℕ → Progress

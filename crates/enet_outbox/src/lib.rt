@@ -2,11 +2,13 @@
 //! channels' senders; and how they are packed into datagrams.
 #![tactic(auto)]
 
+mod laws;
 mod lists;
 mod outbox;
 mod packing;
 mod parts;
 
+pub use laws::what_goes_is_spelled;
 pub use outbox::Outbox;
 pub use parts::{Acknowledgement, Destination, Matched, Pace, Unsequenced};
 

@@ -6,4 +6,4 @@ use Rattle.enet_outbox.proofs.packing.Progress.put.Goals as goal
 pub returns : goal.returns
 returns c = λ f h.
     let m = view c.args.command.now in
-    (fits-written m h (omega arith) c.in_ok-past.ensures.written, λ o. rw c.with.ensures (holds-written m h (omega arith) c.in_ok-past.ensures.written o), holds-back h c.in_ok-past.ensures.written)
+    (fits-written m h (omega arith) c.in_ok-past.ensures.written, λ o. rw c.with.ensures (holds-written m h (omega arith) c.in_ok-past.ensures.written c.in_ok-past.ensures.spells.message o), holds-back h c.in_ok-past.ensures.written)
