@@ -1,5 +1,5 @@
 -- What changes of one end's peer keep: those that touch no link, those that stop both, and those between.
-use Rattle.std.proofs.Common.{◌≡◌, ℕ, zero, suc, ◌<◌, Bool, true, false, List, [], ◌∷◌, ◌++◌, map, refl, sym, ap, subst, ◌∙◌, inl, inr, ◌⊎◌, Option, Some, None}
+use Rattle.std.proofs.Common.{◌≡◌, ℕ, zero, suc, ◌<◌, Bool, true, false, List, [], ◌∷◌, ◌++◌, map, length, ◌≤◌, arith, refl, sym, ap, subst, ◌∙◌, inl, inr, ◌⊎◌, Option, Some, None}
 use Rattle.std.proofs.lemmas.List.{append-nil}
 use Rattle.std.specs.List.{slice_get}
 use Rattle.enet_types.specs.declared.packet.Packet.{Packet}
@@ -40,6 +40,7 @@ relinks from to from2 to2 channel k w m submitted log log2 agreed sending receiv
   between = ap (λ (x : WireLink). x.making) m.same ∙ k.between;
   submitted = ap (λ (x : WireLink). x.submitted) m.same ∙ k.submitted ∙ ap (of_channel k.mtu channel) (sym submitted);
   greatest = ap (λ (x : WireLink). x.greatest) m.same ∙ k.greatest ∙ ap (λ (l : List Put). sent_on channel (record from { log = l })) (sym log);
+  few = (let few = k.few in let same : length w.commands ≡ length k.link.commands = ap (λ (x : WireLink). length x.commands) m.same in let logged : length from2.log ≡ length from.log = ap length log in omega arith);
   sending = sending;
   receiving = receiving;
   commands = λ p c h on e. subst (λ l. Has l (record { command = c; reach = p.reach })) (sym (ap (λ (x : WireLink). x.commands) m.same)) (k.commands p c (subst (λ (l : List Put). Has l p) log h) on e);

@@ -66,6 +66,7 @@ with-mtu from to channel mtu k big none =
         greatest = k.greatest;
         sending = k.sending;
         receiving = k.receiving;
+        few = k.few;
         commands = k.commands;
         acks = k.acks;
       },
@@ -109,6 +110,7 @@ unmoved own other p r q channel is state' mtu same k at none =
         (λ s e. h.3 s (sym same ∙ e)),
       );
       receiving = k.receiving;
+      few = k.few;
       commands = k.commands;
       acks = k.acks;
     }
@@ -150,6 +152,7 @@ moved own other p q s is sends there few kind k at =
         (λ y e. let both : Some t ≡ Some y = sym got ∙ e in let ty : t ≡ y = cc in ap (λ (x : SendingEnd). x.channel) (sym ty) ∙ h.3 s there),
       );
       receiving = receiving-by other other.peer channel k.link w refl refl refl k.receiving;
+      few = k.few;
       commands = k.commands;
       acks = k.acks;
     }
@@ -175,7 +178,7 @@ both-submitted own other p q s is big sends there few b = by (is_unsequenced mtu
     same-back : (o : Outbox) → o.acknowledgements ≡ p.outbox.acknowledgements → (channel : ℕ) → channel < 255 → IsLinked other (record own { peer = Some (record p { outbox = o }); submitted = own.submitted ++ q ∷ [] }) channel
     same-back o a channel few =
         let k = back-quiet own other p (record p { outbox = o }) channel few is (record { dispatches = refl; receivers = refl; untaken = λ i h. refl; numbers = λ i h. ap (Rattle.enet_connection.specs.Linked.numbers_on i) a }) (b.back channel few) in
-        record { mtu = k.mtu; big = k.big; agreed = k.agreed; link = k.link; events = k.events; runs = k.runs; between = k.between; submitted = k.submitted; greatest = k.greatest; sending = k.sending; receiving = k.receiving; commands = k.commands; acks = k.acks }
+        record { mtu = k.mtu; big = k.big; agreed = k.agreed; link = k.link; events = k.events; runs = k.runs; between = k.between; submitted = k.submitted; greatest = k.greatest; few = k.few; sending = k.sending; receiving = k.receiving; commands = k.commands; acks = k.acks }
 
     new : Outbox → End
     new o = record own { peer = Some (record p { outbox = o }); submitted = own.submitted ++ q ∷ [] }
