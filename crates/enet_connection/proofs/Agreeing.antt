@@ -1,0 +1,106 @@
+-- What one link keeps is what its two ends agree on.
+use Rattle.std.proofs.Common.{◌≡◌, ℕ, ◌+◌, ◌-◌, ◌%◌, ◌<◌, ◌≤◌, Bool, true, false, List, [], ◌∷◌, ◌++◌, length, map, refl, sym, ap, subst, ◌∙◌, inl, inr, ◌⊎◌, arith, Option, Some, None}
+use Rattle.std.proofs.lemmas.Bool.Decides.{nat_tests}
+use Rattle.std.specs.Prelude.{nat_lt}
+use Rattle.std.specs.FinMap.{get}
+use Rattle.std.specs.List.{slice_get}
+use Rattle.enet_fragment.specs.declared.data.DataCommand.{DataCommand}
+use Rattle.enet_fragment.specs.DataCommand.{data_of}
+use Rattle.enet_packets.specs.declared.coming.Coming.{Coming}
+use Rattle.enet_packets.specs.Packets.{line_at}
+use Rattle.enet_receiver.specs.Receiver.{Receiver}
+use Rattle.enet_sender.specs.Carriage.{Carried, carried}
+use Rattle.enet_sender.specs.Sender.{Sender}
+use Rattle.enet_sender.specs.declared.sent.Sent.{Sent}
+use Rattle.enet_peer.specs.Peering.{Peering}
+use Rattle.enet_link.specs.Image.{ShowsReceiver}
+use Rattle.enet_link.specs.Keeps.{Keeps, IsReceived}
+use Rattle.enet_link.specs.Link.{PutOut, is_late, number_below}
+use Rattle.enet_link.specs.Meant.{Stands, OfReliable, OfUnreliable, IsReadAsMeant}
+use Rattle.enet_link.specs.Steps.{Has}
+use Rattle.enet_link.specs.WireLink.{WireLink}
+use Rattle.enet_link.proofs.Greatest.{bounded}
+use Rattle.enet_link.proofs.Runs.{keeps}
+use Rattle.enet_connection.specs.Connection.{Put, End, sent_on, of_channel}
+use Rattle.enet_connection.specs.Law.{mtu_of}
+use Rattle.enet_connection.specs.Linked.{IsLinked, ShowsSending, ShowsReceiving}
+use Rattle.enet_connection.specs.Numbers.{is_sending, is_dispatching, sender_on, receiver_on, carried_on, IsInTime, AgreeOn}
+
+-- nothing stands in an empty list
+nothing-stands : (number count : ℕ) (c : Carried) → Stands [] number count c → ⊥
+nothing-stands number count c s = by s.before s.behind s.whole
+  where
+    by : (before behind : List Carried) → [] ≡ before ++ c ∷ behind → ⊥
+    by [] behind e = cc
+    by (x ∷ before) behind e = cc
+
+-- the link's mtu is the sending end's where something was submitted
+by-mtu : (from to : End) (channel : ℕ) (k : IsLinked from to channel) (P : ℕ → List Carried → Type 0) → ((mtu : ℕ) → P mtu [] → ⊥) → P k.mtu (carried k.mtu k.link.submitted) → P (mtu_of from) (carried_on channel from)
+by-mtu from to channel k P none h =
+    let here : P k.mtu (carried k.mtu (of_channel k.mtu channel from.submitted)) = subst (λ qs. P k.mtu (carried k.mtu qs)) k.submitted h in
+    elim k.agreed [
+      | inl empty ↦ absurd (none k.mtu (subst (λ qs. P k.mtu (carried k.mtu (of_channel k.mtu channel qs))) empty here))
+      | inr same ↦ subst (λ mtu. P mtu (carried mtu (of_channel mtu channel from.submitted))) (sym same) here
+    ]
+
+-- the two ends' parts
+
+open-of : (e : End) (o : Option Peering) (channel : ℕ) (v : WireLink) → ShowsReceiving e o channel v → is_dispatching o ≡ v.is_open
+open-of e None channel v h = sym h.0
+open-of e (Some p) channel v h = h.0
+
+incoming-of : (e : End) (o : Option Peering) (channel : ℕ) (v : WireLink) → ShowsReceiving e o channel v → v.is_open ≡ true → v.incoming ≡ receiver_on channel e o
+incoming-of e None channel v h t = h.1
+incoming-of e (Some p) channel v h t = h.1 t
+
+sending-of : (o : Option Peering) (channel : ℕ) (v : WireLink) → ShowsSending o channel v → is_sending o ≡ true → (v.is_sending ≡ true) × (v.outgoing ≡ sender_on channel o)
+sending-of None channel v h t = h
+sending-of (Some p) channel v h t = h.0 t
+
+not-late : (sent number : ℕ) → nat_lt 32768 (sent - number) ≡ false → sent ≤ number + 32768
+not-late sent number e = grind (arith, nat_tests)
+
+pub agree-on : (from to : End) (channel : ℕ) → IsLinked from to channel → AgreeOn channel from to
+agree-on from to channel k = record {
+  receiver = f.receiver;
+  waiting = f.waiting;
+  shows = λ t. subst (λ r. ShowsReceiver r f.receiver) (incoming-of to to.peer channel k.link k.receiving (open' t)) (f.shows (open' t));
+  sent = λ t. (let s = sending-of from.peer channel k.link k.sending t in ap (λ (o : Sender). map (λ (p : Sent). p.command.number) o.sent) (sym s.1) ∙ f.sent s.0);
+  removed = λ m low high. elim (f.removed m low (subst (λ g. m ≤ g) (sym k.greatest) high)) [ inl w ↦ inl w | inr r ↦ inr (λ t. r (open' t)) ];
+  behind = λ t. subst (λ g. f.receiver.front ≤ g) k.greatest (f.behind (open' t));
+  oldest = λ t u high low. f.oldest (open' t) u (subst (λ g. u ≤ g + 1) (sym k.greatest) high) low;
+  near = λ t. subst (λ g. g ≤ f.receiver.front + 24575) k.greatest (f.near (open' t));
+  distance = λ t put c h. distance t put c h;
+  read = λ t put c h. by-mtu from to channel k (λ mtu cs. (m : IsReadAsMeant mtu cs f.receiver c) × (m.meant.number ≡ number_below put.reach c.number))
+      (λ mtu x. let p = x.0.piece in nothing-stands p.number p.count p.packet p.stands)
+      (f.read (open' t) (put-out put c) (there put c h) (in-time put c h));
+  held = λ t n e is. by-mtu from to channel k (λ mtu cs. OfReliable mtu cs n e.making) (λ mtu x. nothing-stands x.number x.count x.packet x.stands) (f.held (open' t) n e is);
+  lines = λ t n j e is. by-mtu from to channel k (λ mtu cs. OfUnreliable mtu cs n j e.making) (λ mtu x. nothing-stands n x.count x.packet x.stands) (f.lines (open' t) n j e is);
+  few = (let g = k.greatest in let b = bounded k.mtu k.events k.link k.big k.runs in let made : length k.link.making ≡ 0 = ap length k.between in let l = k.few in omega arith);
+}
+  where
+    f : Keeps k.mtu k.link
+    f = keeps k.mtu k.events k.link k.big k.runs
+
+    open' : is_dispatching to.peer ≡ true → k.link.is_open ≡ true
+    open' t = sym (open-of to to.peer channel k.link k.receiving) ∙ t
+
+    put-out : Put → DataCommand → PutOut
+    put-out put c = record { command = c; reach = put.reach }
+
+    there : (put : Put) (c : DataCommand) → IsInTime from channel put c → Has k.link.commands (put-out put c)
+    there put c h = k.commands put c h.logged h.on h.is
+
+    in-time : (put : Put) (c : DataCommand) → IsInTime from channel put c → is_late k.link.greatest put.reach c.number ≡ false
+    in-time put c h = ap (λ g. is_late g put.reach c.number) k.greatest ∙ h.in_time
+
+    distance : is_dispatching to.peer ≡ true → (put : Put) (c : DataCommand) → IsInTime from channel put c
+        → (number_below put.reach c.number ≤ f.receiver.front + 24575) × (f.receiver.front ≤ number_below put.reach c.number + 32768)
+    distance t put c h =
+        let n : ℕ = number_below put.reach c.number in
+        let mark = f.marks (put-out put c) (there put c h) in
+        let late = not-late k.link.greatest n (in-time put c h) in
+        let near = f.near (open' t) in
+        let behind = f.behind (open' t) in
+        let below : n ≤ put.reach = omega arith in
+        (omega arith, omega arith)
