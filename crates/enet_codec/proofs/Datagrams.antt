@@ -55,7 +55,7 @@ header-spells h fits =
     }
 
 -- a command has bytes
-some-bytes : (text rest : List ℕ) (m : Message) → Spells text m → text ++ rest ≡ [] → ⊥
+pub some-bytes : (text rest : List ℕ) (m : Message) → Spells text m → text ++ rest ≡ [] → ⊥
 some-bytes text rest m s e =
     let none : s.first ∷ (after_first m ++ rest) ≡ [] = ap (λ (xs : List ℕ). xs ++ rest) (sym s.spelled) ∙ e in
     absurd (let l = ap (λ (xs : List ℕ). length xs) none in omega arith)

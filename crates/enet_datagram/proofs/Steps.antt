@@ -1,5 +1,5 @@
 -- One command more of a datagram.
-use Rattle.std.proofs.Common.{◌≡◌, ℕ, List, [], ◌++◌, take, drop, Option, Some, None, Result, Ok, Err, sym, subst}
+use Rattle.std.proofs.Common.{◌≡◌, ℕ, List, [], ◌++◌, take, drop, Option, Some, None, Ok, Err, sym, subst}
 use Rattle.std.proofs.lemmas.List.{take-append-drop}
 use Rattle.enet_types.specs.declared.stop.Stop.{Stop}
 use Rattle.enet_codec.specs.Message.{Message, Spells}

@@ -1,5 +1,5 @@
 -- The commands of a datagram, one after another.
-use Rattle.std.specs.Prelude.{◌≡◌, ℕ, ◌+◌, ◌<◌, ◌≢◌, min, List, [], ◌++◌, Option, Some, None, Result, Ok, Err}
+use Rattle.std.specs.Prelude.{◌≡◌, ℕ, ◌+◌, ◌≢◌, ◌⊎◌, min, List, [], ◌∷◌, ◌++◌, Option, Some, None, Ok, Err}
 use Rattle.enet_types.specs.declared.stop.Stop.{Stop}
 use Rattle.enet_types.specs.declared.stop.Stop.TheVariants as stop
 use Rattle.enet_codec.specs.Message.{Message, Spells}
@@ -32,3 +32,10 @@ pub data Handles (now : ℕ) (sent : Option ℕ) : ℕ → List ℕ → Peering 
   goes_on : (handled : ℕ) (text rest : List ℕ) (m : Message) (answer : Received) (p q r : Peering) → Spells text m
       → Obeys {T = Unit {0}} (Ok tt) (obeyed p now sent m) p q → Handles now sent (one_more handled) rest q answer r
       → Handles now sent handled (text ++ rest) p answer r
+
+-- the commands of a list come to a peer in the same way, until none is left or one stops them
+abbrev pub HandlesEach : ℕ → Option ℕ → ℕ → List Message → Peering → Received → Peering → Type 0
+HandlesEach now sent handled [] p answer q = (answer ≡ record { handled = handled; stop = None }) × (q ≡ p)
+HandlesEach now sent handled (m ∷ ms) p answer q =
+    ((why : Stop) × Obeys {T = Unit {0}} (Err why) (obeyed p now sent m) p q × (answer ≡ record { handled = counted handled why; stop = Some why }))
+    ⊎ ((between : Peering) × Obeys {T = Unit {0}} (Ok tt) (obeyed p now sent m) p between × HandlesEach now sent (one_more handled) ms between answer q)

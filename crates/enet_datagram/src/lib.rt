@@ -1,12 +1,16 @@
 //! The commands of a datagram of ENet 1.3, as they come to a peer one after another.
 #![tactic(auto)]
 
-ghost use Rattle.std.specs.Prelude.{◌≡◌, ◌≤◌, drop, length};
-ghost use Rattle.enet_datagram.specs.Handling.{Handles, counted, one_more};
+ghost use Rattle.std.specs.Prelude.{◌≡◌, ℕ, ◌≤◌, List, Option, drop, length};
+ghost use Rattle.enet_types.specs.declared.event.Received.{Received};
+ghost use Rattle.enet_codec.specs.Message.{Message};
+ghost use Rattle.enet_codec.specs.Datagram.{SpellsAll};
+ghost use Rattle.enet_peer.specs.Peering.{Peering};
+ghost use Rattle.enet_datagram.specs.Handling.{Handles, HandlesEach, counted, one_more};
 
 use enet_codec::{Stop, read_command};
-use enet_types::Received;
 use enet_peer::Peer;
+use enet_types::Received;
 
 #[cfg(test)]
 mod tests;
@@ -44,6 +48,12 @@ pub fn obey(peer: &mut Peer, now: u32, sent: Option<u16>, commands: &[u8]) -> Re
         stop: None,
     }
 }
+
+/// A law, with no code: where bytes spell a list of commands, just these come to the peer, in their order.
+pub fn what_was_put_out_comes()
+    ensures { (now : ℕ) (sent : Option ℕ) (handled : ℕ) (bytes : List ℕ) (ms : List Message) (p q : Peering) (answer : Received)
+        → SpellsAll bytes ms → Handles now sent handled bytes p answer q → HandlesEach now sent handled ms p answer q }
+{}
 
 /// How many commands count once one has stopped the datagram: that of S12 took effect.
 fn counted(handled: u32, stop: Stop) -> u32

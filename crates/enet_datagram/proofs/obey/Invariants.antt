@@ -1,4 +1,4 @@
-use Rattle.std.proofs.Common.{ℕ, List, length}
+use Rattle.std.proofs.Common.{length}
 use Rattle.enet_types.specs.declared.event.Received.{Received}
 use Rattle.enet_peer.specs.Peering.{Peering}
 use Rattle.enet_datagram.specs.Handling.{Handles}
