@@ -1,0 +1,2 @@
+pub mod Chat
+pub mod Peers
