@@ -6,8 +6,8 @@ ghost use Rattle.enet_world.specs.Arriving.{Comes, IsRefused, IsHeard, is_compre
 use crate::log::bytes_after;
 use enet_codec::{Header, Stop, read_header};
 use enet_datagram::obey;
-use enet_types::Received;
 use enet_peer::{Peer, PeerState};
+use enet_types::Received;
 
 const COMPRESSED: u8 = 0x40;
 

@@ -13,8 +13,8 @@ use crate::joining::{joined_channels, joined_terms, limits_of};
 use crate::log::{Datagram, Kept, MAX_COMMANDS, has_late, marks_of};
 use bytes::Bytes;
 use enet_codec::{Packet, Refusal};
-use enet_types::{Config, DisconnectMode, Event, PeerRef, Received};
 use enet_peer::{Peer, PeerEvent, PeerState};
+use enet_types::{Config, DisconnectMode, Event, PeerRef, Received};
 use std::alloc::Global;
 use std::marker::Model;
 

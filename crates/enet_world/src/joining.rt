@@ -7,9 +7,9 @@ ghost use Rattle.enet_world.specs.World.{joined_terms, limits_of};
 use crate::log::Kept;
 use enet_codec::Refusal;
 use enet_connect::Terms;
-use enet_types::Config;
 use enet_peer::Limits;
 use enet_throttle::window_of;
+use enet_types::Config;
 use std::alloc::Global;
 
 /// The terms of a joined pair with so many channels and this mtu.
