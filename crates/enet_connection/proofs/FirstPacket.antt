@@ -1,8 +1,8 @@
 -- A receiver to which nothing came dispatches the first reliable packet at once. (Finite maps don't compute, so a run that takes a packet needs this.)
-use Rattle.std.proofs.Common.{◌≡◌, ℕ, zero, suc, ◌≤◌, Bool, true, false, cond, List, [], ◌∷◌, ◌++◌, length, map, refl, sym, ap, subst, ◌∙◌, arith, Option, Some, None}
+use Rattle.std.proofs.Common.{◌≡◌, ℕ, zero, suc, true, false, cond, List, [], ◌∷◌, ◌++◌, length, map, refl, sym, ap, subst, ◌∙◌, arith, Option, Some, None}
 use Rattle.std.specs.Prelude.{sum_by}
 use Rattle.std.specs.Ordering.{nat_cmp}
-use Rattle.std.specs.FinMap.{FinMap, get, insert, empty, len, entries, values, get-empty, len-empty, len-entries}
+use Rattle.std.specs.FinMap.{FinMap, get, empty, len, entries, values, get-empty, len-empty, len-entries}
 use Rattle.enet_seq.specs.Numbering.{wire}
 use Rattle.enet_fragment.specs.Place as place
 use Rattle.enet_fragment.specs.Making as making

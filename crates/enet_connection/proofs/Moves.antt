@@ -24,8 +24,8 @@ use Rattle.enet_connection.specs.Steps.{with_peer}
 use Rattle.enet_connection.specs.Linked.{IsLinked, sends_in, dispatches_in, sender_in, receiver_in, numbers_on, dispatched_on}
 use Rattle.enet_connection.specs.Kept.{AreLinked}
 use Rattle.enet_connection.proofs.Runs.{get-set, get-set-other, either}
-use Rattle.enet_connection.proofs.Arrival.{in_sequence-append}
-use Rattle.enet_connection.proofs.Relinks.{Moved, stays, relinks, agreed-still, sending-of, receiving-of, sending-by, receiving-by, back-quiet}
+use Rattle.enet_connection.proofs.InboxMoves.{in_sequence-append}
+use Rattle.enet_connection.proofs.Relinking.{Moved, stays, relinks, agreed-still, sending-of, receiving-of, sending-by, receiving-by, back-quiet}
 
 -- a sender moves with its link, in the states that send
 out-sender : (own other : End) (p q : Peering) (channel : ℕ) (k : IsLinked own other channel) (w : WireLink) → own.peer ≡ Some p → sends_in q.state ≡ sends_in p.state → q.terms.mtu ≡ p.terms.mtu

@@ -21,7 +21,7 @@ use Rattle.enet_connection.specs.Law.{mtu_of}
 use Rattle.enet_connection.specs.Linked.{IsLinked, sends_in, sender_in, ShowsSending, ShowsReceiving}
 use Rattle.enet_connection.specs.Kept.{AreLinked}
 use Rattle.enet_connection.proofs.Runs.{Runs-push, get-set, get-set-other}
-use Rattle.enet_connection.proofs.Relinks.{back-quiet, sending-of, receiving-by}
+use Rattle.enet_connection.proofs.Relinking.{back-quiet, sending-of, receiving-by}
 
 -- a list that grew isn't empty
 grown-some : {X : Type 0} (xs : List X) (x : X) → xs ++ x ∷ [] ≡ [] → ⊥

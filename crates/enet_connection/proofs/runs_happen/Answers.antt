@@ -1,4 +1,4 @@
-use Rattle.enet_connection.proofs.Witness.{a-packet-is-taken, one-datagram-has-one-mark, both-ends-connect}
+use Rattle.enet_connection.proofs.ExampleRuns.{a-packet-is-taken, one-datagram-has-one-mark, both-ends-connect}
 use Rattle.enet_connection.proofs.runs_happen.Goals as goal
 
 pub returns-clause-taken : goal.returns-clause-taken

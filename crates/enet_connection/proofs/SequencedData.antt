@@ -25,12 +25,11 @@ use Rattle.enet_link.proofs.Runs.{keeps}
 use Rattle.enet_connection.specs.Connection.{Put, End, sent_on, packets_of, in_sequence}
 use Rattle.enet_connection.specs.Steps.{with_peer}
 use Rattle.enet_connection.specs.Linked.{IsLinked, sends_in, dispatches_in, receiver_in, numbers_on}
-use Rattle.enet_connection.specs.Kept.{AreLinked}
 use Rattle.enet_receiver.specs.Sequenced.{HasSequenced}
-use Rattle.enet_connection.proofs.Arrival.{grown}
-use Rattle.enet_connection.proofs.Relinks.{QuietOut, out-quiet, receiving-of}
-use Rattle.enet_connection.proofs.Comes.{Forgets, back-taken_in, back-elsewhere, back-passed}
-use Rattle.enet_connection.proofs.Obeys.{Holds, numbers-push, numbers-push_own}
+use Rattle.enet_connection.proofs.InboxMoves.{grown}
+use Rattle.enet_connection.proofs.Relinking.{QuietOut, out-quiet, receiving-of}
+use Rattle.enet_connection.proofs.DataMoves.{Forgets, back-taken_in, back-elsewhere, back-passed}
+use Rattle.enet_connection.proofs.Commands.{Holds, numbers-push, numbers-push_own}
 use Rattle.enet_connection.proofs.Runs.{either, and-left, and-right}
 
 both-true : (a b : Bool) → a ≡ true → b ≡ true → (a && b) ≡ true
@@ -187,7 +186,7 @@ holds-passed own other p put c sent shut logged b = by (slice_get p.inbox.receiv
         here true rule numbers k =
             back-passed (with_peer own p) other p q put c k refl shut (ap dispatches_in after'.same ∙ shut) (record { logged = logged.logged; is = logged.is; in_time = logged.in_time }) after'.inbox (logged.asks (rule refl).0) numbers
         here false rule numbers k =
-            Rattle.enet_connection.proofs.Relinks.back-quiet (with_peer own p) other p q j logged.low refl (record {
+            Rattle.enet_connection.proofs.Relinking.back-quiet (with_peer own p) other p q j logged.low refl (record {
               dispatches = ap dispatches_in after'.same;
               receivers = ap (λ (x : Inbox). x.receivers) after'.inbox;
               untaken = λ i few. ap (λ (x : Inbox). in_sequence i x.untaken) after'.inbox;

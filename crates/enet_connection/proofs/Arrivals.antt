@@ -4,7 +4,6 @@ use Rattle.std.specs.Prelude.{is_some}
 use Rattle.std.specs.List.{slice_get}
 use Rattle.enet_codec.specs.declared.command.Head.{Head}
 use Rattle.enet_codec.specs.declared.command.Verify.{Verify}
-use Rattle.enet_types.specs.declared.packet.Packet.{Packet}
 use Rattle.enet_types.specs.declared.stop.Stop.{Stop}
 use Rattle.enet_types.specs.declared.stop.Stop.TheVariants as stop
 use Rattle.enet_codec.specs.Message.{Message, Body, acknowledge, connect, verify_connect, disconnect, ping, send_reliable, send_unreliable, send_fragment, send_unsequenced, bandwidth_limit, throttle_configure, send_unreliable_fragment}
@@ -31,12 +30,11 @@ use Rattle.enet_link.specs.WireLink.{WireLink, drops_answers}
 use Rattle.enet_connection.specs.Connection.{Put, End, sent_on}
 use Rattle.enet_connection.specs.Steps.{with_peer}
 use Rattle.enet_connection.specs.Linked.{sends_in, dispatches_in, sender_in, receiver_in, dispatched_on, IsClean}
-use Rattle.enet_connection.specs.Kept.{AreInPlace, IsTidy, is_young, is_agreed}
-use Rattle.enet_receiver.specs.Sequenced.{HasSequenced}
-use Rattle.enet_connection.proofs.Relinks.{relinks, stays, sending-of, receiving-of, sending-by}
-use Rattle.enet_connection.proofs.Comes.{Forgets}
-use Rattle.enet_connection.proofs.Obeys.{Holds, holds-quiet, holds-stops, outcome-if, holds-answered, holds-acknowledged, holds-disconnect, holds-inbox, stops-ended, quiet-out}
-use Rattle.enet_connection.proofs.Data.{Logged, holds-sequenced, holds-passed}
+use Rattle.enet_connection.specs.Kept.{AreInPlace, IsTidy, is_young}
+use Rattle.enet_connection.proofs.Relinking.{relinks, stays, sending-of, receiving-of, sending-by}
+use Rattle.enet_connection.proofs.DataMoves.{Forgets}
+use Rattle.enet_connection.proofs.Commands.{Holds, holds-quiet, holds-stops, outcome-if, holds-answered, holds-acknowledged, holds-disconnect, holds-inbox, stops-ended, quiet-out}
+use Rattle.enet_connection.proofs.SequencedData.{Logged, holds-sequenced, holds-passed}
 
 abbrev made : Head → ℕ → Body → Put
 made h reach body = record { message = record { head = h; body = body }; reach = reach }

@@ -13,9 +13,9 @@ use Rattle.enet_inbox.specs.Arrivals.{packet_of, emptied}
 use Rattle.enet_peer.specs.Peering.{Peering}
 use Rattle.enet_connection.specs.Connection.{in_sequence}
 use Rattle.enet_connection.specs.Kept.{AreLow, IsLow}
-use Rattle.enet_connection.proofs.Arrival.{in_sequence-append}
-use Rattle.enet_connection.proofs.Obeys.{unsequenced-end}
-use Rattle.enet_connection.proofs.Changes.{Core, Changes}
+use Rattle.enet_connection.proofs.InboxMoves.{in_sequence-append}
+use Rattle.enet_connection.proofs.Commands.{unsequenced-end}
+use Rattle.enet_connection.proofs.PeerChanges.{Core, Changes}
 use Rattle.enet_connection.proofs.Runs.{inside, take-few}
 
 pub low-append : (qs rs : List Packet) → AreLow qs → AreLow rs → AreLow (qs ++ rs)

@@ -1,11 +1,9 @@
 -- Short runs that do happen, so that the laws speak of something.
-use Rattle.std.specs.Prelude.{◌≡◌, ℕ, false, List, [], ◌∷◌, map, Option, Some, None}
+use Rattle.std.specs.Prelude.{◌≡◌, List, [], ◌∷◌, map, Some}
 use Rattle.enet_types.specs.declared.packet.Packet.{Packet}
 use Rattle.enet_codec.specs.declared.command.Offer.{Offer}
 use Rattle.enet_connect.specs.declared.terms.Terms.{Terms}
-use Rattle.enet_connect.specs.declared.server.Server.{Server}
 use Rattle.enet_peer.specs.declared.parts.Limits.{Limits}
-use Rattle.enet_peer.specs.declared.parts.PeerEvent.{PeerEvent}
 use Rattle.enet_peer.specs.declared.parts.PeerEvent.TheVariants as told
 use Rattle.enet_peer.specs.declared.parts.PeerState.TheVariants as state
 use Rattle.enet_peer.specs.Peering.{Peering}

@@ -14,15 +14,14 @@ use Rattle.enet_peer.specs.declared.parts.PeerState.TheVariants as state
 use Rattle.enet_peer.specs.Calls.{Taken, next_event, event_after, packet_event, last_event, is_connected, submitted}
 use Rattle.enet_connection.specs.Connection.{End, packets_of, in_sequence}
 use Rattle.enet_connection.specs.Steps.{Event, Answer, Submit, Emit, Come, Tick, Take, Disconnect, Set, Happens, with_peer, with_submission, with_emission}
-use Rattle.enet_connection.specs.Linked.{IsClean}
 use Rattle.enet_connection.specs.Kept.{IsTidy, AreLow, IsLow, PeerFits, IsFit}
-use Rattle.enet_connection.proofs.Changes.{kept-ticked, kept-left, kept-set, kept-emitted, kept-obeyed}
-use Rattle.enet_connection.proofs.Tidying.{tidies, tidy-submitted}
-use Rattle.enet_connection.proofs.Cleaning.{clean-same, clean-emitted}
-use Rattle.enet_connection.proofs.Low.{lows, low-append, low-new}
-use Rattle.enet_connection.proofs.Starting.{tidy-answering, granted-few}
+use Rattle.enet_connection.proofs.PeerChanges.{kept-ticked, kept-left, kept-set, kept-emitted, kept-obeyed}
+use Rattle.enet_connection.proofs.TidyPeers.{tidies, tidy-submitted}
+use Rattle.enet_connection.proofs.CleanLogs.{clean-same, clean-emitted}
+use Rattle.enet_connection.proofs.LowChannels.{lows, low-append, low-new}
+use Rattle.enet_connection.proofs.Beginnings.{tidy-answering, granted-few}
 use Rattle.enet_connection.proofs.Moves.{packets-push}
-use Rattle.enet_connection.proofs.Happening.{accepted, took}
+use Rattle.enet_connection.proofs.Events.{accepted, took}
 
 pub fit-peer : (e : End) (p : Peering) → e.peer ≡ Some p → IsFit e → IsTidy e.submitted p × IsLow p
 fit-peer e p is h = subst (λ (o : Option Peering). PeerFits e.submitted o) is h.peer
@@ -37,8 +36,8 @@ low-submitted p channel q h = record { channels = h.channels; untaken = h.untake
 
 low-parts : (xs ys : List Packet) → AreLow (xs ++ ys) → AreLow xs × AreLow ys
 low-parts xs ys h = (
-  (λ channel far. parts-left (in_sequence channel xs) (in_sequence channel ys) (sym (Rattle.enet_connection.proofs.Arrival.in_sequence-append channel xs ys) ∙ h channel far)),
-  (λ channel far. parts-right (in_sequence channel xs) (in_sequence channel ys) (sym (Rattle.enet_connection.proofs.Arrival.in_sequence-append channel xs ys) ∙ h channel far)),
+  (λ channel far. parts-left (in_sequence channel xs) (in_sequence channel ys) (sym (Rattle.enet_connection.proofs.InboxMoves.in_sequence-append channel xs ys) ∙ h channel far)),
+  (λ channel far. parts-right (in_sequence channel xs) (in_sequence channel ys) (sym (Rattle.enet_connection.proofs.InboxMoves.in_sequence-append channel xs ys) ∙ h channel far)),
 )
   where
     parts-left : {X : Type 0} (a b : List X) → a ++ b ≡ [] → a ≡ []

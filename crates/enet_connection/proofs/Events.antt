@@ -16,12 +16,12 @@ use Rattle.enet_connection.specs.Connection.{End}
 use Rattle.enet_connection.specs.Steps.{Event, Answer, Submit, Emit, Come, Tick, Take, Disconnect, Set, Happens, with_peer}
 use Rattle.enet_connection.specs.Linked.{sends_in, dispatches_in, IsClean}
 use Rattle.enet_connection.specs.Kept.{IsTidy, is_agreed, AreLinked}
-use Rattle.enet_connection.proofs.Comes.{Forgets}
+use Rattle.enet_connection.proofs.DataMoves.{Forgets}
 use Rattle.enet_connection.proofs.Moves.{both-taken}
 use Rattle.enet_connection.proofs.Calls.{holds-ticked, holds-left, holds-set, both-emitted}
 use Rattle.enet_connection.proofs.Submits.{both-submitted}
-use Rattle.enet_connection.proofs.Starting.{both-answered}
-use Rattle.enet_connection.proofs.Coming.{holds-coming}
+use Rattle.enet_connection.proofs.Beginnings.{both-answered}
+use Rattle.enet_connection.proofs.Arrivals.{holds-coming}
 
 -- where nothing refuses a submission
 pub accepted : (a b c : Bool) → cond (not a) (Some NotConnected) (cond b (Some NoSuchChannel) (cond c (Some TooLarge) None)) ≡ None → (a ≡ true) × (b ≡ false) × (c ≡ false)

@@ -29,11 +29,11 @@ use Rattle.enet_connection.specs.Connection.{End}
 use Rattle.enet_connection.specs.Steps.{Event, Answer, Submit, Emit, Come, Tick, Take, Disconnect, Set, Happens}
 use Rattle.enet_connection.specs.Law.{IsOneLife, AreLast}
 use Rattle.enet_connection.specs.Life.{ArePackets, HasBegun, IsUntold, IsUnderway, IsStill, IsOver, LivesIn, Lives, LivesAt, LivesOn}
-use Rattle.enet_connection.proofs.Emission.{idle-next}
+use Rattle.enet_connection.proofs.Packing.{idle-next}
 use Rattle.enet_connection.proofs.Emits.{Has-from_map}
-use Rattle.enet_connection.proofs.Changes.{Core, core, Changes, is_gone, stands, kept-ticked, kept-left, kept-set, kept-emitted, kept-obeyed}
-use Rattle.enet_connection.proofs.Lives.{lives-one, none-life}
-use Rattle.enet_connection.proofs.Happening.{accepted, took}
+use Rattle.enet_connection.proofs.PeerChanges.{Core, core, Changes, is_gone, stands, kept-ticked, kept-left, kept-set, kept-emitted, kept-obeyed}
+use Rattle.enet_connection.proofs.OneLife.{lives-one, none-life}
+use Rattle.enet_connection.proofs.Events.{accepted, took}
 
 -- states
 

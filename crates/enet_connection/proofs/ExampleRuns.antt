@@ -1,11 +1,10 @@
 -- Short runs, computed.
-use Rattle.std.proofs.Common.{◌≡◌, ℕ, ◌+◌, ◌<◌, true, false, List, [], ◌∷◌, ◌++◌, map, refl, sym, ap, subst, ◌∙◌, Option, Some, None, inl, inr, arith}
+use Rattle.std.proofs.Common.{◌≡◌, ℕ, ◌+◌, ◌<◌, false, List, [], ◌∷◌, map, refl, sym, ap, subst, ◌∙◌, Option, Some, None, inl, inr, arith}
 use Rattle.std.specs.Prelude.{nat_le}
 use Rattle.enet_types.specs.declared.packet.Packet.{Packet}
-use Rattle.enet_codec.specs.Message.{Message, ping}
+use Rattle.enet_codec.specs.Message.{ping}
 use Rattle.enet_seq.specs.Numbering.{wire}
 use Rattle.enet_connect.specs.declared.server.Server.{Server}
-use Rattle.enet_fragment.specs.declared.data.DataCommand.{DataCommand}
 use Rattle.enet_fragment.specs.DataCommand.{message_of}
 use Rattle.enet_fragment.specs.Cutting as cutting
 use Rattle.enet_receiver.specs.declared.took.Took.{Took}
@@ -23,8 +22,8 @@ use Rattle.enet_link.specs.Link.{is_late}
 use Rattle.enet_link.specs.Steps.{Has}
 use Rattle.enet_connection.specs.Connection as connection
 use Rattle.enet_connection.specs.Connection.{Put, End, Connection, sent_on}
-use Rattle.enet_connection.specs.Steps.{Side, One, Two, Event, Submit, Emit, Come, Take, Answer, InTime, Runs, no_end, asking_pair, joined_pair, with_submission, with_emission, with_peer}
-use Rattle.enet_connection.specs.Runs.{example_terms, example_limits, example_packet, example_offer, OfSomeJoined, OfSomeAsking, HasTaken, HasOneMark, IsConnected, HasConnected}
+use Rattle.enet_connection.specs.Steps.{One, Two, Submit, Emit, Come, Take, Answer, InTime, no_end, asking_pair, joined_pair, with_submission, with_emission, with_peer}
+use Rattle.enet_connection.specs.Examples.{example_terms, example_limits, example_packet, example_offer, OfSomeJoined, OfSomeAsking, HasTaken, HasOneMark, HasConnected}
 use Rattle.enet_connection.proofs.FirstPacket.{first_command, first-outcome, first-received, nothing-waits}
 
 abbrev here : Peering

@@ -21,10 +21,10 @@ use Rattle.enet_connection.specs.Linked.{sender_in, receiver_in}
 use Rattle.enet_connection.specs.Kept.{AreInPlace, IsTidy, is_young, is_agreed}
 use Rattle.enet_receiver.proofs.Sequenced.{sequenced-received, sequenced-cleared}
 use Rattle.enet_receiver.specs.Sequenced.{HasSequenced}
-use Rattle.enet_connection.proofs.Emission.{idle-next, places-set}
+use Rattle.enet_connection.proofs.Packing.{idle-next, places-set}
 use Rattle.enet_connection.proofs.Moves.{senders-after, after-places, marked-at, marked-places}
-use Rattle.enet_connection.proofs.Coming.{get-take, narrowed-places}
-use Rattle.enet_connection.proofs.Changes.{Core, core, Changes}
+use Rattle.enet_connection.proofs.Arrivals.{get-take, narrowed-places}
+use Rattle.enet_connection.proofs.PeerChanges.{Core, core, Changes}
 use Rattle.enet_connection.proofs.Runs.{few-set, get-map, take-few}
 
 -- the receivers of a peer between two commands

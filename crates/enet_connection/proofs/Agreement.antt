@@ -1,27 +1,21 @@
 -- What one link keeps is what its two ends agree on.
-use Rattle.std.proofs.Common.{◌≡◌, ℕ, ◌+◌, ◌-◌, ◌%◌, ◌<◌, ◌≤◌, Bool, true, false, List, [], ◌∷◌, ◌++◌, length, map, refl, sym, ap, subst, ◌∙◌, inl, inr, ◌⊎◌, arith, Option, Some, None}
+use Rattle.std.proofs.Common.{◌≡◌, ℕ, ◌+◌, ◌-◌, ◌≤◌, true, false, List, [], ◌∷◌, ◌++◌, length, map, sym, ap, subst, ◌∙◌, inl, inr, arith, Option, Some, None}
 use Rattle.std.proofs.lemmas.Bool.Decides.{nat_tests}
 use Rattle.std.specs.Prelude.{nat_lt}
-use Rattle.std.specs.FinMap.{get}
-use Rattle.std.specs.List.{slice_get}
 use Rattle.enet_fragment.specs.declared.data.DataCommand.{DataCommand}
-use Rattle.enet_fragment.specs.DataCommand.{data_of}
-use Rattle.enet_packets.specs.declared.coming.Coming.{Coming}
-use Rattle.enet_packets.specs.Packets.{line_at}
-use Rattle.enet_receiver.specs.Receiver.{Receiver}
 use Rattle.enet_sender.specs.Carriage.{Carried, carried}
 use Rattle.enet_sender.specs.Sender.{Sender}
 use Rattle.enet_sender.specs.declared.sent.Sent.{Sent}
 use Rattle.enet_peer.specs.Peering.{Peering}
 use Rattle.enet_link.specs.Image.{ShowsReceiver}
-use Rattle.enet_link.specs.Keeps.{Keeps, IsReceived}
+use Rattle.enet_link.specs.Keeps.{Keeps}
 use Rattle.enet_link.specs.Link.{PutOut, is_late, number_below}
 use Rattle.enet_link.specs.Meant.{Stands, OfReliable, OfUnreliable, IsReadAsMeant}
 use Rattle.enet_link.specs.Steps.{Has}
 use Rattle.enet_link.specs.WireLink.{WireLink}
 use Rattle.enet_link.proofs.Greatest.{bounded}
 use Rattle.enet_link.proofs.Runs.{keeps}
-use Rattle.enet_connection.specs.Connection.{Put, End, sent_on, of_channel}
+use Rattle.enet_connection.specs.Connection.{Put, End, of_channel}
 use Rattle.enet_connection.specs.Law.{mtu_of}
 use Rattle.enet_connection.specs.Linked.{IsLinked, ShowsSending, ShowsReceiving}
 use Rattle.enet_connection.specs.Numbers.{is_sending, is_dispatching, sender_on, receiver_on, carried_on, IsInTime, AgreeOn}

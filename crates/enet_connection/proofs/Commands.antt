@@ -24,8 +24,8 @@ use Rattle.enet_connection.specs.Connection.{Put, End, sent_on, in_sequence}
 use Rattle.enet_connection.specs.Steps.{with_peer}
 use Rattle.enet_connection.specs.Linked.{sends_in, dispatches_in, numbers_on}
 use Rattle.enet_connection.specs.Kept.{AreLinked}
-use Rattle.enet_connection.proofs.Arrival.{in_sequence-append}
-use Rattle.enet_connection.proofs.Relinks.{QuietOut, QuietIn, Stops, both-quiet, both-stops}
+use Rattle.enet_connection.proofs.InboxMoves.{in_sequence-append}
+use Rattle.enet_connection.proofs.Relinking.{QuietOut, QuietIn, Stops, both-quiet, both-stops}
 use Rattle.enet_connection.proofs.Moves.{both-acknowledged}
 use Rattle.enet_connection.proofs.Runs.{and-left}
 
