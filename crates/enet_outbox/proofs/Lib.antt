@@ -2,6 +2,7 @@ pub mod Channel
 pub mod Channels
 pub mod Controls
 pub mod Emissions
+pub mod Filled
 pub mod Fillings
 pub mod Senders
 pub mod Spelled
