@@ -1,4 +1,5 @@
 pub mod Submitting
 pub mod Taking
 pub mod Arriving
+pub mod Reaching
 pub mod Unmatched

@@ -5,3 +5,4 @@ pub mod Arrivals
 pub mod Calls
 pub mod Acting
 pub mod Next
+pub mod Reachable

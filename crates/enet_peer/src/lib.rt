@@ -4,6 +4,7 @@
 mod arrivals;
 mod endings;
 mod events;
+mod laws;
 mod leaving;
 mod opening;
 mod parts;
@@ -12,5 +13,6 @@ mod sending;
 mod settings;
 mod time;
 
+pub use laws::reachable_stays;
 pub use parts::{Limits, PeerEvent, PeerState};
 pub use peer::Peer;

@@ -1,0 +1,51 @@
+-- What every peer keeps, whatever happens to it.
+use Rattle.std.specs.Prelude.{◌≡◌, ℕ, List, [], ◌∷◌, Some, slice_get}
+use Rattle.enet_control.specs.declared.control.Control.TheVariants as control
+use Rattle.enet_control.specs.declared.control.Numbered.{Numbered}
+use Rattle.enet_control.specs.Controlling.{Commands}
+use Rattle.enet_receiver.specs.Foresight.{ReceivingEnd}
+use Rattle.enet_sender.specs.Due.{SendingEnd}
+use Rattle.enet_outbox.specs.declared.parts.Acknowledgement.{Acknowledgement}
+use Rattle.enet_outbox.specs.declared.parts.Unsequenced.{Unsequenced}
+use Rattle.enet_peer.specs.declared.parts.PeerState.{PeerState}
+use Rattle.enet_peer.specs.declared.parts.PeerState.TheVariants as state
+use Rattle.enet_peer.specs.Peering.{Peering}
+
+-- no packet is queued, and nothing is sent and unacknowledged
+pub record IsStill (unsequenced : List Unsequenced) (control : Commands) (senders : List SendingEnd) : Type 0 where
+  pub no_unsequenced : unsequenced ≡ []
+  pub no_control_sent : control.sent ≡ []
+  pub no_queued : (i : ℕ) (s : SendingEnd) → slice_get senders i ≡ Some s → s.sender.queued ≡ []
+  pub no_sent : (i : ℕ) (s : SendingEnd) → slice_get senders i ≡ Some s → s.sender.sent ≡ []
+
+-- so it is in the states in which the connection has ended for this end
+abbrev pub IsStillIn : PeerState → List Unsequenced → Commands → List SendingEnd → Type 0
+IsStillIn state.Free unsequenced control senders = IsStill unsequenced control senders
+IsStillIn state.AckDisconnect unsequenced control senders = IsStill unsequenced control senders
+IsStillIn state.Ended unsequenced control senders = IsStill unsequenced control senders
+IsStillIn state.Parting unsequenced control senders = IsStill unsequenced control senders
+IsStillIn _ unsequenced control senders = Unit {0}
+
+-- what waits there to be put out, acknowledgements and commands of channel 0xFF: at least the acknowledgement of the DISCONNECT,
+-- which came first; one unsequenced DISCONNECT; or nothing
+abbrev pub WaitsIn : PeerState → List Acknowledgement → List Numbered → Type 0
+WaitsIn state.AckDisconnect acknowledgements queued = (first : Acknowledgement) × (rest : List Acknowledgement) × (acknowledgements ≡ first ∷ rest) × (queued ≡ [])
+WaitsIn state.Parting acknowledgements queued =
+    (acknowledgements ≡ []) × (number info : ℕ) × (queued ≡ (record { number = number; control = control.DisconnectNow info }) ∷ [])
+WaitsIn state.Free acknowledgements queued = (acknowledgements ≡ []) × (queued ≡ [])
+WaitsIn state.Ended acknowledgements queued = (acknowledgements ≡ []) × (queued ≡ [])
+WaitsIn _ acknowledgements queued = Unit {0}
+
+-- by the parts of a peer
+pub record Keeps (state : PeerState) (receivers : List ReceivingEnd) (acknowledgements : List Acknowledgement) (unsequenced : List Unsequenced) (control : Commands)
+    (senders : List SendingEnd) : Type 0 where
+  pub still : IsStillIn state unsequenced control senders
+  pub waits : WaitsIn state acknowledgements control.queued
+  -- a sender's channel is its place
+  pub places : (i : ℕ) (s : SendingEnd) → slice_get senders i ≡ Some s → s.channel ≡ i
+  -- what was dispatched has been handed over
+  pub handed_over : (i : ℕ) (r : ReceivingEnd) → slice_get receivers i ≡ Some r → r.receiver.dispatched ≡ []
+
+-- a peer as it can be reached
+abbrev pub IsReachable : Peering → Type 0
+IsReachable p = Keeps p.state p.inbox.receivers p.outbox.acknowledgements p.outbox.unsequenced p.outbox.control p.outbox.senders

@@ -1,0 +1,37 @@
+//! What the definitions of a peer promise. The function has no body: its contract is a law.
+
+ghost use Rattle.std.specs.Prelude.{◌≡◌, ℕ, List, Option, Result, true};
+ghost use Rattle.enet_codec.specs.Message.{Message};
+ghost use Rattle.enet_codec.specs.declared.command.Offer.{Offer};
+ghost use Rattle.enet_types.specs.declared.refusal.Refusal.{Refusal};
+ghost use Rattle.enet_types.specs.declared.stop.Stop.{Stop};
+ghost use Rattle.enet_connect.specs.declared.server.Server.{Server};
+ghost use Rattle.enet_connect.specs.declared.terms.Terms.{Terms};
+ghost use Rattle.enet_sender.specs.Carriage.{Packet};
+ghost use Rattle.enet_peer.specs.declared.parts.Limits.{Limits};
+ghost use Rattle.enet_peer.specs.declared.parts.PeerEvent.{PeerEvent};
+ghost use Rattle.enet_peer.specs.Peering.{Peering, answering, connecting, joined};
+ghost use Rattle.enet_peer.specs.Arrivals.{Obeys, obeyed};
+ghost use Rattle.enet_peer.specs.Calls.{Leave, Leaves, PutsOut, Submits, Takes, is_connected, left, next_event, ticked, with_bandwidth, with_ping_interval, with_throttle, with_throttle_limit, with_timeout};
+ghost use Rattle.enet_peer.specs.Reachable.{IsReachable};
+
+/// What every peer keeps: each that a call makes has it, and each call that changes a peer leaves it so. In Free, Ended and
+/// Parting, and in AckDisconnect too, no packet is queued and nothing is sent and unacknowledged. In AckDisconnect at least the
+/// acknowledgement of the DISCONNECT waits to be put out, in Parting one unsequenced DISCONNECT, in Free and Ended nothing. The
+/// sender at a place is that of the channel of this number. No receiver keeps what it has dispatched.
+pub fn reachable_stays()
+    ensures joined { (now : ℕ) (terms : Terms) (limits : Limits) → IsReachable (joined now terms limits) }
+    ensures connecting { (now : ℕ) (offer : Offer) (limits : Limits) → IsReachable (connecting now offer limits) }
+    ensures answering { (now : ℕ) (offer : Offer) (server : Server) (limits : Limits) → IsReachable (answering now offer server limits) }
+    ensures submitted { (r : Result (Unit {0}) (Refusal × List ℕ)) (p q : Peering) (channel : ℕ) (packet : Packet) → IsReachable p → Submits r p q channel packet → IsReachable q }
+    ensures put_out { (now : ℕ) (len : Option ℕ) (p q : Peering) (buf : List ℕ) → IsReachable p → PutsOut now len p q buf → IsReachable q }
+    ensures obeyed { (r : Result (Unit {0}) Stop) (p q : Peering) (now : ℕ) (sent : Option ℕ) (m : Message) → IsReachable p → Obeys r (obeyed p now sent m) p q → IsReachable q }
+    ensures ticked { (p : Peering) (now : ℕ) → IsReachable p → IsReachable (ticked p now) }
+    ensures left { (r : Result (Unit {0}) Refusal) (how : Leave) (p q : Peering) (info : ℕ) → IsReachable p → Leaves r (left how p info) p q → IsReachable q }
+    ensures taken { (e : Option PeerEvent) (p q : Peering) → IsReachable p → Takes e (next_event p) p q → IsReachable q }
+    ensures bandwidth { (p : Peering) (incoming outgoing : ℕ) → IsReachable p → IsReachable (with_bandwidth p incoming outgoing) }
+    ensures throttle { (p : Peering) (interval acceleration deceleration : ℕ) → IsReachable p → is_connected p.state ≡ true → IsReachable (with_throttle p interval acceleration deceleration) }
+    ensures throttle_limit { (p : Peering) (limit : ℕ) → IsReachable p → IsReachable (with_throttle_limit p limit) }
+    ensures ping_interval { (p : Peering) (ms : ℕ) → IsReachable p → IsReachable (with_ping_interval p ms) }
+    ensures timeout { (p : Peering) (limit minimum maximum : ℕ) → IsReachable p → IsReachable (with_timeout p limit minimum maximum) }
+{}
