@@ -5,7 +5,7 @@ use Rattle.enet_types.specs.declared.stop.Stop.{Stop}
 use Rattle.enet_codec.specs.Message.{Message, Spells}
 use Rattle.enet_types.specs.declared.event.Received.{Received}
 use Rattle.enet_peer.specs.Peering.{Peering}
-use Rattle.enet_peer.specs.Arrivals.{obeyed, Obeys}
+use Rattle.enet_peer.specs.Arrivals.{obeyed, wants_memory, Obeys}
 use Rattle.enet_datagram.specs.Handling.{Handles, nothing_left, stops, goes_on, counted, one_more}
 
 pub ends : (now : ℕ) (sent : Option ℕ) (handled : ℕ) (bytes : List ℕ) (p : Peering) → bytes ≡ []
@@ -19,7 +19,7 @@ whole : (now : ℕ) (sent : Option ℕ) (handled len : ℕ) (bytes : List ℕ) (
 whole now sent handled len bytes p q answer h = subst (λ (bs : List ℕ). Handles now sent handled bs p answer q) (take-append-drop len bytes) h
 
 pub stops-at : (now : ℕ) (sent : Option ℕ) (handled len : ℕ) (bytes : List ℕ) (m : Message) (why : Stop) (p q : Peering) (n : ℕ)
-    → Spells (take len bytes) m → Obeys {T = Unit {0}} (Err why) (obeyed p now sent m) p q → n ≡ counted handled why
+    → Spells (take len bytes) m → Obeys {T = Unit {0}} (Err why) (wants_memory p now sent m) (obeyed p now sent m) p q → n ≡ counted handled why
     → Handles now sent handled bytes p (record { handled = n; stop = Some why }) q
 stops-at now sent handled len bytes m why p q n spelled obeys count =
     whole now sent handled len bytes p q (record { handled = n; stop = Some why })
@@ -27,7 +27,7 @@ stops-at now sent handled len bytes m why p q n spelled obeys count =
     (stops handled (take len bytes) (drop len bytes) m why p q spelled obeys))
 
 pub goes-on-at : (now : ℕ) (sent : Option ℕ) (handled len : ℕ) (bytes rest : List ℕ) (m : Message) (answer : Received) (p q r : Peering) (n : ℕ)
-    → Spells (take len bytes) m → Obeys {T = Unit {0}} (Ok tt) (obeyed p now sent m) p q → rest ≡ drop len bytes → n ≡ one_more handled
+    → Spells (take len bytes) m → Obeys {T = Unit {0}} (Ok tt) (wants_memory p now sent m) (obeyed p now sent m) p q → rest ≡ drop len bytes → n ≡ one_more handled
     → Handles now sent n rest q answer r → Handles now sent handled bytes p answer r
 goes-on-at now sent handled len bytes rest m answer p q r n spelled obeys left count later =
     whole now sent handled len bytes p r answer

@@ -5,7 +5,7 @@ use Rattle.enet_types.specs.declared.stop.Stop.TheVariants as stop
 use Rattle.enet_codec.specs.Message.{Message, Spells}
 use Rattle.enet_types.specs.declared.event.Received.{Received}
 use Rattle.enet_peer.specs.Peering.{Peering}
-use Rattle.enet_peer.specs.Arrivals.{obeyed, Obeys}
+use Rattle.enet_peer.specs.Arrivals.{obeyed, wants_memory, Obeys}
 
 -- no command stands at the front of the bytes
 abbrev pub SpellsNone : List ℕ → Type 0
@@ -27,10 +27,10 @@ pub data Handles (now : ℕ) (sent : Option ℕ) : ℕ → List ℕ → Peering 
   no_command : (handled : ℕ) (bytes : List ℕ) (p : Peering) → bytes ≢ [] → SpellsNone bytes
       → Handles now sent handled bytes p (record { handled = handled; stop = Some stop.BadCommand }) p
   stops : (handled : ℕ) (text rest : List ℕ) (m : Message) (why : Stop) (p q : Peering) → Spells text m
-      → Obeys {T = Unit {0}} (Err why) (obeyed p now sent m) p q
+      → Obeys {T = Unit {0}} (Err why) (wants_memory p now sent m) (obeyed p now sent m) p q
       → Handles now sent handled (text ++ rest) p (record { handled = counted handled why; stop = Some why }) q
   goes_on : (handled : ℕ) (text rest : List ℕ) (m : Message) (answer : Received) (p q r : Peering) → Spells text m
-      → Obeys {T = Unit {0}} (Ok tt) (obeyed p now sent m) p q → Handles now sent (one_more handled) rest q answer r
+      → Obeys {T = Unit {0}} (Ok tt) (wants_memory p now sent m) (obeyed p now sent m) p q → Handles now sent (one_more handled) rest q answer r
       → Handles now sent handled (text ++ rest) p answer r
 
 -- the commands of a list come to a peer in the same way, until none is left or one stops them

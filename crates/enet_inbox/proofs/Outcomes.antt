@@ -13,11 +13,12 @@ use Rattle.enet_receiver.specs.declared.took.Took.TheVariants.{Held, Again, Outs
 use Rattle.enet_receiver.specs.declared.took.Foresight.{Foresight}
 use Rattle.enet_receiver.specs.Receiver.{Receiver}
 use Rattle.enet_receiver.specs.Reception.{outcome, outcome_at, outcome_of, place_read, came_at, is_piece, agrees_with, is_behind, came, is_handled}
-use Rattle.enet_receiver.specs.Foresight.{ReceivingEnd, foreseen, outcome_for, after_command}
+use Rattle.enet_receiver.specs.Foresight.{ReceivingEnd, foreseen as foreseen_by, outcome_for, after_command}
 use Rattle.enet_inbox.specs.Inbox.{Inbox, is_full}
-use Rattle.enet_inbox.specs.Arrivals.{Arrival, Arrives, sequenced, sequenced_on, by_took, stopped, handled, handed_over}
+use Rattle.enet_inbox.specs.Arrivals.{Arrival, is_kept_as, is_kept_on, is_kept_sequenced, sequenced, sequenced_on, by_took, stopped, handled, handed_over}
 use Rattle.enet_inbox.specs.Kept.{HasFront}
-use Rattle.enet_inbox.specs.Parts.{answer_by, answer_of, foresight_on, foresight_of}
+use Rattle.enet_inbox.specs.Parts.{answer_by, answer_of, foresight_on, foresight_of, seen_by, seen_of, foreseen_sequenced, told}
+use Rattle.enet_inbox.specs.declared.arriving.Foreseen.{Foreseen}
 
 one_of : (b : Bool) (x y : Took) → x ≢ Memory → y ≢ Memory → cond b x y ≢ Memory
 one_of true x y p q = p
@@ -52,26 +53,13 @@ on_answer : (b : Inbox) (channel : ℕ) (c : DataCommand) (o : Option ReceivingE
     → foresight_on b c o ≡ Ok f → answer_of f ≡ (sequenced_on b channel c o).answer
 on_answer b channel c None f h e = absurd (cc)
 on_answer b channel c (Some r) f h e =
-    let same : foreseen r (Some c) (is_full b) ≡ f = cc in
+    let same : foreseen_by r (Some c) (is_full b) ≡ f = cc in
     ap (λ (x : Foresight). answer_of x) (sym same) ∙ by_answer (outcome_for r (Some c) (is_full b)) _ b channel r c (same_front r.receiver.front c.number (h r refl))
 
 -- the answer is that of the foresight
 pub answer_is : (b : Inbox) (channel : ℕ) (o : Option DataCommand) (f : Foresight) → HasFront b channel → foresight_of b channel o ≡ Ok f → answer_of f ≡ (sequenced b channel o).answer
 answer_is b channel None f h e = absurd (cc)
 answer_is b channel (Some c) f h e = on_answer b channel c (slice_get b.receivers channel) f h e
-
-on_stops : (b : Inbox) (channel : ℕ) (c : DataCommand) (o : Option ReceivingEnd) (why : Stop) (new : Inbox) → foresight_on b c o ≡ Err why → new ≡ b → Arrives (Err why) (sequenced_on b channel c o) b new
-on_stops b channel c None why new e same =
-    let is : stop.BadChannel ≡ why = cc in
-    subst (λ (w : Stop). Arrives (Err w) (stopped b stop.BadChannel) b new) is (refl, same)
-on_stops b channel c (Some r) why new e same = absurd (cc)
-
--- a stop before a receiver is asked
-pub stops_before : (b : Inbox) (channel : ℕ) (o : Option DataCommand) (why : Stop) (new : Inbox) → foresight_of b channel o ≡ Err why → new ≡ b → Arrives (Err why) (sequenced b channel o) b new
-stops_before b channel None why new e same =
-    let is : stop.BadCommand ≡ why = cc in
-    subst (λ (w : Stop). Arrives (Err w) (stopped b stop.BadCommand) b new) is (refl, same)
-stops_before b channel (Some c) why new e same = on_stops b channel c (slice_get b.receivers channel) why new e same
 
 on_foreseen : (b : Inbox) (channel : ℕ) (c : DataCommand) (o : Option ReceivingEnd) (why : Stop) → foresight_on b c o ≡ Err why → (sequenced_on b channel c o).answer ≡ Err why
 on_foreseen b channel c None why e = cc
@@ -81,59 +69,72 @@ pub stop_foreseen : (b : Inbox) (channel : ℕ) (o : Option DataCommand) (why : 
 stop_foreseen b channel None why e = cc
 stop_foreseen b channel (Some c) why e = on_foreseen b channel c (slice_get b.receivers channel) why e
 
-took_stops : (t : Took) (may : Bool) (b : Inbox) (channel : ℕ) (r : ReceivingEnd) (c : DataCommand) (why : Stop) (new : Inbox) → t ≢ Memory → answer_by t may ≡ Err why → new ≡ b → Arrives (Err why) (by_took t b channel r c) b new
-took_stops Held may b channel r c why new n e same = absurd (cc)
-took_stops Again may b channel r c why new n e same = absurd (cc)
-took_stops Outside may b channel r c why new n e same = absurd (cc)
-took_stops Memory may b channel r c why new n e same = absurd (n refl)
-took_stops Bad may b channel r c why new n e same =
-    let is : stop.BadFragment ≡ why = cc in
-    subst (λ (w : Stop). Arrives (Err w) (stopped b stop.BadFragment) b new) is (refl, same)
-took_stops Waiting may b channel r c why new n e same =
-    let is : stop.Waiting ≡ why = cc in
-    subst (λ (w : Stop). Arrives (Err w) (stopped b stop.Waiting) b new) is (refl, same)
+told_seen : (t : Took) (f : Foresight) → told (seen_by t f) ≡ answer_by t f.acknowledged
+told_seen Held f = refl
+told_seen Again f = refl
+told_seen Outside f = refl
+told_seen Bad f = refl
+told_seen Waiting f = refl
+told_seen Memory f = refl
 
-on_stops_of : (b : Inbox) (channel : ℕ) (c : DataCommand) (o : Option ReceivingEnd) (f : Foresight) (why : Stop) (new : Inbox) → foresight_on b c o ≡ Ok f → answer_of f ≡ Err why → new ≡ b → Arrives (Err why) (sequenced_on b channel c o) b new
-on_stops_of b channel c None f why new e a same = absurd (cc)
-on_stops_of b channel c (Some r) f why new e a same =
-    let is : foreseen r (Some c) (is_full b) ≡ f = cc in
-    took_stops (outcome_for r (Some c) (is_full b)) _ b channel r c why new (outcome_known r.max_packet r.receiver c (is_full b)) (ap (λ (x : Foresight). answer_of x) is ∙ a) same
+told_by : (b : Inbox) (channel : ℕ) (o : Option DataCommand) (r : Result Foresight Stop) → HasFront b channel → foresight_of b channel o ≡ r → told (seen_of r) ≡ (sequenced b channel o).answer
+told_by b channel o (Err why) h e = sym (stop_foreseen b channel o why e)
+told_by b channel o (Ok f) h e = told_seen f.took f ∙ answer_is b channel o f h e
 
--- a stop by what the receiver foresees
-pub stops_of : (b : Inbox) (channel : ℕ) (o : Option DataCommand) (f : Foresight) (why : Stop) (new : Inbox) → foresight_of b channel o ≡ Ok f → answer_of f ≡ Err why → new ≡ b → Arrives (Err why) (sequenced b channel o) b new
-stops_of b channel None f why new e a same = absurd (cc)
-stops_of b channel (Some c) f why new e a same = on_stops_of b channel c (slice_get b.receivers channel) f why new e a same
+-- the answer is what is foreseen of a sequenced command
+pub told_sequenced : (b : Inbox) (channel : ℕ) (o : Option DataCommand) → HasFront b channel → told (foreseen_sequenced b channel o) ≡ (sequenced b channel o).answer
+told_sequenced b channel o h = told_by b channel o (foresight_of b channel o) h refl
 
-after_stays : (t : Took) (b : Inbox) (channel : ℕ) (r : ReceivingEnd) (c : DataCommand) → t ≢ Held → (by_took t b channel r c).after ≡ b
-after_stays Held b channel r c n = absurd (n refl)
-after_stays Again b channel r c n = refl
-after_stays Outside b channel r c n = refl
-after_stays Bad b channel r c n = refl
-after_stays Waiting b channel r c n = refl
-after_stays Memory b channel r c n = refl
+-- of a command that is kept this was foreseen
+abbrev pub foresight_in : Foreseen → Foresight
+foresight_in s = record { took = Held; acknowledged = s.acknowledged; dispatches = s.dispatches }
 
-on_stays : (b : Inbox) (channel : ℕ) (c : DataCommand) (o : Option ReceivingEnd) (f : Foresight) → foresight_on b c o ≡ Ok f → f.took ≢ Held → (sequenced_on b channel c o).after ≡ b
-on_stays b channel c None f e n = absurd (cc)
-on_stays b channel c (Some r) f e n =
-    let is : foreseen r (Some c) (is_full b) ≡ f = cc in
-    after_stays (outcome_for r (Some c) (is_full b)) b channel r c (λ t. n (ap (λ (x : Foresight). x.took) (sym is) ∙ t))
+seen_held : (t : Took) (acknowledged : Bool) (dispatches : ℕ) (s : Foreseen) → seen_by t (record { took = t; acknowledged = acknowledged; dispatches = dispatches }) ≡ Ok s → s.kept ≡ true
+    → ◌≡◌ {A = Foresight} (record { took = t; acknowledged = acknowledged; dispatches = dispatches }) (foresight_in s)
+seen_held Held acknowledged dispatches s e k =
+    let same : record { acknowledged = acknowledged; kept = true; dispatches = dispatches } ≡ s = cc in
+    ap foresight_in same
+seen_held Again acknowledged dispatches s e k = absurd (let same : record { acknowledged = acknowledged; kept = false; dispatches = dispatches } ≡ s = cc in let no' : false ≡ s.kept = ap (λ (x : Foreseen). x.kept) same in cc)
+seen_held Outside acknowledged dispatches s e k = absurd (let same : record { acknowledged = acknowledged; kept = false; dispatches = dispatches } ≡ s = cc in let no' : false ≡ s.kept = ap (λ (x : Foreseen). x.kept) same in cc)
+seen_held Bad acknowledged dispatches s e k = absurd (cc)
+seen_held Waiting acknowledged dispatches s e k = absurd (cc)
+seen_held Memory acknowledged dispatches s e k = absurd (cc)
 
--- all outcomes but Held leave the inbox as it was
-pub stays : (b : Inbox) (channel : ℕ) (o : Option DataCommand) (f : Foresight) → foresight_of b channel o ≡ Ok f → f.took ≢ Held → (sequenced b channel o).after ≡ b
-stays b channel None f e n = absurd (cc)
-stays b channel (Some c) f e n = on_stays b channel c (slice_get b.receivers channel) f e n
+held_by : (r : Result Foresight Stop) (s : Foreseen) → seen_of r ≡ Ok s → s.kept ≡ true → r ≡ Ok (foresight_in s)
+held_by (Err why) s e k = absurd (cc)
+held_by (Ok f) s e k = ap Ok (seen_held f.took f.acknowledged f.dispatches s e k)
+
+pub foresight_is : (b : Inbox) (channel : ℕ) (o : Option DataCommand) (s : Foreseen) → foreseen_sequenced b channel o ≡ Ok s → s.kept ≡ true → foresight_of b channel o ≡ Ok (foresight_in s)
+foresight_is b channel o s e k = held_by (foresight_of b channel o) s e k
+
+seen_kept : (t : Took) (f : Foresight) (s : Foreseen) → seen_by t f ≡ Ok s → s.kept ≡ is_kept_as t
+seen_kept Held f s e = let same : record { acknowledged = f.acknowledged; kept = true; dispatches = f.dispatches } ≡ s = cc in ap (λ (x : Foreseen). x.kept) (sym same)
+seen_kept Again f s e = let same : record { acknowledged = f.acknowledged; kept = false; dispatches = f.dispatches } ≡ s = cc in ap (λ (x : Foreseen). x.kept) (sym same)
+seen_kept Outside f s e = let same : record { acknowledged = f.acknowledged; kept = false; dispatches = f.dispatches } ≡ s = cc in ap (λ (x : Foreseen). x.kept) (sym same)
+seen_kept Bad f s e = absurd (cc)
+seen_kept Waiting f s e = absurd (cc)
+seen_kept Memory f s e = absurd (cc)
+
+kept_on : (b : Inbox) (c : DataCommand) (o : Option ReceivingEnd) (s : Foreseen) → seen_of (foresight_on b c o) ≡ Ok s → s.kept ≡ is_kept_on b c o
+kept_on b c None s e = absurd (cc)
+kept_on b c (Some r) s e = seen_kept (outcome_for r (Some c) (is_full b)) (foreseen_by r (Some c) (is_full b)) s e
+
+-- what is kept of a sequenced command
+pub kept_sequenced : (b : Inbox) (channel : ℕ) (o : Option DataCommand) (s : Foreseen) → foreseen_sequenced b channel o ≡ Ok s → s.kept ≡ is_kept_sequenced b channel o
+kept_sequenced b channel None s e = absurd (cc)
+kept_sequenced b channel (Some c) s e = kept_on b c (slice_get b.receivers channel) s e
 
 -- what is known where a receiver takes a command in
 pub record Taken (b : Inbox) (channel : ℕ) (o : Option DataCommand) (f : Foresight) (d : ReceivingEnd) (full : Bool) : Type 0 where
   pub outcome : outcome_for d o full ≡ Held
-  pub dispatches : f.dispatches ≡ (foreseen d o full).dispatches
+  pub dispatches : f.dispatches ≡ (foreseen_by d o full).dispatches
   pub after : (sequenced b channel o).after ≡ handed_over b channel (after_command d o full)
 
 taken_full : (b : Inbox) (channel : ℕ) (c : DataCommand) (f : Foresight) (d : ReceivingEnd) → foresight_of b channel (Some c) ≡ Ok f → f.took ≡ Held → slice_get b.receivers channel ≡ Some d
     → Taken b channel (Some c) f d (is_full b)
 taken_full b channel c f d e held at =
     let there : foresight_on b c (Some d) ≡ Ok f = ap (foresight_on b c) (sym at) ∙ e in
-    let is : foreseen d (Some c) (is_full b) ≡ f = cc in
+    let is : foreseen_by d (Some c) (is_full b) ≡ f = cc in
     let took : outcome_for d (Some c) (is_full b) ≡ Held = ap (λ (x : Foresight). x.took) is ∙ held in
     record {
       outcome = took;

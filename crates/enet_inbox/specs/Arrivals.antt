@@ -1,5 +1,5 @@
 -- What a data command makes of an inbox.
-use Rattle.std.specs.Prelude.{◌≡◌, ℕ, not, Bool, true, nat_lt, nat_le, if◌then◌else◌, Option, Some, None, Result, Ok, Err, List, [], ◌∷◌, ◌++◌, length, map, slice_get, slice_set}
+use Rattle.std.specs.Prelude.{◌≡◌, ℕ, not, Bool, true, false, nat_lt, nat_le, if◌then◌else◌, Option, Some, None, Result, Ok, Err, List, [], ◌∷◌, ◌++◌, length, map, slice_get, slice_set}
 use Rattle.enet_types.specs.declared.packet.Packet.{Packet}
 use Rattle.enet_types.specs.declared.stop.Stop.{Stop}
 use Rattle.enet_types.specs.declared.stop.Stop.TheVariants as stop
@@ -98,7 +98,29 @@ passed_of b m body = passed_sequenced b m.head.channel (data_of m)
 abbrev pub passed_over : Inbox → Message → Result Bool Stop
 passed_over b m = passed_of b m m.body
 
--- what a call did: want of memory changes nothing, and comes only where nothing else stops the command
-abbrev pub Arrives : Result Bool Stop → Arrival → Inbox → Inbox → Type 0
-Arrives (Err stop.Memory) a old new = ((may : Bool) × (a.answer ≡ Ok may)) × (new ≡ old)
-Arrives answer a old new = (answer ≡ a.answer) × (new ≡ a.after)
+-- whether something of a data command that nothing stops is kept: the packet or the piece that a receiver takes in, or the
+-- unsequenced packet of a group that is new
+abbrev pub is_kept_as : Took → Bool
+is_kept_as took.Held = true
+is_kept_as _ = false
+
+abbrev pub is_kept_on : Inbox → DataCommand → Option ReceivingEnd → Bool
+is_kept_on b c None = false
+is_kept_on b c (Some r) = is_kept_as (outcome_for r (Some c) (is_full b))
+
+abbrev pub is_kept_sequenced : Inbox → ℕ → Option DataCommand → Bool
+is_kept_sequenced b channel None = false
+is_kept_sequenced b channel (Some c) = is_kept_on b c (slice_get b.receivers channel)
+
+abbrev pub is_kept_of : Inbox → Message → Body → Bool
+is_kept_of b m (send_unsequenced group payload) = dispatches b.seen group
+is_kept_of b m body = is_kept_sequenced b m.head.channel (data_of m)
+
+abbrev pub is_kept : Inbox → Message → Bool
+is_kept b m = is_kept_of b m m.body
+
+-- what a call did, where `kept` says whether something of the command is kept: want of memory changes nothing, and comes only
+-- where nothing else stops the command and something of it is kept
+abbrev pub Arrives : Result Bool Stop → Bool → Arrival → Inbox → Inbox → Type 0
+Arrives (Err stop.Memory) kept a old new = (kept ≡ true) × ((may : Bool) × (a.answer ≡ Ok may)) × (new ≡ old)
+Arrives answer kept a old new = (answer ≡ a.answer) × (new ≡ a.after)

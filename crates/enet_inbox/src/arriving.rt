@@ -4,7 +4,7 @@ ghost use Rattle.std.specs.Prelude.{◌≡◌, ◌<◌};
 ghost use Rattle.enet_codec.specs.Message.{view};
 ghost use Rattle.enet_fragment.specs.DataCommand.{data_of};
 ghost use Rattle.enet_seq.specs.Windows as windows;
-ghost use Rattle.enet_inbox.specs.Parts.{IsOf, answer_of};
+ghost use Rattle.enet_inbox.specs.Parts.{IsOf, seen};
 
 use enet_codec::{Command, Head, Stop};
 use enet_receiver::{Foresight, Incoming, Took};
@@ -33,16 +33,33 @@ impl<'a> Sequenced<'a> {
     }
 }
 
-/// What a foresight means for a datagram: why it is stopped, or whether the command may be acknowledged.
-pub(crate) fn answer_of(foresight: Foresight) -> Result<bool, Stop>
-    ensures { result ≡ answer_of foresight }
+/// What becomes of a data command that nothing stops, as it is handed on to the call that takes it in.
+#[derive(Clone, Copy, Debug, PartialEq, Eq)]
+pub struct Foreseen {
+    /// Whether it may be acknowledged, if it asks for it.
+    pub acknowledged: bool,
+    /// Whether something of it is kept.
+    pub kept: bool,
+    /// How many packets it dispatches.
+    pub dispatches: u32,
+}
+
+/// What a receiver's foresight means for a datagram: why it is stopped, or what becomes of the command.
+pub(crate) fn seen(foresight: Foresight) -> Result<Foreseen, Stop>
+    ensures { result ≡ seen foresight }
 {
-    match foresight.took {
-        Took::Held | Took::Again | Took::Outside => Ok(foresight.acknowledged),
-        Took::Bad => Err(Stop::BadFragment),
-        Took::Waiting => Err(Stop::Waiting),
-        Took::Memory => Err(Stop::Memory),
-    }
+    let kept = match foresight.took {
+        Took::Held => true,
+        Took::Again | Took::Outside => false,
+        Took::Bad => return Err(Stop::BadFragment),
+        Took::Waiting => return Err(Stop::Waiting),
+        Took::Memory => return Err(Stop::Memory),
+    };
+    Ok(Foreseen {
+        acknowledged: foresight.acknowledged,
+        kept,
+        dispatches: foresight.dispatches,
+    })
 }
 
 /// Whether the window of a channel lets a command of this number be acknowledged. It looks at nothing but the number, so an

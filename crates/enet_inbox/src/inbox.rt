@@ -1,19 +1,19 @@
 //! All that comes to a peer.
 
-ghost use Rattle.std.specs.Prelude.{◌≡◌, ◌≤◌, ◌<◌, drop, IsTrue, IfOk, IfErr, Ok, false, length, slice_get, slice_index_or};
+ghost use Rattle.std.specs.Prelude.{◌≡◌, ◌≤◌, ◌<◌, drop, IsTrue, IfOk, IfErr, OnOk, OnErr, Ok, true, false, length, slice_get, slice_index_or};
 ghost use Rattle.std.specs.Option.{option_copied};
 ghost use Rattle.enet_codec.specs.Message.{view};
 ghost use Rattle.enet_fragment.specs.DataCommand.{data_of};
 ghost use Rattle.enet_unsequenced.specs.Groups.{dispatches};
 ghost use Rattle.enet_inbox.specs.Inbox.{empty_inbox, is_full, cleared, forgotten, narrowed};
-ghost use Rattle.enet_inbox.specs.Arrivals.{arrival, sequenced, unsequenced, unsequenced_taken, passed_over, passed_length, passed_sequenced, Arrives};
-ghost use Rattle.enet_inbox.specs.Parts.{foresight_of, unsequenced_verdict};
+ghost use Rattle.enet_inbox.specs.Arrivals.{arrival, sequenced, unsequenced_taken, passed_over, passed_length, passed_sequenced, is_kept, Arrives};
+ghost use Rattle.enet_inbox.specs.Parts.{foresight_of, unsequenced_verdict, foreseen, foreseen_sequenced, told};
 
-use crate::arriving::{Sequenced, acknowledges, answer_of};
+use crate::arriving::{Foreseen, Sequenced, acknowledges, seen};
 use crate::receivers::{clear_all, held_in, open_all};
 use crate::taking::{append, take_in};
 use enet_codec::{Command, Packet, Refusal, Stop};
-use enet_receiver::{Foresight, Incoming, Took};
+use enet_receiver::{Foresight, Incoming};
 use enet_unsequenced::Groups;
 use std::alloc::Global;
 use std::collections::VecDeque;
@@ -72,18 +72,26 @@ impl Inbox {
         })
     }
 
-    /// What `data` would answer to a command with ample memory.
-    pub fn foresee(&self, command: &Command<'_>) -> Result<bool, Stop>
-        ensures { result ≡ (arrival self.now (view command.now)).answer }
+    /// What `data` would do with a command with ample memory: why it stops the datagram, or whether the command may be
+    /// acknowledged and whether something of it is kept. It is what `take_in` is handed.
+    pub fn foresee(&self, command: &Command<'_>) -> Result<Foreseen, Stop>
+        ensures answer { told result ≡ (arrival self.now (view command.now)).answer }
+        ensures kept { IfOk result (λ foreseen. foreseen.kept ≡ is_kept self.now (view command.now)) }
+        ensures value { result ≡ foreseen self.now (view command.now) }
     {
+        let _receivers = &self.receivers;
         if let Command::SendUnsequenced {
             head,
             group,
             payload,
         } = command
         {
-            self.is_new(head.channel, *group, payload)?;
-            return Ok(true);
+            let is_new = self.is_new(head.channel, *group, payload)?;
+            return Ok(Foreseen {
+                acknowledged: true,
+                kept: is_new,
+                dispatches: u32::from(is_new),
+            });
         }
         self.foresee_sequenced(command)
     }
@@ -98,17 +106,38 @@ impl Inbox {
     /// begins a packet while the bytes that are held, wait or weren't taken are at their limit or above; S11 where memory is
     /// refused (our profile). After a stop nothing has changed.
     pub fn data(&mut self, command: &Command<'_>) -> Result<bool, Stop>
-        ensures { Arrives result (arrival self.old (view command.now)) self.old self.new }
+        ensures { Arrives result (is_kept self.old (view command.now)) (arrival self.old (view command.now)) self.old self.new }
     {
-        if let Command::SendUnsequenced {
-            head,
-            group,
-            payload,
-        } = command
-        {
-            return self.unsequenced(head.channel, *group, payload);
+        let _receivers = &self.receivers;
+        let foreseen = self.foresee(command)?;
+        if foreseen.kept {
+            self.take_in(command, foreseen)?;
         }
-        self.sequenced(command)
+        Ok(foreseen.acknowledged)
+    }
+
+    /// Takes a data command in of which something is kept, as `foresee` told. S11 where memory is refused, with nothing
+    /// changed.
+    pub fn take_in(&mut self, command: &Command<'_>, what: Foreseen) -> Result<(), Stop>
+        requires foreseen { foreseen self.old (view command.now) ≡ Ok what }
+        requires kept { what.kept ≡ true }
+        ensures taken { OnOk result (self.new ≡ (arrival self.old (view command.now)).after) }
+        ensures unchanged { OnErr result (self.new ≡ self.old) }
+        ensures memory { IfErr result (λ why. why ≡ Stop.Memory) }
+    {
+        let is_taken = match command {
+            Command::SendUnsequenced {
+                head,
+                group,
+                payload,
+            } => self.append(head.channel, *group, payload),
+            _ => self.take_in_sequenced(command, what),
+        };
+        if is_taken {
+            Ok(())
+        } else {
+            Err(Stop::Memory)
+        }
     }
 
     /// Passes a data command over, as a peer does that dispatches nothing more: S6, S8 and S9 as in `data`, where only
@@ -192,35 +221,18 @@ impl Inbox {
         Ok(self.receivers[channel].foresee(command, self.is_full()))
     }
 
-    /// What `sequenced` would answer with ample memory.
-    fn foresee_sequenced(&self, command: &Command<'_>) -> Result<bool, Stop>
-        ensures { result ≡ (sequenced self.now (view command.now).head.channel (data_of (view command.now))).answer }
+    /// What becomes of a sequenced data command with ample memory.
+    fn foresee_sequenced(&self, command: &Command<'_>) -> Result<Foreseen, Stop>
+        ensures { result ≡ foreseen_sequenced self.now (view command.now).head.channel (data_of (view command.now)) }
     {
-        let _receivers = &self.receivers;
         let foresight = self.foresight(command)?;
-        answer_of(foresight)
-    }
-
-    /// Takes a sequenced data command in.
-    fn sequenced(&mut self, command: &Command<'_>) -> Result<bool, Stop>
-        ensures { Arrives result (sequenced self.old (view command.now).head.channel (data_of (view command.now))) self.old self.new }
-    {
-        let _receivers = &self.receivers;
-        let foresight = self.foresight(command)?;
-        let may = answer_of(foresight)?;
-        if foresight.took != Took::Held {
-            return Ok(may);
-        }
-        if !self.take_in(command, foresight) {
-            return Err(Stop::Memory);
-        }
-        Ok(may)
+        seen(foresight)
     }
 
     /// Takes a sequenced data command in that its channel's receiver takes in, where memory is not refused.
-    fn take_in(&mut self, command: &Command<'_>, foresight: Foresight) -> bool
-        requires foreseen { foresight_of self.old (view command.now).head.channel (data_of (view command.now)) ≡ Ok foresight }
-        requires held { foresight.took ≡ Took.Held }
+    fn take_in_sequenced(&mut self, command: &Command<'_>, what: Foreseen) -> bool
+        requires foreseen { foreseen_sequenced self.old (view command.now).head.channel (data_of (view command.now)) ≡ Ok what }
+        requires kept { what.kept ≡ true }
         ensures taken { IsTrue result → self.new ≡ (sequenced self.old (view command.now).head.channel (data_of (view command.now))).after }
         ensures unchanged { result ≡ false → self.new ≡ self.old }
     {
@@ -235,22 +247,12 @@ impl Inbox {
             &mut self.untaken,
             command,
             full,
-            foresight.dispatches,
+            what.dispatches,
         ) else {
             return false;
         };
         self.waiting = self.waiting - u128::from(before) + u128::from(receiver.held()) + bytes;
         true
-    }
-
-    /// Takes an unsequenced packet in.
-    fn unsequenced(&mut self, channel: u8, group: u16, payload: &[u8]) -> Result<bool, Stop>
-        ensures { Arrives result (unsequenced self.old channel group payload.now) self.old self.new }
-    {
-        if self.is_new(channel, group, payload)? && !self.append(channel, group, payload) {
-            return Err(Stop::Memory);
-        }
-        Ok(true)
     }
 
     /// Whether an unsequenced packet would be dispatched, or why it stops the datagram.

@@ -4,10 +4,13 @@
 
 mod arriving;
 mod inbox;
+mod laws;
 mod receivers;
 mod taking;
 
+pub use arriving::Foreseen;
 pub use inbox::Inbox;
+pub use laws::a_stop_changes_nothing;
 
 #[cfg(test)]
 mod tests;

@@ -324,7 +324,7 @@ impl Outbox {
     pub fn clear(&mut self)
         ensures outbox { self.new.outbox ≡ cleared self.old.outbox }
         ensures transit { transit_of self.new.outbox ≡ 0 }
-        ensures acknowledgement_room { self.old.acknowledgement_room ≤ self.new.acknowledgement_room }
+        ensures acknowledgement_room { self.old.acknowledgement_room + length self.old.outbox.acknowledgements ≤ self.new.acknowledgement_room }
         ensures control_room { 1 ≤ self.new.control_room }
     {
         self.acknowledgements.clear();

@@ -2,4 +2,5 @@ pub mod Submitting
 pub mod Taking
 pub mod Arriving
 pub mod Reaching
+pub mod Places
 pub mod Unmatched

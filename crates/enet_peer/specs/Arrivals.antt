@@ -1,5 +1,5 @@
 -- What a command that comes makes of a peer.
-use Rattle.std.specs.Prelude.{◌≡◌, ℕ, ◌&&◌, Bool, true, false, if◌then◌else◌, Option, Some, None, Result, Ok, Err, is_some, ◌⊎◌}
+use Rattle.std.specs.Prelude.{◌≡◌, ℕ, ◌&&◌, ◌||◌, not, Bool, true, false, if◌then◌else◌, nat_lt, length, Option, Some, None, Result, Ok, Err, is_some, ◌⊎◌}
 use Rattle.enet_codec.specs.declared.command.Head.{Head}
 use Rattle.enet_codec.specs.declared.command.Verify.{Verify}
 use Rattle.enet_types.specs.declared.stop.Stop.{Stop}
@@ -15,6 +15,7 @@ use Rattle.enet_control.specs.declared.control.Control.{Control}
 use Rattle.enet_control.specs.declared.control.Control.TheVariants as control
 use Rattle.enet_inbox.specs.Inbox as inbox
 use Rattle.enet_inbox.specs.Arrivals.{Arrival, arrival, passed_over}
+use Rattle.enet_inbox.specs.Arrivals as coming
 use Rattle.enet_outbox.specs.declared.parts.Matched.{Matched}
 use Rattle.enet_outbox.specs.declared.parts.Matched.TheVariants as matched
 use Rattle.enet_outbox.specs.Outbox.{with_acknowledgement, matched_by, acknowledged}
@@ -180,11 +181,29 @@ obeyed p now sent m =
     else (if is_allowed p.state m.body then by_body p now sent m m.body
     else stopped p stop.NotConnected)
 
--- what a call did: want of memory changes nothing, and comes only where no stop does that is tested before it
-abbrev pub Stops : Stop → Outcome → Peering → Peering → Type 0
-Stops stop.Memory o old new = ((o.stop ≡ None) ⊎ (o.stop ≡ Some stop.NoSentTime)) × (new ≡ old)
-Stops why o old new = (o.stop ≡ Some why) × (new ≡ o.after)
+-- whether something of a data command is kept
+abbrev pub is_kept : Peering → Message → Bool
+is_kept p m = not (is_later p.state) && coming.is_kept p.inbox m
 
-abbrev pub Obeys : {T : Type 0} → Result T Stop → Outcome → Peering → Peering → Type 0
-Obeys (Ok done) o old new = (o.stop ≡ None) × (new ≡ o.after)
-Obeys (Err why) o old new = Stops why o old new
+-- whether more acknowledgements wait than before
+abbrev pub waits_longer : Peering → Peering → Bool
+waits_longer old new = nat_lt (length old.outbox.acknowledgements) (length new.outbox.acknowledgements)
+
+abbrev pub is_acknowledge : Body → Bool
+is_acknowledge (acknowledge number time) = true
+is_acknowledge _ = false
+
+-- whether memory may be wanted for a command: where something of it is kept, or one acknowledgement more waits after it. Of an
+-- ACKNOWLEDGE that itself asks to be acknowledged that isn't known before it has its effect
+abbrev pub wants_memory : Peering → ℕ → Option ℕ → Message → Bool
+wants_memory p now sent m = is_kept p m || waits_longer p (obeyed p now sent m).after || (m.head.acknowledge && is_acknowledge m.body)
+
+-- what a call did, where `wants` says whether memory may be wanted: want of memory changes nothing, and comes only there, and
+-- where no stop does that is tested before it
+abbrev pub Stops : Stop → Bool → Outcome → Peering → Peering → Type 0
+Stops stop.Memory wants o old new = (wants ≡ true) × ((o.stop ≡ None) ⊎ (o.stop ≡ Some stop.NoSentTime)) × (new ≡ old)
+Stops why wants o old new = (o.stop ≡ Some why) × (new ≡ o.after)
+
+abbrev pub Obeys : {T : Type 0} → Result T Stop → Bool → Outcome → Peering → Peering → Type 0
+Obeys (Ok done) wants o old new = (o.stop ≡ None) × (new ≡ o.after)
+Obeys (Err why) wants o old new = Stops why wants o old new

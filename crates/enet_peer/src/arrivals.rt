@@ -1,17 +1,28 @@
 //! The commands that come to a peer.
 
-ghost use Rattle.std.specs.Prelude.{◌≡◌, ◌≤◌, ◌&&◌, IsTrue, OnOk, OnErr, IfErr, Some, None, is_some, true};
+ghost use Rattle.std.specs.Prelude.{◌≡◌, ◌≤◌, ◌&&◌, IsTrue, OnOk, OnErr, IfOk, IfErr, Ok, Some, None, is_some, true};
 ghost use Rattle.enet_codec.specs.Message.{view};
-ghost use Rattle.enet_peer.specs.Acting.{foreseen, foreseen_data, taken_in, acted, Replies};
-ghost use Rattle.enet_peer.specs.Arrivals.{obeyed, Obeys, answered, is_allowed, is_answered_in, on_acknowledge, on_verify_in, on_disconnect_in, on_bandwidth, on_throttle, sampled, with_answer};
+ghost use Rattle.enet_inbox.specs.Parts.{told};
+ghost use Rattle.enet_inbox.specs.Parts as coming;
+ghost use Rattle.enet_peer.specs.Acting.{foreseen, foreseen_data, taken_in, acted, may_be_answered, wants_place, is_welcomed_by, may_clear, Replies};
+ghost use Rattle.enet_peer.specs.Peered.{places_of};
+ghost use Rattle.enet_peer.specs.Arrivals.{obeyed, wants_memory, is_kept, Obeys, answered, is_allowed, is_answered_in, on_acknowledge, on_verify_in, on_disconnect_in, on_bandwidth, on_throttle, sampled, with_answer};
 
 use crate::{Peer, PeerState};
 use enet_codec::{Command, Head, Stop, Verify};
 use enet_connect::confirm;
 use enet_control::Control;
+use enet_inbox::Foreseen;
 use enet_outbox::{Acknowledgement, Matched};
 use enet_rtt::round_trip_sample;
 use enet_throttle::window_of;
+
+/// What becomes of a command that is no data: it may be acknowledged, and the inbox keeps nothing of it.
+const NOTHING_KEPT: Foreseen = Foreseen {
+    acknowledged: true,
+    kept: false,
+    dispatches: 0,
+};
 
 /// Whether a peer in this state takes this command in; a CONNECT is refused before.
 fn is_allowed(state: PeerState, command: &Command<'_>) -> bool
@@ -80,17 +91,19 @@ impl Peer {
         sent: Option<u16>,
         command: &Command<'_>,
     ) -> Result<(), Stop>
-        ensures { Obeys result (obeyed self.old.peer now sent (view command.now)) self.old.peer self.new.peer }
+        ensures { Obeys result (wants_memory self.old.peer now sent (view command.now)) (obeyed self.old.peer now sent (view command.now)) self.old.peer self.new.peer }
     {
-        let may = self.foresee(command)?;
-        self.make_room(sent, command)?;
-        self.act(now, sent.is_some(), command)?;
-        self.answer(sent, command, may)
+        let foreseen = self.foresee(command)?;
+        self.make_room(sent, command, foreseen.acknowledged)?;
+        self.act(now, sent.is_some(), command, foreseen)?;
+        self.answer(sent, command, foreseen.acknowledged)
     }
 
-    /// Why a command stops its datagram before it has an effect, or whether it may be acknowledged.
-    fn foresee(&self, command: &Command<'_>) -> Result<bool, Stop>
-        ensures { result ≡ foreseen self.now.peer (view command.now) }
+    /// Why a command stops its datagram before it has an effect, or what becomes of it.
+    fn foresee(&self, command: &Command<'_>) -> Result<Foreseen, Stop>
+        ensures answer { told result ≡ foreseen self.now.peer (view command.now) }
+        ensures kept { IfOk result (λ what. what.kept ≡ is_kept self.now.peer (view command.now)) }
+        ensures value { IfOk result (λ what. IsTrue what.kept → coming.foreseen self.now.peer.inbox (view command.now) ≡ Ok what) }
     {
         if let Command::Connect { .. } = command {
             return Err(Stop::BadCommand);
@@ -104,30 +117,38 @@ impl Peer {
             | Command::SendFragment { .. }
             | Command::SendUnsequenced { .. }
             | Command::SendUnreliableFragment { .. } => self.foresee_data(command),
-            _ => Ok(true),
+            _ => Ok(NOTHING_KEPT),
         }
     }
 
     /// The same of a data command. A peer that is to disconnect later passes it over.
-    fn foresee_data(&self, command: &Command<'_>) -> Result<bool, Stop>
-        ensures { result ≡ foreseen_data self.now.peer (view command.now) }
+    fn foresee_data(&self, command: &Command<'_>) -> Result<Foreseen, Stop>
+        ensures answer { told result ≡ foreseen_data self.now.peer (view command.now) }
+        ensures kept { IfOk result (λ what. what.kept ≡ is_kept self.now.peer (view command.now)) }
+        ensures value { IfOk result (λ what. IsTrue what.kept → coming.foreseen self.now.peer.inbox (view command.now) ≡ Ok what) }
     {
         if self.state == PeerState::DisconnectLater {
-            self.inbox.pass_over(command)
-        } else {
-            self.inbox.foresee(command)
+            let acknowledged = self.inbox.pass_over(command)?;
+            return Ok(Foreseen {
+                acknowledged,
+                ..NOTHING_KEPT
+            });
         }
+        self.inbox.foresee(command)
     }
 
-    /// Makes room for the acknowledgement of a command that asks for one and can have it. S11 where memory is refused, with
-    /// nothing changed.
-    fn make_room(&mut self, sent: Option<u16>, command: &Command<'_>) -> Result<(), Stop>
+    /// Makes room for the acknowledgement of a command that asks for one and may have it, where it may need a place of its
+    /// own. S11 where memory is refused, with nothing changed.
+    fn make_room(&mut self, sent: Option<u16>, command: &Command<'_>, may: bool) -> Result<(), Stop>
         ensures peer { self.new.peer ≡ self.old.peer }
-        ensures room { OnOk result (IsTrue ((view command.now).head.acknowledge && is_some sent) → 1 ≤ self.new.acknowledgement_room) }
-        ensures memory { IfErr result (λ why. (why ≡ Stop.Memory) × (is_some sent ≡ true)) }
+        ensures room { OnOk result (IsTrue (may_be_answered sent (view command.now) may && wants_place self.old.peer (view command.now).body) → 1 ≤ self.new.acknowledgement_room) }
+        ensures grows { self.old.acknowledgement_room ≤ self.new.acknowledgement_room }
+        ensures memory { IfErr result (λ why. why ≡ Stop.Memory) }
+        ensures wanted { IfErr result (λ _. IsTrue (may_be_answered sent (view command.now) may && wants_place self.old.peer (view command.now).body)) }
     {
-        if head_of(command).acknowledge
-            && sent.is_some()
+        let may_be_answered = head_of(command).acknowledge && sent.is_some() && may;
+        if may_be_answered
+            && self.wants_place(command)
             && self.outbox.reserve_acknowledgement().is_err()
         {
             return Err(Stop::Memory);
@@ -135,12 +156,52 @@ impl Peer {
         Ok(())
     }
 
+    /// Whether the acknowledgement of a command may need a place beside those that wait: not where the command leaves a state
+    /// in which none is given, nor where it takes all that wait away.
+    fn wants_place(&self, command: &Command<'_>) -> bool
+        ensures { result ≡ wants_place self.now.peer (view command.now).body }
+    {
+        match self.state {
+            PeerState::Connected | PeerState::DisconnectLater => {
+                !matches!(command, Command::Disconnect { .. })
+                    || !self.outbox.has_acknowledgements()
+            }
+            PeerState::Connecting => {
+                self.is_welcomed_by(command) && !self.outbox.has_acknowledgements()
+            }
+            PeerState::Answering => matches!(command, Command::Acknowledge { .. }),
+            PeerState::AckDisconnect => matches!(command, Command::Disconnect { .. }),
+            PeerState::Disconnecting | PeerState::Free | PeerState::Ended | PeerState::Parting =>
+                false,
+        }
+    }
+
+    /// Whether a command is a server's answer that stands by what was asked for.
+    fn is_welcomed_by(&self, command: &Command<'_>) -> bool
+        ensures { result ≡ is_welcomed_by self.now.peer (view command.now).body }
+    {
+        match command {
+            Command::VerifyConnect { verify, .. } => confirm(&self.offer, verify).is_some(),
+            _ => false,
+        }
+    }
+
     /// Does what a command asks for, all but its acknowledgement. S11 where memory is refused, with nothing changed.
-    fn act(&mut self, now: u32, tells: bool, command: &Command<'_>) -> Result<(), Stop>
+    fn act(
+        &mut self,
+        now: u32,
+        tells: bool,
+        command: &Command<'_>,
+        what: Foreseen,
+    ) -> Result<(), Stop>
+        requires kept { what.kept ≡ is_kept self.old.peer (view command.now) }
+        requires value { IsTrue what.kept → coming.foreseen self.old.peer.inbox (view command.now) ≡ Ok what }
         ensures done { OnOk result (self.new.peer ≡ acted self.old.peer now tells (view command.now)) }
         ensures refused { OnErr result (self.new.peer ≡ self.old.peer) }
         ensures memory { IfErr result (λ why. why ≡ Stop.Memory) }
+        ensures kept { IfErr result (λ _. is_kept self.old.peer (view command.now) ≡ true) }
         ensures acknowledgement_room { self.old.acknowledgement_room ≤ self.new.acknowledgement_room }
+        ensures places { IsTrue (may_clear (view command.now).body) → places_of self.old ≤ places_of self.new }
     {
         match *command {
             Command::Acknowledge {
@@ -164,7 +225,7 @@ impl Peer {
             | Command::SendUnreliable { .. }
             | Command::SendFragment { .. }
             | Command::SendUnsequenced { .. }
-            | Command::SendUnreliableFragment { .. } => return self.take_in(command),
+            | Command::SendUnreliableFragment { .. } => return self.take_in(command, what),
         }
         Ok(())
     }
@@ -172,7 +233,7 @@ impl Peer {
     /// Queues the acknowledgement of a command that took effect, where it asks for one and may have it. S12 where the
     /// datagram tells no sent time.
     fn answer(&mut self, sent: Option<u16>, command: &Command<'_>, may: bool) -> Result<(), Stop>
-        requires room { IsTrue ((view command.now).head.acknowledge && is_some sent) → 1 ≤ self.old.acknowledgement_room }
+        requires room { IsTrue (may_be_answered sent (view command.now) may && is_answered_in self.old.peer.state (view command.now).body) → 1 ≤ self.old.acknowledgement_room }
         ensures { Replies result (answered self.old.peer (view command.now) sent may) self.new.peer }
     {
         let head = head_of(command);
@@ -244,6 +305,7 @@ impl Peer {
     fn on_verify(&mut self, verify: &Verify)
         ensures peer { self.new.peer ≡ on_verify_in self.old.peer.state self.old.peer verify.now }
         ensures acknowledgement_room { self.old.acknowledgement_room ≤ self.new.acknowledgement_room }
+        ensures places { places_of self.old ≤ places_of self.new }
     {
         if self.state != PeerState::Connecting {
             return;
@@ -265,6 +327,7 @@ impl Peer {
     fn on_disconnect(&mut self, answerable: bool, info: u32)
         ensures peer { self.new.peer ≡ on_disconnect_in self.old.peer.state self.old.peer answerable info }
         ensures acknowledgement_room { self.old.acknowledgement_room ≤ self.new.acknowledgement_room }
+        ensures places { places_of self.old ≤ places_of self.new }
     {
         match self.state {
             PeerState::Connected | PeerState::DisconnectLater => {
@@ -300,19 +363,20 @@ impl Peer {
             .configure_throttle(interval, acceleration, deceleration);
     }
 
-    /// Takes a data command in that nothing stops, or passes it over. S11 where memory is refused, with nothing changed.
-    fn take_in(&mut self, command: &Command<'_>) -> Result<(), Stop>
+    /// Takes a data command in that nothing stops, where something of it is kept. S11 where memory is refused, with nothing
+    /// changed.
+    fn take_in(&mut self, command: &Command<'_>, what: Foreseen) -> Result<(), Stop>
+        requires kept { what.kept ≡ is_kept self.old.peer (view command.now) }
+        requires value { IsTrue what.kept → coming.foreseen self.old.peer.inbox (view command.now) ≡ Ok what }
         ensures done { OnOk result (self.new.peer ≡ taken_in self.old.peer (view command.now)) }
         ensures refused { OnErr result (self.new.peer ≡ self.old.peer) }
         ensures memory { IfErr result (λ why. why ≡ Stop.Memory) }
+        ensures kept { IfErr result (λ _. is_kept self.old.peer (view command.now) ≡ true) }
         ensures acknowledgement_room { self.new.acknowledgement_room ≡ self.old.acknowledgement_room }
     {
-        if self.state == PeerState::DisconnectLater {
+        if !what.kept {
             return Ok(());
         }
-        if self.inbox.data(command).is_err() {
-            return Err(Stop::Memory);
-        }
-        Ok(())
+        self.inbox.take_in(command, what)
     }
 }

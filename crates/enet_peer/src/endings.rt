@@ -2,6 +2,7 @@
 
 ghost use Rattle.std.specs.Prelude.{◌≡◌, ◌≤◌};
 ghost use Rattle.enet_peer.specs.Endings.{dropped, ended, freed, settled, disconnecting, parting};
+ghost use Rattle.enet_peer.specs.Peered.{places_of};
 
 use crate::{Peer, PeerState};
 use enet_control::Control;
@@ -12,6 +13,7 @@ impl Peer {
     pub(crate) fn drop_all(&mut self)
         ensures peer { self.new.peer ≡ dropped self.old.peer }
         ensures acknowledgement_room { self.old.acknowledgement_room ≤ self.new.acknowledgement_room }
+        ensures places { places_of self.old ≤ places_of self.new }
         ensures room { 1 ≤ self.new.room }
     {
         self.inbox.clear();
@@ -22,6 +24,7 @@ impl Peer {
     pub(crate) fn end(&mut self, info: u32)
         ensures peer { self.new.peer ≡ ended self.old.peer info }
         ensures acknowledgement_room { self.old.acknowledgement_room ≤ self.new.acknowledgement_room }
+        ensures places { places_of self.old ≤ places_of self.new }
     {
         self.drop_all();
         self.state = PeerState::Ended;
@@ -32,6 +35,7 @@ impl Peer {
     pub(crate) fn free(&mut self)
         ensures peer { self.new.peer ≡ freed self.old.peer }
         ensures acknowledgement_room { self.old.acknowledgement_room ≤ self.new.acknowledgement_room }
+        ensures places { places_of self.old ≤ places_of self.new }
     {
         self.outbox.clear();
         self.inbox.forget();

@@ -1,4 +1,4 @@
-use Rattle.std.proofs.Common.{◌≡◌, ◌<◌, ◌≤◌, ◌^◌, ◌-◌, ◌+◌, length, sym, ap, subst, ◌∙◌, arith}
+use Rattle.std.proofs.Common.{refl, ◌≡◌, ◌<◌, ◌≤◌, ◌^◌, ◌-◌, ◌+◌, length, sym, ap, subst, ◌∙◌, arith}
 use Rattle.std.specs.Prelude.{slice_set}
 use Rattle.enet_codec.specs.Message.{view}
 use Rattle.enet_fragment.specs.DataCommand.{data_of}
@@ -8,8 +8,9 @@ use Rattle.enet_inbox.specs.Inbox.{Inbox, is_full}
 use Rattle.enet_inbox.specs.Arrivals.{sequenced, emptied}
 use Rattle.enet_inbox.specs.Kept.{KeepsInbox, IsInPlace}
 use Rattle.enet_inbox.specs.Parts.{inbox_of}
+use Rattle.enet_inbox.proofs.Outcomes.{foresight_in, foresight_is}
 use Rattle.enet_inbox.proofs.Keeping.{at_inside, taken_at, handed_at, keeps_taken, held_counted, after_in_place, bounded}
-use Rattle.enet_inbox.proofs.inbox.Inbox.take_in.Goals as goal
+use Rattle.enet_inbox.proofs.inbox.Inbox.take_in_sequenced.Goals as goal
 
 pub take_in-requires-clause-held : goal.take_in-requires-clause-held
 take_in-requires-clause-held c =
@@ -19,8 +20,8 @@ take_in-requires-clause-held c =
     let s = c.in-Some.arriving in
     let d = c.index_mut-receiver.result.now in
     let full : c.is_full-full.result ≡ is_full b = c.is_full-full.ensures ∙ ap (λ (x : Inbox). is_full x) (sym c.self.view_is) in
-    let foreseen = at_inside c.args.self.now b m.head.channel (data_of m) c.args.foresight c.self.view_is c.requires.foreseen in
-    let t = taken_at b i.waiting s m.head (data_of m) c.args.foresight d c.is_full-full.result c.self.invariant c.in-Some.ensures c.index_mut-receiver.ensures.value full foreseen c.requires.held in
+    let foreseen = at_inside c.args.self.now b m.head.channel (data_of m) (foresight_in c.args.what) c.self.view_is (foresight_is c.args.self.now m.head.channel (data_of m) c.args.what c.requires.foreseen c.requires.kept) in
+    let t = taken_at b i.waiting s m.head (data_of m) (foresight_in c.args.what) d c.is_full-full.result c.self.invariant c.in-Some.ensures c.index_mut-receiver.ensures.value full foreseen refl in
     t.1.outcome
 
 pub take_in-requires-clause-dispatches : goal.take_in-requires-clause-dispatches
@@ -31,8 +32,8 @@ take_in-requires-clause-dispatches c =
     let s = c.in-Some.arriving in
     let d = c.index_mut-receiver.result.now in
     let full : c.is_full-full.result ≡ is_full b = c.is_full-full.ensures ∙ ap (λ (x : Inbox). is_full x) (sym c.self.view_is) in
-    let foreseen = at_inside c.args.self.now b m.head.channel (data_of m) c.args.foresight c.self.view_is c.requires.foreseen in
-    let t = taken_at b i.waiting s m.head (data_of m) c.args.foresight d c.is_full-full.result c.self.invariant c.in-Some.ensures c.index_mut-receiver.ensures.value full foreseen c.requires.held in
+    let foreseen = at_inside c.args.self.now b m.head.channel (data_of m) (foresight_in c.args.what) c.self.view_is (foresight_is c.args.self.now m.head.channel (data_of m) c.args.what c.requires.foreseen c.requires.kept) in
+    let t = taken_at b i.waiting s m.head (data_of m) (foresight_in c.args.what) d c.is_full-full.result c.self.invariant c.in-Some.ensures c.index_mut-receiver.ensures.value full foreseen refl in
     t.1.dispatches
 
 pub take_in-requires-clause-none_left : goal.take_in-requires-clause-none_left
@@ -43,8 +44,8 @@ take_in-requires-clause-none_left c =
     let s = c.in-Some.arriving in
     let d = c.index_mut-receiver.result.now in
     let full : c.is_full-full.result ≡ is_full b = c.is_full-full.ensures ∙ ap (λ (x : Inbox). is_full x) (sym c.self.view_is) in
-    let foreseen = at_inside c.args.self.now b m.head.channel (data_of m) c.args.foresight c.self.view_is c.requires.foreseen in
-    let t = taken_at b i.waiting s m.head (data_of m) c.args.foresight d c.is_full-full.result c.self.invariant c.in-Some.ensures c.index_mut-receiver.ensures.value full foreseen c.requires.held in
+    let foreseen = at_inside c.args.self.now b m.head.channel (data_of m) (foresight_in c.args.what) c.self.view_is (foresight_is c.args.self.now m.head.channel (data_of m) c.args.what c.requires.foreseen c.requires.kept) in
+    let t = taken_at b i.waiting s m.head (data_of m) (foresight_in c.args.what) d c.is_full-full.result c.self.invariant c.in-Some.ensures c.index_mut-receiver.ensures.value full foreseen refl in
     t.2.none_left
 
 pub overflow_sub-self : goal.overflow_sub-self
@@ -55,8 +56,8 @@ overflow_sub-self c =
     let s = c.in-Some.arriving in
     let d = c.index_mut-receiver.result.now in
     let full : c.is_full-full.result ≡ is_full b = c.is_full-full.ensures ∙ ap (λ (x : Inbox). is_full x) (sym c.self.view_is) in
-    let foreseen = at_inside c.args.self.now b m.head.channel (data_of m) c.args.foresight c.self.view_is c.requires.foreseen in
-    let t = taken_at b i.waiting s m.head (data_of m) c.args.foresight d c.is_full-full.result c.self.invariant c.in-Some.ensures c.index_mut-receiver.ensures.value full foreseen c.requires.held in
+    let foreseen = at_inside c.args.self.now b m.head.channel (data_of m) (foresight_in c.args.what) c.self.view_is (foresight_is c.args.self.now m.head.channel (data_of m) c.args.what c.requires.foreseen c.requires.kept) in
+    let t = taken_at b i.waiting s m.head (data_of m) (foresight_in c.args.what) d c.is_full-full.result c.self.invariant c.in-Some.ensures c.index_mut-receiver.ensures.value full foreseen refl in
     let was : c.from.result ≡ held_bytes d.receiver = c.from.ensures ∙ c.held-before.ensures in
     let counted = held_counted b i.waiting s.head.channel d c.self.invariant t.0 c.index_mut-receiver.ensures.value in
     omega arith
@@ -69,8 +70,8 @@ overflow_add-self c =
     let s = c.in-Some.arriving in
     let d = c.index_mut-receiver.result.now in
     let full : c.is_full-full.result ≡ is_full b = c.is_full-full.ensures ∙ ap (λ (x : Inbox). is_full x) (sym c.self.view_is) in
-    let foreseen = at_inside c.args.self.now b m.head.channel (data_of m) c.args.foresight c.self.view_is c.requires.foreseen in
-    let t = taken_at b i.waiting s m.head (data_of m) c.args.foresight d c.is_full-full.result c.self.invariant c.in-Some.ensures c.index_mut-receiver.ensures.value full foreseen c.requires.held in
+    let foreseen = at_inside c.args.self.now b m.head.channel (data_of m) (foresight_in c.args.what) c.self.view_is (foresight_is c.args.self.now m.head.channel (data_of m) c.args.what c.requires.foreseen c.requires.kept) in
+    let t = taken_at b i.waiting s m.head (data_of m) (foresight_in c.args.what) d c.is_full-full.result c.self.invariant c.in-Some.ensures c.index_mut-receiver.ensures.value full foreseen refl in
     let new = c.take_in.new.receiver in
     let qs = c.take_in.new.untaken.items in
     let after = after_command d (data_of m) c.is_full-full.result in
@@ -93,8 +94,8 @@ overflow_add-self-2 c =
     let s = c.in-Some.arriving in
     let d = c.index_mut-receiver.result.now in
     let full : c.is_full-full.result ≡ is_full b = c.is_full-full.ensures ∙ ap (λ (x : Inbox). is_full x) (sym c.self.view_is) in
-    let foreseen = at_inside c.args.self.now b m.head.channel (data_of m) c.args.foresight c.self.view_is c.requires.foreseen in
-    let t = taken_at b i.waiting s m.head (data_of m) c.args.foresight d c.is_full-full.result c.self.invariant c.in-Some.ensures c.index_mut-receiver.ensures.value full foreseen c.requires.held in
+    let foreseen = at_inside c.args.self.now b m.head.channel (data_of m) (foresight_in c.args.what) c.self.view_is (foresight_is c.args.self.now m.head.channel (data_of m) c.args.what c.requires.foreseen c.requires.kept) in
+    let t = taken_at b i.waiting s m.head (data_of m) (foresight_in c.args.what) d c.is_full-full.result c.self.invariant c.in-Some.ensures c.index_mut-receiver.ensures.value full foreseen refl in
     let new = c.take_in.new.receiver in
     let qs = c.take_in.new.untaken.items in
     let after = after_command d (data_of m) c.is_full-full.result in
@@ -117,8 +118,8 @@ invariant_of-self-2 c =
     let s = c.in-Some.arriving in
     let d = c.index_mut-receiver.result.now in
     let full : c.is_full-full.result ≡ is_full b = c.is_full-full.ensures ∙ ap (λ (x : Inbox). is_full x) (sym c.self.view_is) in
-    let foreseen = at_inside c.args.self.now b m.head.channel (data_of m) c.args.foresight c.self.view_is c.requires.foreseen in
-    let t = taken_at b i.waiting s m.head (data_of m) c.args.foresight d c.is_full-full.result c.self.invariant c.in-Some.ensures c.index_mut-receiver.ensures.value full foreseen c.requires.held in
+    let foreseen = at_inside c.args.self.now b m.head.channel (data_of m) (foresight_in c.args.what) c.self.view_is (foresight_is c.args.self.now m.head.channel (data_of m) c.args.what c.requires.foreseen c.requires.kept) in
+    let t = taken_at b i.waiting s m.head (data_of m) (foresight_in c.args.what) d c.is_full-full.result c.self.invariant c.in-Some.ensures c.index_mut-receiver.ensures.value full foreseen refl in
     let new = c.take_in.new.receiver in
     let qs = c.take_in.new.untaken.items in
     let after = after_command d (data_of m) c.is_full-full.result in
@@ -141,7 +142,7 @@ returns-clause-taken c = λ _.
     let s = c.in-Some.arriving in
     let d = c.index_mut-receiver.result.now in
     let full : c.is_full-full.result ≡ is_full b = c.is_full-full.ensures ∙ ap (λ (x : Inbox). is_full x) (sym c.self.view_is) in
-    let foreseen = at_inside c.args.self.now b m.head.channel (data_of m) c.args.foresight c.self.view_is c.requires.foreseen in
-    let t = taken_at b i.waiting s m.head (data_of m) c.args.foresight d c.is_full-full.result c.self.invariant c.in-Some.ensures c.index_mut-receiver.ensures.value full foreseen c.requires.held in
-    handed_at b s m.head (data_of m) c.args.foresight d c.take_in.new.receiver c.is_full-full.result c.take_in.new.untaken.items c.in-Some.ensures t.1 t.2 c.in-Some-take_in.ensures.receiver c.in-Some-take_in.ensures.untaken
+    let foreseen = at_inside c.args.self.now b m.head.channel (data_of m) (foresight_in c.args.what) c.self.view_is (foresight_is c.args.self.now m.head.channel (data_of m) c.args.what c.requires.foreseen c.requires.kept) in
+    let t = taken_at b i.waiting s m.head (data_of m) (foresight_in c.args.what) d c.is_full-full.result c.self.invariant c.in-Some.ensures c.index_mut-receiver.ensures.value full foreseen refl in
+    handed_at b s m.head (data_of m) (foresight_in c.args.what) d c.take_in.new.receiver c.is_full-full.result c.take_in.new.untaken.items c.in-Some.ensures t.1 t.2 c.in-Some-take_in.ensures.receiver c.in-Some-take_in.ensures.untaken
     ∙ ap (λ (x : Inbox). (sequenced x m.head.channel (data_of m)).after) c.self.view_is
