@@ -81,6 +81,7 @@ impl ControlChannel {
         ensures room { OnOk result (1 ≤ self.new.room) }
         ensures grows { self.old.room ≤ self.new.room }
         ensures refused { OnErr result (self.new ≡ self.old) }
+        ensures idle { 1 ≤ self.old.room → self.new ≡ self.old }
         ensures full { OnErr result (self.old.room ≡ 0) }
         ensures memory { IfErr result (λ why. why ≡ Refusal.Memory) }
     {

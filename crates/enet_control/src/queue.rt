@@ -31,6 +31,9 @@ pub fn make_room(queued: &mut VecDeque<Numbered>, sent: &mut VecDeque<SentContro
     ensures full { result ≡ false → room_of (deque_len queued.old) (deque_capacity queued.old) (deque_len sent.old) (deque_capacity sent.old) ≡ 0 }
     ensures grows { room_of (deque_len queued.old) (deque_capacity queued.old) (deque_len sent.old) (deque_capacity sent.old)
         ≤ room_of (deque_len queued.new) (deque_capacity queued.new) (deque_len sent.new) (deque_capacity sent.new) }
+    ensures idle { 1 ≤ room_of (deque_len queued.old) (deque_capacity queued.old) (deque_len sent.old) (deque_capacity sent.old)
+        → room_of (deque_len queued.new) (deque_capacity queued.new) (deque_len sent.new) (deque_capacity sent.new)
+        ≡ room_of (deque_len queued.old) (deque_capacity queued.old) (deque_len sent.old) (deque_capacity sent.old) }
 {
     let more = queued.len() + 1;
     let is_sent_full = sent.capacity() - sent.len() < more;

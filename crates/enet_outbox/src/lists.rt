@@ -40,6 +40,7 @@ pub fn make_room(waiting: &mut VecDeque<Acknowledgement>) -> bool
     ensures room { IsTrue result → 1 ≤ deque_capacity waiting.new - deque_len waiting.new }
     ensures grows { deque_capacity waiting.old ≤ deque_capacity waiting.new }
     ensures refused { result ≡ false → deque_capacity waiting.new ≡ deque_capacity waiting.old }
+    ensures idle { deque_len waiting.old < deque_capacity waiting.old → deque_capacity waiting.new ≡ deque_capacity waiting.old }
     ensures full { result ≡ false → deque_capacity waiting.old ≡ deque_len waiting.old }
 {
     let is_full = waiting.capacity() == waiting.len();

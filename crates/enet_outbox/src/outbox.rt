@@ -155,6 +155,7 @@ impl Outbox {
         ensures outbox { self.new.outbox ≡ self.old.outbox }
         ensures room { OnOk result (1 ≤ self.new.acknowledgement_room) }
         ensures grows { self.old.acknowledgement_room ≤ self.new.acknowledgement_room }
+        ensures idle { 1 ≤ self.old.acknowledgement_room → self.new ≡ self.old }
         ensures full { OnErr result (self.old.acknowledgement_room ≡ 0) }
         ensures control_room { self.new.control_room ≡ self.old.control_room }
         ensures refused { OnErr result (self.new ≡ self.old) }
@@ -183,6 +184,7 @@ impl Outbox {
         ensures outbox { self.new.outbox ≡ self.old.outbox }
         ensures room { OnOk result (1 ≤ self.new.control_room) }
         ensures grows { self.old.control_room ≤ self.new.control_room }
+        ensures idle { 1 ≤ self.old.control_room → self.new ≡ self.old }
         ensures full { OnErr result (self.old.control_room ≡ 0) }
         ensures acknowledgement_room { self.new.acknowledgement_room ≡ self.old.acknowledgement_room }
         ensures refused { OnErr result (self.new ≡ self.old) }

@@ -15,6 +15,7 @@ impl Peer {
         ensures peer { self.new.peer ≡ self.old.peer }
         ensures room { OnOk result (1 ≤ self.new.room) }
         ensures grows { self.old.room ≤ self.new.room }
+        ensures idle { 1 ≤ self.old.room → self.new ≡ self.old }
         ensures full { OnErr result (self.old.room ≡ 0) }
         ensures refused { OnErr result (self.new ≡ self.old) }
         ensures memory { IfErr result (λ why. why ≡ Refusal.Memory) }
