@@ -1,0 +1,3 @@
+pub mod Memory
+pub mod Socket
+pub mod Wires

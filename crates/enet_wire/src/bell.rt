@@ -1,0 +1,53 @@
+//! A bell by which one thread ends another one's wait.
+
+use mio::{Registry, Token, Waker};
+use std::io;
+use std::sync::atomic::AtomicBool;
+use std::sync::atomic::Ordering::SeqCst;
+
+const WAKER: Token = Token(1);
+
+/// Ends the wait of a socket's wire. Whoever hands work over rings it afterwards; a ring before the wait counts too, so no
+/// work is slept over. Threads share it by reference.
+#[derive(Drop)]
+pub struct Bell {
+    // Rung since this was last asked.
+    rung: AtomicBool,
+    // The waiting thread sleeps, or is about to.
+    asleep: AtomicBool,
+    waker: Waker,
+}
+
+impl Bell {
+    pub(crate) fn new(registry: &Registry) -> io::Result<Bell> {
+        Ok(Bell {
+            rung: AtomicBool::new(false),
+            asleep: AtomicBool::new(false),
+            waker: Waker::new(registry, WAKER)?,
+        })
+    }
+
+    /// Call it once what the waiting thread is to see has been done. It never blocks, and it calls the system only where that
+    /// thread sleeps.
+    pub fn ring(&self) {
+        self.rung.store(true, SeqCst);
+        if self.asleep.swap(false, SeqCst) {
+            let _ = self.waker.wake();
+        }
+    }
+
+    // Whether it was rung since this was last asked.
+    pub(crate) fn hear(&self) -> bool {
+        self.rung.swap(false, SeqCst)
+    }
+
+    // Announces a sleep. True where it was rung before, and then there is to be none.
+    pub(crate) fn lie_down(&self) -> bool {
+        self.asleep.store(true, SeqCst);
+        self.hear()
+    }
+
+    pub(crate) fn get_up(&self) {
+        self.asleep.store(false, SeqCst);
+    }
+}

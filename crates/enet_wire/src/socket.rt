@@ -1,0 +1,308 @@
+//! A UDP socket as a wire.
+ghost use Rattle.std.specs.Prelude.{◌≡◌, ◌⊎◌, ◌+◌, ◌<◌, Err, IfOk, IfErr, None};
+ghost use Rattle.enet_wire.specs.Socket.{failures_of};
+
+use crate::bell::Bell;
+use crate::wire::Wire;
+use enet_types::{Addr, Refusal};
+use libc::net as c;
+use mio::net::UdpSocket;
+use mio::{Events, Interest, Poll, Token};
+use std::alloc::Global;
+use std::io::ErrorKind;
+use std::net::{IpAddr, Ipv4Addr, Net, SocketAddr};
+use std::os::fd::AsRawFd;
+use std::sync::{Arc, Wait};
+use std::time::{Clock, Duration, Instant};
+use std::{io, thread};
+
+const SOCKET: Token = Token(0);
+
+/// The longest wait, in milliseconds.
+const LONGEST: u64 = 5;
+
+/// The longest wait while a datagram would have blocked, in milliseconds.
+const LONGEST_BLOCKED: u64 = 1;
+
+/// A turn sends at most so many datagrams, so after so many there may be more to send.
+const MOST_SENDS: u32 = 256;
+
+/// With so much done since the last sleep it pays to look a few times before the next.
+const BUSY: u32 = 8;
+
+const LOOKS: u32 = 5;
+
+/// How many bytes of datagrams the system is asked to keep until they are received.
+const RECEIVE_BUFFER: u32 = 4_194_304;
+
+/// A UDP socket, whose wait other threads can end. It doesn't tell what its calls did, since only the system knows that.
+#[derive(Drop)]
+pub struct MioWire {
+    socket: UdpSocket,
+    poll: Poll,
+    events: Events,
+    bell: Arc<Bell, Global>,
+    // The moment up to which milliseconds were told.
+    told_to: Option<Instant>,
+    failures: u64,
+    // The socket was seen empty since the last datagram. The system tells readiness once, where it changes.
+    drained: bool,
+    // A send would have blocked since the last wait.
+    blocked: bool,
+    // Datagrams sent since the last wait, and datagrams in and out since the last sleep.
+    sent: u32,
+    done: u32,
+}
+
+impl MioWire {
+    /// A socket at this address, with a receive buffer of 4 MB where the system grants that.
+    ///
+    /// E14 where the address can't be had, E1 for want of memory.
+    pub fn bind<R: Net + AllocGlobal>(rt: &R, addr: Addr) -> Result<MioWire, Refusal>
+        ensures new { IfOk result (λ wire. failures_of wire ≡ 0) }
+        ensures refused { IfErr result (λ why. (why ≡ Refusal.WireFault) ⊎ (why ≡ Refusal.Memory)) }
+    {
+        let Ok(events) = Events::with_capacity(rt.alloc(), 4) else {
+            return Err(Refusal::Memory);
+        };
+        let Some((socket, poll, bell)) = opened(rt, addr) else {
+            return Err(Refusal::WireFault);
+        };
+        let Ok(bell) = Arc::new(rt.alloc(), bell) else {
+            return Err(Refusal::Memory);
+        };
+        Ok(MioWire {
+            socket,
+            poll,
+            events,
+            bell,
+            told_to: None,
+            failures: 0,
+            drained: true,
+            blocked: false,
+            sent: 0,
+            done: 0,
+        })
+    }
+
+    /// The bell that ends this wire's wait. E1 where so many of its bells are held that no more can be counted.
+    pub fn bell(&self) -> Result<Arc<Bell, Global>, Refusal>
+        ensures { IfErr result (λ why. why ≡ Refusal.Memory) }
+    {
+        match Arc::try_clone(&self.bell) {
+            Ok(bell) => Ok(bell),
+            Err(_) => Err(Refusal::Memory),
+        }
+    }
+
+    fn fault<T>(&mut self) -> Result<T, Refusal>
+        requires { failures_of self.old < 18446744073709551615 }
+        ensures answer { result ≡ Err Refusal.WireFault }
+        ensures count { failures_of self.new ≡ failures_of self.old + 1 }
+    {
+        self.failures += 1;
+        Err(Refusal::WireFault)
+    }
+
+    // Whether there is to be no sleep: something is known to be left, or the bell was rung.
+    fn is_wanted(&mut self) -> bool
+        ensures { failures_of self.new ≡ failures_of self.old }
+    {
+        let more = !self.drained || self.sent >= MOST_SENDS;
+        self.sent = 0;
+        if more || self.bell.hear() {
+            return true;
+        }
+        self.done >= BUSY && self.hears_soon()
+    }
+
+    fn hears_soon(&self) -> bool {
+        for _ in 0..LOOKS {
+            thread::yield_now();
+            if self.bell.hear() {
+                return true;
+            }
+        }
+        false
+    }
+
+    // Sleeps until a datagram comes, the bell is rung or the time is over. False where the system can't wait.
+    fn sleep(&mut self) -> bool
+        ensures { failures_of self.new ≡ failures_of self.old }
+    {
+        let longest = if self.blocked {
+            LONGEST_BLOCKED
+        } else {
+            LONGEST
+        };
+        self.done = 0;
+        self.blocked = false;
+        let limit = if self.bell.lie_down() { 0 } else { longest };
+        let limit = Some(Duration::from_millis(limit));
+        let polled = self.poll.poll(&mut self.events, limit);
+        self.bell.get_up();
+        match polled {
+            Ok(()) => true,
+            Err(why) => why.kind() == ErrorKind::Interrupted,
+        }
+    }
+
+    // Whole milliseconds since those that were told before; the rest counts for the next time.
+    fn passed<R: Clock>(&mut self, rt: &R) -> u32
+        ensures { failures_of self.new ≡ failures_of self.old }
+    {
+        let Ok(now) = Instant::now(rt) else {
+            return 0;
+        };
+        let Some(told_to) = self.told_to else {
+            self.told_to = Some(now);
+            return 0;
+        };
+        let ms = now.saturating_duration_since(told_to).as_millis();
+        let ms = u32::try_from(ms).unwrap_or(u32::MAX);
+        let next = told_to.checked_add(Duration::from_millis(u64::from(ms)));
+        self.told_to = Some(next.unwrap_or(now));
+        ms
+    }
+}
+
+fn opened<R: Net>(rt: &R, addr: Addr) -> Option<(UdpSocket, Poll, Bell)> {
+    let poll = Poll::new(rt).ok()?;
+    let mut socket = UdpSocket::bind(rt, socket_addr(addr)).ok()?;
+    widen(&socket);
+    poll.registry()
+        .register(&mut socket, SOCKET, Interest::READABLE)
+        .ok()?;
+    let bell = Bell::new(poll.registry()).ok()?;
+    Some((socket, poll, bell))
+}
+
+// Asks the system to keep more datagrams that weren't received yet. It may keep fewer, which is no fault.
+fn widen(socket: &UdpSocket) {
+    let mut value = [0u8; 16];
+    value[..4].copy_from_slice(&RECEIVE_BUFFER.to_ne_bytes());
+    let fd = socket.as_raw_fd();
+    let _ = unsafe { c::setsockopt(fd, c::SOL_SOCKET, c::SO_RCVBUF, &value, 4) };
+}
+
+fn socket_addr(addr: Addr) -> SocketAddr {
+    SocketAddr::from((Ipv4Addr::from_bits(addr.ip), addr.port))
+}
+
+// None for an address of another kind.
+fn plain_addr(addr: SocketAddr) -> Option<Addr> {
+    match addr.ip() {
+        IpAddr::V4(ip) => Some(Addr {
+            ip: ip.to_bits(),
+            port: addr.port(),
+        }),
+        IpAddr::V6(_) => None,
+    }
+}
+
+// What became of a datagram that was to be sent.
+#[derive(Clone, Copy)]
+enum Sending {
+    // It left, or an error of its destination or of its length lost it.
+    Over,
+    // There is no room at the moment.
+    Blocked,
+    // The socket is of no use.
+    Failed,
+}
+
+const TOO_LONG: i32 = 90;
+
+const NO_BUFFERS: i32 = 105;
+
+fn outcome_of(why: &io::Error) -> Sending {
+    match why.raw_os_error() {
+        Some(TOO_LONG) => return Sending::Over,
+        Some(NO_BUFFERS) => return Sending::Blocked,
+        _ => {}
+    }
+    match why.kind() {
+        ErrorKind::WouldBlock | ErrorKind::Interrupted | ErrorKind::OutOfMemory => {
+            Sending::Blocked
+        }
+        ErrorKind::InvalidInput
+        | ErrorKind::PermissionDenied
+        | ErrorKind::AddrNotAvailable
+        | ErrorKind::ConnectionRefused
+        | ErrorKind::HostUnreachable
+        | ErrorKind::NetworkUnreachable
+        | ErrorKind::NetworkDown => Sending::Over,
+        _ => Sending::Failed,
+    }
+}
+
+impl Wire for MioWire {
+    ghost told = { λ w. None };
+
+    ghost faults = { λ w. failures_of w };
+
+    fn recv(&mut self, buf: &mut [u8; 4096]) -> Result<Option<(Addr, usize)>, Refusal> {
+        if self.failures == u64::MAX {
+            return Ok(None);
+        }
+        match self.socket.recv_from(buf) {
+            Ok((len, from)) => {
+                self.drained = false;
+                self.done = self.done.saturating_add(1);
+                match plain_addr(from) {
+                    Some(from) => Ok(Some((from, len))),
+                    None => Ok(None),
+                }
+            }
+            Err(why) if why.kind() == ErrorKind::WouldBlock => {
+                self.drained = true;
+                Ok(None)
+            }
+            // The network says that an earlier datagram didn't arrive.
+            Err(why) if why.kind() == ErrorKind::ConnectionRefused => {
+                self.drained = false;
+                Ok(None)
+            }
+            Err(_) => self.fault(),
+        }
+    }
+
+    /// An error of the destination or of the datagram loses that datagram and ends nothing: it counts as taken, like one that
+    /// the network loses.
+    fn send(&mut self, to: Addr, bytes: &[u8]) -> Result<bool, Refusal> {
+        if self.failures == u64::MAX {
+            return Ok(false);
+        }
+        let sent = self.socket.send_to(bytes, socket_addr(to));
+        let outcome = match sent {
+            Ok(_) => Sending::Over,
+            Err(why) => outcome_of(&why),
+        };
+        match outcome {
+            Sending::Blocked => {
+                self.blocked = true;
+                Ok(false)
+            }
+            Sending::Over => {
+                self.sent = self.sent.saturating_add(1);
+                self.done = self.done.saturating_add(1);
+                Ok(true)
+            }
+            Sending::Failed => self.fault(),
+        }
+    }
+
+    fn wait<R: Wait + Clock>(&mut self, rt: &R) -> Result<u32, Refusal> {
+        if self.failures == u64::MAX {
+            return Ok(0);
+        }
+        if !self.is_wanted() && !self.sleep() {
+            return self.fault();
+        }
+        Ok(self.passed(rt))
+    }
+
+    fn failures(&self) -> u64 {
+        self.failures
+    }
+}

@@ -1,0 +1,3 @@
+//! Tests of wires.
+mod by_hand;
+mod loopback;
