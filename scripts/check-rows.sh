@@ -1,8 +1,10 @@
 #!/usr/bin/env bash
 # Runs each script that scripts/rows/list.txt names through the built program `enet_relay lab`, and compares what it writes
 # to standard output with NAME.out, to standard error with NAME.err (no such file: nothing) and its status with NAME.status
-# (no such file: 0). A script that is listed and missing fails. The last line is 'N passed, M failed'; the status is 1 where
-# one fails. The program is the one that `rt ci`, or `rt run` in crates/enet_relay, leaves; another can be named as argument.
+# (no such file: 0). A long script and its output are made by NAME.awk. A script that is listed and missing fails. Each line of
+# unreadable-lines.txt, whose escapes are printf's, is the second of a script, and the first that can't be read. Command lines are
+# tried too. The last line is 'N passed, M failed'; the status is 1 where one fails. The program is the one that `rt ci`, or
+# `rt run` in crates/enet_relay, leaves; another can be named as argument.
 cd "$(dirname "$0")/.." || exit 1
 program=${1:-crates/enet_relay/out/enet_relay}
 rows=scripts/rows
@@ -14,19 +16,38 @@ fail() {
     failed=$((failed + 1))
 }
 
-check() {
-    local row=$rows/$1 wanted=0
-    [ -r "$row.lab" ] && [ -r "$row.out" ] || { fail "$1" "$row.lab or $row.out is missing"; return; }
-    [ -r "$row.status" ] && wanted=$(<"$row.status")
-    timeout 120 "$program" lab < "$row.lab" > "$room/out" 2> "$room/err"
+# A script: its name, its file, and the files of the wanted output, of the wanted standard error, and the wanted status.
+script() {
+    local name=$1 lab=$2 out=$3 err=$4 wanted=$5
+    [ -r "$lab" ] && [ -r "$out" ] || { fail "$name" "$lab or $out is missing"; return; }
+    timeout 120 "$program" lab < "$lab" > "$room/out" 2> "$room/err"
     local status=$?
-    touch "$room/none"
-    local err=$room/none
-    [ -r "$row.err" ] && err=$row.err
-    cmp -s "$row.out" "$room/out" || { fail "$1" "standard output differs from $row.out"; return; }
-    cmp -s "$err" "$room/err" || { fail "$1" "standard error is: $(head -c 200 "$room/err")"; return; }
-    [ "$status" -eq "$wanted" ] || { fail "$1" "status $status where $wanted is wanted"; return; }
+    cmp -s "$out" "$room/out" || { fail "$name" "standard output differs from $out"; return; }
+    cmp -s "$err" "$room/err" || { fail "$name" "standard error is: $(head -c 200 "$room/err")"; return; }
+    [ "$status" -eq "$wanted" ] || { fail "$name" "status $status where $wanted is wanted"; return; }
     passed=$((passed + 1))
+}
+
+row() {
+    local row=$rows/$1 wanted=0 err=/dev/null
+    if [ -r "$row.awk" ]; then
+        rm -f "$room/row.lab" "$room/row.out"
+        awk -v lab="$room/row.lab" -v out="$room/row.out" -f "$rows/says.awk" -f "$row.awk"
+        script "$1" "$room/row.lab" "$room/row.out" /dev/null 0
+        return
+    fi
+    [ -r "$row.status" ] && wanted=$(<"$row.status")
+    [ -r "$row.err" ] && err=$row.err
+    script "$1" "$row.lab" "$row.out" "$err" "$wanted"
+}
+
+unreadable_lines() {
+    echo ok > "$room/unreadable.out"
+    echo 'E15 BadScript line 2' > "$room/unreadable.err"
+    while IFS= read -r line; do
+        printf "pair 1\n%b\nturn A\n" "$line" > "$room/unreadable.lab"
+        script "unreadable line '$line'" "$room/unreadable.lab" "$room/unreadable.out" "$room/unreadable.err" 2
+    done < "$rows/unreadable-lines.txt"
 }
 
 # A command line: its name here, the wanted status and standard error, the file that is its standard input, that of its
@@ -56,12 +77,13 @@ room=$(mktemp -d) || exit 1
 trap 'rm -rf "$room"' EXIT
 if [ ! -x "$program" ]; then
     fail "$program" "it isn't there: run 'rt ci', or 'rt run' in crates/enet_relay"
-elif [ ! -r "$rows/list.txt" ]; then
-    fail "$rows/list.txt" "it is missing"
+elif [ ! -r "$rows/list.txt" ] || [ ! -r "$rows/unreadable-lines.txt" ]; then
+    fail "$rows" "list.txt or unreadable-lines.txt is missing"
 else
     while IFS= read -r name || [ -n "$name" ]; do
-        case $name in '' | '#'*) ;; *) check "$name" ;; esac
+        case $name in '' | '#'*) ;; *) row "$name" ;; esac
     done < "$rows/list.txt"
+    unreadable_lines
     command_lines
 fi
 echo "$passed passed, $failed failed"

@@ -9,6 +9,3 @@ mod words;
 
 pub use fault::LabFault;
 pub use script::lab;
-
-#[cfg(test)]
-mod tests;

@@ -11,6 +11,3 @@ mod world;
 
 pub use event::{Answer, Side, WorldEvent};
 pub use world::World;
-
-#[cfg(test)]
-mod tests;
