@@ -5,7 +5,8 @@ mod answer;
 mod fault;
 mod line;
 mod script;
-mod words;
 
+pub use answer::answer_text;
 pub use fault::LabFault;
+pub use line::{Line, read_line, side_of};
 pub use script::lab;

@@ -1,15 +1,13 @@
 //! What the lines of a script say.
 
-use crate::words::{end, peer_word, side_word, u8_word, u32_word, u64_word, word};
-use bytes::Bytes;
+use enet_script::{bytes_word, end, peer_word, u8_word, u32_word, u64_word, word};
 use enet_types::{DisconnectMode, PeerRef};
 use enet_world::{Side, WorldEvent};
-use hex::FromHexError;
 use std::alloc::{AllocError, Global};
 
 /// What a line says.
 #[derive(Debug, Drop)]
-pub(crate) enum Line {
+pub enum Line {
     /// Nothing: the line is empty, or has spaces alone, or begins with `#`.
     PassedOver,
     /// Two hosts with so many channels are connected from the start.
@@ -19,7 +17,7 @@ pub(crate) enum Line {
 }
 
 /// What the line says, or None where it can't be read.
-pub(crate) fn read_line(alloc: Global, text: &[u8]) -> Result<Option<Line>, AllocError> {
+pub fn read_line(alloc: Global, text: &[u8]) -> Result<Option<Line>, AllocError> {
     if text.first() == Some(&b'#') {
         return Ok(Some(Line::PassedOver));
     }
@@ -92,46 +90,16 @@ fn disconnect(how: DisconnectMode, text: &[u8]) -> Option<WorldEvent> {
     })
 }
 
-// The words of `submit`, the last of which still spells its bytes.
-#[derive(Clone, Copy)]
-struct Submission<'a> {
-    side: Side,
-    peer: PeerRef,
-    channel: u8,
-    flags: u8,
-    body: &'a [u8],
-}
-
-fn submit_words(text: &[u8]) -> Option<Submission<'_>> {
-    let (side, rest) = side_word(text)?;
-    let (peer, rest) = peer_word(rest)?;
-    let (channel, rest) = u8_word(rest)?;
-    let (flags, rest) = u8_word(rest)?;
-    let (body, rest) = word(rest)?;
-    end(rest)?;
-    Some(Submission {
-        side,
-        peer,
-        channel,
-        flags,
-        body,
-    })
-}
-
 fn submit(alloc: Global, text: &[u8]) -> Result<Option<Line>, AllocError> {
-    let Some(words) = submit_words(text) else {
+    let Some((side, peer, channel, flags, rest)) = submit_words(text) else {
         return Ok(None);
     };
-    let Some(body) = bytes_of(alloc, words.body)? else {
+    let Some((body, rest)) = bytes_word(alloc, rest)? else {
         return Ok(None);
     };
-    let Submission {
-        side,
-        peer,
-        channel,
-        flags,
-        body: _,
-    } = words;
+    if end(rest).is_none() {
+        return Ok(None);
+    }
     Ok(Some(Line::Step(WorldEvent::Submit {
         side,
         peer,
@@ -141,14 +109,33 @@ fn submit(alloc: Global, text: &[u8]) -> Result<Option<Line>, AllocError> {
     })))
 }
 
-// The bytes that a word spells in hex of either case, or `-` for none; None where it spells none.
-fn bytes_of(alloc: Global, text: &[u8]) -> Result<Option<Bytes>, AllocError> {
-    if text == b"-".as_slice() {
-        return Ok(Some(Bytes::copy_from_slice(alloc, &[])?));
+// The words of `submit` before its bytes, and what is left behind them.
+fn submit_words(text: &[u8]) -> Option<(Side, PeerRef, u8, u8, &[u8])> {
+    let (side, rest) = side_word(text)?;
+    let (peer, rest) = peer_word(rest)?;
+    let (channel, rest) = u8_word(rest)?;
+    let (flags, rest) = u8_word(rest)?;
+    Some((side, peer, channel, flags, rest))
+}
+
+// A side: `A` or `B`.
+fn side_word(text: &[u8]) -> Option<(Side, &[u8])> {
+    let (name, rest) = word(text)?;
+    match name {
+        b"A" => Some((Side::A, rest)),
+        b"B" => Some((Side::B, rest)),
+        _ => None,
     }
-    match hex::decode(alloc, text) {
-        Ok(bytes) => Ok(Some(Bytes::from_vec(bytes)?)),
-        Err(FromHexError::OutOfMemory) => Err(AllocError),
-        Err(_) => Ok(None),
+}
+
+/// The side at which something happens.
+pub fn side_of(event: &WorldEvent) -> Side {
+    match event {
+        WorldEvent::Submit { side, .. } => *side,
+        WorldEvent::Deliver { side, .. } => *side,
+        WorldEvent::Turn { side } => *side,
+        WorldEvent::Tick { side, .. } => *side,
+        WorldEvent::Take { side } => *side,
+        WorldEvent::Disconnect { side, .. } => *side,
     }
 }

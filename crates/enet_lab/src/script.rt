@@ -3,11 +3,12 @@
 ghost use Rattle.std.specs.Prelude.{◌≡◌, ◌≤◌, ◌+◌, ◌⊎◌, min, IfOk, IfErr, IfSome};
 ghost use Rattle.enet_lab.specs.Stage.{IsBegin, HasWorld};
 
-use crate::answer::{answer_text, refusal_text};
+use crate::answer::answer_text;
 use crate::fault::LabFault;
-use crate::line::{Line, read_line};
+use crate::line::{Line, read_line, side_of};
+use enet_script::refusal_text;
 use enet_types::Config;
-use enet_world::{Side, World, WorldEvent};
+use enet_world::{World, WorldEvent};
 use std::alloc::{AllocError, Global};
 use std::io::{ErrorKind, Read, Write};
 
@@ -92,18 +93,6 @@ impl Script {
             return Err(LabFault::BadScript(self.lines));
         };
         Ok(Some(step_text(self.alloc, world, event)?))
-    }
-}
-
-// The side at which something happens.
-fn side_of(event: &WorldEvent) -> Side {
-    match event {
-        WorldEvent::Submit { side, .. } => *side,
-        WorldEvent::Deliver { side, .. } => *side,
-        WorldEvent::Turn { side } => *side,
-        WorldEvent::Tick { side, .. } => *side,
-        WorldEvent::Take { side } => *side,
-        WorldEvent::Disconnect { side, .. } => *side,
     }
 }
 

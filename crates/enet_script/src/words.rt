@@ -5,13 +5,15 @@ ghost use Rattle.std.specs.Prelude.{◌≡◌, ◌<◌, ◌^◌};
 ghost use Rattle.std.specs.Option.{SomeIff};
 ghost use Rattle.std.specs.Str.Parse.{IsNumeral, digits_value};
 
+use bytes::Bytes;
 use enet_types::PeerRef;
-use enet_world::Side;
+use hex::FromHexError;
+use std::alloc::{AllocError, Global};
 
 const SPACE: u8 = b' ';
 
 /// The first word. Words are separated by one or more spaces, which may also stand before the first and after the last.
-pub(crate) fn word(text: &[u8]) -> Option<(&[u8], &[u8])> {
+pub fn word(text: &[u8]) -> Option<(&[u8], &[u8])> {
     let start = text.iter().position(|byte| *byte != SPACE)?;
     let text = &text[start..];
     let end = text.iter().position(|byte| *byte == SPACE);
@@ -19,7 +21,7 @@ pub(crate) fn word(text: &[u8]) -> Option<(&[u8], &[u8])> {
 }
 
 /// No word is left.
-pub(crate) fn end(text: &[u8]) -> Option<()> {
+pub fn end(text: &[u8]) -> Option<()> {
     word(text).is_none().then_some(())
 }
 
@@ -66,38 +68,43 @@ fn number_u32(digits: &[u8]) -> Option<u32>
 }
 
 /// A number of 8 bits.
-pub(crate) fn u8_word(text: &[u8]) -> Option<(u8, &[u8])> {
+pub fn u8_word(text: &[u8]) -> Option<(u8, &[u8])> {
     let (digits, rest) = word(text)?;
     Some((number_u8(digits)?, rest))
 }
 
 /// A number of 32 bits.
-pub(crate) fn u32_word(text: &[u8]) -> Option<(u32, &[u8])> {
+pub fn u32_word(text: &[u8]) -> Option<(u32, &[u8])> {
     let (digits, rest) = word(text)?;
     Some((number_u32(digits)?, rest))
 }
 
 /// A number of 64 bits.
-pub(crate) fn u64_word(text: &[u8]) -> Option<(u64, &[u8])> {
+pub fn u64_word(text: &[u8]) -> Option<(u64, &[u8])> {
     let (digits, rest) = word(text)?;
     Some((number(digits)?, rest))
 }
 
-/// A side: `A` or `B`.
-pub(crate) fn side_word(text: &[u8]) -> Option<(Side, &[u8])> {
-    let (name, rest) = word(text)?;
-    match name {
-        b"A" => Some((Side::A, rest)),
-        b"B" => Some((Side::B, rest)),
-        _ => None,
-    }
-}
-
 /// A peer: its slot and its generation with a point between them.
-pub(crate) fn peer_word(text: &[u8]) -> Option<(PeerRef, &[u8])> {
+pub fn peer_word(text: &[u8]) -> Option<(PeerRef, &[u8])> {
     let (name, rest) = word(text)?;
     let point = name.iter().position(|byte| *byte == b'.')?;
     let slot = number_u16(&name[..point])?;
     let generation = number_u32(&name[point + 1..])?;
     Some((PeerRef { slot, generation }, rest))
+}
+
+/// Bytes: hex of either case, or `-` for none. An error where there is no memory for them.
+pub fn bytes_word(alloc: Global, text: &[u8]) -> Result<Option<(Bytes, &[u8])>, AllocError> {
+    let Some((spelled, rest)) = word(text) else {
+        return Ok(None);
+    };
+    if spelled == b"-".as_slice() {
+        return Ok(Some((Bytes::from_static(&[]), rest)));
+    }
+    match hex::decode(alloc, spelled) {
+        Ok(bytes) => Ok(Some((Bytes::from_vec(bytes)?, rest))),
+        Err(FromHexError::OutOfMemory) => Err(AllocError),
+        Err(_) => Ok(None),
+    }
 }

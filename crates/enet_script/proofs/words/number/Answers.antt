@@ -2,7 +2,7 @@ use Rattle.std.proofs.Common.{◌≡◌, ◌<◌, ◌^◌, ℕ, ◌+◌, ◌*◌
 use Rattle.std.specs.Option.{SomeIff}
 use Rattle.std.specs.Char.{digit_value}
 use Rattle.std.specs.Str.Parse.{IsNumeral, AllDigits, digits_value, digits_value_after}
-use Rattle.enet_lab.proofs.words.number.Goals as goal
+use Rattle.enet_script.proofs.words.number.Goals as goal
 
 -- digits that follow a number make it no less
 grows : (n : ℕ) (ds : List ℕ) → n ≤ digits_value_after 10 n ds

@@ -1,7 +1,7 @@
 use Rattle.std.proofs.Common.{◌≡◌, ◌<◌, ◌^◌, length}
 use Rattle.std.specs.Prelude.{◌↔◌}
 use Rattle.std.specs.Str.Parse.{AllDigits, digits_value_after, digits_value}
-use Rattle.enet_lab.proofs.words.number.Given as goal
+use Rattle.enet_script.proofs.words.number.Given as goal
 
 abbrev pub invariant-loop-digit : goal.invariant-loop-digit
 invariant-loop-digit l =
