@@ -18,6 +18,3 @@ pub use header_write::write_header;
 pub use read::{one_spelling, read_command};
 pub use spelling::{one_datagram, what_is_written_is_spelled};
 pub use write::write_command;
-
-#[cfg(test)]
-mod tests;

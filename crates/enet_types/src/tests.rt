@@ -1,4 +1,6 @@
 use super::*;
+use bytes::Bytes;
+use std::test::Fail;
 
 #[test]
 fn standard_settings(rt: HostRuntime) {
@@ -56,4 +58,37 @@ fn settings_out_of_range(rt: HostRuntime) {
     for config in &bad {
         assert!(rt; !config.is_in_range(), "{config:?}");
     }
+}
+
+#[test]
+fn packets_and_labels(rt: HostRuntime) -> Result<(), Fail> {
+    let packet = Packet {
+        channel: 1,
+        flags: 1,
+        body: Bytes::copy_from_slice(rt.alloc(), b"hello")?,
+    };
+    let same = Packet {
+        channel: 1,
+        flags: 0,
+        body: Bytes::copy_from_slice(rt.alloc(), b"hello")?,
+    };
+    let other = Packet {
+        channel: 1,
+        flags: 1,
+        body: Bytes::copy_from_slice(rt.alloc(), b"")?,
+    };
+    assert_eq!(rt;
+        (packet.len(), packet.is_empty(), other.is_empty()),
+        (5, false, true)
+    );
+    assert_eq!(rt;
+        (packet.is_same(&same), packet.is_same(&other)),
+        (true, false)
+    );
+    assert_eq!(rt; Refusal::TooLarge.label(), "E5 TooLarge");
+    assert_eq!(rt;
+        (Stop::BadCommand.number(), Stop::BadCommand.label()),
+        (6, "S6 BadCommand")
+    );
+    Ok(())
 }

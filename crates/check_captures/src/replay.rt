@@ -1,11 +1,12 @@
 //! Replaying a captured file beside its table.
 
 use crate::capture::{End, Line, read_line};
-use crate::connection::{Connection, Handling, NO_SLOT};
+use crate::connection::{Connection, NO_SLOT, stopped};
 use crate::report;
 use anyhow::{Context, Result, bail};
 use enet_codec::{Command, Offer, Stop, read_command, read_header};
 use enet_connect::Server;
+use enet_types::Received;
 use std::alloc::Global;
 
 /// The one slot of each host.
@@ -91,20 +92,20 @@ impl Replay {
                 Ok(None)
             }
             Line::Datagram { to, bytes } => {
-                let handling = self.datagram(to, bytes.as_slice())?;
+                let received = self.datagram(to, bytes.as_slice())?;
                 self.datagrams = self.datagrams.saturating_add(1);
-                Ok(Some(self.report(to, handling)?))
+                Ok(Some(self.report(to, received)?))
             }
         }
     }
 
     /// Takes a datagram through to one end.
-    fn datagram(&mut self, to: End, bytes: &[u8]) -> Result<Handling> {
+    fn datagram(&mut self, to: End, bytes: &[u8]) -> Result<Received> {
         let Some((header, len)) = read_header(bytes) else {
-            return Ok(Handling::stopped(Stop::Short));
+            return Ok(stopped(Stop::Short));
         };
         if header.compressed {
-            return Ok(Handling::stopped(Stop::Compressed));
+            return Ok(stopped(Stop::Compressed));
         }
         self.clock = match header.sent {
             Some(sent) if self.connection.is_none() => u32::from(sent),
@@ -118,30 +119,30 @@ impl Replay {
             Some(connection) if header.peer == SLOT => {
                 connection.pass(self.alloc, self.clock, to, &header, commands)
             }
-            _ => Ok(Handling::stopped(Stop::UnknownPeer)),
+            _ => Ok(stopped(Stop::UnknownPeer)),
         }
     }
 
     /// Takes a datagram through that names no peer: one CONNECT alone opens a connection.
-    fn connect(&mut self, commands: &[u8]) -> Result<Handling> {
+    fn connect(&mut self, commands: &[u8]) -> Result<Received> {
         match read_command(commands) {
             Some((Command::Connect { offer, .. }, len)) if len == commands.len() => {
                 self.open(offer)
             }
-            _ => Ok(Handling::stopped(Stop::UnknownPeer)),
+            _ => Ok(stopped(Stop::UnknownPeer)),
         }
     }
 
     /// Opens the next connection, in place of the one before.
-    fn open(&mut self, offer: Offer) -> Result<Handling> {
+    fn open(&mut self, offer: Offer) -> Result<Received> {
         if offer.channels < 1 || offer.channels > 255 {
-            return Ok(Handling::stopped(Stop::BadChannel));
+            return Ok(stopped(Stop::BadChannel));
         }
         let server = self.server_for(&offer);
         let connection = Connection::open(self.alloc, self.clock, offer, server)?;
         self.connection = Some(connection);
         self.connections = self.connections.saturating_add(1);
-        Ok(Handling {
+        Ok(Received {
             handled: 1,
             stop: None,
         })
@@ -168,7 +169,7 @@ impl Replay {
     }
 
     /// The table's line for a datagram that the end `to` took.
-    fn report(&mut self, to: End, handling: Handling) -> Result<String> {
+    fn report(&mut self, to: End, received: Received) -> Result<String> {
         let Some(connection) = &mut self.connection else {
             bail!("a datagram before any connection");
         };
@@ -176,7 +177,7 @@ impl Replay {
             End::Client => &mut connection.client,
             End::Server => &mut connection.server,
         };
-        let text = report::line(self.alloc, self.connections, to, handling, peer)?;
+        let text = report::line(self.alloc, self.connections, to, received, peer)?;
         Ok(text)
     }
 

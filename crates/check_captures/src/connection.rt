@@ -1,6 +1,6 @@
 //! A connection that is replayed.
 
-ghost use Rattle.std.specs.Prelude.{◌≡◌, ◌≤◌, IsTrue, Some, length};
+ghost use Rattle.std.specs.Prelude.{IsTrue};
 ghost use Rattle.enet_connect.specs.Terms.{is_channel_count};
 
 use crate::capture::End;
@@ -8,7 +8,9 @@ use crate::sender::{put_out, repeat, wait_long};
 use anyhow::Result;
 use enet_codec::{Command, Header, Offer, Stop, read_command};
 use enet_connect::{Server, Terms};
+use enet_datagram::obey;
 use enet_peer::{Limits, Peer, PeerState};
+use enet_types::Received;
 use std::alloc::Global;
 
 /// Stands for the slot of a peer that isn't known yet.
@@ -22,22 +24,11 @@ const LIMITS: Limits = Limits {
     outgoing: 0,
 };
 
-/// How many commands of a datagram took effect, and what stopped it, if anything did.
-#[derive(Clone, Copy, Debug, PartialEq, Eq)]
-pub struct Handling {
-    pub handled: usize,
-    pub stop: Option<Stop>,
-}
-
-impl Handling {
-    /// Stopped before the first command.
-    pub fn stopped(stop: Stop) -> Handling
-        ensures { result ≡ record { handled = 0; stop = Some stop } }
-    {
-        Handling {
-            handled: 0,
-            stop: Some(stop),
-        }
+/// A datagram that was stopped before its first command.
+pub fn stopped(stop: Stop) -> Received {
+    Received {
+        handled: 0,
+        stop: Some(stop),
     }
 }
 
@@ -77,7 +68,7 @@ impl Connection {
         to: End,
         header: &Header,
         commands: &[u8],
-    ) -> Result<Handling> {
+    ) -> Result<Received> {
         if let Some((Command::Disconnect { .. }, _)) = read_command(commands) {
             wait_long(&mut self.client, now);
             wait_long(&mut self.server, now);
@@ -96,13 +87,13 @@ impl Connection {
 }
 
 /// A peer takes a datagram in, and puts out what it then has to send.
-fn take(peer: &mut Peer, now: u32, header: &Header, commands: &[u8]) -> Handling {
+fn take(peer: &mut Peer, now: u32, header: &Header, commands: &[u8]) -> Received {
     if let Some(stop) = refusal(peer, header) {
-        return Handling::stopped(stop);
+        return stopped(stop);
     }
-    let handling = take_commands(peer, now, header.sent, commands);
+    let received = obey(peer, now, header.sent, commands);
     put_out(peer, now);
-    handling
+    received
 }
 
 /// What stops a datagram before its first command.
@@ -114,36 +105,5 @@ fn refusal(peer: &Peer, header: &Header) -> Option<Stop> {
             Some(Stop::WrongSession)
         }
         _ => None,
-    }
-}
-
-/// A peer takes the commands of a datagram in, up to one that stops it.
-fn take_commands(peer: &mut Peer, now: u32, sent: Option<u16>, commands: &[u8]) -> Handling
-    ensures { result.handled ≤ length commands.now }
-{
-    let mut rest = commands;
-    let mut handled = 0;
-    for _ in 0..commands.len() {
-        if rest.is_empty() {
-            break;
-        }
-        let Some((command, len)) = read_command(rest) else {
-            return Handling {
-                handled,
-                stop: Some(Stop::BadCommand),
-            };
-        };
-        if let Err(stop) = peer.command(now, sent, &command) {
-            return Handling {
-                handled,
-                stop: Some(stop),
-            };
-        }
-        handled += 1;
-        rest = &rest[len..];
-    }
-    Handling {
-        handled,
-        stop: None,
     }
 }

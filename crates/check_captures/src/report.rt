@@ -1,9 +1,9 @@
 //! The text of what became of a datagram.
 
 use crate::capture::End;
-use crate::connection::Handling;
 use enet_codec::Packet;
 use enet_peer::{Peer, PeerEvent};
+use enet_types::Received;
 use std::alloc::{AllocError, Global};
 
 /// A line of the table: which connection, counted from 1; the end that took the datagram; how many commands it handled; the
@@ -12,12 +12,12 @@ pub fn line(
     alloc: Global,
     connection: u32,
     to: End,
-    handling: Handling,
+    received: Received,
     peer: &mut Peer,
 ) -> Result<String, AllocError> {
-    let handled = handling.handled;
+    let handled = received.handled;
     let mut text = format!(in alloc; "{connection} {to} {handled}")?;
-    match handling.stop {
+    match received.stop {
         None => text.push_str(" -")?,
         Some(stop) => write!(text, " S{}", stop.number())?,
     }
