@@ -1,0 +1,49 @@
+//! The program `check_peer`: trials of a peer, call by call, with answers that were worked out by hand from the rules. It reads
+//! them from standard input, and prints how many answers were as expected, or the first that was not, which ends it with
+//! status 1.
+//!
+//! A line `peer START` (`starts`) makes the peer of a new trial. Each other line is a call (`scene`, `states`) and, behind ` = `, its
+//! answer, which is `ok` where none stands there. Bytes are in hex, or a name (`datagrams`). A line that is empty or begins with
+//! `#` is passed over.
+#![tactic(auto)]
+
+mod datagrams;
+mod scene;
+mod starts;
+mod states;
+mod trials;
+
+use anyhow::Result;
+use std::io;
+use std::process::ExitCode;
+use trials::{Outcome, run_all};
+
+fn main(rt: HostRuntime) -> ExitCode {
+    match run(&rt) {
+        Ok(true) => ExitCode::SUCCESS,
+        Ok(false) => ExitCode::FAILURE,
+        Err(error) => {
+            let _ = eprintln!(rt; "{error:#}");
+            ExitCode::FAILURE
+        }
+    }
+}
+
+/// Runs the trials, and prints what came of them. Whether all went as expected.
+fn run<R: Print + Input + AllocGlobal>(rt: &R) -> Result<bool> {
+    let text = io::read_to_string(rt.alloc(), rt.reader())?;
+    match run_all(rt.alloc(), text.as_str()) {
+        Outcome::AsExpected { trials, answers } => {
+            println!(rt; "{trials} trials, {answers} answers, as expected")?;
+            Ok(true)
+        }
+        Outcome::Differs { line, seen } => {
+            println!(rt; "line {line} is answered by {seen}")?;
+            Ok(false)
+        }
+        Outcome::CannotBeRead { line } => {
+            println!(rt; "line {line} can't be read, or there is no memory")?;
+            Ok(false)
+        }
+    }
+}

@@ -1,0 +1,229 @@
+//! A peer, and what is done to it.
+
+use crate::datagrams::named;
+use bytes::Bytes;
+use enet_codec::read_header;
+use enet_datagram::obey;
+use enet_peer::{Peer, PeerEvent, PeerState};
+use enet_script::{
+    bytes_text, bytes_word, end, event_text, received_text, refusal_text, u8_word, u32_word, word,
+};
+use enet_types::{Event, PeerRef, Received, Refusal, Stop};
+use std::alloc::Global;
+
+/// How many bytes of a datagram are shown.
+const SHOWN: usize = 52;
+
+const PEER: PeerRef = PeerRef {
+    slot: 0,
+    generation: 0,
+};
+
+/// A peer, and its host's clock in milliseconds.
+#[derive(Drop)]
+pub struct Scene {
+    pub peer: Peer,
+    pub now: u32,
+}
+
+/// Up to three numbers; those that aren't there are 0.
+fn numbers(text: &[u8]) -> Option<[u32; 3]> {
+    let mut numbers = [0; 3];
+    let mut rest = text;
+    for number in numbers.iter_mut() {
+        if end(rest).is_some() {
+            break;
+        }
+        let (value, behind) = u32_word(rest)?;
+        *number = value;
+        rest = behind;
+    }
+    end(rest)?;
+    Some(numbers)
+}
+
+fn outcome_text(alloc: Global, outcome: Result<(), Refusal>) -> Option<String> {
+    match outcome {
+        Ok(()) => String::from_str(alloc, "ok").ok(),
+        Err(why) => refusal_text(alloc, why).ok(),
+    }
+}
+
+/// An event of the peer, as its host tells it.
+fn told(event: PeerEvent) -> Event {
+    let peer = PEER;
+    match event {
+        PeerEvent::Connect { info } => Event::Connect { peer, info },
+        PeerEvent::Receive { packet } => Event::Receive { peer, packet },
+        PeerEvent::Disconnect { info } => Event::Disconnect { peer, info },
+    }
+}
+
+impl Scene {
+    /// Makes one call and gives its answer; None where it can't be read or there is no memory.
+    ///
+    /// - `deliver BYTES`: a datagram comes. `turn`: a datagram goes. Answers its first 52 bytes, or `none`. `drain`: all go.
+    ///   Answers how many.
+    /// - `tick MS`: time passes. `ticks TIMES`: so many times 500 ms pass, each with a turn. Answers when datagrams went.
+    /// - `take`: the next event. `submit CHANNEL FLAGS BYTES`, `zeros CHANNEL FLAGS LENGTH`: a packet.
+    /// - `ask INFO`, `now INFO`, `later INFO`: the disconnects. `state`. `terms`: mtu, window and the other end's incoming bandwidth.
+    /// - `bandwidth INCOMING OUTGOING`, `throttle INTERVAL ACCELERATION DECELERATION`, `limit LIMIT`, `pings MS`,
+    ///   `timeout LIMIT MINIMUM MAXIMUM`: settings.
+    pub fn act(&mut self, alloc: Global, name: &[u8], rest: &[u8]) -> Option<String> {
+        match name {
+            b"deliver" => self.deliver(alloc, rest),
+            b"turn" => self.turn(alloc),
+            b"drain" => self.drain(alloc),
+            b"ticks" => self.ticks(alloc, numbers(rest)?[0]),
+            b"take" => self.take(alloc),
+            b"submit" => self.submit(alloc, rest),
+            b"zeros" => self.zeros(alloc, numbers(rest)?),
+            b"state" => {
+                let state = self.peer.state();
+                format!(in alloc; "{state:?}").ok()
+            }
+            b"terms" => self.terms(alloc),
+            _ => {
+                let outcome = self.call(name, numbers(rest)?)?;
+                outcome_text(alloc, outcome)
+            }
+        }
+    }
+
+    /// A disconnect, a setting, or time that passes.
+    fn call(&mut self, name: &[u8], numbers: [u32; 3]) -> Option<Result<(), Refusal>> {
+        let [first, second, third] = numbers;
+        match name {
+            b"ask" => return Some(self.peer.disconnect(first)),
+            b"now" => return Some(self.peer.disconnect_now(first)),
+            b"later" => return Some(self.peer.disconnect_later(first)),
+            b"tick" => self.tick(first),
+            b"bandwidth" => {
+                self.peer.reserve().ok()?;
+                self.peer.bandwidth(first, second);
+            }
+            b"throttle" => {
+                self.peer.reserve().ok()?;
+                if self.peer.state() != PeerState::Connected {
+                    return None;
+                }
+                self.peer.throttle_configure(first, second, third);
+            }
+            b"limit" => self.peer.throttle_limit(first),
+            b"pings" => self.peer.ping_interval(first),
+            b"timeout" => self.peer.timeout(first, second, third),
+            _ => return None,
+        }
+        Some(Ok(()))
+    }
+
+    fn tick(&mut self, ms: u32) {
+        self.now = self.now.wrapping_add(ms);
+        self.peer.tick(self.now);
+    }
+
+    fn ticks(&mut self, alloc: Global, times: u32) -> Option<String> {
+        let mut told = String::from_str(alloc, "at").ok()?;
+        let mut buf = [0u8; 4096];
+        for _ in 0..times {
+            self.tick(500);
+            if self.peer.emit(self.now, &mut buf).is_some() {
+                let now = self.now;
+                write!(told, " {now}").ok()?;
+            }
+        }
+        Some(told)
+    }
+
+    fn turn(&mut self, alloc: Global) -> Option<String> {
+        let mut buf = [0u8; 4096];
+        match self.peer.emit(self.now, &mut buf) {
+            None => String::from_str(alloc, "none").ok(),
+            Some(len) => bytes_text(alloc, buf.get(..len.min(SHOWN))?).ok(),
+        }
+    }
+
+    fn drain(&mut self, alloc: Global) -> Option<String> {
+        let mut buf = [0u8; 4096];
+        for count in 0..100u32 {
+            if self.peer.emit(self.now, &mut buf).is_none() {
+                return format!(in alloc; "{count}").ok();
+            }
+        }
+        None
+    }
+
+    fn deliver(&mut self, alloc: Global, text: &[u8]) -> Option<String> {
+        let (datagram, rest) = word(text)?;
+        end(rest)?;
+        let (datagram, _) = bytes_word(alloc, named(datagram)).ok()??;
+        let received = self.take_in(datagram.as_slice());
+        received_text(alloc, received).ok()
+    }
+
+    /// Hands the commands of a datagram over, whatever peer and session its header names.
+    pub fn take_in(&mut self, datagram: &[u8]) -> Received {
+        match read_header(datagram) {
+            Some((header, len)) => {
+                let commands = datagram.get(len..).unwrap_or(&[]);
+                obey(&mut self.peer, self.now, header.sent, commands)
+            }
+            None => Received {
+                handled: 0,
+                stop: Some(Stop::Short),
+            },
+        }
+    }
+
+    /// None where `next_body` lends something else than `next_event` gives.
+    fn take(&mut self, alloc: Global) -> Option<String> {
+        let lent = match self.peer.next_body() {
+            None => None,
+            Some(body) => Some(body.clone().ok()?),
+        };
+        let Some(event) = self.peer.next_event() else {
+            return String::from_str(alloc, "none").ok();
+        };
+        let is_lent = match &event {
+            PeerEvent::Receive { packet } => lent.is_some_and(|body| body == packet.body),
+            _ => lent.is_none(),
+        };
+        if !is_lent {
+            return None;
+        }
+        event_text(alloc, &told(event)).ok()
+    }
+
+    fn submit(&mut self, alloc: Global, text: &[u8]) -> Option<String> {
+        let (channel, rest) = u8_word(text)?;
+        let (flags, rest) = u8_word(rest)?;
+        let (body, rest) = bytes_word(alloc, rest).ok()??;
+        end(rest)?;
+        self.send(alloc, channel, flags, body)
+    }
+
+    fn zeros(&mut self, alloc: Global, numbers: [u32; 3]) -> Option<String> {
+        let [channel, flags, len] = numbers;
+        let channel = u8::try_from(channel).ok()?;
+        let flags = u8::try_from(flags).ok()?;
+        let body = Bytes::from_vec(vec![in alloc; 0u8; len as usize].ok()?).ok()?;
+        self.send(alloc, channel, flags, body)
+    }
+
+    /// None where a refusal doesn't hand as many bytes back.
+    fn send(&mut self, alloc: Global, channel: u8, flags: u8, body: Bytes) -> Option<String> {
+        let len = body.len();
+        match self.peer.submit(channel, flags, body) {
+            Ok(()) => outcome_text(alloc, Ok(())),
+            Err((why, back)) if back.len() == len => outcome_text(alloc, Err(why)),
+            Err(_) => None,
+        }
+    }
+
+    fn terms(&self, alloc: Global) -> Option<String> {
+        let mtu = self.peer.terms().mtu;
+        let window = self.peer.terms().window;
+        let other = self.peer.other_incoming();
+        format!(in alloc; "{mtu} {window} {other}").ok()
+    }
+}

@@ -1,0 +1,141 @@
+//! Peers to start with.
+
+use crate::datagrams::{CONNECT, CONNECT_AGAIN};
+use crate::scene::Scene;
+use enet_codec::{Command, Offer, read_command, read_header};
+use enet_connect::{Server, Terms};
+use enet_peer::{Limits, Peer};
+use enet_script::{bytes_word, end, u32_word, word};
+use std::alloc::Global;
+
+/// What a client's first connection asks for.
+const OFFER: Offer = Offer {
+    outgoing_peer: 0,
+    incoming_session: 0xFF,
+    outgoing_session: 0xFF,
+    mtu: 1_392,
+    window: 65_536,
+    channels: 2,
+    incoming_bandwidth: 0,
+    outgoing_bandwidth: 0,
+    throttle_interval: 5_000,
+    acceleration: 2,
+    deceleration: 2,
+    connect_id: 0x0102_0304,
+    info: 7,
+};
+
+/// What its second one asks for, whose slot had the session 0 both ways.
+const OFFER_AGAIN: Offer = Offer {
+    incoming_session: 0,
+    outgoing_session: 0,
+    connect_id: 10,
+    info: 0,
+    ..OFFER
+};
+
+const LIMITS: Limits = Limits {
+    max_packet: 33_554_432,
+    max_waiting: 33_554_432,
+    incoming: 0,
+    outgoing: 0,
+};
+
+/// A peer at the clock 0; None where the start can't be read or there is no memory.
+///
+/// - `joined`: connected from the start, with two channels, an mtu of 1,392, a window of 65,536 and the greatest limits.
+///   `joined MTU WINDOW PACKET WAITING`: with these, the last two being the limits of a packet and of what waits.
+/// - `client`, `client-again`: asks for the first connection, or for the second one. `server`, `server-again`: answers it.
+/// - the name of a state: a peer in this state.
+pub fn start(alloc: Global, text: &[u8]) -> Option<Scene> {
+    let (opening, calls) = match text {
+        b"Free" => ("client", "ask 3"),
+        b"Connecting" => ("client", "state"),
+        b"Answering" => ("server", "state"),
+        b"Connected" => ("joined", "state"),
+        b"DisconnectLater" => ("joined", "submit 0 1 71,later 3"),
+        b"Disconnecting" => ("joined", "ask 3"),
+        b"AckDisconnect" => ("joined", "deliver 8000000084ff000100000003"),
+        b"Ended" => ("joined", "deliver 000084ff000100000003"),
+        b"Parting" => ("joined", "now 3"),
+        _ => return opened(alloc, text),
+    };
+    let mut scene = opened(alloc, opening.as_bytes())?;
+    for call in calls.split(',') {
+        let (name, rest) = word(call.as_bytes())?;
+        let _answer = scene.act(alloc, name, rest)?;
+    }
+    (scene.act(alloc, b"state", &[])?.as_bytes() == text).then_some(scene)
+}
+
+fn opened(alloc: Global, text: &[u8]) -> Option<Scene> {
+    let (name, rest) = word(text)?;
+    let peer = match name {
+        b"joined" => joined(alloc, rest)?,
+        b"client" => Peer::connecting(alloc, 0, OFFER, LIMITS).ok()?,
+        b"client-again" => Peer::connecting(alloc, 0, OFFER_AGAIN, LIMITS).ok()?,
+        b"server" => server(alloc, CONNECT, 0xFF)?,
+        b"server-again" => server(alloc, CONNECT_AGAIN, 0)?,
+        _ => return None,
+    };
+    Some(Scene { peer, now: 0 })
+}
+
+fn joined(alloc: Global, text: &[u8]) -> Option<Peer> {
+    if end(text).is_some() {
+        return connected(alloc, 1_392, 65_536, LIMITS);
+    }
+    let (mtu, rest) = u32_word(text)?;
+    let (window, rest) = u32_word(rest)?;
+    let (max_packet, rest) = u32_word(rest)?;
+    let (max_waiting, rest) = u32_word(rest)?;
+    end(rest)?;
+    let limits = Limits {
+        max_packet,
+        max_waiting,
+        ..LIMITS
+    };
+    connected(alloc, mtu, window, limits)
+}
+
+fn connected(alloc: Global, mtu: u32, window: u32, limits: Limits) -> Option<Peer> {
+    if mtu < 576 || mtu > 4_096 {
+        return None;
+    }
+    let terms = Terms {
+        slot: 0,
+        channels: 2,
+        mtu,
+        window,
+        incoming_session: 0,
+        outgoing_session: 0,
+        throttle_interval: 5_000,
+        acceleration: 2,
+        deceleration: 2,
+        connect_id: 0,
+    };
+    Peer::joined(alloc, 0, terms, limits).ok()
+}
+
+/// A server with two channels, whose slot had this session both ways, answers a datagram.
+fn server(alloc: Global, datagram: &[u8], session: u8) -> Option<Peer> {
+    let (datagram, _) = bytes_word(alloc, datagram).ok()??;
+    let (_, len) = read_header(datagram.as_slice())?;
+    let (command, _) = read_command(datagram.as_slice().get(len..)?)?;
+    let Command::Connect { offer, .. } = command else {
+        return None;
+    };
+    if offer.channels < 1 || offer.channels > 255 {
+        return None;
+    }
+    let server = Server {
+        slot: 0,
+        incoming_session: session,
+        outgoing_session: session,
+        channels: 2,
+        mtu: 1_392,
+        incoming_bandwidth: 0,
+        outgoing_bandwidth: 0,
+    };
+    Peer::answering(alloc, 0, offer, server, LIMITS).ok()
+}
