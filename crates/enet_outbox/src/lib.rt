@@ -7,6 +7,7 @@ mod lists;
 mod outbox;
 mod packing;
 mod parts;
+mod readings;
 
 pub use laws::what_goes_is_spelled;
 pub use outbox::Outbox;

@@ -1,0 +1,50 @@
+//! What can be read of a peer without changing it.
+
+ghost use Rattle.std.specs.Prelude.{◌≡◌, is_some};
+ghost use Rattle.enet_outbox.specs.Outbox.{transit_of};
+ghost use Rattle.enet_peer.specs.Calls.{next_event};
+
+use crate::{Peer, PeerState};
+
+/// How long a peer's acknowledgements take, in milliseconds.
+#[derive(Clone, Copy, Debug, PartialEq, Eq)]
+pub struct RoundTrip {
+    /// The mean, 500 before the first acknowledgement.
+    pub mean: u32,
+    /// The mean deviation from it.
+    pub variance: u32,
+}
+
+impl Peer {
+    /// How long acknowledgements take, as it is estimated.
+    pub fn round_trip(&self) -> RoundTrip
+        ensures mean { result.mean ≡ self.now.peer.estimate.round_trip }
+        ensures variance { result.variance ≡ self.now.peer.estimate.variance }
+    {
+        RoundTrip {
+            mean: self.timing.round_trip(),
+            variance: self.timing.variance(),
+        }
+    }
+
+    /// How many payload bytes of reliable packets were sent and are not acknowledged.
+    pub fn in_transit(&self) -> u32
+        ensures { result ≡ transit_of self.now.peer.outbox }
+    {
+        self.outbox.in_transit()
+    }
+
+    /// How much of its unreliable packets goes, in parts of 32.
+    pub fn throttle(&self) -> u32
+        ensures { result ≡ self.now.peer.outbox.throttle.value }
+    {
+        self.outbox.throttle()
+    }
+
+    /// Whether `next_event` would give an event.
+    pub fn has_event(&self) -> bool
+        ensures { result ≡ is_some (next_event self.now.peer) }
+    {
+        self.greeting.is_some() || self.inbox.next().is_some() || self.state == PeerState::Ended
+    }
+}
