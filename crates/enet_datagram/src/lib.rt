@@ -1,4 +1,4 @@
-//! The commands of a datagram of ENet 1.3, as they come to a peer one after another.
+//! A datagram of ENet 1.3: its header, and its commands, as they come to a peer one after another.
 #![tactic(auto)]
 
 ghost use Rattle.std.specs.Prelude.{◌≡◌, ℕ, ◌≤◌, List, Option, drop, length};
@@ -11,6 +11,10 @@ ghost use Rattle.enet_datagram.specs.Handling.{Handles, HandlesEach, counted, on
 use enet_codec::{Stop, read_command};
 use enet_peer::Peer;
 use enet_types::Received;
+
+mod heading;
+
+pub use heading::{read_heading, read_offer};
 
 #[cfg(test)]
 mod tests;
@@ -66,7 +70,7 @@ fn counted(handled: u32, stop: Stop) -> u32
 }
 
 /// The bytes from a place on.
-fn bytes_after(bytes: &[u8], place: usize) -> &[u8]
+pub(crate) fn bytes_after(bytes: &[u8], place: usize) -> &[u8]
     requires { place ≤ length bytes.now }
     ensures { result.now ≡ drop place bytes.now }
 {
