@@ -9,7 +9,7 @@ mod packing;
 mod parts;
 mod readings;
 
-pub use laws::what_goes_is_spelled;
+pub use laws::{oldest_goes_first, what_goes_is_spelled};
 pub use outbox::Outbox;
 pub use parts::{Acknowledgement, Destination, Matched, Pace, Unsequenced};
 
