@@ -1,5 +1,6 @@
 pub mod Submitting
 pub mod Taking
+pub mod Answered
 pub mod Arriving
 pub mod Reaching
 pub mod Places

@@ -1,5 +1,7 @@
 -- What every peer keeps, whatever happens to it.
-use Rattle.std.specs.Prelude.{◌≡◌, ℕ, List, [], ◌∷◌, Some, slice_get}
+use Rattle.std.specs.Prelude.{◌≡◌, ℕ, true, List, [], ◌∷◌, Option, Some, is_some, slice_get}
+use Rattle.enet_codec.specs.declared.command.Head.{Head}
+use Rattle.enet_codec.specs.Message.{Message}
 use Rattle.enet_control.specs.declared.control.Control.TheVariants as control
 use Rattle.enet_control.specs.declared.control.Numbered.{Numbered}
 use Rattle.enet_control.specs.Controlling.{Commands}
@@ -9,7 +11,9 @@ use Rattle.enet_outbox.specs.declared.parts.Acknowledgement.{Acknowledgement}
 use Rattle.enet_outbox.specs.declared.parts.Unsequenced.{Unsequenced}
 use Rattle.enet_peer.specs.declared.parts.PeerState.{PeerState}
 use Rattle.enet_peer.specs.declared.parts.PeerState.TheVariants as state
+use Rattle.enet_outbox.specs.Emission.{acknowledgement_of, filled}
 use Rattle.enet_peer.specs.Peering.{Peering}
+use Rattle.enet_peer.specs.Calls.{pace_of}
 
 -- no packet is queued, and nothing is sent and unacknowledged
 pub record IsStill (unsequenced : List Unsequenced) (control : Commands) (senders : List SendingEnd) : Type 0 where
@@ -49,3 +53,18 @@ pub record Keeps (state : PeerState) (receivers : List ReceivingEnd) (acknowledg
 -- a peer as it can be reached
 abbrev pub IsReachable : Peering → Type 0
 IsReachable p = Keeps p.state p.inbox.receivers p.outbox.acknowledgements p.outbox.unsequenced p.outbox.control p.outbox.senders
+
+-- a peer that is to acknowledge a DISCONNECT by this acknowledgement, which waits before all others
+abbrev pub IsAnswering : Acknowledgement → Peering → Type 0
+IsAnswering a p = (p.state ≡ state.AckDisconnect) × (rest : List Acknowledgement) × (p.outbox.acknowledgements ≡ a ∷ rest)
+
+-- the acknowledgement of a command of a datagram that tells a sent time
+abbrev pub answer_to : Head → ℕ → Acknowledgement
+answer_to h time = record { channel = h.channel; number = h.number; time = time }
+
+-- a datagram goes, which begins with this acknowledgement, and the connection has ended
+pub record Answers (a : Acknowledgement) (now : ℕ) (len : Option ℕ) (old new : Peering) : Type 0 where
+  pub goes : is_some len ≡ true
+  pub more : List Message
+  pub first : (filled (pace_of old now) old.outbox).messages ≡ acknowledgement_of a ∷ more
+  pub ends : new.state ≡ state.Ended

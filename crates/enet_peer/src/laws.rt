@@ -1,19 +1,22 @@
-//! What the definitions of a peer promise. The function has no body: its contract is a law.
+//! What the definitions of a peer promise. These functions have no body: their contracts are laws.
 
-ghost use Rattle.std.specs.Prelude.{◌≡◌, ℕ, List, Option, Result, true};
-ghost use Rattle.enet_codec.specs.Message.{Message};
+ghost use Rattle.std.specs.Prelude.{◌≡◌, ℕ, ◌⊎◌, List, Option, Some, Result, true};
+ghost use Rattle.enet_codec.specs.Message.{Message, disconnect};
+ghost use Rattle.enet_codec.specs.declared.command.Head.{Head};
 ghost use Rattle.enet_codec.specs.declared.command.Offer.{Offer};
 ghost use Rattle.enet_types.specs.declared.refusal.Refusal.{Refusal};
 ghost use Rattle.enet_types.specs.declared.stop.Stop.{Stop};
 ghost use Rattle.enet_connect.specs.declared.server.Server.{Server};
 ghost use Rattle.enet_connect.specs.declared.terms.Terms.{Terms};
 ghost use Rattle.enet_sender.specs.Carriage.{Packet};
+ghost use Rattle.enet_outbox.specs.declared.parts.Acknowledgement.{Acknowledgement};
 ghost use Rattle.enet_peer.specs.declared.parts.Limits.{Limits};
 ghost use Rattle.enet_peer.specs.declared.parts.PeerEvent.{PeerEvent};
+ghost use Rattle.enet_peer.specs.declared.parts.PeerState.TheVariants.{Connected, DisconnectLater};
 ghost use Rattle.enet_peer.specs.Peering.{Peering, answering, connecting, joined};
 ghost use Rattle.enet_peer.specs.Arrivals.{Obeys, obeyed};
 ghost use Rattle.enet_peer.specs.Calls.{Leave, Leaves, PutsOut, Submits, Takes, is_connected, left, next_event, ticked, with_bandwidth, with_ping_interval, with_throttle, with_throttle_limit, with_timeout};
-ghost use Rattle.enet_peer.specs.Reachable.{IsReachable};
+ghost use Rattle.enet_peer.specs.Reachable.{Answers, IsAnswering, IsReachable, answer_to};
 
 /// What every peer keeps: each that a call makes has it, and each call that changes a peer leaves it so. In Free, Ended and
 /// Parting, and in AckDisconnect too, no packet is queued and nothing is sent and unacknowledged. In AckDisconnect at least the
@@ -34,4 +37,15 @@ pub fn reachable_stays()
     ensures throttle_limit { (p : Peering) (limit : ℕ) → IsReachable p → IsReachable (with_throttle_limit p limit) }
     ensures ping_interval { (p : Peering) (ms : ℕ) → IsReachable p → IsReachable (with_ping_interval p ms) }
     ensures timeout { (p : Peering) (limit minimum maximum : ℕ) → IsReachable p → IsReachable (with_timeout p limit minimum maximum) }
+{}
+
+/// A DISCONNECT that asks for an acknowledgement, and comes in a datagram that tells its sent time where the connection stands,
+/// is answered: its acknowledgement waits before all others, whatever command comes and however long that takes, and the next
+/// datagram begins with it and ends the connection.
+pub fn disconnect_is_answered()
+    ensures waits { (p : Peering) (now time info : ℕ) (h : Head) → h.acknowledge ≡ true → (p.state ≡ Connected) ⊎ (p.state ≡ DisconnectLater)
+        → IsAnswering (answer_to h time) (obeyed p now (Some time) (record { head = h; body = disconnect info })).after }
+    ensures obeyed { (r : Result (Unit {0}) Stop) (a : Acknowledgement) (p q : Peering) (now : ℕ) (sent : Option ℕ) (m : Message) → IsAnswering a p → Obeys r (obeyed p now sent m) p q → IsAnswering a q }
+    ensures ticked { (a : Acknowledgement) (p : Peering) (now : ℕ) → IsReachable p → IsAnswering a p → IsAnswering a (ticked p now) }
+    ensures goes { (a : Acknowledgement) (now : ℕ) (len : Option ℕ) (p q : Peering) (buf : List ℕ) → IsAnswering a p → PutsOut now len p q buf → Answers a now len p q }
 {}

@@ -14,7 +14,7 @@ mod sending;
 mod settings;
 mod time;
 
-pub use laws::reachable_stays;
+pub use laws::{disconnect_is_answered, reachable_stays};
 pub use parts::{Limits, PeerEvent, PeerState};
 pub use peer::Peer;
 pub use readings::RoundTrip;

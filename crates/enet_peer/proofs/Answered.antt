@@ -1,0 +1,170 @@
+-- The other end's DISCONNECT is acknowledged.
+use Rattle.std.proofs.Common.{◌≡◌, ℕ, ◌+◌, ◌≤◌, Bool, true, false, cond, ◌||◌, ◌&&◌, ◌==◌, List, [], ◌∷◌, ◌++◌, refl, sym, ap, subst, ◌∙◌, ◌⊎◌, inl, inr, arith, Option, Some, None, Result, Ok, Err}
+use Rattle.std.specs.Prelude.{is_some, max, min}
+use Rattle.std.specs.List.{list_any, slice_get}
+use Rattle.enet_codec.specs.declared.command.Head.{Head}
+use Rattle.enet_codec.specs.Message.{Message, Body, acknowledge, connect, verify_connect, disconnect, ping, send_reliable, send_unreliable, send_fragment, send_unsequenced, bandwidth_limit, throttle_configure, send_unreliable_fragment}
+use Rattle.enet_types.specs.declared.stop.Stop.{Stop}
+use Rattle.enet_types.specs.declared.stop.Stop.TheVariants as stop
+use Rattle.enet_rtt.specs.declared.expiry.Patience.{Patience}
+use Rattle.enet_rtt.specs.declared.expiry.Expiry.TheVariants.{No, Resend, End}
+use Rattle.enet_control.specs.declared.control.SentControl.{SentControl}
+use Rattle.enet_control.specs.Controlling as controlling
+use Rattle.enet_sender.specs.declared.sent.Sent.{Sent}
+use Rattle.enet_sender.specs.Sender as sender
+use Rattle.enet_sender.specs.Due.{SendingEnd}
+use Rattle.enet_outbox.specs.declared.parts.Acknowledgement.{Acknowledgement}
+use Rattle.enet_outbox.specs.declared.parts.Matched.{Matched}
+use Rattle.enet_outbox.specs.declared.parts.Matched.TheVariants as matched
+use Rattle.enet_outbox.specs.declared.parts.Pace.{Pace}
+use Rattle.enet_outbox.specs.declared.parts.Destination.{Destination}
+use Rattle.enet_outbox.specs.Outbox.{Outbox, acknowledged, acknowledged_on, has_ended, has_late, matched_by}
+use Rattle.enet_outbox.specs.Emission.{Emits, acknowledgement_of, filled}
+use Rattle.enet_outbox.proofs.Oldest.{oldest-first}
+use Rattle.enet_peer.specs.Peering.{Peering}
+use Rattle.enet_peer.specs.declared.parts.PeerState.{PeerState}
+use Rattle.enet_peer.specs.declared.parts.PeerState.TheVariants as state
+use Rattle.enet_peer.specs.Arrivals.{Obeys, answered, answered_at, is_answered_in, obeyed, on_acknowledge, on_match}
+use Rattle.enet_peer.specs.Calls.{PutsOut, after_timeouts, after_timeouts_by, destination_of, gone_on, gone_on_in, is_pinged, pace_of, ticked}
+use Rattle.enet_peer.specs.Reachable.{Answers, IsAnswering, IsReachable, IsStill, answer_to}
+
+-- a peer in that state
+abbrev at-end : Peering → Peering
+at-end p = record p { state = state.AckDisconnect }
+
+is-at-end : (p : Peering) → p.state ≡ state.AckDisconnect → p ≡ at-end p
+is-at-end p e = ap (λ (s : PeerState). record p { state = s }) e
+
+-- ---- the DISCONNECT comes
+
+waits-by : (p : Peering) (now time info : ℕ) (h : Head) (a : Bool) (s : PeerState) → a ≡ true → (s ≡ state.Connected) ⊎ (s ≡ state.DisconnectLater)
+    → IsAnswering (answer_to h time) (obeyed (record p { state = s }) now (Some time) (record { head = record h { acknowledge = a }; body = disconnect info })).after
+waits-by p now time info h true state.Connected asks stands = (refl, [], refl)
+waits-by p now time info h true state.DisconnectLater asks stands = (refl, [], refl)
+waits-by p now time info h true s asks (inl e) = absurd cc
+waits-by p now time info h true s asks (inr e) = absurd cc
+waits-by p now time info h false s asks stands = absurd cc
+
+pub waits-after : (p : Peering) (now time info : ℕ) (h : Head) → h.acknowledge ≡ true → (p.state ≡ state.Connected) ⊎ (p.state ≡ state.DisconnectLater)
+    → IsAnswering (answer_to h time) (obeyed p now (Some time) (record { head = h; body = disconnect info })).after
+waits-after p now time info h asks stands = waits-by p now time info h h.acknowledge p.state asks stands
+
+-- ---- another command comes
+
+answered-waits : (a : Acknowledgement) (p : Peering) (m : Message) (sent : Option ℕ) (may : Bool) → IsAnswering a p → IsAnswering a (answered p m sent may).after
+answered-waits a p m sent may w = by (m.head.acknowledge && may && is_answered_in p.state m.body) sent
+  where
+    by : (b : Bool) (sent : Option ℕ) → IsAnswering a (cond b (answered_at p m.head sent) (record { stop = None; after = p })).after
+    by false sent = w
+    by true None = w
+    by true (Some time) =
+        let x : Acknowledgement = record { channel = m.head.channel; number = m.head.number; time = time } in
+        (w.0, w.1 ++ x ∷ [], ap (λ (xs : List Acknowledgement). xs ++ x ∷ []) w.2)
+
+-- what an acknowledgement matches isn't among those that wait
+matched-stays : (o : Outbox) (channel number : ℕ) → (acknowledged o channel number).acknowledgements ≡ o.acknowledgements
+matched-stays o channel number = by (channel == 0xFF)
+  where
+    on : (x : Option SendingEnd) → (acknowledged_on o channel number x).acknowledgements ≡ o.acknowledgements
+    on None = refl
+    on (Some s) = refl
+
+    by : (b : Bool) → (cond b (record o { control = controlling.acknowledged o.control number }) (acknowledged_on o channel number (slice_get o.senders channel))).acknowledgements ≡ o.acknowledgements
+    by true = refl
+    by false = on (slice_get o.senders channel)
+
+acknowledged-waits : (a : Acknowledgement) (p : Peering) (now channel number time : ℕ) → IsAnswering a p → IsAnswering a (on_acknowledge (at-end p) now channel number time)
+acknowledged-waits a p now channel number time w = by (matched_by p.outbox channel number)
+  where
+    left : IsAnswering a (at-end (record p { outbox = acknowledged p.outbox channel number }))
+    left = (refl, w.1, matched-stays p.outbox channel number ∙ w.2)
+
+    by : (x : Matched) → IsAnswering a (on_match x (at-end p) now channel number time)
+    by matched.Nothing = (refl, w.1, w.2)
+    by matched.Data = left
+    by (matched.Control what) = left
+
+obeyed-waits : (a : Acknowledgement) (p : Peering) (h : Head) (now : ℕ) (sent : Option ℕ) (body : Body) → IsAnswering a p → IsAnswering a (obeyed (at-end p) now sent (record { head = h; body = body })).after
+obeyed-waits a p h now sent (acknowledge number time) w =
+    answered-waits a (on_acknowledge (at-end p) now h.channel number time) (record { head = h; body = acknowledge number time }) sent true (acknowledged-waits a p now h.channel number time w)
+obeyed-waits a p h now sent (verify_connect v) w = answered-waits a (at-end p) (record { head = h; body = verify_connect v }) sent true (refl, w.1, w.2)
+obeyed-waits a p h now sent (disconnect info) w = answered-waits a (at-end p) (record { head = h; body = disconnect info }) sent true (refl, w.1, w.2)
+obeyed-waits a p h now sent (connect offer) w = (refl, w.1, w.2)
+obeyed-waits a p h now sent ping w = (refl, w.1, w.2)
+obeyed-waits a p h now sent (bandwidth_limit incoming outgoing) w = (refl, w.1, w.2)
+obeyed-waits a p h now sent (throttle_configure interval acceleration deceleration) w = (refl, w.1, w.2)
+obeyed-waits a p h now sent (send_reliable payload) w = (refl, w.1, w.2)
+obeyed-waits a p h now sent (send_unreliable n payload) w = (refl, w.1, w.2)
+obeyed-waits a p h now sent (send_fragment f payload) w = (refl, w.1, w.2)
+obeyed-waits a p h now sent (send_unsequenced group payload) w = (refl, w.1, w.2)
+obeyed-waits a p h now sent (send_unreliable_fragment f payload) w = (refl, w.1, w.2)
+
+pub obeys-waits : (r : Result (Unit {0}) Stop) (a : Acknowledgement) (p q : Peering) (now : ℕ) (sent : Option ℕ) (m : Message) → IsAnswering a p → Obeys r (obeyed p now sent m) p q → IsAnswering a q
+obeys-waits r a p q now sent m w o = by r o
+  where
+    done : q ≡ (obeyed p now sent m).after → IsAnswering a q
+    done e = subst (λ (x : Peering). IsAnswering a x) (sym (e ∙ ap (λ (x : Peering). (obeyed x now sent m).after) (is-at-end p w.0))) (obeyed-waits a p m.head now sent m.body w)
+
+    by : (r : Result (Unit {0}) Stop) → Obeys r (obeyed p now sent m) p q → IsAnswering a q
+    by (Ok it) o = done o.1
+    by (Err stop.Memory) o = subst (λ (x : Peering). IsAnswering a x) (sym o.1) w
+    by (Err stop.Short) o = done o.1
+    by (Err stop.Compressed) o = done o.1
+    by (Err stop.UnknownPeer) o = done o.1
+    by (Err stop.WrongAddress) o = done o.1
+    by (Err stop.WrongSession) o = done o.1
+    by (Err stop.BadCommand) o = done o.1
+    by (Err stop.NotConnected) o = done o.1
+    by (Err stop.BadChannel) o = done o.1
+    by (Err stop.BadFragment) o = done o.1
+    by (Err stop.Waiting) o = done o.1
+    by (Err stop.NoSentTime) o = done o.1
+    by (Err stop.NoSlot) o = done o.1
+
+-- ---- the clock: nothing is sent that could be late
+
+none-ends : (now : ℕ) (patience : Patience) (ss : List SendingEnd) → ((i : ℕ) (s : SendingEnd) → slice_get ss i ≡ Some s → s.sender.sent ≡ [])
+    → list_any (λ (s : SendingEnd). list_any (sender.ends now patience) s.sender.sent) ss ≡ false
+none-ends now patience [] none = refl
+none-ends now patience (s ∷ ss) none =
+    ap (λ (xs : List Sent). list_any (sender.ends now patience) xs || list_any (λ (s : SendingEnd). list_any (sender.ends now patience) s.sender.sent) ss) (none 0 s refl)
+    ∙ none-ends now patience ss (λ i. none (Rattle.std.proofs.Common.suc i))
+
+still-stays : (o : Outbox) (now : ℕ) (patience : Patience) → IsStill o.unsequenced o.control o.senders → has_ended o now patience ≡ false
+still-stays o now patience still =
+    ap (λ (xs : List SentControl). list_any (controlling.ends now patience) xs || list_any (λ (s : SendingEnd). list_any (sender.ends now patience) s.sender.sent) o.senders) still.no_control_sent
+    ∙ none-ends now patience o.senders still.no_sent
+
+ticked-at-end : (a : Acknowledgement) (p : Peering) (now : ℕ) → has_ended p.outbox now p.patience ≡ false → IsAnswering a p → IsAnswering a (ticked (at-end p) now)
+ticked-at-end a p now none w = by (has_ended p.outbox now p.patience) (has_late p.outbox now) none
+  where
+    by : (b c : Bool) → b ≡ false → IsAnswering a (Rattle.enet_peer.specs.Calls.pinged (after_timeouts_by (cond b End (cond c Resend No)) (at-end p) now) now)
+    by true c e = absurd cc
+    by false true e = (refl, w.1, w.2)
+    by false false e = (refl, w.1, w.2)
+
+pub ticked-waits : (a : Acknowledgement) (p : Peering) (now : ℕ) → IsReachable p → IsAnswering a p → IsAnswering a (ticked p now)
+ticked-waits a p now h w =
+    let still : IsStill p.outbox.unsequenced p.outbox.control p.outbox.senders =
+    subst (λ (s : PeerState). Rattle.enet_peer.specs.Reachable.IsStillIn s p.outbox.unsequenced p.outbox.control p.outbox.senders) w.0 h.still in
+    subst (λ (x : Peering). IsAnswering a (ticked x now)) (sym (is-at-end p w.0)) (ticked-at-end a p now (still-stays p.outbox now p.patience still) w)
+
+-- ---- a datagram goes
+
+some-goes : (pace : Pace) (to : Destination) (len : Option ℕ) (old new : Outbox) (buf : List ℕ) (m : Message) (more : List Message) → (filled pace old).messages ≡ m ∷ more → Emits pace to len old new buf
+    → is_some len ≡ true
+some-goes pace to None old new buf m more first e = absurd (let both : [] ≡ m ∷ more = sym e.0 ∙ first in cc)
+some-goes pace to (Some len) old new buf m more first e = refl
+
+long-enough : (n : ℕ) → 12 ≤ max 576 n
+long-enough n = omega arith
+
+pub answer-goes : (a : Acknowledgement) (now : ℕ) (len : Option ℕ) (p q : Peering) (buf : List ℕ) → IsAnswering a p → PutsOut now len p q buf → Answers a now len p q
+answer-goes a now len p q buf w out =
+    let first = oldest-first (pace_of p now) p.outbox a w.1 (long-enough (min p.terms.mtu 4096)) w.2 in
+    record {
+      goes = some-goes (pace_of p now) (destination_of p) len p.outbox out.outbox buf (acknowledgement_of a) first.0 first.1 out.emits;
+      more = first.0;
+      first = first.1;
+      ends = ap (λ (x : Peering). x.state) out.after ∙ ap (λ (s : PeerState). (gone_on_in s (record p { outbox = out.outbox })).state) w.0;
+    }
