@@ -1,7 +1,9 @@
 -- What a tree of packets keeps, and which of them are handed out.
-use Rattle.std.proofs.Common.{◌≡◌, ℕ, ◌+◌, ◌-◌, ◌*◌, ◌^◌, ◌<◌, ◌≤◌, ◌++◌, Bool, true, false, cond, List, [], ◌∷◌, length, sum_by, refl, sym, ap, subst, ◌∙◌, arith, Option, Some, None, Result, Ok, Err, OnOk, OnErr, All}
+use Rattle.std.proofs.Common.{◌≡◌, ℕ, ◌+◌, ◌-◌, ◌*◌, ◌^◌, ◌<◌, ◌≤◌, ◌++◌, Bool, true, false, cond, List, [], ◌∷◌, length, sum_by, refl, sym, ap, subst, ◌∙◌, arith, Option, Some, None, Result, Ok, Err, OnOk, OnErr, All, Ordering, Less, Equal, Greater}
 use Rattle.std.specs.Prelude.{◌&&◌, nat_lt}
-use Rattle.std.specs.Ordering.{nat_cmp}
+use Rattle.std.specs.Ordering.{nat_cmp, is_eq, match_ordering}
+use Rattle.std.specs.Cmp.{nat_cmp_is}
+use Rattle.std.proofs.lemmas.Map.Lookups.{exact_unsigned}
 use Rattle.std.specs.Cmp.{nat_cmp_total}
 use Rattle.std.specs.Option.{IfSome, option_map, unwrap_or}
 use Rattle.std.specs.List.Sorted.{IsStrictlySortedBy}
@@ -11,10 +13,10 @@ use Rattle.std.specs.FinMap.{from_entries, len}
 use Rattle.std.specs.FinMap.Entries.{where_key}
 use Rattle.std.proofs.lemmas.Bool.Decides.{nat_tests}
 use Rattle.std.proofs.lemmas.List.{append_assoc}
-use Rattle.std.proofs.lemmas.List.Elements.{All-head, All-tail}
+use Rattle.std.proofs.lemmas.List.Elements.{All-nil, All-cons, All-head, All-tail, All-weaker, All-from_recursion}
 use Rattle.std.proofs.lemmas.List.Sums.{sum_by-cons}
 use Rattle.std.proofs.lemmas.Map.{keys-set_value}
-use Rattle.std.proofs.lemmas.Map.Keys.{sorted_tail}
+use Rattle.std.proofs.lemmas.Map.Keys.{sorted_head, sorted_tail}
 use Rattle.std.proofs.lemmas.Map.Entries.{sum_by-insert_entry, sum_by-remove_entry, sum_by-set_value}
 use Rattle.std.proofs.lemmas.Map.Views.{IfSome-lookup_from_All, All-keys-insert_entry, All-values-insert_entry, All-map-remove_entry, All-values-set_value}
 use Rattle.enet_types.specs.declared.refusal.Refusal.{Refusal}
@@ -23,7 +25,7 @@ use Rattle.enet_fragment.specs.Making.{Making, with_piece}
 use Rattle.enet_fragment.specs.Whole.{is_whole}
 use Rattle.enet_packets.specs.declared.coming.Coming.{Coming}
 use Rattle.enet_packets.specs.declared.coming.Dispatched.{Dispatched}
-use Rattle.enet_packets.specs.Kept.{KeepsPackets, total_of}
+use Rattle.enet_packets.specs.Kept.{AreWholeUpTo, KeepsPackets, most_if, total_of}
 use Rattle.enet_packets.specs.Packets.{bytes_of, fresh, last_fresh, handed_out}
 use Rattle.enet_packets.proofs.Maps.{sum_bounded, length_bounded, len-sorted, values-sorted}
 
@@ -36,25 +38,127 @@ low_number n = n < 65536
 abbrev low_total : Coming → Type 0
 low_total c = total_of c ≤ 2 ^ 32 - 1
 
+-- ---- those past a number are in the making
+
+abbrev pub IsWholeUpTo : ℕ → ℕ × Coming → Type 0
+IsWholeUpTo most e = is_whole e.1.making ≡ true → e.0 ≤ most
+
+most_grows : (w : Bool) (most k : ℕ) → most ≤ most_if w most k
+most_grows true most k = grind arith
+most_grows false most k = omega arith
+
+most_reaches : (w : Bool) (most k : ℕ) → w ≡ true → k ≤ most_if w most k
+most_reaches true most k e = grind arith
+most_reaches false most k e = absurd (cc)
+
+whole-more : (most next : ℕ) (es : Entries) → most ≤ next → AreWholeUpTo most es → AreWholeUpTo next es
+whole-more most next [] up a = All-nil (IsWholeUpTo next)
+whole-more most next (e ∷ es) up a =
+    All-cons (IsWholeUpTo next) e es (λ w. (let low = All-head (IsWholeUpTo most) e es a w in omega arith)) (whole-more most next es up (All-tail (IsWholeUpTo most) e es a))
+
+whole-insert : (most k : ℕ) (v : Coming) (es : Entries) → AreWholeUpTo most es → AreWholeUpTo (most_if (is_whole v.making) most k) (insert_entry nat_cmp es k v)
+whole-insert most k v [] a = All-cons (IsWholeUpTo (most_if (is_whole v.making) most k)) (k, v) [] (most_reaches (is_whole v.making) most k) (All-nil (IsWholeUpTo (most_if (is_whole v.making) most k)))
+whole-insert most k v (e ∷ es) a = by (whole-insert most k v es (All-tail (IsWholeUpTo most) e es a)) (nat_cmp k e.0) refl
+  where
+    next : ℕ
+    next = most_if (is_whole v.making) most k
+
+    all : AreWholeUpTo next (e ∷ es)
+    all = whole-more most next (e ∷ es) (most_grows (is_whole v.making) most k) a
+
+    by : AreWholeUpTo next (insert_entry nat_cmp es k v) → (r : Ordering) → nat_cmp k e.0 ≡ r → AreWholeUpTo next (match_ordering r ((k, v) ∷ e ∷ es) ((e.0, v) ∷ es) (e ∷ insert_entry nat_cmp es k v))
+    by rest Less t = All-cons (IsWholeUpTo next) (k, v) (e ∷ es) (most_reaches (is_whole v.making) most k) all
+    by rest Equal t =
+        All-cons (IsWholeUpTo next) (e.0, v) es (λ w. (let same : k ≡ e.0 = exact_unsigned k e.0 t in let up = most_reaches (is_whole v.making) most k w in omega arith)) (All-tail (IsWholeUpTo next) e es all)
+    by rest Greater t = All-cons (IsWholeUpTo next) e (insert_entry nat_cmp es k v) (All-head (IsWholeUpTo next) e es all) rest
+
+equal_at : (r : Ordering) → is_eq r ≡ true → r ≡ Equal
+equal_at Less e = absurd (cc)
+equal_at Equal e = refl
+equal_at Greater e = absurd (cc)
+
+whole-set : (most k : ℕ) (w : Coming) (es : Entries) → AreWholeUpTo most es → AreWholeUpTo (most_if (is_whole w.making) most k) (set_value (is_at (nat_cmp k)) es w)
+whole-set most k w [] a = All-nil (IsWholeUpTo (most_if (is_whole w.making) most k))
+whole-set most k w (e ∷ es) a = by (whole-set most k w es (All-tail (IsWholeUpTo most) e es a)) (is_at (nat_cmp k) e.0) refl
+  where
+    next : ℕ
+    next = most_if (is_whole w.making) most k
+
+    all : AreWholeUpTo next (e ∷ es)
+    all = whole-more most next (e ∷ es) (most_grows (is_whole w.making) most k) a
+
+    by : AreWholeUpTo next (set_value (is_at (nat_cmp k)) es w) → (b : Bool) → is_at (nat_cmp k) e.0 ≡ b → AreWholeUpTo next (cond b ((e.0, w) ∷ es) (e ∷ set_value (is_at (nat_cmp k)) es w))
+    by rest true t =
+        All-cons (IsWholeUpTo next) (e.0, w) es (λ h. (let same : k ≡ e.0 = exact_unsigned k e.0 (equal_at (nat_cmp k e.0) t) in let up = most_reaches (is_whole w.making) most k h in omega arith)) (All-tail (IsWholeUpTo next) e es all)
+    by rest false t = All-cons (IsWholeUpTo next) e (set_value (is_at (nat_cmp k)) es w) (All-head (IsWholeUpTo next) e es all) rest
+
+whole-remove : (most : ℕ) (test : ℕ → Bool) (es : Entries) → AreWholeUpTo most es → AreWholeUpTo most (remove_entry test es)
+whole-remove most test [] a = a
+whole-remove most test (e ∷ es) a = by (whole-remove most test es (All-tail (IsWholeUpTo most) e es a)) (test e.0)
+  where
+    by : AreWholeUpTo most (remove_entry test es) → (b : Bool) → AreWholeUpTo most (cond b es (e ∷ remove_entry test es))
+    by rest true = All-tail (IsWholeUpTo most) e es a
+    by rest false = All-cons (IsWholeUpTo most) e (remove_entry test es) (All-head (IsWholeUpTo most) e es a) rest
+
+less_than : (x y : ℕ) → nat_cmp x y ≡ Less → x < y
+less_than x y e = grind (arith, nat_cmp_is)
+
+-- past the first that is past a number all are
+all_past : (most : ℕ) (e : ℕ × Coming) (es : Entries) → most < e.0 → IsStrictlySortedBy nat_cmp (keys_of (e ∷ es)) → All (λ (k : ℕ). most < k) (keys_of (e ∷ es))
+all_past most e es high sorted =
+    All-cons (λ (k : ℕ). most < k) e.0 (keys_of es) high
+    (All-weaker (λ (y : ℕ). nat_cmp e.0 y ≡ Less) (λ (k : ℕ). most < k) (λ y t. (let up = less_than e.0 y t in omega arith)) (keys_of es)
+    (All-from_recursion (λ (y : ℕ). nat_cmp e.0 y ≡ Less) (keys_of es) (sorted_head nat_cmp e.0 (keys_of es) sorted)))
+
+-- none of those is handed out
+pub none_fresh : (most last : ℕ) (es : Entries) → AreWholeUpTo most es → All (λ (k : ℕ). most < k) (keys_of es) → (last_fresh last es ≡ last) × (fresh last es ≡ [])
+none_fresh most last [] a high = (refl, refl)
+none_fresh most last (e ∷ es) a high =
+    by (none_fresh most last es (All-tail (IsWholeUpTo most) e es a) (All-tail (λ (k : ℕ). most < k) e.0 (keys_of es) high)) (is_whole e.1.making) refl
+  where
+    by : (last_fresh last es ≡ last) × (fresh last es ≡ []) → (w : Bool) → is_whole e.1.making ≡ w
+        → (cond (w && nat_lt last e.0) (last_fresh e.0 es) (last_fresh last es) ≡ last) × (cond (w && nat_lt last e.0) (handed_out e.1 ∷ fresh e.0 es) (fresh last es) ≡ [])
+    by rest true t = absurd (let low = All-head (IsWholeUpTo most) e es a t in let past = All-head (λ (k : ℕ). most < k) e.0 (keys_of es) high in omega arith)
+    by rest false t = rest
+
+pub none_fresh_past : (most last : ℕ) (e : ℕ × Coming) (es : Entries) → AreWholeUpTo most (e ∷ es) → IsStrictlySortedBy nat_cmp (keys_of (e ∷ es)) → most < e.0
+    → (last_fresh last (e ∷ es) ≡ last) × (fresh last (e ∷ es) ≡ [])
+none_fresh_past most last e es a sorted high = none_fresh most last (e ∷ es) a (all_past most e es high sorted)
+
+-- the same of what is left to look at after a packet
+pub left_after : (most : ℕ) (all : Entries) (e : ℕ × Coming) (es : Entries) → all ≡ e ∷ es → IsStrictlySortedBy nat_cmp (keys_of all) → AreWholeUpTo most all
+    → IsStrictlySortedBy nat_cmp (keys_of es) × AreWholeUpTo most es
+left_after most all e es is sorted whole = (
+  sorted_tail nat_cmp e.0 (keys_of es) (subst (λ (xs : Entries). IsStrictlySortedBy nat_cmp (keys_of xs)) is sorted),
+  All-tail (IsWholeUpTo most) e es (subst (λ (xs : Entries). AreWholeUpTo most xs) is whole),
+)
+
+-- nothing is handed out any more where the next packet is past that number
+pub none_fresh_after : (most last : ℕ) (all : Entries) (e : ℕ × Coming) (es : Entries) → all ≡ e ∷ es → IsStrictlySortedBy nat_cmp (keys_of all) → AreWholeUpTo most all → most < e.0
+    → (last_fresh last all ≡ last) × (fresh last all ≡ [])
+none_fresh_after most last all e es is sorted whole high =
+    subst (λ (xs : Entries). (last_fresh last xs ≡ last) × (fresh last xs ≡ [])) (sym is)
+    (none_fresh_past most last e es (subst (λ (xs : Entries). AreWholeUpTo most xs) is whole) (subst (λ (xs : Entries). IsStrictlySortedBy nat_cmp (keys_of xs)) is sorted) high)
+
 -- the packets' bytes are bounded
-pub bytes_bounded : (es : Entries) (bytes : ℕ) → KeepsPackets es bytes → bytes < 2 ^ 48
-bytes_bounded es bytes keeps =
+pub bytes_bounded : (es : Entries) (bytes most : ℕ) → KeepsPackets es bytes most → bytes < 2 ^ 48
+bytes_bounded es bytes most keeps =
     let bound : sum_by total_of (values_of es) ≤ 65536 * (2 ^ 32 - 1) = sum_bounded total_of (2 ^ 32 - 1) es keeps.sorted keeps.numbers keeps.totals in
     let same = keeps.counted in
     omega arith
 
-pub few_kept : (es : Entries) (bytes : ℕ) → KeepsPackets es bytes → len (from_entries {R = nat_cmp} es) ≤ 65536
-few_kept es bytes keeps =
+pub few_kept : (es : Entries) (bytes most : ℕ) → KeepsPackets es bytes most → len (from_entries {R = nat_cmp} es) ≤ 65536
+few_kept es bytes most keeps =
     let few = length_bounded es keeps.sorted keeps.numbers in
     let all = len-sorted es keeps.sorted in
     omega arith
 
-pub light_kept : (es : Entries) (bytes : ℕ) → KeepsPackets es bytes → bytes_of (from_entries {R = nat_cmp} es) < 2 ^ 48
-light_kept es bytes keeps = subst (λ n. n < 2 ^ 48) (keeps.counted ∙ sym (values-sorted es keeps.sorted total_of)) (bytes_bounded es bytes keeps)
+pub light_kept : (es : Entries) (bytes most : ℕ) → KeepsPackets es bytes most → bytes_of (from_entries {R = nat_cmp} es) < 2 ^ 48
+light_kept es bytes most keeps = subst (λ n. n < 2 ^ 48) (keeps.counted ∙ sym (values-sorted es keeps.sorted total_of)) (bytes_bounded es bytes most keeps)
 
-pub keeps-insert : (es fs : Entries) (bytes k : ℕ) (v : Coming) → k < 65536 → total_of v < 2 ^ 32 → lookup (is_at (nat_cmp k)) es ≡ None
-    → fs ≡ insert_entry nat_cmp es k v → IsStrictlySortedBy nat_cmp (keys_of fs) → KeepsPackets es bytes → KeepsPackets fs (bytes + total_of v)
-keeps-insert es fs bytes k v low short absent is sorted keeps = record {
+pub keeps-insert : (es fs : Entries) (bytes most k : ℕ) (v : Coming) → k < 65536 → total_of v < 2 ^ 32 → lookup (is_at (nat_cmp k)) es ≡ None
+    → fs ≡ insert_entry nat_cmp es k v → IsStrictlySortedBy nat_cmp (keys_of fs) → KeepsPackets es bytes most → KeepsPackets fs (bytes + total_of v) (most_if (is_whole v.making) most k)
+keeps-insert es fs bytes most k v low short absent is sorted keeps = record {
   sorted = sorted;
   numbers = rw is (All-keys-insert_entry nat_cmp k v low_number es keeps.numbers low);
   totals = rw is (All-values-insert_entry nat_cmp k v low_total es keeps.totals (omega arith));
@@ -65,12 +169,13 @@ keeps-insert es fs bytes k v low short absent is sorted keeps = record {
       let none : unwrap_or (option_map total_of (lookup (is_at (nat_cmp k)) es)) 0 ≡ 0 = ap (λ (o : Option Coming). unwrap_or (option_map total_of o) 0) absent in
       let new : sum_by total_of (values_of fs) ≡ sum_by total_of (values_of (insert_entry nat_cmp es k v)) = ap (λ (xs : Entries). sum_by total_of (values_of xs)) is in
       omega arith);
+  whole = subst (λ (xs : Entries). AreWholeUpTo (most_if (is_whole v.making) most k) xs) (sym is) (whole-insert most k v es keeps.whole);
 }
 
 -- a packet that changes and keeps its length
-pub keeps-set : (es fs : Entries) (bytes k : ℕ) (v w : Coming) → lookup (is_at (nat_cmp k)) es ≡ Some v → total_of w ≡ total_of v
-    → fs ≡ set_value (is_at (nat_cmp k)) es w → KeepsPackets es bytes → KeepsPackets fs bytes
-keeps-set es fs bytes k v w there same is keeps =
+pub keeps-set : (es fs : Entries) (bytes most k : ℕ) (v w : Coming) → lookup (is_at (nat_cmp k)) es ≡ Some v → total_of w ≡ total_of v
+    → fs ≡ set_value (is_at (nat_cmp k)) es w → KeepsPackets es bytes most → KeepsPackets fs bytes (most_if (is_whole w.making) most k)
+keeps-set es fs bytes most k v w there same is keeps =
     let low : total_of v ≤ 2 ^ 32 - 1 = subst (λ (o : Option Coming). IfSome o low_total) there (IfSome-lookup_from_All low_total (is_at (nat_cmp k)) es keeps.totals) in
     let keys : keys_of fs ≡ keys_of es = ap (λ (xs : Entries). keys_of xs) is ∙ keys-set_value (is_at (nat_cmp k)) es w in
     record {
@@ -82,35 +187,38 @@ keeps-set es fs bytes k v w there same is keeps =
           let sum = sum_by-set_value total_of (is_at (nat_cmp k)) es v w there in
           let new : sum_by total_of (values_of fs) ≡ sum_by total_of (values_of (set_value (is_at (nat_cmp k)) es w)) = ap (λ (xs : Entries). sum_by total_of (values_of xs)) is in
           omega arith);
+      whole = subst (λ (xs : Entries). AreWholeUpTo (most_if (is_whole w.making) most k) xs) (sym is) (whole-set most k w es keeps.whole);
     }
 
-pub bytes_removed : (es fs : Entries) (bytes k : ℕ) (v : Coming) → lookup (is_at (nat_cmp k)) es ≡ Some v
-    → fs ≡ remove_entry (is_at (nat_cmp k)) es → KeepsPackets es bytes → bytes ≡ sum_by total_of (values_of fs) + total_of v
-bytes_removed es fs bytes k v there is keeps =
+pub bytes_removed : (es fs : Entries) (bytes most k : ℕ) (v : Coming) → lookup (is_at (nat_cmp k)) es ≡ Some v
+    → fs ≡ remove_entry (is_at (nat_cmp k)) es → KeepsPackets es bytes most → bytes ≡ sum_by total_of (values_of fs) + total_of v
+bytes_removed es fs bytes most k v there is keeps =
     let was = keeps.counted in
     let sum = sum_by-remove_entry total_of (is_at (nat_cmp k)) es in
     let some' : unwrap_or (option_map total_of (lookup (is_at (nat_cmp k)) es)) 0 ≡ total_of v = ap (λ (o : Option Coming). unwrap_or (option_map total_of o) 0) there in
     let new : sum_by total_of (values_of fs) ≡ sum_by total_of (values_of (remove_entry (is_at (nat_cmp k)) es)) = ap (λ (xs : Entries). sum_by total_of (values_of xs)) is in
     omega arith
 
-pub keeps-remove : (es fs : Entries) (bytes k : ℕ) (v : Coming) → lookup (is_at (nat_cmp k)) es ≡ Some v
-    → fs ≡ remove_entry (is_at (nat_cmp k)) es → IsStrictlySortedBy nat_cmp (keys_of fs) → KeepsPackets es bytes → KeepsPackets fs (bytes - total_of v)
-keeps-remove es fs bytes k v there is sorted keeps = record {
+pub keeps-remove : (es fs : Entries) (bytes most k : ℕ) (v : Coming) → lookup (is_at (nat_cmp k)) es ≡ Some v
+    → fs ≡ remove_entry (is_at (nat_cmp k)) es → IsStrictlySortedBy nat_cmp (keys_of fs) → KeepsPackets es bytes most → KeepsPackets fs (bytes - total_of v) most
+keeps-remove es fs bytes most k v there is sorted keeps = record {
   sorted = sorted;
   numbers = rw is (All-map-remove_entry (is_at (nat_cmp k)) (λ (e : ℕ × Coming). e.0) low_number es keeps.numbers);
   totals = rw is (All-map-remove_entry (is_at (nat_cmp k)) (λ (e : ℕ × Coming). e.1) low_total es keeps.totals);
-  counted = (let sum = bytes_removed es fs bytes k v there is keeps in omega arith);
+  counted = (let sum = bytes_removed es fs bytes most k v there is keeps in omega arith);
+  whole = subst (λ (xs : Entries). AreWholeUpTo most xs) (sym is) (whole-remove most (is_at (nat_cmp k)) es keeps.whole);
 }
 
-pub bytes_popped : (e : ℕ × Coming) (es : Entries) (bytes : ℕ) → KeepsPackets (e ∷ es) bytes → bytes ≡ total_of e.1 + sum_by total_of (values_of es)
-bytes_popped e es bytes keeps = keeps.counted ∙ sum_by-cons total_of e.1 (values_of es)
+pub bytes_popped : (e : ℕ × Coming) (es : Entries) (bytes most : ℕ) → KeepsPackets (e ∷ es) bytes most → bytes ≡ total_of e.1 + sum_by total_of (values_of es)
+bytes_popped e es bytes most keeps = keeps.counted ∙ sum_by-cons total_of e.1 (values_of es)
 
-pub keeps-pop : (e : ℕ × Coming) (es : Entries) (bytes : ℕ) → KeepsPackets (e ∷ es) bytes → KeepsPackets es (bytes - total_of e.1)
-keeps-pop e es bytes keeps = record {
+pub keeps-pop : (e : ℕ × Coming) (es : Entries) (bytes most : ℕ) → KeepsPackets (e ∷ es) bytes most → KeepsPackets es (bytes - total_of e.1) most
+keeps-pop e es bytes most keeps = record {
   sorted = sorted_tail nat_cmp e.0 (keys_of es) keeps.sorted;
   numbers = All-tail low_number e.0 (keys_of es) keeps.numbers;
   totals = All-tail low_total e.1 (values_of es) keeps.totals;
-  counted = (let sum = bytes_popped e es bytes keeps in omega arith);
+  counted = (let sum = bytes_popped e es bytes most keeps in omega arith);
+  whole = All-tail (IsWholeUpTo most) e es keeps.whole;
 }
 
 -- a piece that comes leaves the packet's length as it is

@@ -1,10 +1,11 @@
 -- What the fields of packets keep.
-use Rattle.std.specs.Prelude.{◌≡◌, ℕ, ◌+◌, ◌^◌, ◌-◌, ◌<◌, ◌≤◌, List, All, sum_by, unwrap_or}
+use Rattle.std.specs.Prelude.{◌≡◌, ℕ, ◌+◌, ◌^◌, ◌-◌, ◌<◌, ◌≤◌, List, All, sum_by, unwrap_or, Bool, true, max, if◌then◌else◌, Result, Ok, Err}
 use Rattle.std.specs.Ordering.{nat_cmp}
 use Rattle.std.specs.List.Sorted.{IsStrictlySortedBy}
 use Rattle.std.specs.Map.{keys_of, values_of, lookup}
 use Rattle.std.specs.BTreeMap.{is_at}
 use Rattle.std.specs.FinMap.{FinMap, len, empty, from_entries}
+use Rattle.enet_fragment.specs.Whole.{is_whole}
 use Rattle.enet_packets.specs.declared.coming.Coming.{Coming}
 use Rattle.enet_packets.specs.Packets.{bytes_of, with_line}
 
@@ -12,12 +13,25 @@ use Rattle.enet_packets.specs.Packets.{bytes_of, with_line}
 abbrev pub total_of : Coming → ℕ
 total_of c = c.making.total
 
--- The numbers rise and have 16 bits, and the counter is the sum of the packets' bytes.
-pub record KeepsPackets (entries : List (ℕ × Coming)) (bytes : ℕ) : Type 0 where
+-- no whole packet has a number above this one
+abbrev pub AreWholeUpTo : ℕ → List (ℕ × Coming) → Type 0
+AreWholeUpTo most entries = All (λ (e : ℕ × Coming). is_whole e.1.making ≡ true → e.0 ≤ most) entries
+
+-- the number past which no packet is whole, once the packet of a number came or grew
+abbrev pub most_if : Bool → ℕ → ℕ → ℕ
+most_if is_whole most number = if is_whole then max most number else most
+
+abbrev pub most_with : {E : Type 0} → Result Bool E → ℕ → ℕ → ℕ
+most_with (Ok is_whole) most number = most_if is_whole most number
+most_with (Err why) most number = most
+
+-- The numbers rise and have 16 bits, the counter is the sum of the packets' bytes, and those past `most` are in the making.
+pub record KeepsPackets (entries : List (ℕ × Coming)) (bytes most : ℕ) : Type 0 where
   pub sorted : IsStrictlySortedBy nat_cmp (keys_of entries)
   pub numbers : All (λ (n : ℕ). n < 65536) (keys_of entries)
   pub totals : All (λ (c : Coming). total_of c ≤ 2 ^ 32 - 1) (values_of entries)
   pub counted : bytes ≡ sum_by total_of (values_of entries)
+  pub whole : AreWholeUpTo most entries
 
 -- a line of packets has at most one for each number
 pub record KeepsLine (line : FinMap nat_cmp Coming) : Type 0 where

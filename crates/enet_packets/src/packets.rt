@@ -22,6 +22,8 @@ use std::marker::Model;
 pub struct Packets {
     packets: BTreeMap<u16, Coming>,
     bytes: u64,
+    /// No whole packet has a number above this one, so those past it are in the making and need not be looked at.
+    last_whole: u16,
 }
 
 impl Model for Packets {
@@ -37,11 +39,11 @@ impl Model for Packets {
 
     ghost view = { λ p. from_entries p.packets.entries };
 
-    ghost invariant = { λ p. KeepsPackets p.packets.entries p.bytes };
+    ghost invariant = { λ p. KeepsPackets p.packets.entries p.bytes p.last_whole };
 }
 
 ghost use Rattle.enet_packets.specs.declared.coming.Coming.{Coming};
-ghost use Rattle.enet_packets.specs.Kept.{KeepsPackets};
+ghost use Rattle.enet_packets.specs.Kept.{KeepsPackets, most_if, most_with};
 ghost use Rattle.enet_packets.specs.Packets.{bytes_of, fresh, last_fresh, still_ahead, handed_out};
 
 /// Adds a packet, where memory is not refused.
@@ -56,24 +58,38 @@ fn put(packets: &mut BTreeMap<u16, Coming>, number: u16, coming: Coming) -> bool
     }
 }
 
-/// Adds a piece to the packet of this number.
+/// Adds a piece to the packet of this number. Answers whether that is whole then.
 fn add_piece(
     packets: &mut BTreeMap<u16, Coming>,
     number: u16,
     place: Place,
     bytes: &[u8],
-) -> Result<(), Refusal>
+) -> Result<bool, Refusal>
     requires fits { place.len ≡ length bytes.now }
     requires there { IsSomeAnd (tree.get nat_cmp packets.old number) (λ c. IsTrue (belongs c.making place) × (piece_at c.making place.number ≡ None)) }
     ensures ok { OnOk result ((c : Coming) → tree.get nat_cmp packets.old number ≡ Some c
         → packets.new.entries ≡ set_value (tree.is_at (nat_cmp number)) packets.old.entries (record { flags = c.flags; making = with_piece c.making place bytes.now })) }
     ensures err { OnErr result (packets.new.entries ≡ packets.old.entries) }
     ensures memory { IfErr result (λ why. why ≡ Refusal.Memory) }
-    ensures kept { (bytes : ℕ) → KeepsPackets packets.old.entries bytes → KeepsPackets packets.new.entries bytes }
+    ensures kept { (bytes most : ℕ) → KeepsPackets packets.old.entries bytes most → KeepsPackets packets.new.entries bytes (most_with result most number) }
 {
     match packets.get_mut(&number) {
-        Some(coming) => coming.making.add(place, bytes),
-        None => Ok(()),
+        Some(coming) => match coming.making.add(place, bytes) {
+            Ok(()) => Ok(coming.making.is_whole()),
+            Err(why) => Err(why),
+        },
+        None => Ok(false),
+    }
+}
+
+/// The number past which no packet is whole, once the one of this number came or grew.
+fn whole_up_to(last_whole: u16, number: u16, is_whole: bool) -> u16
+    ensures { result ≡ most_if is_whole last_whole number }
+{
+    if is_whole {
+        last_whole.max(number)
+    } else {
+        last_whole
     }
 }
 
@@ -120,6 +136,7 @@ impl Packets {
         Packets {
             packets: BTreeMap::new(alloc),
             bytes: 0,
+            last_whole: 0,
         }
     }
 
@@ -157,10 +174,12 @@ impl Packets {
         ensures light { bytes_of self.new < 2 ^ 48 }
     {
         let total = u64::from(coming.making.total());
+        let is_whole = coming.making.is_whole();
         if !put(&mut self.packets, number, coming) {
             return Err(Refusal::Memory);
         }
         self.bytes += total;
+        self.last_whole = whole_up_to(self.last_whole, number, is_whole);
         Ok(())
     }
 
@@ -174,7 +193,9 @@ impl Packets {
         ensures err { OnErr result (self.new ≡ self.old) }
         ensures memory { IfErr result (λ why. why ≡ Refusal.Memory) }
     {
-        add_piece(&mut self.packets, number, place, bytes)
+        let is_whole = add_piece(&mut self.packets, number, place, bytes)?;
+        self.last_whole = whole_up_to(self.last_whole, number, is_whole);
+        Ok(())
     }
 
     /// Takes the packet of this number out.
@@ -193,14 +214,19 @@ impl Packets {
     {
         self.packets.clear();
         self.bytes = 0;
+        self.last_whole = 0;
     }
 
-    /// The number of the last packet that `dispatch` would hand out, and `last` where it would hand out none.
+    /// The number of the last packet that `dispatch` would hand out, and `last` where it would hand out none. It looks at no
+    /// packet that stays behind.
     pub fn last_fresh(&self, last: u16) -> u16
         ensures { result ≡ last_fresh last (map.entries self.now) }
     {
         let mut newest = last;
         for (number, coming) in &self.packets {
+            if *number > self.last_whole {
+                return newest;
+            }
             if is_fresh(*number, coming, newest) {
                 newest = *number;
             }
@@ -208,13 +234,16 @@ impl Packets {
         newest
     }
 
-    /// How many packets `dispatch` would hand out.
+    /// How many packets `dispatch` would hand out. It looks at no packet that stays behind.
     pub fn fresh_count(&self, last: u16) -> u32
         ensures { result ≡ length (fresh last (map.entries self.now)) }
     {
         let mut newest = last;
         let mut count = 0;
         for (number, coming) in &self.packets {
+            if *number > self.last_whole {
+                return count;
+            }
             if is_fresh(*number, coming, newest) {
                 newest = *number;
                 count += 1;

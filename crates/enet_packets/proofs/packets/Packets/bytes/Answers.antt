@@ -8,4 +8,4 @@ pub returns-clause-bytes : goal.returns-clause-bytes
 returns-clause-bytes c = rw (← c.self.view_is) (c.self.invariant.counted ∙ sym (values-sorted c.self.inside.packets.entries c.self.invariant.sorted total_of))
 
 pub returns-clause-small : goal.returns-clause-small
-returns-clause-small c = bytes_bounded c.self.inside.packets.entries c.self.inside.bytes c.self.invariant
+returns-clause-small c = bytes_bounded c.self.inside.packets.entries c.self.inside.bytes c.self.inside.last_whole c.self.invariant

@@ -46,7 +46,7 @@ loop-number-preserved c =
     let one = c.hand_out.ensures.room in
     let same = c.hand_out.ensures.capacity in
     record {
-      keeps = subst (λ n. KeepsPackets fs (bytes - n)) (sym total) (keeps-pop e fs bytes (subst (λ (xs : Entries). KeepsPackets xs bytes) front c.loop-number.invariant.keeps));
+      keeps = subst (λ n. KeepsPackets fs (bytes - n) c.loop-number.self-inside.last_whole) (sym total) (keeps-pop e fs bytes c.loop-number.self-inside.last_whole (subst (λ (xs : Entries). KeepsPackets xs bytes c.loop-number.self-inside.last_whole) front c.loop-number.invariant.keeps));
       last = ap (λ n. last_fresh n fs) c.hand_out.ensures.last ∙ sym (last_step last e fs) ∙ ap (last_fresh last) (sym front) ∙ c.loop-number.invariant.last;
       items =
           (λ i. c.hand_out.ensures.items i ++ fresh (c.hand_out.ensures.last i) fs)

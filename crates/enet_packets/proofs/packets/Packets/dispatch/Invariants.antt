@@ -10,7 +10,7 @@ use Rattle.enet_packets.proofs.packets.Packets.dispatch.Given as goal
 
 abbrev pub invariant-loop-number : goal.invariant-loop-number
 invariant-loop-number l = record {
-  keeps : KeepsPackets l.self-inside.packets.entries l.self-inside.bytes;
+  keeps : KeepsPackets l.self-inside.packets.entries l.self-inside.bytes l.self-inside.last_whole;
   last : last_fresh l.last l.self-inside.packets.entries ≡ l.until;
   items : l.dispatched.items ++ fresh l.last l.self-inside.packets.entries ≡ l.initial.dispatched.items ++ fresh l.initial.last l.initial.self-inside.packets.entries;
   stays : where_key nat_cmp (nat_lt l.until) l.self-inside.packets.entries ≡ where_key nat_cmp (nat_lt l.until) l.initial.self-inside.packets.entries;

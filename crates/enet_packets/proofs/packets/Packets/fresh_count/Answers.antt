@@ -1,16 +1,56 @@
-use Rattle.std.proofs.Common.{◌≡◌, length, sym, ap, ◌∙◌, arith, rules, zero-add}
+use Rattle.std.proofs.Common.{◌≡◌, ℕ, ◌+◌, List, cond, length, sym, ap, subst, ◌∙◌, arith, rules, zero-add}
 use Rattle.std.specs.Ordering.{nat_cmp}
 use Rattle.std.specs.FinMap.{FinMap, entries}
 use Rattle.enet_packets.specs.declared.coming.Coming.{Coming}
 use Rattle.enet_packets.specs.Packets.{fresh}
 use Rattle.enet_packets.proofs.Maps.{entries-sorted, length_bounded}
-use Rattle.enet_packets.proofs.PacketLemmas.{Entries, length-fresh}
+use Rattle.enet_packets.proofs.PacketLemmas.{Entries, count_step, left_after, length-fresh, none_fresh_after}
+use Rattle.enet_packets.specs.declared.coming.Dispatched.{Dispatched}
+use Rattle.std.specs.List.Sorted.{IsStrictlySortedBy}
+use Rattle.std.specs.Map.{keys_of}
+use Rattle.enet_packets.specs.Kept.{AreWholeUpTo}
 use Rattle.enet_packets.proofs.packets.Packets.fresh_count.Goals as goal
 
 pub loop-number-init : goal.loop-number-init
 loop-number-init c =
     let start : c.into_iter-number-iterator.result ≡ c.self.inside.packets.entries = search rules in
-    zero-add _ ∙ ap (λ (es : Entries). length (fresh c.args.last es)) (start ∙ sym (entries-sorted c.self.inside.packets.entries c.self.invariant.sorted) ∙ ap (λ (m : FinMap nat_cmp Coming). entries m) c.self.view_is)
+    record {
+      so_far =
+          zero-add _
+          ∙ ap (λ (es : Entries). length (fresh c.args.last es)) (start ∙ sym (entries-sorted c.self.inside.packets.entries c.self.invariant.sorted) ∙ ap (λ (m : FinMap nat_cmp Coming). entries m) c.self.view_is);
+      sorted = subst (λ (xs : Entries). IsStrictlySortedBy nat_cmp (keys_of xs)) (sym start) c.self.invariant.sorted;
+      whole = subst (λ (xs : Entries). AreWholeUpTo c.self.inside.last_whole xs) (sym start) c.self.invariant.whole;
+    }
+
+pub returns-then-number-self : goal.returns-then-number-self
+returns-then-number-self c =
+    let l = c.loop-number in
+    let none = none_fresh_after c.self.inside.last_whole l.newest l.number-iterator (c.in-Some.number.now, c.in-Some.coming.now) c.next.new.self c.in-Some.ensures.steps l.invariant.sorted l.invariant.whole c.if-number-self.true in
+    let nothing : length (fresh l.newest l.number-iterator) ≡ 0 = ap (λ (ds : List Dispatched). length ds) none.1 in
+    let so_far = l.invariant.so_far in
+    omega arith
+
+pub loop-number-preserved-then-is_fresh : goal.loop-number-preserved-then-is_fresh
+loop-number-preserved-then-is_fresh c =
+    let l = c.loop-number in
+    let e : ℕ × Coming = (c.in-Some.number.now, c.in-Some.coming.now) in
+    let left = left_after c.self.inside.last_whole l.number-iterator e c.next.new.self c.in-Some.ensures.steps l.invariant.sorted l.invariant.whole in
+    let step : length (fresh l.newest l.number-iterator) ≡ 1 + length (fresh e.0 c.next.new.self) =
+    ap (λ (es : Entries). length (fresh l.newest es)) c.in-Some.ensures.steps ∙ count_step l.newest e c.next.new.self
+    ∙ ap (λ b. cond b 1 0 + length (fresh (cond b e.0 l.newest) c.next.new.self)) (sym c.is_fresh.ensures ∙ c.if-is_fresh.true) in
+    let so_far = l.invariant.so_far in
+    record { so_far = omega arith; sorted = left.0; whole = left.1 }
+
+pub loop-number-preserved : goal.loop-number-preserved
+loop-number-preserved c =
+    let l = c.loop-number in
+    let e : ℕ × Coming = (c.in-Some.number.now, c.in-Some.coming.now) in
+    let left = left_after c.self.inside.last_whole l.number-iterator e c.next.new.self c.in-Some.ensures.steps l.invariant.sorted l.invariant.whole in
+    let step : length (fresh l.newest l.number-iterator) ≡ 0 + length (fresh l.newest c.next.new.self) =
+    ap (λ (es : Entries). length (fresh l.newest es)) c.in-Some.ensures.steps ∙ count_step l.newest e c.next.new.self
+    ∙ ap (λ b. cond b 1 0 + length (fresh (cond b e.0 l.newest) c.next.new.self)) (sym c.is_fresh.ensures ∙ c.if-is_fresh.false) in
+    let so_far = l.invariant.so_far in
+    record { so_far = omega arith; sorted = left.0; whole = left.1 }
 
 pub overflow_add-count : goal.overflow_add-count
 overflow_add-count c =
@@ -18,5 +58,5 @@ overflow_add-count c =
     let all : length (entries c.args.self.now) ≡ length c.self.inside.packets.entries =
     ap (λ (m : FinMap nat_cmp Coming). length (entries m)) (sym c.self.view_is) ∙ ap (λ (es : Entries). length es) (entries-sorted c.self.inside.packets.entries c.self.invariant.sorted) in
     let most = length-fresh c.args.last (entries c.args.self.now) in
-    let so_far = c.loop-number.invariant in
+    let so_far = c.loop-number.invariant.so_far in
     omega arith

@@ -17,7 +17,7 @@ pub overflow_sub-self : goal.overflow_sub-self
 overflow_sub-self c =
     let es = c.self.inside.packets.entries in
     let found : lookup (is_at (nat_cmp c.args.number)) es ≡ Some c.in_ok-coming.coming = sym c.in_ok-coming.ensures.value in
-    let sum = bytes_removed es c.remove.new.self.entries c.self.inside.bytes c.args.number c.in_ok-coming.coming found c.in_ok-coming.ensures.entries c.self.invariant in
+    let sum = bytes_removed es c.remove.new.self.entries c.self.inside.bytes c.self.inside.last_whole c.args.number c.in_ok-coming.coming found c.in_ok-coming.ensures.entries c.self.invariant in
     let total : c.from.result ≡ total_of c.in_ok-coming.coming = c.from.ensures ∙ c.total.ensures in
     omega arith
 
@@ -26,8 +26,8 @@ invariant_of-self-2 c =
     let es = c.self.inside.packets.entries in
     let found : lookup (is_at (nat_cmp c.args.number)) es ≡ Some c.in_ok-coming.coming = sym c.in_ok-coming.ensures.value in
     let total : c.from.result ≡ total_of c.in_ok-coming.coming = c.from.ensures ∙ c.total.ensures in
-    subst (λ n. KeepsPackets c.remove.new.self.entries (c.self.inside.bytes - n)) (sym total)
-    (keeps-remove es c.remove.new.self.entries c.self.inside.bytes c.args.number c.in_ok-coming.coming found c.in_ok-coming.ensures.entries c.in_ok-coming.ensures.ordered c.self.invariant)
+    subst (λ n. KeepsPackets c.remove.new.self.entries (c.self.inside.bytes - n) c.self.inside.last_whole) (sym total)
+    (keeps-remove es c.remove.new.self.entries c.self.inside.bytes c.self.inside.last_whole c.args.number c.in_ok-coming.coming found c.in_ok-coming.ensures.entries c.in_ok-coming.ensures.ordered c.self.invariant)
 
 pub returns-clause-value : goal.returns-clause-value
 returns-clause-value c = rw (← c.self.view_is) (c.in_ok-coming.ensures.value ∙ sym (get-from c.self.inside.packets.entries c.args.number))
