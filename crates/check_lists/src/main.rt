@@ -1,15 +1,14 @@
 //! Draws 1,000 lists of 200 events on a joined pair of peers, lets each happen, and tests after each that what the users
-//! were given follows what was submitted. The draws begin at seed 1, so each run is the same. It prints how much was
-//! submitted and dispatched; where a list does not follow it ends with status 1 and that list's number.
+//! were given follows what was submitted; before that it judges worked cases. The draws begin at seed 1, so each run is the same.
+//! It prints how much was submitted and dispatched; where a list does not follow it ends with status 1 and that list's number.
 #![tactic(auto)]
 
+mod cases;
 mod counting;
 mod drawing;
 mod following;
 mod list;
 mod outcome;
-#[cfg(test)]
-mod tests;
 
 use anyhow::{Result, bail};
 use counting::Counts;
@@ -26,6 +25,8 @@ fn main(rt: HostRuntime) -> Result<()> {
 }
 
 fn run<R: Print>(rt: &R, alloc: Global) -> Result<()> {
+    let cases = cases::judged(alloc)?;
+    println!(rt; "{cases} worked cases: judged as by hand")?;
     let mut draw = Draw::new(SEED);
     let mut counts = Counts::none();
     for number in 1..=LISTS {

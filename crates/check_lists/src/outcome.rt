@@ -3,8 +3,8 @@
 ghost use Rattle.std.specs.Prelude.{◌≡◌, ◌<◌, ◌≤◌, ◌↔◌, ℕ, IsTrue, IsNone, IfSome, OnOk, OnErr};
 ghost use Rattle.std.specs.List.{All};
 ghost use Rattle.enet_world.specs.declared.event.Side.TheVariants as sides;
-ghost use Rattle.enet_lists.specs.Ending.{is_disconnect, EndsOnce};
-ghost use Rattle.enet_lists.specs.Sound.{IsOn, HoldsOn, IsSound};
+ghost use Rattle.check_lists.specs.Ending.{is_disconnect, EndsOnce};
+ghost use Rattle.check_lists.specs.Sound.{IsOn, HoldsOn, IsSound};
 
 use crate::drawing::Setting;
 use crate::following::follows;
