@@ -1,10 +1,10 @@
 #!/usr/bin/env bash
-# Refuses each growth of the rows of crates/enet_scarce in turn, and prints what came of it. The program is built once, by
+# Refuses each growth of the rows of crates/check_memory in turn, and prints what came of it. The program is built once, by
 # `rt try`, in which the growth number LAST fails; run k is told on standard input to make LAST - k growths before its rows, so
 # that the refused one is growth k of the rows. It ends with status 4 where the rows have fewer than k. LAST is the argument,
 # 256 where none is given; it must be above the number of the rows' growths. The last line is 'N growths refused in turn: ..';
 # the status is 0 where each run ended as expected.
-cd "$(dirname "$0")/../crates/enet_scarce" || exit 1
+cd "$(dirname "$0")/../crates/check_memory" || exit 1
 last=${1:-256}
 room=$(mktemp -d) || exit 1
 trap 'rm -rf "$room"' EXIT

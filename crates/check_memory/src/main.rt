@@ -1,4 +1,4 @@
-//! `enet_scarce` shows that want of memory loses nothing: it runs five worked rows over the world of a joined pair and one
+//! `check_memory` shows that want of memory loses nothing: it runs five worked rows over the world of a joined pair and one
 //! over single peers, and where a call is refused for want of memory it compares what the reading calls tell before and
 //! after, and repeats the call. It prints one line a row.
 //!
