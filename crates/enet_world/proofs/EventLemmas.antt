@@ -64,11 +64,11 @@ pub takes-none : (p new : Peering) (q : Packet) → next_packet p ≡ Some q →
 takes-none p new q stands h = let u = packet-of p q stands in absurd (cc (u.1))
 
 -- `v` is what was seen of a side before
-pub took-packet : (v old new : Ending) (q : Packet) (r : Option Event) → v ≡ old → TakesPacket v.peer q r new.peer → new.clock ≡ v.clock → new.log ≡ v.log
+pub took-packet : (v old new : Ending) (q : Packet) (r : Option Event) → v ≡ old → TakesPacket v.peer q r new.peer → new.clock ≡ v.clock → new.log ≡ v.log → new.greatest ≡ v.greatest
     → new.channels ≡ with_kept v.channels q.channel (with_taken q) → new.events ≡ v.events ++ event_of (told.Receive q) ∷ [] → Took old r new
-took-packet v old new q r same h clock log channels events =
+took-packet v old new q r same h clock log greatest channels events =
     let kept : new ≡ record v { peer = new.peer; channels = with_kept v.channels q.channel (with_taken q); events = v.events ++ event_of (told.Receive q) ∷ [] } =
-    same-end _ _ clock refl log channels events in
+    same-end _ _ clock refl log greatest channels events in
     subst (λ (e : Ending). Took e r new) same
     (subst (λ (x : Option Event). Took v x new) (sym h.0) (told.Receive q, refl, h.1, kept))
 

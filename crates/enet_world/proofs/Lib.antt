@@ -5,3 +5,14 @@ pub mod Refusals
 pub mod ArrivalLemmas
 pub mod LogLemmas
 pub mod EndLemmas
+pub mod Marked
+pub mod Keeping
+pub mod Counting
+pub mod PutOut
+pub mod Shows
+pub mod Moving
+pub mod Delivering
+pub mod Emitting
+pub mod Showing
+pub mod Headlines
+pub mod Bounds

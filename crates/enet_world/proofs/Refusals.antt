@@ -11,7 +11,7 @@ memory-alone : (why : Refusal) (first : Option Refusal) → calls.Refuses why fi
 memory-alone Memory first h none = refl
 memory-alone _ first h none = absurd (cc)
 
-second : (b : Bool) (why : Refusal) (first : Option Refusal) → (if b then Some why else first) ≡ None → first ≡ None
+pub second : (b : Bool) (why : Refusal) (first : Option Refusal) → (if b then Some why else first) ≡ None → first ≡ None
 second true why first h = absurd (cc)
 second false why first h = h
 

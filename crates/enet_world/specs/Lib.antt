@@ -3,3 +3,5 @@ pub mod Log
 pub mod Marks
 pub mod Arriving
 pub mod World
+pub mod Headline
+pub mod Reached

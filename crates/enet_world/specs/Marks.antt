@@ -5,7 +5,7 @@ use Rattle.enet_codec.specs.declared.header.Header.{Header}
 use Rattle.enet_codec.specs.Header.{SpellsHeader}
 use Rattle.enet_codec.specs.Message.{Message, Body, acknowledge, send_reliable, send_unreliable, send_fragment, send_unsequenced, send_unreliable_fragment, Spells}
 use Rattle.enet_datagram.specs.Handling.{SpellsNone}
-use Rattle.enet_world.specs.Log.{Kept, counted_all, reached}
+use Rattle.enet_world.specs.Log.{counted_all, reached}
 use Rattle.enet_world.specs.declared.log.Mark.{Mark}
 use Rattle.enet_world.specs.declared.log.MarkKind.{MarkKind}
 use Rattle.enet_world.specs.declared.log.MarkKind.TheVariants.{Data, Acknowledgement, Control}
@@ -56,9 +56,9 @@ pub record AfterHeader (text : List ℕ) (marks : List Mark) : Type 0 where
 abbrev pub MarksIn : List ℕ → List Mark → Type 0
 MarksIn text marks = AfterHeader text marks ⊎ (((h : Header) (front rest : List ℕ) → text ≡ front ++ rest → SpellsHeader front h → ⊥) × (marks ≡ []))
 
--- a datagram is put out: its commands are counted, which leaves the channels of its side so, and then marked with how far the
+-- a datagram is put out: its commands are counted, which leaves the greatest numbers of its side so, and then marked with how far the
 -- numbers have come
-pub record Counts (text : List ℕ) (old new other : List Kept) (marks : List Mark) : Type 0 where
+pub record Counts (text : List ℕ) (old new other : List ℕ) (marks : List Mark) : Type 0 where
   pub read : List Mark
   pub marked : MarksIn text read
   pub counted : new ≡ counted_all old read

@@ -29,14 +29,15 @@ use Rattle.enet_world.specs.declared.event.Answer.TheVariants as answers
 use Rattle.enet_world.specs.declared.log.Mark.{Mark}
 use Rattle.enet_world.specs.Arriving.{Comes}
 use Rattle.enet_world.specs.Marks.{Counts}
-use Rattle.enet_world.specs.Log.{Logged, Kept, joined_channels, kept_at, greatest_at, with_kept, with_submission, with_taken}
+use Rattle.enet_world.specs.Log.{Logged, Kept, joined_channels, joined_greatest, kept_at, greatest_at, with_kept, with_submission, with_taken}
 
--- one side: its clock and its peer, the datagrams that it has put out, what is kept of each of the 256 channel numbers, and
--- the events that its user took
+-- one side: its clock and its peer, the datagrams that it has put out, the greatest number sent and what is kept of each of the
+-- 256 channel numbers, and the events that its user took
 pub record Ending : Type 0 where
   pub clock : ℕ
   pub peer : Peering
   pub log : List Logged
+  pub greatest : List ℕ
   pub channels : List Kept
   pub events : List Event
 
@@ -68,6 +69,7 @@ fresh_end c channels mtu = record {
   clock = c.clock;
   peer = joined c.clock (joined_terms c channels mtu) (limits_of c);
   log = [];
+  greatest = joined_greatest;
   channels = joined_channels;
   events = [];
 }
@@ -113,7 +115,7 @@ disconnect_refusal e peer how info = if is_spent e.peer peer then Some NoSuchPee
 -- a datagram that the network has is refused where it is late
 abbrev pub late_refusal : Ending → Ending → Option Logged → Option Refusal
 late_refusal from to None = Some NoSuchDatagram
-late_refusal from to (Some d) = if has_late (greatest_at from.channels) (greatest_at to.channels) d.marks then Some Late else None
+late_refusal from to (Some d) = if has_late (greatest_at from.greatest) (greatest_at to.greatest) d.marks then Some Late else None
 
 -- the first refusal but want of memory that a delivery meets
 abbrev pub delivery_refusal : Ending → Ending → ℕ → Option Refusal
@@ -163,8 +165,8 @@ pub record Logs (other old new : Ending) : Type 0 where
   pub text : List ℕ
   pub marks : List Mark
   pub emitted : Emits old.clock old.peer (Some text) new.peer
-  pub counts : Counts text old.channels new.channels other.channels marks
-  pub kept : new ≡ record old { peer = new.peer; channels = new.channels; log = old.log ++ (record { text = text; marks = marks }) ∷ [] }
+  pub counts : Counts text old.greatest new.greatest other.greatest marks
+  pub kept : new ≡ record old { peer = new.peer; greatest = new.greatest; log = old.log ++ (record { text = text; marks = marks }) ∷ [] }
 
 -- where there is nothing to send, the peer may still go on
 abbrev pub Turns : Ending → Ending → Option ℕ → Ending → Type 0

@@ -9,8 +9,8 @@ ghost use Rattle.enet_world.specs.Log.{kept_at, with_kept, with_taken};
 ghost use Rattle.enet_world.specs.World.{fresh_end, is_spent, submission_refusal, submitted_end, disconnect_refusal, left_by, Disconnects, delivery_refusal, Refuses, Receives, Emits, Turns, Took, TakesWord, TakesPacket, is_word, event_of, ticked_end, clock_after, text_of};
 
 use crate::arriving::receive;
-use crate::joining::{joined_channels, joined_terms, limits_of};
-use crate::log::{Datagram, Kept, MAX_COMMANDS, has_late, marks_of};
+use crate::joining::{joined_channels, joined_sent, joined_terms, limits_of};
+use crate::log::{Datagram, Kept, MAX_COMMANDS, Sent, has_late, marks_of};
 use bytes::Bytes;
 use enet_codec::{Packet, Refusal};
 use enet_peer::{Peer, PeerEvent, PeerState};
@@ -35,7 +35,7 @@ const FIRST_PEER: PeerRef = PeerRef {
 pub(crate) struct End {
     clock: u32,
     peer: Peer,
-    log: Vec<Datagram>,
+    sent: Sent,
     channels: Vec<Kept>,
     events: Vec<Event>,
 }
@@ -49,7 +49,7 @@ impl Model for End {
 
     ghost coded = { Prim.hlevel (codes, inbox_code) };
 
-    ghost view = { λ e. record { clock = e.clock; peer = e.peer.peer; log = e.log.items; channels = e.channels.items; events = e.events.items } };
+    ghost view = { λ e. record { clock = e.clock; peer = e.peer.peer; log = e.sent.log; greatest = e.sent.greatest; channels = e.channels.items; events = e.events.items } };
 
     ghost invariant = { λ e. IsEnding e.channels.items };
 }
@@ -164,7 +164,7 @@ impl End {
         Ok(End {
             clock: config.clock,
             peer: Peer::joined(alloc, config.clock, terms, limits_of(config))?,
-            log: Vec::new(alloc),
+            sent: joined_sent(alloc)?,
             channels: joined_channels(alloc)?,
             events: Vec::new(alloc),
         })
@@ -243,7 +243,8 @@ impl End {
     fn logged(&self, k: u64) -> Option<&Datagram>
         ensures { option_copied result ≡ slice_get self.now.log k }
     {
-        self.log.get(k as usize)
+        let sent = &self.sent;
+        sent.log.get(k as usize)
     }
 
     /// The network brings a datagram of the other side. A refusal changes nothing.
@@ -255,7 +256,9 @@ impl End {
         let Some(datagram) = from.logged(k) else {
             return Err(Refusal::NoSuchDatagram);
         };
-        if has_late(&datagram.marks, &from.channels, &self.channels) {
+        let theirs = &from.sent;
+        let own = &self.sent;
+        if has_late(&datagram.marks, &theirs.greatest, &own.greatest) {
             return Err(Refusal::Late);
         }
         Ok(receive(&mut self.peer, self.clock, &datagram.text))
@@ -273,15 +276,17 @@ impl End {
         let Ok(marks) = Vec::with_capacity(alloc, MAX_COMMANDS) else {
             return Err(Refusal::Memory);
         };
-        if self.log.reserve(1).is_err() {
+        let sent = &mut self.sent;
+        if sent.log.reserve(1).is_err() {
             return Err(Refusal::Memory);
         }
         let Some(text) = emit(&mut self.peer, self.clock, room) else {
             return Ok(None);
         };
-        let marks = marks_of(&text, marks, &mut self.channels, &other.channels);
-        let number = self.log.len() as u64;
-        self.log.push_reserved(Datagram { text, marks });
+        let number = sent.log.len() as u64;
+        let theirs = &other.sent;
+        let marks = marks_of(&text, marks, &mut sent.greatest, &theirs.greatest);
+        sent.log.push_reserved(Datagram { text, marks });
         Ok(Some(number))
     }
 

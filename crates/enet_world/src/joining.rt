@@ -1,10 +1,10 @@
 //! What the two sides of a joined pair begin with.
 
-ghost use Rattle.std.specs.Prelude.{◌≡◌, ◌≤◌, length, replicate, IfOk, IfErr};
-ghost use Rattle.enet_world.specs.Log.{fresh_kept, joined_channels};
+ghost use Rattle.std.specs.Prelude.{◌≡◌, ◌≤◌, [], length, replicate, IfOk, IfErr};
+ghost use Rattle.enet_world.specs.Log.{fresh_kept, joined_channels, joined_greatest};
 ghost use Rattle.enet_world.specs.World.{joined_terms, limits_of};
 
-use crate::log::Kept;
+use crate::log::{Kept, Sent};
 use enet_codec::Refusal;
 use enet_connect::Terms;
 use enet_peer::Limits;
@@ -42,18 +42,17 @@ pub(crate) fn limits_of(config: &Config) -> Limits
     }
 }
 
-/// What is kept of a channel on which the greatest number sent is this one.
-fn kept_since(alloc: Global, greatest: u64) -> Kept
-    ensures { result ≡ record fresh_kept { greatest = greatest } }
+/// What is kept of a channel on which nothing has happened.
+fn fresh_kept(alloc: Global) -> Kept
+    ensures { result ≡ fresh_kept }
 {
     Kept {
         submitted: Vec::new(alloc),
         taken: Vec::new(alloc),
-        greatest,
     }
 }
 
-/// What is kept of each channel number at first. On channel 0xFF number 1 counts as sent.
+/// What is kept of each channel number at first.
 pub(crate) fn joined_channels(alloc: Global) -> Result<Vec<Kept>, Refusal>
     ensures memory { IfErr result (λ why. why ≡ Refusal.Memory) }
     ensures fresh { IfOk result (λ all. all.items ≡ joined_channels) }
@@ -61,9 +60,34 @@ pub(crate) fn joined_channels(alloc: Global) -> Result<Vec<Kept>, Refusal>
     let Ok(mut all) = Vec::with_capacity(alloc, 256) else {
         return Err(Refusal::Memory);
     };
-    for _channel in 0..255u8 {
-        all.push_reserved(kept_since(alloc, 0));
+    for _channel in 0..256u16 {
+        all.push_reserved(fresh_kept(alloc));
     }
-    all.push_reserved(kept_since(alloc, 1));
     Ok(all)
+}
+
+/// The numbers sent at first: number 1 of channel 0xFF counts as sent.
+fn joined_greatest(alloc: Global) -> Result<Vec<u128>, Refusal>
+    ensures memory { IfErr result (λ why. why ≡ Refusal.Memory) }
+    ensures fresh { IfOk result (λ all. all.items ≡ joined_greatest) }
+{
+    let Ok(mut all) = Vec::with_capacity(alloc, 256) else {
+        return Err(Refusal::Memory);
+    };
+    for _channel in 0..255u8 {
+        all.push_reserved(0);
+    }
+    all.push_reserved(1);
+    Ok(all)
+}
+
+/// What a side of a joined pair has put out at first: nothing.
+pub(crate) fn joined_sent(alloc: Global) -> Result<Sent, Refusal>
+    ensures memory { IfErr result (λ why. why ≡ Refusal.Memory) }
+    ensures fresh { IfOk result (λ sent. sent ≡ record { log = []; greatest = joined_greatest }) }
+{
+    Ok(Sent {
+        log: Vec::new(alloc),
+        greatest: joined_greatest(alloc)?,
+    })
 }

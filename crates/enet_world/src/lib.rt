@@ -7,6 +7,7 @@ mod end;
 mod event;
 mod joining;
 mod log;
+mod pair;
 mod world;
 
 pub use event::{Answer, Side, WorldEvent};

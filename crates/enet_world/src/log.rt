@@ -2,9 +2,10 @@
 
 ghost use Rattle.std.specs.Prelude.{◌≡◌, ℕ, ◌+◌, ◌≤◌, ◌<◌, ◌^◌, [], ◌++◌, drop, length, map, option_to_list, vec_len, vec_capacity};
 ghost use Rattle.enet_codec.specs.Message.{view};
-ghost use Rattle.enet_world.specs.Lateness.{number_below, is_late, has_late};
+ghost use Rattle.enet_link.specs.Link.{number_below};
+ghost use Rattle.enet_world.specs.Lateness.{is_late, has_late};
 ghost use Rattle.enet_world.specs.Marks.{mark_as, mark_of, MarksOf, MarksIn, Counts};
-ghost use Rattle.enet_world.specs.Log.{greatest_at, counted, counted_all, reached};
+ghost use Rattle.enet_world.specs.Log.{greatest_at, counted, counted_all, reached, AreBelow};
 
 use enet_codec::{Command, Packet, read_command, read_header};
 use enet_seq::ahead;
@@ -14,7 +15,7 @@ use std::marker::Model;
 pub(crate) const MAX_COMMANDS: usize = 32;
 
 /// By how many numbers a command may be late.
-const LATEST: u64 = 32_768;
+const LATEST: u128 = 32_768;
 
 /// What a command is to the test for lateness.
 #[derive(Clone, Copy, Debug, PartialEq, Eq)]
@@ -36,7 +37,7 @@ pub(crate) struct Mark {
     /// The reliable number on the wire.
     pub number: u16,
     /// The greatest number that the end which gave it had sent on the channel, just after the datagram was put out.
-    pub reach: u64,
+    pub reach: u128,
 }
 
 /// A datagram that was put out.
@@ -54,6 +55,26 @@ impl Model for Datagram {
     ghost view = { λ d. record { text = d.text.items; marks = d.marks.items } };
 }
 
+/// All that a side has put out.
+#[derive(Drop)]
+pub(crate) struct Sent {
+    /// The datagrams, in order.
+    pub log: Vec<Datagram>,
+    /// The greatest reliable number sent on each of the 256 channel numbers. A datagram raises it by less than 2 ^ 20, so
+    /// it stays far below its limit.
+    pub greatest: Vec<u128>,
+}
+
+impl Model for Sent {
+    ghost use Rattle.enet_world.specs.Log.{Sent, IsSent};
+
+    ghost Value = { Sent };
+
+    ghost view = { λ s. record { log = s.log.items; greatest = s.greatest.items } };
+
+    ghost invariant = { λ s. IsSent s.log.items s.greatest.items };
+}
+
 /// What is kept of a channel of one side.
 #[derive(Drop)]
 pub(crate) struct Kept {
@@ -61,8 +82,6 @@ pub(crate) struct Kept {
     pub submitted: Vec<Packet>,
     /// What its user took.
     pub taken: Vec<Packet>,
-    /// The greatest reliable number that it has sent.
-    pub greatest: u64,
 }
 
 impl Model for Kept {
@@ -70,7 +89,7 @@ impl Model for Kept {
 
     ghost Value = { Kept };
 
-    ghost view = { λ k. record { submitted = k.submitted.items; taken = k.taken.items; greatest = k.greatest } };
+    ghost view = { λ k. record { submitted = k.submitted.items; taken = k.taken.items } };
 }
 
 /// The mark of a command, before its reach is noted. An unsequenced packet has none.
@@ -160,57 +179,60 @@ fn read_marks(text: &[u8], marks: &mut Vec<Mark>)
 }
 
 /// The greatest number sent on a channel.
-pub(crate) fn greatest_at(channels: &[Kept], channel: u8) -> u64
-    ensures { result ≡ greatest_at channels.now channel }
+fn greatest_at(greatest: &[u128], channel: u8) -> u128
+    ensures { result ≡ greatest_at greatest.now channel }
 {
-    match channels.get(usize::from(channel)) {
-        Some(kept) => kept.greatest,
+    match greatest.get(usize::from(channel)) {
+        Some(number) => *number,
         None => 0,
     }
 }
 
 /// Counts a command that is put out: a number less than 32,768 ahead of the greatest of its channel is sent for the first time,
 /// whatever numbers were dropped unsent in between.
-fn count(channels: &mut [Kept], mark: Mark)
-    ensures { channels.new ≡ counted channels.old mark }
+fn count(greatest: &mut [u128], mark: Mark)
+    requires room { AreBelow (2 ^ 127) greatest.old }
+    ensures { greatest.new ≡ counted greatest.old mark }
 {
     let i = usize::from(mark.channel);
-    if mark.kind == MarkKind::Acknowledgement || i >= channels.len() {
+    if mark.kind == MarkKind::Acknowledgement || i >= greatest.len() {
         return;
     }
-    let kept = &mut channels[i];
-    let distance = ahead((kept.greatest % 65536) as u16, mark.number);
+    let number = &mut greatest[i];
+    let distance = ahead((*number % 65536) as u16, mark.number);
     if distance < 32_768 {
-        kept.greatest = kept.greatest.saturating_add(u64::from(distance));
+        *number += u128::from(distance);
     }
 }
 
 /// Counts the commands of a datagram that is put out.
-fn count_all(channels: &mut [Kept], marks: &[Mark])
-    ensures { channels.new ≡ counted_all channels.old marks.now }
+fn count_all(greatest: &mut [u128], marks: &[Mark])
+    requires few { length marks.now ≤ 32 }
+    requires room { AreBelow (2 ^ 126) greatest.old }
+    ensures { greatest.new ≡ counted_all greatest.old marks.now }
 {
     for mark in marks {
-        count(channels, *mark);
+        count(greatest, *mark);
     }
 }
 
 /// A mark with how far its number's end has come.
-fn reached(mark: Mark, own: &[Kept], other: &[Kept]) -> Mark
+fn reached(mark: Mark, own: &[u128], other: &[u128]) -> Mark
     ensures { result ≡ reached own.now other.now mark }
 {
-    let channels = match mark.kind {
+    let greatest = match mark.kind {
         MarkKind::Acknowledgement => other,
         MarkKind::Data | MarkKind::Control => own,
     };
     Mark {
-        reach: greatest_at(channels, mark.channel),
+        reach: greatest_at(greatest, mark.channel),
         ..mark
     }
 }
 
 /// Notes in the marks of a datagram how far its numbers have come: on its own side for its commands, and on the other for
 /// what it acknowledges.
-fn note_reach(marks: &mut [Mark], own: &[Kept], other: &[Kept])
+fn note_reach(marks: &mut [Mark], own: &[u128], other: &[u128])
     ensures { marks.new ≡ map (reached own.now other.now) marks.old }
 {
     for mark in marks.iter_mut() {
@@ -219,9 +241,10 @@ fn note_reach(marks: &mut [Mark], own: &[Kept], other: &[Kept])
 }
 
 /// Counts the commands of a datagram that is put out, and gives their marks, in a vector that has room for them.
-pub(crate) fn marks_of(text: &[u8], room: Vec<Mark>, own: &mut [Kept], other: &[Kept]) -> Vec<Mark>
+pub(crate) fn marks_of(text: &[u8], room: Vec<Mark>, own: &mut [u128], other: &[u128]) -> Vec<Mark>
     requires room { vec_len room + 32 ≤ vec_capacity room }
     requires empty { room.items ≡ [] }
+    requires below { AreBelow (2 ^ 126) own.old }
     ensures { Counts text.now own.old own.new other.now result.items }
 {
     let mut marks = room;
@@ -233,27 +256,27 @@ pub(crate) fn marks_of(text: &[u8], room: Vec<Mark>, own: &mut [Kept], other: &[
 }
 
 /// The greatest number that has this wire number and is at most `reach`.
-fn number_below(reach: u64, wire: u16) -> u64
+fn number_below(reach: u128, wire: u16) -> u128
     ensures { result ≡ number_below reach wire }
 {
-    reach.saturating_sub(u64::from(ahead(wire, (reach % 65536) as u16)))
+    reach.saturating_sub(u128::from(ahead(wire, (reach % 65536) as u16)))
 }
 
 /// Whether a command of a datagram of the sender is more than 32,768 numbers late at the taker.
-fn is_late(mark: &Mark, sender: &[Kept], taker: &[Kept]) -> bool
+fn is_late(mark: &Mark, sender: &[u128], taker: &[u128]) -> bool
     ensures { result ≡ is_late (greatest_at sender.now) (greatest_at taker.now) mark.now }
 {
-    let channels = match mark.kind {
+    let greatest = match mark.kind {
         MarkKind::Acknowledgement => taker,
         MarkKind::Data => sender,
         MarkKind::Control => return false,
     };
-    let sent = greatest_at(channels, mark.channel);
+    let sent = greatest_at(greatest, mark.channel);
     sent.saturating_sub(number_below(mark.reach, mark.number)) > LATEST
 }
 
 /// Whether such a command is among those of a datagram.
-pub(crate) fn has_late(marks: &[Mark], sender: &[Kept], taker: &[Kept]) -> bool
+pub(crate) fn has_late(marks: &[Mark], sender: &[u128], taker: &[u128]) -> bool
     ensures { result ≡ has_late (greatest_at sender.now) (greatest_at taker.now) marks.now }
 {
     marks.iter().any(|mark| is_late(mark, sender, taker))

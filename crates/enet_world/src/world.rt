@@ -1,12 +1,15 @@
 //! The world of a joined pair.
 
-ghost use Rattle.std.specs.Prelude.{◌≡◌, ◌&&◌, true, false, OnErr, IfOk, IfErr};
+ghost use Rattle.std.specs.Prelude.{◌≡◌, ℕ, ◌&&◌, true, false, OnErr, IfOk, IfErr};
 ghost use Rattle.std.specs.Option.{option_copied};
 ghost use Rattle.enet_types.specs.Config.{is_in_range};
-ghost use Rattle.enet_world.specs.World.{fresh_world, Refuses, Happens, Runs, refusal_of, takes_memory, end_of, submitted_of, dispatched_of, events_of, datagram_of};
+ghost use Rattle.enet_world.specs.declared.event.Side.{Side};
+ghost use Rattle.enet_world.specs.Headline.{IsInOrder, IsOneLife};
+ghost use Rattle.enet_world.specs.Reached.{IsReached};
+ghost use Rattle.enet_world.specs.World.{fresh_world, Refuses, Happens, Runs, refusal_of, takes_memory, submitted_of, dispatched_of, events_of, datagram_of};
 
-use crate::end::End;
 use crate::event::{Answer, Side, WorldEvent};
+use crate::pair::Pair;
 use enet_codec::{Packet, Refusal};
 use enet_types::{Config, Event};
 use std::alloc::Global;
@@ -14,11 +17,13 @@ use std::marker::Model;
 
 /// Two hosts and the network between them, which loses, repeats and reorders datagrams as the events say. Each host sees
 /// of the other only the bytes of datagrams.
+///
+/// Every world is one that steps made of a joined pair, so `step` and `run` promise without any premise that packets are
+/// handed out in order.
 #[derive(Drop)]
 pub struct World {
     alloc: Global,
-    a: End,
-    b: End,
+    pair: Pair,
 }
 
 impl Model for World {
@@ -30,7 +35,11 @@ impl Model for World {
 
     ghost coded = { Prim.hlevel (codes, inbox_code) };
 
-    ghost view = { λ w. record { a = w.a; b = w.b } };
+    ghost use Rattle.enet_world.specs.Reached.{IsReached};
+
+    ghost view = { λ w. w.pair };
+
+    ghost invariant = { λ w. IsReached w.pair };
 }
 
 impl World {
@@ -44,30 +53,37 @@ impl World {
         if !cfg_a.is_in_range() || !cfg_b.is_in_range() {
             return Err(Refusal::BadConfig);
         }
-        let channels = cfg_a.channels.min(cfg_b.channels);
-        let mtu = cfg_a.mtu.min(cfg_b.mtu);
         Ok(World {
             alloc,
-            a: End::joined(alloc, &cfg_a, channels, mtu)?,
-            b: End::joined(alloc, &cfg_b, channels, mtu)?,
+            pair: Pair::joined(alloc, &cfg_a, &cfg_b)?,
         })
     }
 
-    /// Makes one event happen. A refusal changes nothing. E1 comes for a submission, a turn and a take alone.
+    /// Makes one event happen. A refusal changes nothing. E1 comes for a submission, a turn and a take alone. What `run`
+    /// promises of the world after its events holds after each step.
     pub fn step(&mut self, event: WorldEvent) -> Result<Answer, Refusal>
         ensures refused { Refuses (takes_memory event) (refusal_of self.old event) result }
         ensures unchanged { OnErr result (self.new ≡ self.old) }
         ensures happens { IfOk result (λ answer. Happens self.old event answer self.new) }
+        ensures in_order { (connection : ℕ) (side : Side) (channel : ℕ) → IsInOrder self.new connection side channel }
+        ensures one_life { (connection : ℕ) (side : Side) → IsOneLife (events_of self.new connection side) }
     {
         self.happen(&event)
     }
 
     /// Makes the events happen in order, and gives the answer of each. E1 where there is no memory for the answers, before
     /// anything happens.
+    ///
+    /// Whatever the events: `in_order`, what the other side's user took of a channel is a subsequence of what a side's user
+    /// submitted on it, unsequenced packets apart, each packet whole and once, and leaves out no reliable packet before its
+    /// last. `one_life`, a user's events of the connection are packets and then at most one Disconnect, which nothing follows.
+    /// Datagrams that come more than 32,768 numbers late are refused with E11, which changes nothing.
     pub fn run(&mut self, events: &[WorldEvent]) -> Result<Vec<Result<Answer, Refusal>>, Refusal>
         ensures memory { IfErr result (λ why. why ≡ Refusal.Memory) }
         ensures unchanged { OnErr result (self.new ≡ self.old) }
         ensures steps { IfOk result (λ answers. Runs self.old events.now answers.items self.new) }
+        ensures in_order { (connection : ℕ) (side : Side) (channel : ℕ) → IsInOrder self.new connection side channel }
+        ensures one_life { (connection : ℕ) (side : Side) → IsOneLife (events_of self.new connection side) }
     {
         let Ok(mut answers) = Vec::with_capacity(self.alloc, events.len()) else {
             return Err(Refusal::Memory);
@@ -82,71 +98,9 @@ impl World {
         ensures refused { Refuses (takes_memory event.now) (refusal_of self.old event.now) result }
         ensures unchanged { OnErr result (self.new ≡ self.old) }
         ensures happens { IfOk result (λ answer. Happens self.old event.now answer self.new) }
+        ensures reached { IsReached self.new }
     {
-        match event {
-            WorldEvent::Submit {
-                side,
-                peer,
-                channel,
-                flags,
-                body,
-            } => {
-                match side {
-                    Side::A => self.a.submit(*peer, *channel, *flags, body)?,
-                    Side::B => self.b.submit(*peer, *channel, *flags, body)?,
-                }
-                Ok(Answer::Done)
-            }
-            WorldEvent::Deliver { side, k } => {
-                let received = match side {
-                    Side::A => self.a.deliver(&self.b, *k)?,
-                    Side::B => self.b.deliver(&self.a, *k)?,
-                };
-                Ok(Answer::Received(received))
-            }
-            WorldEvent::Turn { side } => {
-                let sent = match side {
-                    Side::A => self.a.turn(self.alloc, &self.b)?,
-                    Side::B => self.b.turn(self.alloc, &self.a)?,
-                };
-                Ok(Answer::Sent(sent))
-            }
-            WorldEvent::Tick { side, ms } => {
-                match side {
-                    Side::A => self.a.tick(*ms),
-                    Side::B => self.b.tick(*ms),
-                }
-                Ok(Answer::Done)
-            }
-            WorldEvent::Take { side } => {
-                let taken = match side {
-                    Side::A => self.a.take()?,
-                    Side::B => self.b.take()?,
-                };
-                Ok(Answer::Taken(taken))
-            }
-            WorldEvent::Disconnect {
-                side,
-                peer,
-                how,
-                info,
-            } => {
-                match side {
-                    Side::A => self.a.disconnect(*peer, *how, *info)?,
-                    Side::B => self.b.disconnect(*peer, *how, *info)?,
-                }
-                Ok(Answer::Done)
-            }
-        }
-    }
-
-    fn end_of(&self, side: Side) -> &End
-        ensures { result.now ≡ end_of self.now side }
-    {
-        match side {
-            Side::A => &self.a,
-            Side::B => &self.b,
-        }
+        self.pair.happen(self.alloc, event)
     }
 
     /// What a side's user has submitted on a channel of a connection, in order; empty where there is no such connection or
@@ -157,7 +111,7 @@ impl World {
         if conn != 0 {
             return &[];
         }
-        self.end_of(side).submitted(channel)
+        self.pair.end_of(side).submitted(channel)
     }
 
     /// What the other side's user has taken of it, in order.
@@ -167,7 +121,7 @@ impl World {
         if conn != 0 {
             return &[];
         }
-        self.end_of(side.other()).taken(channel)
+        self.pair.end_of(side.other()).taken(channel)
     }
 
     /// The events that a side's user has taken of a connection, in order.
@@ -177,13 +131,13 @@ impl World {
         if conn != 0 {
             return &[];
         }
-        self.end_of(side).events()
+        self.pair.end_of(side).events()
     }
 
     /// The bytes of a datagram that a side has put out, or None where it has put out fewer.
     pub fn datagram(&self, side: Side, k: u64) -> Option<&[u8]>
         ensures { option_copied result ≡ datagram_of self.now side k }
     {
-        self.end_of(side).datagram(k)
+        self.pair.end_of(side).datagram(k)
     }
 }

@@ -1,8 +1,15 @@
-use Rattle.std.proofs.Common.{◌≡◌, List, length, map, rules, ap, ◌∙◌}
+use Rattle.std.proofs.Common.{◌≡◌, ◌≤◌, List, length, map, rules, ap, subst, sym, ◌∙◌}
 use Rattle.std.proofs.lemmas.List.{with_items_is}
 use Rattle.enet_world.specs.declared.log.Mark.{Mark}
 use Rattle.enet_world.specs.Log.{reached}
+use Rattle.enet_world.proofs.Bounds.{few-marks}
 use Rattle.enet_world.proofs.log.marks_of.Goals as goal
+
+pub count_all-requires-clause-few : goal.count_all-requires-clause-few
+count_all-requires-clause-few c =
+    let same : c.deref.result.now ≡ c.read_marks.new.marks.items = search rules in
+    let few : length c.read_marks.new.marks.items ≤ 32 = few-marks _ c.read_marks.new.marks.items c.read_marks.ensures in
+    subst (λ (l : List Mark). length l ≤ 32) (sym same) few
 
 pub returns : goal.returns
 returns c =
@@ -14,5 +21,5 @@ returns c =
       counted = search rules;
       noted =
           with_items_is c.shrink_to_fit.new.self c.note_reach.new.marks long
-          ∙ (c.note_reach.ensures ∙ ap (λ (x : List Mark). map (reached c.count_all.new.channels c.args.other.now) x) was);
+          ∙ (c.note_reach.ensures ∙ ap (λ (x : List Mark). map (reached c.count_all.new.greatest c.args.other.now) x) was);
     }

@@ -1,7 +1,9 @@
-use Rattle.std.proofs.Common.{arith}
+use Rattle.std.proofs.Common.{arith, subst}
 use Rattle.std.proofs.lemmas.List.{take_more}
 use Rattle.enet_world.specs.World.{Steps}
-use Rattle.enet_world.proofs.RunLemmas.{runs-push}
+use Rattle.enet_world.specs.Reached.{IsReached}
+use Rattle.enet_world.proofs.Headlines.{are-in-order, are-one-life}
+use Rattle.enet_world.proofs.RunLemmas.{runs-push, reached-run}
 use Rattle.enet_world.proofs.world.World.run.Goals as goal
 
 pub loop-event-preserved : goal.loop-event-preserved
@@ -19,3 +21,19 @@ loop-event-preserved c =
       len = omega arith;
       capacity = omega arith;
     }
+
+-- the world as it was, where there is no memory for the answers
+
+pub returns-in_default-clause-in_order : goal.returns-in_default-clause-in_order
+returns-in_default-clause-in_order c = are-in-order c.args.self.now (subst IsReached c.self.view_is c.self.invariant)
+
+pub returns-in_default-clause-one_life : goal.returns-in_default-clause-one_life
+returns-in_default-clause-one_life c = are-one-life c.args.self.now (subst IsReached c.self.view_is c.self.invariant)
+
+-- the world after the events
+
+pub returns-clause-in_order : goal.returns-clause-in_order
+returns-clause-in_order c = are-in-order c.loop-event.self (reached-run _ _ c.args.self.now c.loop-event.self (subst IsReached c.self.view_is c.self.invariant) c.loop-event.invariant.runs)
+
+pub returns-clause-one_life : goal.returns-clause-one_life
+returns-clause-one_life c = are-one-life c.loop-event.self (reached-run _ _ c.args.self.now c.loop-event.self (subst IsReached c.self.view_is c.self.invariant) c.loop-event.invariant.runs)
