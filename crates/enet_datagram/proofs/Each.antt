@@ -7,7 +7,7 @@ use Rattle.enet_codec.specs.Datagram.{SpellsAll}
 use Rattle.enet_codec.proofs.Laws.{one_spelling}
 use Rattle.enet_codec.proofs.Datagrams.{some-bytes}
 use Rattle.enet_peer.specs.Peering.{Peering}
-use Rattle.enet_peer.specs.Arrivals.{obeyed, Obeys}
+use Rattle.enet_peer.specs.Arrivals.{obeyed, wants_memory, Obeys}
 use Rattle.enet_datagram.specs.Handling.{Handles, HandlesEach, nothing_left, no_command, stops, goes_on}
 
 -- two splits of the same bytes before a command are one
@@ -25,13 +25,13 @@ each now sent (no_command handled bytes p some none) (m ∷ ms) s = absurd (none
 each now sent (stops handled text rest m why p q spelled obeys) [] s = absurd (some-bytes text rest m spelled s)
 each now sent (stops handled text rest m why p q spelled obeys) (n ∷ ms) s =
     let one = split-once text rest s.0 s.1 m n spelled s.3 s.2 in
-    inl (why, subst (λ (k : Message). Obeys {T = Unit {0}} (Err why) (obeyed p now sent k) p q) one.0 obeys, refl)
+    inl (why, subst (λ (k : Message). Obeys {T = Unit {0}} (Err why) (wants_memory p now sent k) (obeyed p now sent k) p q) one.0 obeys, refl)
 each now sent (goes_on handled text rest m answer p q r spelled obeys later) [] s = absurd (some-bytes text rest m spelled s)
 each now sent (goes_on handled text rest m answer p q r spelled obeys later) (n ∷ ms) s =
     let one = split-once text rest s.0 s.1 m n spelled s.3 s.2 in
     inr (
       q,
-      subst (λ (k : Message). Obeys {T = Unit {0}} (Ok tt) (obeyed p now sent k) p q) one.0 obeys,
+      subst (λ (k : Message). Obeys {T = Unit {0}} (Ok tt) (wants_memory p now sent k) (obeyed p now sent k) p q) one.0 obeys,
       each now sent later ms (subst (λ (xs : List ℕ). SpellsAll xs ms) (sym one.1) s.4),
     )
 

@@ -37,5 +37,5 @@ pub data Handles (now : ℕ) (sent : Option ℕ) : ℕ → List ℕ → Peering 
 abbrev pub HandlesEach : ℕ → Option ℕ → ℕ → List Message → Peering → Received → Peering → Type 0
 HandlesEach now sent handled [] p answer q = (answer ≡ record { handled = handled; stop = None }) × (q ≡ p)
 HandlesEach now sent handled (m ∷ ms) p answer q =
-    ((why : Stop) × Obeys {T = Unit {0}} (Err why) (obeyed p now sent m) p q × (answer ≡ record { handled = counted handled why; stop = Some why }))
-    ⊎ ((between : Peering) × Obeys {T = Unit {0}} (Ok tt) (obeyed p now sent m) p between × HandlesEach now sent (one_more handled) ms between answer q)
+    ((why : Stop) × Obeys {T = Unit {0}} (Err why) (wants_memory p now sent m) (obeyed p now sent m) p q × (answer ≡ record { handled = counted handled why; stop = Some why }))
+    ⊎ ((between : Peering) × Obeys {T = Unit {0}} (Ok tt) (wants_memory p now sent m) (obeyed p now sent m) p between × HandlesEach now sent (one_more handled) ms between answer q)

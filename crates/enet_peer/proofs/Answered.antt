@@ -24,7 +24,7 @@ use Rattle.enet_outbox.proofs.Oldest.{oldest-first}
 use Rattle.enet_peer.specs.Peering.{Peering}
 use Rattle.enet_peer.specs.declared.parts.PeerState.{PeerState}
 use Rattle.enet_peer.specs.declared.parts.PeerState.TheVariants as state
-use Rattle.enet_peer.specs.Arrivals.{Obeys, answered, answered_at, is_answered_in, obeyed, on_acknowledge, on_match}
+use Rattle.enet_peer.specs.Arrivals.{Obeys, wants_memory, answered, answered_at, is_answered_in, obeyed, on_acknowledge, on_match}
 use Rattle.enet_peer.specs.Calls.{PutsOut, after_timeouts, after_timeouts_by, destination_of, gone_on, gone_on_in, is_pinged, pace_of, ticked}
 use Rattle.enet_peer.specs.Reachable.{Answers, IsAnswering, IsReachable, IsStill, answer_to}
 
@@ -99,15 +99,15 @@ obeyed-waits a p h now sent (send_fragment f payload) w = (refl, w.1, w.2)
 obeyed-waits a p h now sent (send_unsequenced group payload) w = (refl, w.1, w.2)
 obeyed-waits a p h now sent (send_unreliable_fragment f payload) w = (refl, w.1, w.2)
 
-pub obeys-waits : (r : Result (Unit {0}) Stop) (a : Acknowledgement) (p q : Peering) (now : ℕ) (sent : Option ℕ) (m : Message) → IsAnswering a p → Obeys r (obeyed p now sent m) p q → IsAnswering a q
+pub obeys-waits : (r : Result (Unit {0}) Stop) (a : Acknowledgement) (p q : Peering) (now : ℕ) (sent : Option ℕ) (m : Message) → IsAnswering a p → Obeys r (wants_memory p now sent m) (obeyed p now sent m) p q → IsAnswering a q
 obeys-waits r a p q now sent m w o = by r o
   where
     done : q ≡ (obeyed p now sent m).after → IsAnswering a q
     done e = subst (λ (x : Peering). IsAnswering a x) (sym (e ∙ ap (λ (x : Peering). (obeyed x now sent m).after) (is-at-end p w.0))) (obeyed-waits a p m.head now sent m.body w)
 
-    by : (r : Result (Unit {0}) Stop) → Obeys r (obeyed p now sent m) p q → IsAnswering a q
+    by : (r : Result (Unit {0}) Stop) → Obeys r (wants_memory p now sent m) (obeyed p now sent m) p q → IsAnswering a q
     by (Ok it) o = done o.1
-    by (Err stop.Memory) o = subst (λ (x : Peering). IsAnswering a x) (sym o.1) w
+    by (Err stop.Memory) o = subst (λ (x : Peering). IsAnswering a x) (sym o.2) w
     by (Err stop.Short) o = done o.1
     by (Err stop.Compressed) o = done o.1
     by (Err stop.UnknownPeer) o = done o.1

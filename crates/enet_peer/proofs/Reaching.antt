@@ -54,7 +54,7 @@ use Rattle.enet_peer.specs.declared.parts.Limits.{Limits}
 use Rattle.enet_peer.specs.declared.parts.PeerEvent.{PeerEvent}
 use Rattle.enet_peer.specs.declared.parts.PeerEvent.TheVariants as event
 use Rattle.enet_peer.specs.Endings.{ended, freed, disconnecting, parting, settled, is_later, cut_off_in}
-use Rattle.enet_peer.specs.Arrivals.{Outcome, Obeys, answered, answered_at, is_answered_in, is_allowed, is_connect, obeyed, by_body, by_answer, by_arrival, on_data, stopped, sampled, with_answer, on_match, on_acknowledge, welcomed, on_verify_in, on_last_disconnect, on_disconnect_in}
+use Rattle.enet_peer.specs.Arrivals.{Outcome, Obeys, wants_memory, answered, answered_at, is_answered_in, is_allowed, is_connect, obeyed, by_body, by_answer, by_arrival, on_data, stopped, sampled, with_answer, on_match, on_acknowledge, welcomed, on_verify_in, on_last_disconnect, on_disconnect_in}
 use Rattle.enet_peer.specs.Calls.{Leave, AtOnce, Parts, Asks, AsksLater, Refused, Leaves, left, Submits, submitted, PutsOut, after_timeouts, after_timeouts_by, is_pinged, ticked, is_connected, pace_of, destination_of, gone_on, gone_on_in, Taken, Takes, next_event, event_after, packet_event, last_event, with_bandwidth, with_throttle}
 use Rattle.enet_peer.specs.Reachable.{IsReachable, IsStill, IsStillIn, Keeps, WaitsIn}
 
@@ -380,15 +380,15 @@ obeyed-keeps p now sent m h =
     if-outcome (is_connect m.body) (stopped p stop.BadCommand) some (λ t. h)
     (if-outcome (is_allowed p.state m.body) (by_body p now sent m m.body) (stopped p stop.NotConnected) (λ t. body-keeps p m.head now sent m.body h) h)
 
-pub obeys-keeps : (r : Result (Unit {0}) Stop) (p q : Peering) (now : ℕ) (sent : Option ℕ) (m : Message) → IsReachable p → Obeys r (obeyed p now sent m) p q → IsReachable q
+pub obeys-keeps : (r : Result (Unit {0}) Stop) (p q : Peering) (now : ℕ) (sent : Option ℕ) (m : Message) → IsReachable p → Obeys r (wants_memory p now sent m) (obeyed p now sent m) p q → IsReachable q
 obeys-keeps r p q now sent m h o = by r o
   where
     done : q ≡ (obeyed p now sent m).after → IsReachable q
     done e = subst IsReachable (sym e) (obeyed-keeps p now sent m h)
 
-    by : (r : Result (Unit {0}) Stop) → Obeys r (obeyed p now sent m) p q → IsReachable q
+    by : (r : Result (Unit {0}) Stop) → Obeys r (wants_memory p now sent m) (obeyed p now sent m) p q → IsReachable q
     by (Ok it) o = done o.1
-    by (Err stop.Memory) o = subst IsReachable (sym o.1) h
+    by (Err stop.Memory) o = subst IsReachable (sym o.2) h
     by (Err stop.Short) o = done o.1
     by (Err stop.Compressed) o = done o.1
     by (Err stop.UnknownPeer) o = done o.1
