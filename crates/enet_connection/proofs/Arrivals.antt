@@ -1,5 +1,5 @@
 -- Whatever command of the other end's log comes to a peer, all links are kept.
-use Rattle.std.proofs.Common.{◌≡◌, ℕ, zero, suc, ◌<◌, ◌≤◌, Bool, true, false, cond, ltb, leb, ◌&&◌, not, List, [], ◌∷◌, map, take, refl, sym, ap, subst, ◌∙◌, inl, inr, ◌⊎◌, arith, Option, Some, None, Result, Ok, Err, length}
+use Rattle.std.proofs.Common.{◌≡◌, ℕ, zero, suc, ◌<◌, ◌≤◌, Bool, true, false, cond, ltb, leb, ◌&&◌, not, List, [], ◌∷◌, map, take, refl, sym, ap, subst, ◌∙◌, inl, inr, ◌⊎◌, Option, Some, None, Result, Ok, Err, length}
 use Rattle.std.specs.Prelude.{is_some}
 use Rattle.std.specs.List.{slice_get}
 use Rattle.enet_codec.specs.declared.command.Head.{Head}
@@ -31,8 +31,8 @@ use Rattle.enet_connection.specs.Connection.{Put, End, sent_on}
 use Rattle.enet_connection.specs.Steps.{with_peer}
 use Rattle.enet_connection.specs.Linked.{sends_in, dispatches_in, sender_in, receiver_in, dispatched_on, IsClean}
 use Rattle.enet_connection.specs.Kept.{AreInPlace, IsTidy, is_young}
+use Rattle.enet_connection.proofs.Runs.{less-or-not}
 use Rattle.enet_connection.proofs.Relinking.{relinks, stays, sending-of, receiving-of, sending-by}
-use Rattle.enet_connection.proofs.DataMoves.{Forgets}
 use Rattle.enet_connection.proofs.Commands.{Holds, holds-quiet, holds-stops, outcome-if, holds-answered, holds-acknowledged, holds-disconnect, holds-inbox, stops-ended, quiet-out}
 use Rattle.enet_connection.proofs.SequencedData.{Logged, holds-sequenced, holds-passed}
 
@@ -52,14 +52,14 @@ data-state state.Ended body n e = absurd (let x : false ≡ true = e in cc)
 data-state state.Parting body n e = absurd (let x : false ≡ true = e in cc)
 
 -- sequenced data, by the state
-data-by : Forgets → (own other : End) (p : Peering) (put : Put) (c : DataCommand) (sent : Option ℕ) → Logged other put c → IsTidy own.submitted p → ((is_later p.state ≡ false) × (dispatches_in p.state ≡ true)) ⊎ ((is_later p.state ≡ true) × (dispatches_in p.state ≡ false))
+data-by : (own other : End) (p : Peering) (put : Put) (c : DataCommand) (sent : Option ℕ) → Logged other put c → IsTidy own.submitted p → ((is_later p.state ≡ false) × (dispatches_in p.state ≡ true)) ⊎ ((is_later p.state ≡ true) × (dispatches_in p.state ≡ false))
     → Holds own other p → Holds own other (cond (is_later p.state) (by_answer p put.message sent (passed_on p.inbox c (slice_get p.inbox.receivers put.message.head.channel)))
     (by_arrival p put.message sent (sequenced_on p.inbox put.message.head.channel c (slice_get p.inbox.receivers put.message.head.channel)))).after
-data-by law own other p put c sent logged tidy (inl s) h =
+data-by own other p put c sent logged tidy (inl s) h =
     let later : Outcome = by_answer p put.message sent (passed_on p.inbox c (slice_get p.inbox.receivers put.message.head.channel)) in
     let takes : Outcome = by_arrival p put.message sent (sequenced_on p.inbox put.message.head.channel c (slice_get p.inbox.receivers put.message.head.channel)) in
-    subst (λ b. Holds own other (cond b later takes).after) (sym s.0) (holds-sequenced law own other p put c sent s.1 logged tidy.receivers h)
-data-by law own other p put c sent logged tidy (inr s) h =
+    subst (λ b. Holds own other (cond b later takes).after) (sym s.0) (holds-sequenced own other p put c sent s.1 logged tidy.receivers h)
+data-by own other p put c sent logged tidy (inr s) h =
     let later : Outcome = by_answer p put.message sent (passed_on p.inbox c (slice_get p.inbox.receivers put.message.head.channel)) in
     let takes : Outcome = by_arrival p put.message sent (sequenced_on p.inbox put.message.head.channel c (slice_get p.inbox.receivers put.message.head.channel)) in
     subst (λ b. Holds own other (cond b later takes).after) (sym s.0) (holds-passed own other p put c sent s.1 logged h)
@@ -77,9 +77,6 @@ logged-of other put c clean there is number late = record {
       sym (ap (λ (x : DataCommand). x.reliable) same) ∙ a.2);
   low = clean.low put c there is;
 }
-
-less-or-not : (a b : ℕ) → (a < b) ⊎ (b ≤ a)
-less-or-not a b = grind arith
 
 -- what is no data and asks is of a channel from 255 on
 far-of : (other : End) (put : Put) → IsClean other → Has other.log put → data_of put.message ≡ None → put.message.head.acknowledge ≡ true → 255 ≤ put.message.head.channel
@@ -178,61 +175,61 @@ holds-verified own other p v state.Connecting e tidy h = holds-welcomed own othe
 holds-verified own other p v s e tidy h = h
 
 -- whatever comes
-pub holds-coming : Forgets → (own other : End) (p : Peering) (h : Head) (reach now : ℕ) (sent : Option ℕ) (body : Body) → Has other.log (made h reach body) → IsClean other → IsTidy own.submitted p
+pub holds-coming : (own other : End) (p : Peering) (h : Head) (reach now : ℕ) (sent : Option ℕ) (body : Body) → Has other.log (made h reach body) → IsClean other → IsTidy own.submitted p
     → (h.channel < 255 → (c : DataCommand) → data_of (record { head = h; body = body }) ≡ Some c → is_late (sent_on h.channel other) reach c.number ≡ false)
     → (h.channel < 255 → (number time : ℕ) → body ≡ acknowledge number time → is_late (sent_on h.channel own) reach number ≡ false)
     → Holds own other p → Holds own other (obeyed p now sent (record { head = h; body = body })).after
-holds-coming law own other p h reach now sent (connect offer) there clean tidy late late' k = k
-holds-coming law own other p h reach now sent (acknowledge number time) there clean tidy late late' k =
+holds-coming own other p h reach now sent (connect offer) there clean tidy late late' k = k
+holds-coming own other p h reach now sent (acknowledge number time) there clean tidy late late' k =
     let m : Message = record { head = h; body = acknowledge number time } in
     outcome-if own other (is_allowed p.state m.body) (by_body p now sent m m.body) (stopped p stop.NotConnected)
     (λ t. holds-answered own other (on_acknowledge p now h.channel number time) m sent true (far-of other (made h reach m.body) clean there refl)
     (holds-acknowledged own other p (made h reach m.body) now number time there refl (λ few. late' few number time refl) k)) k
-holds-coming law own other p h reach now sent (verify_connect v) there clean tidy late late' k =
+holds-coming own other p h reach now sent (verify_connect v) there clean tidy late late' k =
     let m : Message = record { head = h; body = verify_connect v } in
     outcome-if own other (is_allowed p.state m.body) (by_body p now sent m m.body) (stopped p stop.NotConnected)
     (λ t. holds-answered own other (on_verify_in p.state p v) m sent true (far-of other (made h reach m.body) clean there refl) (holds-verified own other p v p.state refl tidy k)) k
-holds-coming law own other p h reach now sent (disconnect info) there clean tidy late late' k =
+holds-coming own other p h reach now sent (disconnect info) there clean tidy late late' k =
     let m : Message = record { head = h; body = disconnect info } in
     outcome-if own other (is_allowed p.state m.body) (by_body p now sent m m.body) (stopped p stop.NotConnected)
     (λ t. holds-answered own other (on_disconnect_in p.state p (m.head.acknowledge && is_some sent) info) m sent true (far-of other (made h reach m.body) clean there refl) (holds-disconnect own other p p.state (m.head.acknowledge && is_some sent) info k)) k
-holds-coming law own other p h reach now sent ping there clean tidy late late' k =
+holds-coming own other p h reach now sent ping there clean tidy late late' k =
     let m : Message = record { head = h; body = ping } in
     outcome-if own other (is_allowed p.state m.body) (by_body p now sent m m.body) (stopped p stop.NotConnected)
     (λ t. holds-answered own other p m sent true (far-of other (made h reach m.body) clean there refl) k) k
-holds-coming law own other p h reach now sent (bandwidth_limit incoming outgoing) there clean tidy late late' k =
+holds-coming own other p h reach now sent (bandwidth_limit incoming outgoing) there clean tidy late late' k =
     let m : Message = record { head = h; body = bandwidth_limit incoming outgoing } in
     let q : Peering = on_bandwidth p incoming in
     outcome-if own other (is_allowed p.state m.body) (by_body p now sent m m.body) (stopped p stop.NotConnected)
     (λ t. holds-answered own other q m sent true (far-of other (made h reach m.body) clean there refl)
     (holds-quiet own other p q (quiet-out p q refl refl refl) (record { dispatches = refl; receivers = refl; untaken = λ i few. refl; numbers = λ i few. refl }) k)) k
-holds-coming law own other p h reach now sent (throttle_configure interval acceleration deceleration) there clean tidy late late' k =
+holds-coming own other p h reach now sent (throttle_configure interval acceleration deceleration) there clean tidy late late' k =
     let m : Message = record { head = h; body = throttle_configure interval acceleration deceleration } in
     let q : Peering = on_throttle p interval acceleration deceleration in
     outcome-if own other (is_allowed p.state m.body) (by_body p now sent m m.body) (stopped p stop.NotConnected)
     (λ t. holds-answered own other q m sent true (far-of other (made h reach m.body) clean there refl)
     (holds-quiet own other p q (quiet-out p q refl refl refl) (record { dispatches = refl; receivers = refl; untaken = λ i few. refl; numbers = λ i few. refl }) k)) k
-holds-coming law own other p h reach now sent (send_unsequenced group payload) there clean tidy late late' k =
+holds-coming own other p h reach now sent (send_unsequenced group payload) there clean tidy late late' k =
     let m : Message = record { head = h; body = send_unsequenced group payload } in
     outcome-if own other (is_allowed p.state m.body) (by_body p now sent m m.body) (stopped p stop.NotConnected)
     (λ t. holds-unsequenced own other p h group payload sent (far-of other (made h reach m.body) clean there refl) k) k
-holds-coming law own other p h reach now sent (send_reliable payload) there clean tidy late late' k =
+holds-coming own other p h reach now sent (send_reliable payload) there clean tidy late late' k =
     let m : Message = record { head = h; body = send_reliable payload } in
     let c : DataCommand = record { reliable = true; number = h.number; count = 0; fragment = None; body = payload } in
     outcome-if own other (is_allowed p.state m.body) (by_body p now sent m m.body) (stopped p stop.NotConnected)
-    (λ t. data-by law own other p (made h reach m.body) c sent (logged-of other (made h reach m.body) c clean there refl refl (λ few. late few c refl)) tidy (data-state p.state m.body refl t) k) k
-holds-coming law own other p h reach now sent (send_unreliable n payload) there clean tidy late late' k =
+    (λ t. data-by own other p (made h reach m.body) c sent (logged-of other (made h reach m.body) c clean there refl refl (λ few. late few c refl)) tidy (data-state p.state m.body refl t) k) k
+holds-coming own other p h reach now sent (send_unreliable n payload) there clean tidy late late' k =
     let m : Message = record { head = h; body = send_unreliable n payload } in
     let c : DataCommand = record { reliable = false; number = h.number; count = n; fragment = None; body = payload } in
     outcome-if own other (is_allowed p.state m.body) (by_body p now sent m m.body) (stopped p stop.NotConnected)
-    (λ t. data-by law own other p (made h reach m.body) c sent (logged-of other (made h reach m.body) c clean there refl refl (λ few. late few c refl)) tidy (data-state p.state m.body refl t) k) k
-holds-coming law own other p h reach now sent (send_fragment f payload) there clean tidy late late' k =
+    (λ t. data-by own other p (made h reach m.body) c sent (logged-of other (made h reach m.body) c clean there refl refl (λ few. late few c refl)) tidy (data-state p.state m.body refl t) k) k
+holds-coming own other p h reach now sent (send_fragment f payload) there clean tidy late late' k =
     let m : Message = record { head = h; body = send_fragment f payload } in
     let c : DataCommand = record { reliable = true; number = h.number; count = 0; fragment = Some f; body = payload } in
     outcome-if own other (is_allowed p.state m.body) (by_body p now sent m m.body) (stopped p stop.NotConnected)
-    (λ t. data-by law own other p (made h reach m.body) c sent (logged-of other (made h reach m.body) c clean there refl refl (λ few. late few c refl)) tidy (data-state p.state m.body refl t) k) k
-holds-coming law own other p h reach now sent (send_unreliable_fragment f payload) there clean tidy late late' k =
+    (λ t. data-by own other p (made h reach m.body) c sent (logged-of other (made h reach m.body) c clean there refl refl (λ few. late few c refl)) tidy (data-state p.state m.body refl t) k) k
+holds-coming own other p h reach now sent (send_unreliable_fragment f payload) there clean tidy late late' k =
     let m : Message = record { head = h; body = send_unreliable_fragment f payload } in
     let c : DataCommand = record { reliable = false; number = h.number; count = f.start; fragment = Some f; body = payload } in
     outcome-if own other (is_allowed p.state m.body) (by_body p now sent m m.body) (stopped p stop.NotConnected)
-    (λ t. data-by law own other p (made h reach m.body) c sent (logged-of other (made h reach m.body) c clean there refl refl (λ few. late few c refl)) tidy (data-state p.state m.body refl t) k) k
+    (λ t. data-by own other p (made h reach m.body) c sent (logged-of other (made h reach m.body) c clean there refl refl (λ few. late few c refl)) tidy (data-state p.state m.body refl t) k) k

@@ -16,7 +16,6 @@ use Rattle.enet_connection.specs.Connection.{End}
 use Rattle.enet_connection.specs.Steps.{Event, Answer, Submit, Emit, Come, Tick, Take, Disconnect, Set, Happens, with_peer}
 use Rattle.enet_connection.specs.Linked.{sends_in, dispatches_in, IsClean}
 use Rattle.enet_connection.specs.Kept.{IsTidy, is_agreed, AreLinked}
-use Rattle.enet_connection.proofs.DataMoves.{Forgets}
 use Rattle.enet_connection.proofs.Moves.{both-taken}
 use Rattle.enet_connection.proofs.Calls.{holds-ticked, holds-left, holds-set, both-emitted}
 use Rattle.enet_connection.proofs.Submits.{both-submitted}
@@ -107,9 +106,9 @@ named : (own other : End) (p : Peering) → own.peer ≡ Some p → AreLinked ow
 named own other p is b = subst (λ (o : Option Peering). AreLinked (record own { peer = o }) other) is b
 
 -- every event
-pub both-happens : Forgets → (own other new : End) (e : Event) → ((p : Peering) → own.peer ≡ Some p → IsTidy own.submitted p) → IsClean other → AreLinked own other → Happens own other e new → AreLinked new other
-both-happens law own other new (Answer put offer now server limits) tidy clean b h = subst (λ x. AreLinked x other) (sym h.4) (both-answered own other now offer server limits h.0 b)
-both-happens law own other new (Submit q) tidy clean b h =
+pub both-happens : (own other new : End) (e : Event) → ((p : Peering) → own.peer ≡ Some p → IsTidy own.submitted p) → IsClean other → AreLinked own other → Happens own other e new → AreLinked new other
+both-happens own other new (Answer put offer now server limits) tidy clean b h = subst (λ x. AreLinked x other) (sym h.4) (both-answered own other now offer server limits h.0 b)
+both-happens own other new (Submit q) tidy clean b h =
     let p : Peering = h.0 in
     let a = accepted (is_connected p.state) (leb (length p.outbox.senders) q.channel) (ltb p.limits.max_packet (length q.body) || ltb fragment_limit (piece_count (length q.body) p.terms.mtu)) h.2 in
     let s = inside p.outbox.senders q.channel a.1 in
@@ -119,14 +118,14 @@ both-happens law own other new (Submit q) tidy clean b h =
   where
     at-most : (n : ℕ) → ltb fragment_limit n ≡ false → n ≤ fragment_limit
     at-most n e = grind (arith, nat_tests)
-both-happens law own other new (Emit now) tidy clean b h =
+both-happens own other new (Emit now) tidy clean b h =
     let p : Peering = h.0 in let t = tidy p h.1 in
     subst (λ x. AreLinked x other) (sym h.2) (both-emitted own other p now h.1 t.places b)
-both-happens law own other new (Come put now sent) tidy clean b h =
+both-happens own other new (Come put now sent) tidy clean b h =
     let p : Peering = h.0 in
     let i = h.2 in
-    subst (λ x. AreLinked x other) (sym h.3) (holds-coming law own other p put.message.head put.reach now sent put.message.body i.logged clean (tidy p h.1) i.of_data i.of_acknowledgement (named own other p h.1 b))
-both-happens law own other new (Tick now) tidy clean b h = subst (λ x. AreLinked x other) (sym h.2) (holds-ticked own other h.0 now (named own other h.0 h.1 b))
-both-happens law own other new Take tidy clean b h = subst (λ x. AreLinked x other) (sym h.5) (both-took own other h.0 h.1 h.2 h.3 h.4 b)
-both-happens law own other new (Disconnect way info) tidy clean b h = subst (λ x. AreLinked x other) (sym h.4) (holds-left own other h.0 h.1 way info h.3 (named own other h.0 h.2 b))
-both-happens law own other new (Set setting) tidy clean b h = subst (λ x. AreLinked x other) (sym h.3) (holds-set own other h.0 setting (named own other h.0 h.1 b))
+    subst (λ x. AreLinked x other) (sym h.3) (holds-coming own other p put.message.head put.reach now sent put.message.body i.logged clean (tidy p h.1) i.of_data i.of_acknowledgement (named own other p h.1 b))
+both-happens own other new (Tick now) tidy clean b h = subst (λ x. AreLinked x other) (sym h.2) (holds-ticked own other h.0 now (named own other h.0 h.1 b))
+both-happens own other new Take tidy clean b h = subst (λ x. AreLinked x other) (sym h.5) (both-took own other h.0 h.1 h.2 h.3 h.4 b)
+both-happens own other new (Disconnect way info) tidy clean b h = subst (λ x. AreLinked x other) (sym h.4) (holds-left own other h.0 h.1 way info h.3 (named own other h.0 h.2 b))
+both-happens own other new (Set setting) tidy clean b h = subst (λ x. AreLinked x other) (sym h.3) (holds-set own other h.0 setting (named own other h.0 h.1 b))

@@ -4,16 +4,19 @@ use Rattle.std.specs.Prelude.{min, IsTrue}
 use Rattle.enet_types.specs.declared.packet.Packet.{Packet}
 use Rattle.enet_codec.specs.declared.command.Offer.{Offer}
 use Rattle.enet_connect.specs.declared.server.Server.{Server}
+use Rattle.enet_connect.specs.Terms.{is_channel_count}
 use Rattle.enet_fragment.specs.Cutting.{piece_count}
 use Rattle.enet_sender.specs.Carriage.{fragment_limit}
+use Rattle.enet_sender.specs.Carriage as carriage
 use Rattle.enet_peer.specs.Peering.{Peering, answering}
 use Rattle.enet_peer.specs.declared.parts.Limits.{Limits}
 use Rattle.enet_peer.specs.declared.parts.PeerEvent.{PeerEvent}
 use Rattle.enet_peer.specs.declared.parts.PeerEvent.TheVariants as told
 use Rattle.enet_peer.specs.declared.parts.PeerState.TheVariants as state
-use Rattle.enet_peer.specs.Calls.{Taken, next_event, event_after, packet_event, last_event, is_connected, submitted}
+use Rattle.enet_peer.specs.Calls.{next_event, is_connected, submitted, ticked}
+use Rattle.enet_peer.specs.Arrivals.{obeyed}
 use Rattle.enet_connection.specs.Connection.{End, packets_of, in_sequence}
-use Rattle.enet_connection.specs.Steps.{Event, Answer, Submit, Emit, Come, Tick, Take, Disconnect, Set, Happens, with_peer, with_submission, with_emission}
+use Rattle.enet_connection.specs.Steps.{Event, Answer, Submit, Emit, Come, Tick, Take, Disconnect, Set, Happens, with_peer, with_submission, with_setting}
 use Rattle.enet_connection.specs.Kept.{IsTidy, AreLow, IsLow, PeerFits, IsFit}
 use Rattle.enet_connection.proofs.PeerChanges.{kept-ticked, kept-left, kept-set, kept-emitted, kept-obeyed}
 use Rattle.enet_connection.proofs.TidyPeers.{tidies, tidy-submitted}
@@ -22,6 +25,7 @@ use Rattle.enet_connection.proofs.LowChannels.{lows, low-append, low-new}
 use Rattle.enet_connection.proofs.Beginnings.{tidy-answering, granted-few}
 use Rattle.enet_connection.proofs.Moves.{packets-push}
 use Rattle.enet_connection.proofs.Events.{accepted, took}
+use Rattle.enet_connection.proofs.InboxMoves.{in_sequence-append}
 
 pub fit-peer : (e : End) (p : Peering) → e.peer ≡ Some p → IsFit e → IsTidy e.submitted p × IsLow p
 fit-peer e p is h = subst (λ (o : Option Peering). PeerFits e.submitted o) is h.peer
@@ -31,13 +35,13 @@ fit-with : (own : End) (q : Peering) → IsFit own → IsTidy own.submitted q �
 fit-with own q h t l = record { clean = clean-same own (with_peer own q) refl h.clean; taken = h.taken; peer = (t, l) }
 
 -- a submission touches no inbox
-low-submitted : (p : Peering) (channel : ℕ) (q : Rattle.enet_sender.specs.Carriage.Packet) → IsLow p → IsLow (submitted p channel q)
+low-submitted : (p : Peering) (channel : ℕ) (q : carriage.Packet) → IsLow p → IsLow (submitted p channel q)
 low-submitted p channel q h = record { channels = h.channels; untaken = h.untaken }
 
 low-parts : (xs ys : List Packet) → AreLow (xs ++ ys) → AreLow xs × AreLow ys
 low-parts xs ys h = (
-  (λ channel far. parts-left (in_sequence channel xs) (in_sequence channel ys) (sym (Rattle.enet_connection.proofs.InboxMoves.in_sequence-append channel xs ys) ∙ h channel far)),
-  (λ channel far. parts-right (in_sequence channel xs) (in_sequence channel ys) (sym (Rattle.enet_connection.proofs.InboxMoves.in_sequence-append channel xs ys) ∙ h channel far)),
+  (λ channel far. parts-left (in_sequence channel xs) (in_sequence channel ys) (sym (in_sequence-append channel xs ys) ∙ h channel far)),
+  (λ channel far. parts-right (in_sequence channel xs) (in_sequence channel ys) (sym (in_sequence-append channel xs ys) ∙ h channel far)),
 )
   where
     parts-left : {X : Type 0} (a b : List X) → a ++ b ≡ [] → a ≡ []
@@ -72,7 +76,7 @@ fit-took own p q e is next h =
     }
 
 -- a server that answers
-fit-answered : (own : End) (now : ℕ) (offer : Offer) (server : Server) (limits : Limits) → IsTrue (Rattle.enet_connect.specs.Terms.is_channel_count offer.channels) → own.peer ≡ None → IsFit own → IsFit (with_peer own (answering now offer server limits))
+fit-answered : (own : End) (now : ℕ) (offer : Offer) (server : Server) (limits : Limits) → IsTrue (is_channel_count offer.channels) → own.peer ≡ None → IsFit own → IsFit (with_peer own (answering now offer server limits))
 fit-answered own now offer server limits count none h =
     let unsubmitted : own.submitted ≡ [] = subst (λ (o : Option Peering). PeerFits own.submitted o) none h.peer in
     fit-with own (answering now offer server limits) h (subst (λ (qs : List Packet). IsTidy qs (answering now offer server limits)) (sym unsubmitted) (tidy-answering now offer server limits count))
@@ -99,15 +103,15 @@ fit-happens own other new (Emit now) f h =
     })
 fit-happens own other new (Come put now sent) f h =
     let p : Peering = h.0 in let k = fit-peer own p h.1 f in
-    let q : Peering = (Rattle.enet_peer.specs.Arrivals.obeyed p now sent put.message).after in
+    let q : Peering = (obeyed p now sent put.message).after in
     subst IsFit (sym h.3) (fit-with own q f (kept-obeyed (IsTidy own.submitted) (tidies own.submitted) p put.message.head now sent put.message.body k.0) (kept-obeyed IsLow lows p put.message.head now sent put.message.body k.1))
 fit-happens own other new (Tick now) f h =
     let p : Peering = h.0 in let k = fit-peer own p h.1 f in
-    subst IsFit (sym h.2) (fit-with own (Rattle.enet_peer.specs.Calls.ticked p now) f (kept-ticked (IsTidy own.submitted) (tidies own.submitted) p now k.0) (kept-ticked IsLow lows p now k.1))
+    subst IsFit (sym h.2) (fit-with own (ticked p now) f (kept-ticked (IsTidy own.submitted) (tidies own.submitted) p now k.0) (kept-ticked IsLow lows p now k.1))
 fit-happens own other new Take f h = subst IsFit (sym h.5) (fit-took own h.0 h.1 h.2 h.3 h.4 f)
 fit-happens own other new (Disconnect way info) f h =
     let p : Peering = h.0 in let k = fit-peer own p h.2 f in
     subst IsFit (sym h.4) (fit-with own h.1 f (kept-left (IsTidy own.submitted) (tidies own.submitted) p h.1 way info h.3 k.0) (kept-left IsLow lows p h.1 way info h.3 k.1))
 fit-happens own other new (Set setting) f h =
     let p : Peering = h.0 in let k = fit-peer own p h.1 f in
-    subst IsFit (sym h.3) (fit-with own (Rattle.enet_connection.specs.Steps.with_setting setting p) f (kept-set (IsTidy own.submitted) (tidies own.submitted) p setting h.2 k.0) (kept-set IsLow lows p setting h.2 k.1))
+    subst IsFit (sym h.3) (fit-with own (with_setting setting p) f (kept-set (IsTidy own.submitted) (tidies own.submitted) p setting h.2 k.0) (kept-set IsLow lows p setting h.2 k.1))

@@ -11,6 +11,8 @@ use Rattle.enet_receiver.specs.Foresight as receiving
 use Rattle.enet_inbox.specs.Inbox.{Inbox, cleared_receiver, is_full}
 use Rattle.enet_inbox.specs.Arrivals.{packet_of, emptied}
 use Rattle.enet_peer.specs.Peering.{Peering}
+use Rattle.enet_peer.specs.Endings.{disconnecting, dropped, ended, freed, parting}
+use Rattle.enet_peer.specs.declared.parts.PeerState.TheVariants.{AckDisconnect}
 use Rattle.enet_connection.specs.Connection.{in_sequence}
 use Rattle.enet_connection.specs.Kept.{AreLow, IsLow}
 use Rattle.enet_connection.proofs.InboxMoves.{in_sequence-append}
@@ -41,12 +43,12 @@ pub lows : Changes IsLow
 lows = record {
   quiet = λ p q e h. record { channels = subst (λ (c : Core). length c.receivers ≤ 255) (sym e) h.channels; untaken = subst (λ (c : Core). AreLow c.untaken) (sym e) h.untaken };
   controls = λ p what on h. record { channels = h.channels; untaken = h.untaken };
-  ends = λ p info here h. dropped-low p (Rattle.enet_peer.specs.Endings.ended p info) refl h.untaken h;
-  cuts = λ p now gone over h. dropped-low p (Rattle.enet_peer.specs.Endings.ended p 0) refl h.untaken h;
-  frees = λ p h. dropped-low p (Rattle.enet_peer.specs.Endings.freed p) refl none h;
-  parts = λ p info h. dropped-low p (Rattle.enet_peer.specs.Endings.parting p info) refl none h;
-  disconnects = λ p info up h. dropped-low p (Rattle.enet_peer.specs.Endings.disconnecting p info) refl h.untaken h;
-  answers = λ p info up h. dropped-low p (record (Rattle.enet_peer.specs.Endings.dropped p) { state = Rattle.enet_peer.specs.declared.parts.PeerState.TheVariants.AckDisconnect; info = info }) refl h.untaken h;
+  ends = λ p info here h. dropped-low p (ended p info) refl h.untaken h;
+  cuts = λ p now gone over h. dropped-low p (ended p 0) refl h.untaken h;
+  frees = λ p h. dropped-low p (freed p) refl none h;
+  parts = λ p info h. dropped-low p (parting p info) refl none h;
+  disconnects = λ p info up h. dropped-low p (disconnecting p info) refl h.untaken h;
+  answers = λ p info up h. dropped-low p (record (dropped p) { state = AckDisconnect; info = info }) refl h.untaken h;
   waits = λ p info on h. record { channels = h.channels; untaken = h.untaken };
   greets = λ p e h. record { channels = h.channels; untaken = h.untaken };
   welcomes = λ p v terms e big h. record { channels = take-few terms.channels p.inbox.receivers h.channels; untaken = h.untaken };

@@ -16,6 +16,8 @@ use Rattle.enet_peer.specs.Peering.{Peering}
 use Rattle.enet_peer.specs.declared.parts.PeerEvent.{PeerEvent}
 use Rattle.enet_peer.specs.declared.parts.PeerEvent.TheVariants as told
 use Rattle.enet_peer.specs.declared.parts.PeerState.TheVariants as state
+use Rattle.enet_control.specs.Controlling as controlling
+use Rattle.enet_receiver.specs.Foresight.{ReceivingEnd}
 use Rattle.enet_link.specs.Link.{Answer, is_late}
 use Rattle.enet_link.specs.WireLink.{WireLink, answered, marks, stops_receiving}
 use Rattle.enet_link.specs.Steps.{Has, Acknowledge, Mark, StopReceiving}
@@ -57,7 +59,7 @@ after-own o channel number few = control ∙ by (slice_get o.senders channel) re
   where
     control : sender_in (slice_get (senders-after o channel number) channel) ≡ sender_in (slice_get (acknowledged_on o channel number (slice_get o.senders channel)).senders channel)
     control = let f : (channel == 0xFF) ≡ false = grind (arith, nat_tests) in
-        ap (λ b. sender_in (slice_get (cond b (record o { control = Rattle.enet_control.specs.Controlling.acknowledged o.control number }) (acknowledged_on o channel number (slice_get o.senders channel))).senders channel)) f
+        ap (λ b. sender_in (slice_get (cond b (record o { control = controlling.acknowledged o.control number }) (acknowledged_on o channel number (slice_get o.senders channel))).senders channel)) f
 
     by : (x : Option SendingEnd) → slice_get o.senders channel ≡ x → sender_in (slice_get (acknowledged_on o channel number x).senders channel) ≡ sender.acknowledged (sender_in (slice_get o.senders channel)) number
     by None e = ap sender_in e ∙ sym (ap (λ y. sender.acknowledged (sender_in y) number) e)
@@ -70,7 +72,7 @@ after-other o j channel number n = by-control (j == 0xFF)
     by None = refl
     by (Some s) = get-set-other o.senders j channel (record s { sender = sender.acknowledged s.sender number }) n
 
-    by-control : (b : Bool) → slice_get (cond b (record o { control = Rattle.enet_control.specs.Controlling.acknowledged o.control number }) (acknowledged_on o j number (slice_get o.senders j))).senders channel ≡ slice_get o.senders channel
+    by-control : (b : Bool) → slice_get (cond b (record o { control = controlling.acknowledged o.control number }) (acknowledged_on o j number (slice_get o.senders j))).senders channel ≡ slice_get o.senders channel
     by-control true = refl
     by-control false = by (slice_get o.senders j)
 
@@ -89,7 +91,7 @@ after-places o j number channel places s e = by-control (j == 0xFF) e
           places s (sym (get-set-other o.senders j channel (record t { sender = sender.acknowledged t.sender number }) n) ∙ h))
     ]
 
-    by-control : (b : Bool) → slice_get (cond b (record o { control = Rattle.enet_control.specs.Controlling.acknowledged o.control number }) (acknowledged_on o j number (slice_get o.senders j))).senders channel ≡ Some s → s.channel ≡ channel
+    by-control : (b : Bool) → slice_get (cond b (record o { control = controlling.acknowledged o.control number }) (acknowledged_on o j number (slice_get o.senders j))).senders channel ≡ Some s → s.channel ≡ channel
     by-control true h = places s h
     by-control false h = at (slice_get o.senders j) refl h
 
@@ -100,7 +102,7 @@ same-answers o j number = by-control (j == 0xFF)
     by None = refl
     by (Some s) = refl
 
-    by-control : (b : Bool) → (cond b (record o { control = Rattle.enet_control.specs.Controlling.acknowledged o.control number }) (acknowledged_on o j number (slice_get o.senders j))).acknowledgements ≡ o.acknowledgements
+    by-control : (b : Bool) → (cond b (record o { control = controlling.acknowledged o.control number }) (acknowledged_on o j number (slice_get o.senders j))).acknowledgements ≡ o.acknowledgements
     by-control true = refl
     by-control false = by (slice_get o.senders j)
 
@@ -213,7 +215,7 @@ both-taken own other p q e is sends dispatches mtu box receivers untaken b = rec
       let same = dispatched-same channel in
       relinks other own other new channel k k.link (stays k.mtu k.link) refl refl refl k.agreed k.sending (
         dispatches ∙ h.0,
-        (λ t. h.1 t ∙ ap (λ (rs : List Rattle.enet_receiver.specs.Foresight.ReceivingEnd). record (receiver_in (slice_get rs channel)) { dispatched = dispatched_on channel own p }) (sym receivers)
+        (λ t. h.1 t ∙ ap (λ (rs : List ReceivingEnd). record (receiver_in (slice_get rs channel)) { dispatched = dispatched_on channel own p }) (sym receivers)
             ∙ ap (λ (l : List Dispatched). record (receiver_in (slice_get q.inbox.receivers channel)) { dispatched = l }) same),
         h.2 ∙ same,
         h.3 ∙ ap (λ (o : Outbox). numbers_on channel o.acknowledgements) (sym box),

@@ -1,6 +1,6 @@
 -- A property of a peer that each single change keeps is kept by whatever comes, by the clock, by the user's settings and by an emission.
 use Rattle.std.proofs.Common.{◌≡◌, ℕ, ◌<◌, Bool, true, false, cond, ltb, leb, ◌&&◌, not, List, refl, sym, ap, subst, ◌∙◌, inl, inr, arith, Option, Some, None, Result, Ok, Err, length, slice_set}
-use Rattle.std.specs.Prelude.{is_some}
+use Rattle.std.specs.Prelude.{is_some, max, min}
 use Rattle.std.specs.List.{slice_get}
 use Rattle.enet_codec.specs.declared.command.Head.{Head}
 use Rattle.enet_codec.specs.declared.command.Offer.{Offer}
@@ -10,6 +10,7 @@ use Rattle.enet_types.specs.declared.stop.Stop.TheVariants as stop
 use Rattle.enet_codec.specs.Message.{Message, Body, acknowledge, connect, verify_connect, disconnect, ping, send_reliable, send_unreliable, send_fragment, send_unsequenced, bandwidth_limit, throttle_configure, send_unreliable_fragment}
 use Rattle.enet_seq.specs.Numbering.{wire}
 use Rattle.enet_rtt.specs.declared.expiry.Expiry.TheVariants.{No, Resend, End as Ends}
+use Rattle.enet_rtt.specs.Clock.{elapsed_time}
 use Rattle.enet_unsequenced.specs.Groups.{dispatches}
 use Rattle.enet_connect.specs.declared.terms.Terms.{Terms}
 use Rattle.enet_connect.specs.Verification.{confirmed, agreed, is_accepted}
@@ -134,7 +135,7 @@ kept-ticked P k p now h =
     let q : Peering = after_timeouts p now in
     let a : P q = kept-timeouts P k p now h in
     if-peer P (is_pinged q now) (record q { outbox = with_control q.outbox control.Ping }) q
-    (λ t. k.controls q control.Ping (and-left (is_connected q.state) (outbox.is_quiet q.outbox) (and-left (is_connected q.state && outbox.is_quiet q.outbox) (leb q.ping_interval (Rattle.enet_rtt.specs.Clock.elapsed_time now q.heard)) t)) a) a
+    (λ t. k.controls q control.Ping (and-left (is_connected q.state) (outbox.is_quiet q.outbox) (and-left (is_connected q.state && outbox.is_quiet q.outbox) (leb q.ping_interval (elapsed_time now q.heard)) t)) a) a
 
 -- the user ends the connection
 
@@ -261,14 +262,14 @@ kept-acknowledged P k p now channel number time here h = by (matched_by p.outbox
     by matched.Data = kept-settled P k q a
     by (matched.Control what) = kept-settled P k (with_answer p.state what q) (kept-with_answer P k q p.state what refl a)
 
-big-enough : (n : ℕ) → 28 < Rattle.std.specs.Prelude.max 576 n
+big-enough : (n : ℕ) → 28 < max 576 n
 big-enough n = omega arith
 
 confirmed-big : (o : Offer) (v : Verify) (terms : Terms) → confirmed o v ≡ Some terms → 28 < terms.mtu
 confirmed-big o v terms e = by (is_accepted o v) e
   where
     by : (b : Bool) → cond b (Some (agreed o v)) None ≡ Some terms → 28 < terms.mtu
-    by true e = (let same : agreed o v ≡ terms = cc in subst (λ (t : Terms). 28 < t.mtu) same (big-enough (Rattle.std.specs.Prelude.min (Rattle.std.specs.Prelude.min o.mtu v.mtu) 4096)))
+    by true e = (let same : agreed o v ≡ terms = cc in subst (λ (t : Terms). 28 < t.mtu) same (big-enough (min (min o.mtu v.mtu) 4096)))
     by false e = absurd (cc)
 
 kept-verified : (P : Peering → Type 0) → Changes P → (p : Peering) (v : Verify) (s : PeerState) → p.state ≡ s → P p → P (on_verify_in s p v)

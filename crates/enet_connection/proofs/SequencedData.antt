@@ -27,8 +27,8 @@ use Rattle.enet_connection.specs.Steps.{with_peer}
 use Rattle.enet_connection.specs.Linked.{IsLinked, sends_in, dispatches_in, receiver_in, numbers_on}
 use Rattle.enet_receiver.specs.Sequenced.{HasSequenced}
 use Rattle.enet_connection.proofs.InboxMoves.{grown}
-use Rattle.enet_connection.proofs.Relinking.{QuietOut, out-quiet, receiving-of}
-use Rattle.enet_connection.proofs.DataMoves.{Forgets, back-taken_in, back-elsewhere, back-passed}
+use Rattle.enet_connection.proofs.Relinking.{out-quiet, receiving-of, back-quiet}
+use Rattle.enet_connection.proofs.DataMoves.{back-taken_in, back-elsewhere, back-passed}
 use Rattle.enet_connection.proofs.Commands.{Holds, numbers-push, numbers-push_own}
 use Rattle.enet_connection.proofs.Runs.{either, and-left, and-right}
 
@@ -89,11 +89,11 @@ front-small : (own other : End) (channel : ℕ) (k : IsLinked other own channel)
 front-small own other channel k open' = let f = keeps k.mtu k.events k.link k.big k.runs in let s = f.shows open' in let e = s.front in omega arith
 
 -- it is taken in
-pub holds-taken_in : Forgets → (own other : End) (p q : Peering) (put : Put) (c : DataCommand) (r : ReceivingEnd) (answer : Bool) → dispatches_in p.state ≡ true → Logged other put c
+pub holds-taken_in : (own other : End) (p q : Peering) (put : Put) (c : DataCommand) (r : ReceivingEnd) (answer : Bool) → dispatches_in p.state ≡ true → Logged other put c
     → slice_get p.inbox.receivers put.message.head.channel ≡ Some r → r.receiver.dispatched ≡ [] → HasSequenced r.receiver
     → (answer ≡ true → (c.reliable ≡ true) × (is_handled (outcome wire r.max_packet r.receiver c (is_full p.inbox)) ≡ true) × (acknowledges r.receiver.front c.number ≡ true))
     → After p put c.number (sequenced_on p.inbox put.message.head.channel c (slice_get p.inbox.receivers put.message.head.channel)).after answer q → Holds own other p → Holds own other q
-holds-taken_in law own other p q put c r answer opens logged there none flagged rule after' b = record {
+holds-taken_in own other p q put c r answer opens logged there none flagged rule after' b = record {
   out = λ channel few. out-quiet (with_peer own p) other p q channel refl (record { sends = ap sends_in after'.same; mtu = after'.mtu; senders = after'.senders }) (b.out channel few);
   back = λ channel few. elim (either (j == channel)) [
     | inl on ↦ (let at : j ≡ channel = grind (arith, nat_tests) in subst (λ i. IsLinked other (with_peer own q) i) at (here (b.back j logged.low)))
@@ -114,7 +114,7 @@ holds-taken_in law own other p q put c r answer opens logged there none flagged 
         let front : k.link.incoming.front ≡ r.receiver.front = ap (λ (x : Receiver). x.front) now in
         let small = front-small (with_peer own p) other j k open' in
         let same : k.link.incoming.front % 65536 ≡ r.receiver.front = omega arith in
-        back-taken_in law (with_peer own p) other p q put c r answer k refl opens (ap dispatches_in after'.same ∙ opens) (record { logged = logged.logged; is = logged.is; in_time = logged.in_time }) there none flagged after'.inbox
+        back-taken_in (with_peer own p) other p q put c r answer k refl opens (ap dispatches_in after'.same ∙ opens) (record { logged = logged.logged; is = logged.is; in_time = logged.in_time }) there none flagged after'.inbox
         (λ t. let u = rule t in (
           u.0,
           both-true (is_handled (outcome wire r.max_packet k.link.incoming c full)) (acknowledges (k.link.incoming.front % 65536) c.number)
@@ -123,10 +123,10 @@ holds-taken_in law own other p q put c r answer opens logged there none flagged 
         after'.own
 
 -- sequenced data comes to a peer that dispatches
-pub holds-sequenced : Forgets → (own other : End) (p : Peering) (put : Put) (c : DataCommand) (sent : Option ℕ) → dispatches_in p.state ≡ true → Logged other put c
+pub holds-sequenced : (own other : End) (p : Peering) (put : Put) (c : DataCommand) (sent : Option ℕ) → dispatches_in p.state ≡ true → Logged other put c
     → ((i : ℕ) (r : ReceivingEnd) → slice_get p.inbox.receivers i ≡ Some r → (r.receiver.dispatched ≡ []) × HasSequenced r.receiver)
     → Holds own other p → Holds own other (by_arrival p put.message sent (sequenced_on p.inbox put.message.head.channel c (slice_get p.inbox.receivers put.message.head.channel))).after
-holds-sequenced law own other p put c sent opens logged tidy b = by (slice_get p.inbox.receivers j) refl
+holds-sequenced own other p put c sent opens logged tidy b = by (slice_get p.inbox.receivers j) refl
   where
     j : ℕ
     j = put.message.head.channel
@@ -139,7 +139,7 @@ holds-sequenced law own other p put c sent opens logged tidy b = by (slice_get p
         → Holds own other (answered (record p { inbox = (by_took t p.inbox j r c).after }) put.message sent (acknowledges r.receiver.front c.number)).after
     handles r there t e handled =
         after-answered (Holds own other) p put c.number (by_took t p.inbox j r c).after sent (acknowledges r.receiver.front c.number) logged.number
-        (λ answer q rule after'. holds-taken_in law own other p q put c r answer opens logged there (tidy j r there).0 (tidy j r there).1
+        (λ answer q rule after'. holds-taken_in own other p q put c r answer opens logged there (tidy j r there).0 (tidy j r there).1
         (λ x. let y = rule x in (logged.asks y.0, ap is_handled e ∙ handled, y.1))
         (record {
           same = after'.same;
@@ -186,7 +186,7 @@ holds-passed own other p put c sent shut logged b = by (slice_get p.inbox.receiv
         here true rule numbers k =
             back-passed (with_peer own p) other p q put c k refl shut (ap dispatches_in after'.same ∙ shut) (record { logged = logged.logged; is = logged.is; in_time = logged.in_time }) after'.inbox (logged.asks (rule refl).0) numbers
         here false rule numbers k =
-            Rattle.enet_connection.proofs.Relinking.back-quiet (with_peer own p) other p q j logged.low refl (record {
+            back-quiet (with_peer own p) other p q j logged.low refl (record {
               dispatches = ap dispatches_in after'.same;
               receivers = ap (λ (x : Inbox). x.receivers) after'.inbox;
               untaken = λ i few. ap (λ (x : Inbox). in_sequence i x.untaken) after'.inbox;

@@ -1,5 +1,5 @@
 -- A submission keeps all links. Where nothing was submitted before, the link may be one of any mtu.
-use Rattle.std.proofs.Common.{◌≡◌, ◌≢◌, ℕ, ◌<◌, ◌≤◌, Bool, true, false, cond, ◌==◌, ◌&&◌, not, List, [], ◌∷◌, ◌++◌, refl, sym, ap, subst, ◌∙◌, inl, inr, ◌⊎◌, arith, Option, Some, length, slice_set}
+use Rattle.std.proofs.Common.{◌≡◌, ◌≢◌, ℕ, ◌<◌, ◌≤◌, Bool, true, false, cond, ◌==◌, ◌&&◌, not, List, [], ◌∷◌, ◌++◌, refl, sym, ap, subst, ◌∙◌, inl, inr, arith, Option, Some, length, slice_set}
 use Rattle.std.proofs.lemmas.Bool.Decides.{nat_tests}
 use Rattle.std.proofs.lemmas.List.{append-nil}
 use Rattle.std.specs.List.{slice_get}
@@ -18,9 +18,9 @@ use Rattle.enet_link.specs.Steps.{Event, Submit, Send, Drop, Mark, PutsOut, Arri
 use Rattle.enet_connection.specs.Connection.{End, of_channel}
 use Rattle.enet_connection.specs.Steps.{with_submission}
 use Rattle.enet_connection.specs.Law.{mtu_of}
-use Rattle.enet_connection.specs.Linked.{IsLinked, sends_in, sender_in, ShowsSending, ShowsReceiving}
+use Rattle.enet_connection.specs.Linked.{IsLinked, sends_in, sender_in, numbers_on}
 use Rattle.enet_connection.specs.Kept.{AreLinked}
-use Rattle.enet_connection.proofs.Runs.{Runs-push, get-set, get-set-other}
+use Rattle.enet_connection.proofs.Runs.{either, Runs-push, get-set, get-set-other}
 use Rattle.enet_connection.proofs.Relinking.{back-quiet, sending-of, receiving-by}
 
 -- a list that grew isn't empty
@@ -177,15 +177,11 @@ both-submitted own other p q s is big sends there few b = by (is_unsequenced mtu
     -- nothing comes in
     same-back : (o : Outbox) → o.acknowledgements ≡ p.outbox.acknowledgements → (channel : ℕ) → channel < 255 → IsLinked other (record own { peer = Some (record p { outbox = o }); submitted = own.submitted ++ q ∷ [] }) channel
     same-back o a channel few =
-        let k = back-quiet own other p (record p { outbox = o }) channel few is (record { dispatches = refl; receivers = refl; untaken = λ i h. refl; numbers = λ i h. ap (Rattle.enet_connection.specs.Linked.numbers_on i) a }) (b.back channel few) in
+        let k = back-quiet own other p (record p { outbox = o }) channel few is (record { dispatches = refl; receivers = refl; untaken = λ i h. refl; numbers = λ i h. ap (numbers_on i) a }) (b.back channel few) in
         record { mtu = k.mtu; big = k.big; agreed = k.agreed; link = k.link; events = k.events; runs = k.runs; between = k.between; submitted = k.submitted; greatest = k.greatest; few = k.few; sending = k.sending; receiving = k.receiving; commands = k.commands; acks = k.acks }
 
     new : Outbox → End
     new o = record own { peer = Some (record p { outbox = o }); submitted = own.submitted ++ q ∷ [] }
-
-    either : (b : Bool) → (b ≡ true) ⊎ (b ≡ false)
-    either true = inl refl
-    either false = inr refl
 
     off : (n : ℕ) (channel : ℕ) → is_unsequenced n packet ≡ true → (q.channel == channel && not (is_unsequenced n packet)) ≡ false
     off n channel e = by' (q.channel == channel)

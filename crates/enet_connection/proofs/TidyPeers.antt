@@ -12,15 +12,18 @@ use Rattle.enet_inbox.specs.Arrivals.{emptied}
 use Rattle.enet_sender.specs.Sender.{Sender, Next, next, with_skipped, with_marked, nothing_sent}
 use Rattle.enet_sender.specs.Sender as sender
 use Rattle.enet_sender.specs.Due.{SendingEnd}
+use Rattle.enet_sender.specs.Carriage as carriage
 use Rattle.enet_outbox.specs.Outbox.{Outbox, cleared_sender, marked_sender, acknowledged_on, is_unsequenced, with_unsequenced, with_sequenced}
 use Rattle.enet_peer.specs.Peering.{Peering}
 use Rattle.enet_peer.specs.declared.parts.PeerState.{PeerState}
 use Rattle.enet_peer.specs.declared.parts.PeerState.TheVariants as state
 use Rattle.enet_peer.specs.Calls.{is_connected, submitted}
+use Rattle.enet_peer.specs.Endings.{disconnecting, dropped, ended, freed, parting}
 use Rattle.enet_connection.specs.Linked.{sender_in, receiver_in}
 use Rattle.enet_connection.specs.Kept.{AreInPlace, IsTidy, is_young, is_agreed}
 use Rattle.enet_receiver.proofs.Sequenced.{sequenced-received, sequenced-cleared}
 use Rattle.enet_receiver.specs.Sequenced.{HasSequenced}
+use Rattle.enet_control.specs.Controlling.{acknowledged}
 use Rattle.enet_connection.proofs.Packing.{idle-next, places-set}
 use Rattle.enet_connection.proofs.Moves.{senders-after, after-places, marked-at, marked-places}
 use Rattle.enet_connection.proofs.Arrivals.{get-take, narrowed-places}
@@ -106,7 +109,7 @@ acknowledged-few o j number h = by-control (j == 0xFF)
     by None = h
     by (Some s) = few-set o.senders j (record s { sender = sender.acknowledged s.sender number }) h
 
-    by-control : (b : Bool) → length (cond b (record o { control = Rattle.enet_control.specs.Controlling.acknowledged o.control number }) (acknowledged_on o j number (slice_get o.senders j))).senders ≤ 255
+    by-control : (b : Bool) → length (cond b (record o { control = acknowledged o.control number }) (acknowledged_on o j number (slice_get o.senders j))).senders ≤ 255
     by-control true = h
     by-control false = by (slice_get o.senders j)
 
@@ -117,7 +120,7 @@ acknowledged-idle o j number h = by-control (j == 0xFF)
     by None e = h
     by (Some s) e = idle-set o.senders j (record s { sender = sender.acknowledged s.sender number }) (ap (λ (x : Sender). sender.acknowledged x number) (sym (ap sender_in e) ∙ h j)) h
 
-    by-control : (b : Bool) → AreIdle (cond b (record o { control = Rattle.enet_control.specs.Controlling.acknowledged o.control number }) (acknowledged_on o j number (slice_get o.senders j))).senders
+    by-control : (b : Bool) → AreIdle (cond b (record o { control = acknowledged o.control number }) (acknowledged_on o j number (slice_get o.senders j))).senders
     by-control true = h
     by-control false = by (slice_get o.senders j) refl
 
@@ -141,12 +144,12 @@ pub tidies : (qs : List Packet) → Changes (IsTidy qs)
 tidies qs = record {
   quiet = λ p q e h. tidy-core qs p q e h;
   controls = λ p what on h. record { places = h.places; few = h.few; receivers = h.receivers; young = h.young; big = h.big };
-  ends = λ p info here h. tidy-stopped qs p (Rattle.enet_peer.specs.Endings.ended p info) refl refl refl refl h;
-  cuts = λ p now gone over h. tidy-stopped qs p (Rattle.enet_peer.specs.Endings.ended p 0) refl refl refl refl h;
-  frees = λ p h. tidy-stopped qs p (Rattle.enet_peer.specs.Endings.freed p) refl refl refl refl h;
-  parts = λ p info h. tidy-stopped qs p (Rattle.enet_peer.specs.Endings.parting p info) refl refl refl refl h;
-  disconnects = λ p info up h. tidy-stopped qs p (Rattle.enet_peer.specs.Endings.disconnecting p info) refl refl refl refl h;
-  answers = λ p info up h. tidy-stopped qs p (record (Rattle.enet_peer.specs.Endings.dropped p) { state = state.AckDisconnect; info = info }) refl refl refl refl h;
+  ends = λ p info here h. tidy-stopped qs p (ended p info) refl refl refl refl h;
+  cuts = λ p now gone over h. tidy-stopped qs p (ended p 0) refl refl refl refl h;
+  frees = λ p h. tidy-stopped qs p (freed p) refl refl refl refl h;
+  parts = λ p info h. tidy-stopped qs p (parting p info) refl refl refl refl h;
+  disconnects = λ p info up h. tidy-stopped qs p (disconnecting p info) refl refl refl refl h;
+  answers = λ p info up h. tidy-stopped qs p (record (dropped p) { state = state.AckDisconnect; info = info }) refl refl refl refl h;
   waits = λ p info on h. record {
     places = h.places;
     few = h.few;
@@ -206,7 +209,7 @@ tidies qs = record {
 }
 
 -- a submission
-pub tidy-submitted : (qs rs : List Packet) (p : Peering) (channel : ℕ) (q : Rattle.enet_sender.specs.Carriage.Packet) → is_connected p.state ≡ true → IsTidy qs p → IsTidy rs (submitted p channel q)
+pub tidy-submitted : (qs rs : List Packet) (p : Peering) (channel : ℕ) (q : carriage.Packet) → is_connected p.state ≡ true → IsTidy qs p → IsTidy rs (submitted p channel q)
 tidy-submitted qs rs p channel q on h = by (is_unsequenced p.terms.mtu q)
   where
     at : (o : Option SendingEnd) → slice_get p.outbox.senders channel ≡ o → IsTidy rs (record p { outbox = with_sequenced p.outbox p.terms.mtu channel q o })
