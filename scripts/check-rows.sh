@@ -2,11 +2,13 @@
 # Runs each script that scripts/rows/list.txt names through the built program `enet_relay lab`, and compares what it writes
 # to standard output with NAME.out, to standard error with NAME.err (no such file: nothing) and its status with NAME.status
 # (no such file: 0). A long script and its output are made by NAME.awk. A script that is listed and missing fails. Each line of
-# unreadable-lines.txt, whose escapes are printf's, is the second of a script, and the first that can't be read. Command lines are
-# tried too. The last line is 'N passed, M failed'; the status is 1 where one fails. The program is the one that `rt ci`, or
-# `rt run` in crates/enet_relay, leaves; another can be named as argument.
+# unreadable-lines.txt, whose escapes are printf's, is the second of a script, and the first that can't be read. Each short script
+# that makes a pair is also run by `check_memory` as one list of events, in one call. Command lines are tried too. The last line is
+# 'N passed, M failed'; the status is 1 where one fails. The programs are those that `rt ci`, or `rt run` in crates/enet_relay and
+# crates/check_memory, leaves; another `enet_relay` can be named as argument.
 cd "$(dirname "$0")/.." || exit 1
 program=${1:-crates/enet_relay/out/enet_relay}
+lists=crates/check_memory/out/check_memory
 rows=scripts/rows
 passed=0
 failed=0
@@ -39,6 +41,15 @@ row() {
     [ -r "$row.status" ] && wanted=$(<"$row.status")
     [ -r "$row.err" ] && err=$row.err
     script "$1" "$row.lab" "$row.out" "$err" "$wanted"
+}
+
+# A script as one list of events.
+at_once() {
+    local row=$rows/$1
+    [ -r "$row.lab" ] && [ ! -e "$row.status" ] && grep -q '^pair ' < <(head -n 1 "$row.lab") || return
+    { echo run; cat "$row.lab"; echo =; cat "$row.out"; } | timeout 120 "$lists" > "$room/out" 2> "$room/err"
+    [ "$(<"$room/out")" = 'as expected, 0 growths refused' ] || { fail "$1 at once" "$(head -c 200 "$room/out" "$room/err")"; return; }
+    passed=$((passed + 1))
 }
 
 unreadable_lines() {
@@ -81,7 +92,7 @@ elif [ ! -r "$rows/list.txt" ] || [ ! -r "$rows/unreadable-lines.txt" ]; then
     fail "$rows" "list.txt or unreadable-lines.txt is missing"
 else
     while IFS= read -r name || [ -n "$name" ]; do
-        case $name in '' | '#'*) ;; *) row "$name" ;; esac
+        case $name in '' | '#'*) ;; *) row "$name"; at_once "$name" ;; esac
     done < "$rows/list.txt"
     unreadable_lines
     command_lines

@@ -3,14 +3,14 @@
 /// Why a run ends early.
 #[derive(Clone, Copy)]
 pub(crate) enum Fault {
-    /// At this step of a row, from 1, the answer isn't the worked one, or a refusal changed what reading calls tell. Step 0
-    /// is the opening.
+    /// The answer to this line of a script, or to this step of the single peers, isn't the worked one, or a refusal changed what
+    /// reading calls tell.
     Differs(u32),
     /// A growth of the program itself was refused.
     OwnMemory,
-    /// Reading or writing failed.
+    /// Reading or writing failed, or the input has another form.
     Io,
-    /// The growth behind the last row's was refused.
+    /// The growth behind the last call's was refused.
     NoMoreGrowths,
 }
 

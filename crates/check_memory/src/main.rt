@@ -1,47 +1,22 @@
-//! `check_memory` shows that want of memory loses nothing: it runs five worked rows over the world of a joined pair and one
-//! over single peers, and where a call is refused for want of memory it compares what the reading calls tell before and
-//! after, and repeats the call. It prints one line a row.
+//! `check_memory` shows that want of memory loses nothing: where a call is refused for want of memory it compares what the
+//! reading calls tell before and after, and repeats the call. It prints how many calls it repeated.
 //!
-//! Standard input may have a decimal number: so many growths are made before the first row. A run that refuses the growth of
-//! one number so refuses any of the rows', by the input alone. Status 1: a row differs from its worked answers. Status 2: a
-//! growth of the program's own was refused, before the rows or for a body. Status 3: input or output failed. Status 4: the
-//! growth behind the last row's was refused, so that the rows have no more.
+//! Standard input begins with a line that has a decimal number: so many growths are made before the first call. A run that
+//! refuses the growth of one number so refuses any of the calls', by the input alone. Behind it stand a script of the lab, a line
+//! `=`, and the answers. Without them it makes the calls of two single peers that no script can say: BANDWIDTH_LIMIT and
+//! THROTTLE_CONFIGURE. With the word `run` in place of the number the script is one list of events in one call. Status 1: an answer is another. Status 2: a growth of the program's own was refused. Status 3: input or
+//! output failed. Status 4: the growth behind the last call's was refused, so that the calls have no more.
 #![tactic(auto)]
 
 mod fault;
 mod row;
-mod rows;
 mod seen;
 mod settings;
-mod step;
-mod text;
 
 use fault::Fault;
-use rows::ROWS;
 use std::alloc::Global;
-use std::io::Read;
+use std::io;
 use std::process::ExitCode;
-use text::long_body;
-
-/// The number that the input spells; what isn't a digit is passed over.
-fn number_in(text: &[u8]) -> u32 {
-    let mut number = 0u32;
-    for byte in text {
-        if byte.is_ascii_digit() {
-            number = number.wrapping_mul(10).wrapping_add(u32::from(byte - b'0'));
-        }
-    }
-    number
-}
-
-/// How many growths are to be made before the first row.
-fn growths_before<R: Read>(reader: &mut R) -> Result<u32, Fault> {
-    let mut text = [0; 16];
-    match reader.read(&mut text) {
-        Ok(_) => Ok(number_in(&text)),
-        Err(_) => Err(Fault::Io),
-    }
-}
 
 /// Makes so many growths, and gives them back. Where one is refused, this is the fault.
 fn grow(alloc: Global, count: u32, refused: Fault) -> Result<(), Fault> {
@@ -53,32 +28,40 @@ fn grow(alloc: Global, count: u32, refused: Fault) -> Result<(), Fault> {
     Ok(())
 }
 
-/// Prints how a row ended, and gives its fault back.
-fn tell<R: Print>(rt: &R, name: &str, outcome: Result<u32, Fault>) -> Result<(), Fault> {
-    let told = match outcome {
-        Ok(refused) => println!(rt; "{name}: as expected, {refused} growths refused"),
-        Err(Fault::Differs(step)) => println!(rt; "{name}: step {step} differs"),
-        Err(fault) => return Err(fault),
-    };
-    if told.is_err() {
+/// Makes so many growths and then runs what the input behind the number says, or runs it at once behind `run`. How many growths
+/// were refused.
+fn run_input(alloc: Global, number: &str, input: &str) -> Result<u32, Fault> {
+    let (script, answers) = input.split_once("\n=\n").unwrap_or((input, ""));
+    if number == "run" {
+        return row::run_at_once(alloc, script, answers);
+    }
+    let Ok(count) = number.parse::<u32>() else {
         return Err(Fault::Io);
+    };
+    grow(alloc, count, Fault::OwnMemory)?;
+    if input.is_empty() {
+        settings::run(alloc)
+    } else {
+        row::run(alloc, script, answers)
     }
-    outcome.map(|_| ())
-}
-
-fn run_rows<R: Print>(rt: &R, alloc: Global) -> Result<(), Fault> {
-    let long = long_body();
-    for row in &ROWS {
-        tell(rt, row.name, row.run(alloc, &long))?;
-    }
-    tell(rt, "bandwidth-and-throttle-commands", settings::run(alloc))
 }
 
 fn run<R: Print + Input + AllocGlobal>(rt: &R) -> Result<(), Fault> {
     let alloc = rt.alloc();
-    let count = growths_before(&mut rt.reader())?;
-    grow(alloc, count, Fault::OwnMemory)?;
-    run_rows(rt, alloc)?;
+    let Ok(text) = io::read_to_string(alloc, rt.reader()) else {
+        return Err(Fault::OwnMemory);
+    };
+    let (number, input) = text.split_once('\n').unwrap_or(("0", ""));
+    let outcome = run_input(alloc, number, input);
+    let told = match outcome {
+        Ok(refused) => println!(rt; "as expected, {refused} growths refused"),
+        Err(Fault::Differs(step)) => println!(rt; "step {step} differs"),
+        Err(_) => Ok(()),
+    };
+    if told.is_err() {
+        return Err(Fault::Io);
+    }
+    outcome?;
     grow(alloc, 1, Fault::NoMoreGrowths)
 }
 

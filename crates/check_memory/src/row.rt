@@ -1,20 +1,12 @@
-//! Running a row over a world.
+//! Running a script of the lab, in which each growth may be refused.
 
 use crate::fault::Fault;
 use crate::seen::Seen;
-use crate::step::Step;
-use enet_codec::{Refusal, Stop};
-use enet_types::{Config, Received};
-use enet_world::{Answer, World};
+use enet_lab::{Line, answer_text, read_line, side_of};
+use enet_script::refusal_text;
+use enet_types::{Config, Received, Refusal, Stop};
+use enet_world::{Answer, Side, World, WorldEvent};
 use std::alloc::Global;
-
-/// A worked row: its name, how many channels the pair has, and its steps.
-#[derive(Clone, Copy)]
-pub(crate) struct Row {
-    pub name: &'static str,
-    pub channels: u8,
-    pub steps: &'static [Step],
-}
 
 /// A growth was refused: E1, or a datagram was stopped by S11.
 fn is_for_want_of_memory(answer: &Result<Answer, Refusal>) -> bool {
@@ -28,52 +20,161 @@ fn is_for_want_of_memory(answer: &Result<Answer, Refusal>) -> bool {
 /// The pair, and how many growths were refused. The opening is repeated once.
 fn open(alloc: Global, channels: u8) -> Result<(World, u32), Fault> {
     let config = Config::standard(1, channels);
-    match World::joined(alloc, config, config) {
-        Ok(world) => return Ok((world, 0)),
-        Err(Refusal::Memory) => {}
-        Err(_) => return Err(Fault::Differs(0)),
+    if let Ok(world) = World::joined(alloc, config, config) {
+        return Ok((world, 0));
     }
     match World::joined(alloc, config, config) {
         Ok(world) => Ok((world, 1)),
-        Err(_) => Err(Fault::Differs(0)),
+        Err(_) => Err(Fault::Differs(1)),
     }
 }
 
-/// Takes a step of this number. Where a growth is refused, nothing that the reading calls tell may have changed, and the
-/// step is repeated once. How many growths were refused.
-fn run_step(
+/// What a line says, read with memory of the program's own; None where it is passed over.
+fn line(alloc: Global, number: u32, text: &str) -> Result<Option<Line>, Fault> {
+    match read_line(alloc, text.as_bytes()) {
+        Ok(Some(Line::PassedOver)) => Ok(None),
+        Ok(Some(line)) => Ok(Some(line)),
+        Ok(None) => Err(Fault::Differs(number)),
+        Err(_) => Err(Fault::OwnMemory),
+    }
+}
+
+/// How an event was answered.
+#[derive(Clone, Copy, PartialEq, Eq)]
+enum Happening {
+    AsWanted,
+    Otherwise,
+    NoMemory,
+}
+
+/// Makes an event happen. No clause says what: callers would carry it along.
+fn stepped(world: &mut World, event: WorldEvent) -> Result<Answer, Refusal> {
+    world.step(event)
+}
+
+/// Makes an event happen, and tells whether it was answered as wanted.
+fn happen(
     alloc: Global,
     world: &mut World,
-    long: &[u8],
-    number: u32,
-    step: &Step,
-) -> Result<u32, Fault> {
-    let before = Seen::of(world);
-    let answer = step.take(alloc, world, long)?;
-    if step.is_as_wanted(world, &answer, long) {
-        return Ok(0);
+    event: WorldEvent,
+    wanted: &str,
+) -> Result<Happening, Fault> {
+    let side = side_of(&event);
+    let answer = stepped(world, event);
+    if is_for_want_of_memory(&answer) {
+        return Ok(Happening::NoMemory);
     }
-    if !is_for_want_of_memory(&answer) || Seen::of(world) != before {
-        return Err(Fault::Differs(number));
-    }
-    let answer = step.take(alloc, world, long)?;
-    if step.is_as_wanted(world, &answer, long) {
-        Ok(1)
+    if is_told(alloc, world, side, &answer, wanted)? {
+        Ok(Happening::AsWanted)
     } else {
-        Err(Fault::Differs(number))
+        Ok(Happening::Otherwise)
     }
 }
 
-impl Row {
-    /// Runs the row to its end. How many growths were refused.
-    pub(crate) fn run(&self, alloc: Global, long: &[u8]) -> Result<u32, Fault> {
-        let (mut world, mut refused) = open(alloc, self.channels)?;
-        let mut number = 0u32;
-        for step in self.steps {
-            number = number.wrapping_add(1);
-            let more = run_step(alloc, &mut world, long, number, step)?;
-            refused = refused.wrapping_add(more);
+/// Whether this is the text of an answer, which takes memory of the program's own.
+fn is_told(
+    alloc: Global,
+    world: &World,
+    side: Side,
+    answer: &Result<Answer, Refusal>,
+    wanted: &str,
+) -> Result<bool, Fault> {
+    let told = match answer {
+        Ok(answer) => answer_text(alloc, world, side, answer),
+        Err(refusal) => refusal_text(alloc, *refusal),
+    };
+    match told {
+        Ok(told) => Ok(told.as_str() == wanted),
+        Err(_) => Err(Fault::OwnMemory),
+    }
+}
+
+/// Takes the step of this line. Where a growth is refused, nothing that the reading calls tell may have changed, and the step is
+/// repeated once. How many growths were refused.
+fn step(
+    alloc: Global,
+    world: &mut World,
+    number: u32,
+    text: &str,
+    wanted: &str,
+) -> Result<u32, Fault> {
+    for refused in 0..2u32 {
+        let event = event_of(alloc, number, text)?;
+        let before = Seen::of(world);
+        match happen(alloc, world, event, wanted)? {
+            Happening::AsWanted => return Ok(refused),
+            Happening::NoMemory if Seen::of(world) == before => {}
+            _ => return Err(Fault::Differs(number)),
         }
-        Ok(refused)
+    }
+    Err(Fault::Differs(number))
+}
+
+/// The first line, and what stands behind it.
+fn split_line(text: &str) -> (&str, &str) {
+    text.split_once('\n').unwrap_or((text, ""))
+}
+
+/// The pair that a script's first line makes, which is answered by `ok`, and how many growths were refused.
+fn begin(alloc: Global, first: &str, answer: &str) -> Result<(World, u32), Fault> {
+    match line(alloc, 1, first)? {
+        Some(Line::Pair { channels }) if answer == "ok" => open(alloc, channels),
+        _ => Err(Fault::Differs(1)),
+    }
+}
+
+/// Runs a script, the first line of which makes the pair, step by step. How many growths were refused.
+pub(crate) fn run(alloc: Global, script: &str, answers: &str) -> Result<u32, Fault> {
+    let (first, steps) = split_line(script);
+    let (answer, answers) = split_line(answers);
+    let (mut world, mut refused) = begin(alloc, first, answer)?;
+    let mut answers = answers.lines();
+    let mut number = 1u32;
+    for text in steps.lines() {
+        number = number.saturating_add(1);
+        let wanted = answers.next().unwrap_or("");
+        let more = step(alloc, &mut world, number, text, wanted)?;
+        refused = refused.saturating_add(more);
+    }
+    match answers.next() {
+        None => Ok(refused),
+        Some(_) => Err(Fault::Differs(number)),
+    }
+}
+
+/// The event of a line behind the first.
+fn event_of(alloc: Global, number: u32, text: &str) -> Result<WorldEvent, Fault> {
+    match line(alloc, number, text)? {
+        Some(Line::Step(event)) => Ok(event),
+        _ => Err(Fault::Differs(number)),
+    }
+}
+
+/// Runs a script, the first line of which makes the pair, as one list of events.
+pub(crate) fn run_at_once(alloc: Global, script: &str, answers: &str) -> Result<u32, Fault> {
+    let (first, steps) = split_line(script);
+    let (answer, answers) = split_line(answers);
+    let (mut world, refused) = begin(alloc, first, answer)?;
+    let mut answers = answers.lines();
+    let mut events = Vec::new(alloc);
+    for text in steps.lines() {
+        if events.push(event_of(alloc, 0, text)?).is_err() {
+            return Err(Fault::OwnMemory);
+        }
+    }
+    let Ok(told) = world.run(&events) else {
+        return Err(Fault::OwnMemory);
+    };
+    let mut number = 1u32;
+    for (event, answer) in events.iter().zip(told.iter()) {
+        number = number.saturating_add(1);
+        let wanted = answers.next().unwrap_or("");
+        if !is_told(alloc, &world, side_of(event), answer, wanted)? {
+            return Err(Fault::Differs(number));
+        }
+    }
+    match answers.next() {
+        None => Ok(refused),
+        Some(_) => Err(Fault::Differs(number)),
     }
 }
