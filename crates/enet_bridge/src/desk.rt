@@ -1,0 +1,85 @@
+//! A seat with the orders that wait for room, and the bell that tells the service of what was submitted.
+ghost use Rattle.std.specs.Prelude.{◌≡◌, ◌++◌, ◌∷◌, [], OnOk, OnErr, IfErr, IsTrue, ◌↔◌, length};
+ghost use Rattle.enet_submit.specs.Words.{IsSeatOf, IsFinishedOf, sent};
+ghost use Rattle.enet_bridge.specs.Ends.{orders};
+
+use crate::waiting::{Pumped, pump};
+use enet_submit::{Finished, Order, Seat, SubmitQueue};
+use enet_types::Refusal;
+use enet_wire::Bell;
+use std::alloc::Global;
+use std::collections::VecDeque;
+use std::sync::Wait;
+
+/// A seat, and the orders that wait for room in its queue. What was asked of it is, in order, what the seat submitted and what
+/// waits.
+#[derive(Drop)]
+pub struct Desk<'a> {
+    queue: &'a SubmitQueue,
+    seat: Seat,
+    waiting: VecDeque<Order>,
+    bell: &'a Bell,
+    pub ghost fits: { IsSeatOf queue.now seat },
+}
+
+impl<'a> Desk<'a> {
+    /// A desk at which nothing waits. The bell is that of the wire on which the service waits.
+    pub fn new(alloc: Global, queue: &'a SubmitQueue, seat: Seat, bell: &'a Bell) -> Desk<'a>
+        requires { IsSeatOf queue.now seat }
+        ensures { orders (sent result.seat) ++ result.waiting.items ≡ orders (sent seat) }
+    {
+        Desk {
+            queue,
+            seat,
+            waiting: VecDeque::new(alloc),
+            bell,
+        }
+    }
+
+    /// Adds an order behind those that wait. E1 where there is no memory for it; the order is dropped then, and those that wait
+    /// stay.
+    pub fn ask(&mut self, order: Order) -> Result<(), Refusal>
+        ensures added { OnOk result (orders (sent self.new.seat) ++ self.new.waiting.items ≡ (orders (sent self.old.seat) ++ self.old.waiting.items) ++ order ∷ []) }
+        ensures same { OnErr result (orders (sent self.new.seat) ++ self.new.waiting.items ≡ orders (sent self.old.seat) ++ self.old.waiting.items) }
+        ensures memory { IfErr result (λ why. why ≡ Refusal.Memory) }
+    {
+        match self.waiting.push_back(order) {
+            Ok(()) => Ok(()),
+            Err(_) => Err(Refusal::Memory),
+        }
+    }
+
+    /// Submits what waits, oldest first, as far as there is room. What was asked stays the same. It never waits for room.
+    pub fn submit<R: Wait>(&mut self, rt: &R) -> Pumped
+        ensures kept { orders (sent self.new.seat) ++ self.new.waiting.items ≡ orders (sent self.old.seat) ++ self.old.waiting.items }
+        ensures all { result ≡ Pumped.All → self.new.waiting.items ≡ [] }
+    {
+        pump(rt, self.queue, &mut self.seat, &mut self.waiting)
+    }
+
+    /// Tells the service that there are orders: it ends the wait of its wire.
+    pub fn ring(&self) {
+        self.bell.ring();
+    }
+
+    /// How many orders wait.
+    pub fn len(&self) -> usize
+        ensures { result ≡ length self.now.waiting.items }
+    {
+        self.waiting.len()
+    }
+
+    /// No order waits.
+    pub fn is_empty(&self) -> bool
+        ensures { IsTrue result ↔ (length self.now.waiting.items ≡ 0) }
+    {
+        self.waiting.is_empty()
+    }
+
+    /// Gives the seat up. What still waits is dropped.
+    pub fn finish(self) -> Finished
+        ensures { IsFinishedOf self.entry.queue.now result }
+    {
+        self.seat.finish()
+    }
+}

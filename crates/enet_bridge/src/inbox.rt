@@ -1,0 +1,91 @@
+//! A taker with its queue, and what wakes the thread that takes.
+ghost use Rattle.std.specs.Prelude.{◌≡◌, ◌++◌, ◌∷◌, [], IfSome, IfNone};
+
+use enet_events::{EventQueue, Numbered, Taker};
+use std::sync::Wait;
+use std::sync::atomic::AtomicBool;
+use std::sync::atomic::Ordering::SeqCst;
+use std::thread::Parker;
+use std::time::Duration;
+
+/// Wakes the thread that takes events, and tells it that the service holds one back for want of room.
+#[derive(Drop)]
+pub struct TakerBell {
+    parker: Parker,
+    held_back: AtomicBool,
+}
+
+impl TakerBell {
+    /// A bell that wasn't rung.
+    pub fn new() -> TakerBell {
+        TakerBell {
+            parker: Parker::new(),
+            held_back: AtomicBool::new(false),
+        }
+    }
+
+    /// Ends the wait of the thread that takes, or its next one.
+    pub fn ring(&self) {
+        self.parker.unpark();
+    }
+
+    // The service holds an event back for want of room, and takes no order until it is put.
+    pub(crate) fn hold_back(&self) {
+        if !self.held_back.swap(true, SeqCst) {
+            self.parker.unpark();
+        }
+    }
+
+    pub(crate) fn let_go(&self) {
+        self.held_back.store(false, SeqCst);
+    }
+
+    /// Whether the service holds an event back, and so takes no orders. It is told once for each time.
+    pub fn hears_of_one_held_back(&self) -> bool {
+        self.held_back.swap(false, SeqCst)
+    }
+
+    /// Waits until the bell is rung.
+    pub fn wait<R: Wait>(&self, rt: &R) {
+        self.parker.park(rt);
+    }
+
+    /// Waits until the bell is rung, or a millisecond has passed.
+    pub fn wait_a_moment<R: Wait>(&self, rt: &R) {
+        self.parker.park_timeout(rt, Duration::from_millis(1));
+    }
+}
+
+/// A taker with its queue.
+#[derive(Drop)]
+pub struct Inbox<'a> {
+    queue: &'a EventQueue,
+    taker: Taker,
+    pub ghost fits: { taker.queue ≡ queue.now.id },
+}
+
+impl<'a> Inbox<'a> {
+    /// An inbox of this queue.
+    pub fn new(queue: &'a EventQueue, taker: Taker) -> Inbox<'a>
+        requires { taker.queue ≡ queue.now.id }
+        ensures { result.taker ≡ taker }
+    {
+        Inbox { queue, taker }
+    }
+
+    /// The oldest event of the queue, None where it was empty at a moment of the call.
+    pub fn take<R: Wait>(&mut self, rt: &R) -> Option<Numbered>
+        ensures taken { IfSome result (λ x. self.new.taker.taken ≡ self.old.taker.taken ++ x ∷ []) }
+        ensures none { IfNone result (self.new.taker.taken ≡ self.old.taker.taken) }
+    {
+        self.queue.take(rt, &mut self.taker)
+    }
+
+    /// The taker, by which the queue is settled.
+    pub fn into_taker(self) -> Taker
+        ensures taker { result ≡ self.entry.taker }
+        ensures fits { result.queue ≡ self.entry.queue.now.id }
+    {
+        self.taker
+    }
+}

@@ -1,0 +1,138 @@
+//! Where events go.
+ghost use Rattle.std.specs.Prelude.{◌≡◌};
+
+use crate::inbox::TakerBell;
+use enet_events::{EventQueue, Poster};
+use enet_types::Event;
+use std::alloc::Global;
+use std::collections::VecDeque;
+use std::marker::Model;
+use std::sync::Wait;
+
+/// Takes events, one by one.
+pub trait Sink {
+    ghost use Rattle.std.specs.Prelude.{◌≡◌, Bool, IfErr, is_ok};
+    ghost use Rattle.enet_types.specs.declared.event.Event.{Event as Told};
+
+    /// What a call of `put` may do with an event, between the sink before it and the sink after it: whether it was taken.
+    ghost puts: { Self → Told → Bool → Self → Type 0 };
+
+    /// Takes an event, or hands it back where there is no room for it.
+    fn put<R: Wait>(&mut self, rt: &R, event: Event) -> Result<(), Event>
+        ensures put { puts self.old event (is_ok result) self.new }
+        ensures back { IfErr result (λ back. back ≡ event) };
+}
+
+/// A list of events, of bounded length.
+#[derive(Drop)]
+pub struct MemorySink {
+    capacity: usize,
+    events: VecDeque<Event>,
+}
+
+impl Model for MemorySink {
+    ghost use Rattle.enet_bridge.specs.Memory.{Shelf};
+
+    ghost Value = { Shelf };
+
+    ghost view = { λ s. record { capacity = s.capacity; events = s.events.items } };
+}
+
+impl MemorySink {
+    ghost use Rattle.std.specs.Prelude.{◌≡◌, ◌++◌, []};
+    ghost use Rattle.std.specs.Option.{option_to_list};
+
+    /// An empty list for so many events.
+    pub fn new(alloc: Global, capacity: usize) -> MemorySink
+        ensures { result ≡ record { capacity = capacity; events = [] } }
+    {
+        MemorySink {
+            capacity,
+            events: VecDeque::new(alloc),
+        }
+    }
+
+    /// The oldest event, which leaves the list, or None where it is empty.
+    pub fn take(&mut self) -> Option<Event>
+        ensures first { self.old.events ≡ option_to_list result ++ self.new.events }
+        ensures same { self.new.capacity ≡ self.old.capacity }
+    {
+        self.events.pop_front()
+    }
+}
+
+impl Sink for MemorySink {
+    ghost use Rattle.enet_bridge.specs.Memory.{ShelfPuts};
+
+    ghost puts = { ShelfPuts };
+
+    /// Hands the event back too where there is no memory for it.
+    fn put<R: Wait>(&mut self, _rt: &R, event: Event) -> Result<(), Event> {
+        if self.events.len() >= self.capacity {
+            return Err(event);
+        }
+        match self.events.push_back(event) {
+            Ok(()) => Ok(()),
+            Err(back) => Err(back.value),
+        }
+    }
+}
+
+/// The event queue with its poster. It wakes the thread that takes after each event, and tells it once where one is held back
+/// for want of room.
+#[derive(Drop)]
+pub struct QueueSink<'a> {
+    queue: &'a EventQueue,
+    poster: Poster,
+    bell: &'a TakerBell,
+    holds: bool,
+    pub ghost fits: { poster.queue ≡ queue.now.id },
+}
+
+impl<'a> QueueSink<'a> {
+    /// A sink of this queue, from which the thread of this bell takes.
+    pub fn new(queue: &'a EventQueue, poster: Poster, bell: &'a TakerBell) -> QueueSink<'a>
+        requires { poster.queue ≡ queue.now.id }
+        ensures { (result.poster ≡ poster) × (result.queue ≡ queue.entry) }
+    {
+        QueueSink {
+            queue,
+            poster,
+            bell,
+            holds: false,
+        }
+    }
+
+    /// The poster, by which the queue is settled.
+    pub fn into_poster(self) -> Poster
+        ensures poster { result ≡ self.entry.poster }
+        ensures fits { result.queue ≡ self.entry.queue.now.id }
+    {
+        self.poster
+    }
+}
+
+impl<'a> Sink for QueueSink<'a> {
+    ghost use Rattle.std.specs.Prelude.{◌≡◌};
+    ghost use Rattle.enet_bridge.specs.Ends.{PosterPuts};
+
+    ghost puts = { λ s event taken t. (t.queue ≡ s.queue) × PosterPuts s.queue.now s.poster event taken t.poster };
+
+    fn put<R: Wait>(&mut self, rt: &R, event: Event) -> Result<(), Event> {
+        match self.queue.post(rt, &mut self.poster, event) {
+            Ok(_) => {
+                if self.holds {
+                    self.holds = false;
+                    self.bell.let_go();
+                }
+                self.bell.ring();
+                Ok(())
+            }
+            Err((_, event)) => {
+                self.holds = true;
+                self.bell.hold_back();
+                Err(event)
+            }
+        }
+    }
+}
