@@ -2,13 +2,17 @@
 //! places, from one seat and then from four, each in a thread of its own, and prints how many were settled. With the word
 //! `time` it also prints how many orders went through in a second.
 //!
-//! `enet_bench peer`: has a peer receive 100,000 empty reliable packets that are not taken, and another one submit as many
-//! that are not put out, and prints how long the first 1,000 and the last 1,000 took.
+//! `enet_bench peer`: has peers receive 100,000 commands of each kind of which nothing is taken, others submit as many packets
+//! of each kind that are not put out, and others again take the acknowledgements of 8,192 sent commands in, in three orders;
+//! prints for each how long the first 1,000 and the last 1,000 took.
 #![tactic(auto)]
 
+mod coming;
 mod peer;
 mod traffic;
 
+use crate::coming::Coming;
+use crate::peer::{Order, Submission, Times};
 use anyhow::{Context, Result};
 use std::alloc::Global;
 use std::rt::Clock;
@@ -19,7 +23,7 @@ use std::{env, io};
 
 const DEFAULT: u32 = 1_000_000;
 
-/// How many thousands of packets pile up at a peer.
+/// How many thousands of commands or packets pile up at a peer.
 const THOUSANDS: u32 = 100;
 
 fn main(rt: HostRuntime) -> Result<()> {
@@ -56,12 +60,51 @@ where
 }
 
 fn pile_up<R: Clock + Print>(rt: &R, alloc: Global) -> Result<()> {
-    for work in [peer::Work::Receive, peer::Work::Submit] {
-        let times = peer::time_packets(rt, alloc, work, THOUSANDS)?;
-        let first = times.first;
-        let last = times.last;
-        let percent = times.percent();
-        println!(rt; "{work:?}: first 1000 in {first} ns, last 1000 in {last} ns, {percent} %")?;
+    receive_all(rt, alloc)?;
+    submit_all(rt, alloc)?;
+    for order in [Order::FirstToLast, Order::LastToFirst, Order::Drawn] {
+        let times = peer::time_acknowledgements(rt, alloc, order)?;
+        print_times(rt, times)?;
+        println!(rt; "acknowledgements {order:?}")?;
     }
+    Ok(())
+}
+
+fn receive_all<R: Clock + Print>(rt: &R, alloc: Global) -> Result<()> {
+    let all = [
+        Coming::Reliable,
+        Coming::ReliableFragments,
+        Coming::Unreliable,
+        Coming::FragmentsOfOne,
+        Coming::FragmentsOfMany,
+        Coming::Unsequenced,
+        Coming::PassedOver,
+    ];
+    for what in all {
+        let times = peer::time_commands(rt, alloc, what, THOUSANDS)?;
+        print_times(rt, times)?;
+        println!(rt; "received {what:?}")?;
+    }
+    // Its unreliable numbers are used up after 60,000 commands.
+    let times = peer::time_commands(rt, alloc, Coming::BeforeFragments, 60)?;
+    print_times(rt, times)?;
+    println!(rt; "received BeforeFragments")?;
+    Ok(())
+}
+
+fn submit_all<R: Clock + Print>(rt: &R, alloc: Global) -> Result<()> {
+    for (flags, len) in [(1, 0), (1, 600), (0, 0), (8, 600), (2, 0)] {
+        let times = peer::time_submissions(rt, alloc, Submission { flags, len }, THOUSANDS)?;
+        print_times(rt, times)?;
+        println!(rt; "submitted with flags {flags}, {len} bytes")?;
+    }
+    Ok(())
+}
+
+fn print_times<R: Print>(rt: &R, times: Times) -> Result<()> {
+    let first = times.first;
+    let last = times.last;
+    let percent = times.percent();
+    print!(rt; "first 1000 in {first} ns, last 1000 in {last} ns, {percent} %: ")?;
     Ok(())
 }

@@ -1,27 +1,22 @@
-//! How long a peer takes for packets that pile up: the first thousand against the last.
+//! How long a peer takes for what piles up: the first thousand against the last.
 
+use crate::coming::{Coming, command};
 use anyhow::{Result, bail};
 use bytes::Bytes;
 use enet_codec::{Command, Head};
 use enet_connect::Terms;
-use enet_peer::{Limits, Peer};
+use enet_peer::{Limits, Peer, PeerState};
 use std::alloc::Global;
 use std::rt::Clock;
 use std::time::Instant;
 
-/// How many packets are timed together.
+/// How many commands or packets are timed together.
 const BATCH: u32 = 1000;
 
-/// What is done with each packet.
-#[derive(Clone, Copy, Debug, PartialEq, Eq)]
-pub enum Work {
-    /// It comes from the other end, and isn't taken.
-    Receive,
-    /// It is submitted, and isn't put out.
-    Submit,
-}
+/// How many sent commands wait for their acknowledgement at most.
+const SPAN: u32 = 8192;
 
-/// How long the first thousand packets took, and the last, in nanoseconds.
+/// How long the first thousand took, and the last, in nanoseconds.
 #[derive(Clone, Copy, Debug, PartialEq, Eq)]
 pub struct Times {
     pub first: u128,
@@ -35,16 +30,38 @@ impl Times {
     }
 }
 
-/// The times of so many thousands of empty reliable packets at one peer.
-pub fn time_packets<R: Clock>(rt: &R, alloc: Global, work: Work, thousands: u32) -> Result<Times> {
+/// In which order acknowledgements come.
+#[derive(Clone, Copy, Debug, PartialEq, Eq)]
+pub enum Order {
+    FirstToLast,
+    LastToFirst,
+    Drawn,
+}
+
+/// What is submitted.
+#[derive(Clone, Copy, Debug, PartialEq, Eq)]
+pub struct Submission {
+    /// The packet's flags.
+    pub flags: u8,
+    /// Its bytes, at most 4,096; above 548 it goes in pieces.
+    pub len: usize,
+}
+
+/// The times of so many thousands of commands that come to one peer, of which nothing is taken.
+pub fn time_commands<R: Clock>(
+    rt: &R,
+    alloc: Global,
+    what: Coming,
+    thousands: u32,
+) -> Result<Times> {
     let mut peer = joined(alloc)?;
+    if what == Coming::PassedOver {
+        leave_later(&mut peer)?;
+    }
     let mut times = Times { first: 0, last: 0 };
-    for batch in 0..thousands {
+    for batch in 0..thousands.min(100) {
         let start = Instant::now(rt)?;
-        match work {
-            Work::Receive => receive(&mut peer, batch)?,
-            Work::Submit => submit(&mut peer)?,
-        }
+        receive(&mut peer, what, batch)?;
         times.last = start.elapsed(rt)?.as_nanos();
         if batch == 0 {
             times.first = times.last;
@@ -53,12 +70,47 @@ pub fn time_packets<R: Clock>(rt: &R, alloc: Global, work: Work, thousands: u32)
     Ok(times)
 }
 
+/// The times of so many thousands of packets that are submitted to one peer and not put out.
+pub fn time_submissions<R: Clock>(
+    rt: &R,
+    alloc: Global,
+    what: Submission,
+    thousands: u32,
+) -> Result<Times> {
+    let mut peer = joined(alloc)?;
+    let zeros = [0; 4096];
+    let mut times = Times { first: 0, last: 0 };
+    for batch in 0..thousands {
+        let start = Instant::now(rt)?;
+        submit(&mut peer, alloc, what, &zeros)?;
+        times.last = start.elapsed(rt)?.as_nanos();
+        if batch == 0 {
+            times.first = times.last;
+        }
+    }
+    Ok(times)
+}
+
+/// The times of the acknowledgements of 8,192 empty reliable packets: the first thousand and the last.
+pub fn time_acknowledgements<R: Clock>(rt: &R, alloc: Global, order: Order) -> Result<Times> {
+    let mut peer = joined(alloc)?;
+    send_all(&mut peer)?;
+    let start = Instant::now(rt)?;
+    acknowledge(&mut peer, order, 0, BATCH)?;
+    let first = start.elapsed(rt)?.as_nanos();
+    acknowledge(&mut peer, order, BATCH, SPAN - BATCH)?;
+    let start = Instant::now(rt)?;
+    acknowledge(&mut peer, order, SPAN - BATCH, SPAN)?;
+    let last = start.elapsed(rt)?.as_nanos();
+    Ok(Times { first, last })
+}
+
 /// A connected peer of one channel with ample limits.
 fn joined(alloc: Global) -> Result<Peer> {
     let terms = Terms {
         slot: 0,
         channels: 1,
-        mtu: 1392,
+        mtu: 576,
         window: 65536,
         incoming_session: 0,
         outgoing_session: 0,
@@ -76,19 +128,22 @@ fn joined(alloc: Global) -> Result<Peer> {
     Ok(Peer::joined(alloc, 0, terms, limits)?)
 }
 
-/// The next thousand packets come, in order.
-fn receive(peer: &mut Peer, batch: u32) -> Result<()> {
-    for i in 1..=BATCH {
-        let number = batch.wrapping_mul(BATCH).wrapping_add(i) % 65536;
-        let command = Command::SendReliable {
-            head: Head {
-                acknowledge: true,
-                unsequenced: false,
-                channel: 0,
-                number: number as u16,
-            },
-            payload: &[],
-        };
+/// Has the peer wait for an acknowledgement before it disconnects, so that data is passed over.
+fn leave_later(peer: &mut Peer) -> Result<()> {
+    if let Err((why, _body)) = peer.submit(0, 1, Bytes::new()) {
+        bail!("{why}");
+    }
+    peer.disconnect_later(0)?;
+    if peer.state() != PeerState::DisconnectLater {
+        bail!("the peer disconnects at once");
+    }
+    Ok(())
+}
+
+/// A thousand commands come.
+fn receive(peer: &mut Peer, what: Coming, batch: u32) -> Result<()> {
+    for i in 0..BATCH {
+        let command = command(what, batch.saturating_mul(BATCH).saturating_add(i));
         if let Err(stop) = peer.command(0, Some(0), &command) {
             bail!("{stop}");
         }
@@ -97,11 +152,59 @@ fn receive(peer: &mut Peer, batch: u32) -> Result<()> {
 }
 
 /// A thousand packets are submitted.
-fn submit(peer: &mut Peer) -> Result<()> {
+fn submit(peer: &mut Peer, alloc: Global, what: Submission, zeros: &[u8; 4096]) -> Result<()> {
     for _ in 0..BATCH {
-        if let Err((why, _body)) = peer.submit(0, 1, Bytes::new()) {
+        let body = Bytes::copy_from_slice(alloc, &zeros[..what.len.min(4096)])?;
+        if let Err((why, _body)) = peer.submit(0, what.flags, body) {
             bail!("{why}");
         }
     }
     Ok(())
+}
+
+/// Sends as many empty reliable packets as may wait for their acknowledgement.
+fn send_all(peer: &mut Peer) -> Result<()> {
+    for _ in 0..SPAN {
+        if let Err((why, _body)) = peer.submit(0, 1, Bytes::new()) {
+            bail!("{why}");
+        }
+    }
+    let mut buf = [0; 4096];
+    for _ in 0..SPAN {
+        if peer.emit(0, &mut buf).is_none() {
+            return Ok(());
+        }
+    }
+    Ok(())
+}
+
+/// The acknowledgements of these places in the order come.
+fn acknowledge(peer: &mut Peer, order: Order, from: u32, to: u32) -> Result<()> {
+    for i in from..to {
+        let command = Command::Acknowledge {
+            head: Head {
+                acknowledge: false,
+                unsequenced: false,
+                channel: 0,
+                number: 0,
+            },
+            received_number: number_at(order, i),
+            received_time: 0,
+        };
+        if let Err(stop) = peer.command(0, Some(0), &command) {
+            bail!("{stop}");
+        }
+    }
+    Ok(())
+}
+
+/// The number of the command that is acknowledged at a place: of 1 to 8,192 each once.
+fn number_at(order: Order, i: u32) -> u16 {
+    let place = i % SPAN;
+    let drawn = match order {
+        Order::FirstToLast => place,
+        Order::LastToFirst => SPAN - 1 - place,
+        Order::Drawn => place * 2741 % SPAN,
+    };
+    (drawn + 1) as u16
 }
