@@ -78,11 +78,11 @@ pub fn time_submissions<R: Clock>(
     thousands: u32,
 ) -> Result<Times> {
     let mut peer = joined(alloc)?;
-    let zeros = [0; 4096];
+    let body = Bytes::copy_from_slice(alloc, &[0; 4096][..what.len.min(4096)])?;
     let mut times = Times { first: 0, last: 0 };
     for batch in 0..thousands {
         let start = Instant::now(rt)?;
-        submit(&mut peer, alloc, what, &zeros)?;
+        submit(&mut peer, what.flags, &body)?;
         times.last = start.elapsed(rt)?.as_nanos();
         if batch == 0 {
             times.first = times.last;
@@ -151,11 +151,10 @@ fn receive(peer: &mut Peer, what: Coming, batch: u32) -> Result<()> {
     Ok(())
 }
 
-/// A thousand packets are submitted.
-fn submit(peer: &mut Peer, alloc: Global, what: Submission, zeros: &[u8; 4096]) -> Result<()> {
+/// A thousand packets of one body are submitted.
+fn submit(peer: &mut Peer, flags: u8, body: &Bytes) -> Result<()> {
     for _ in 0..BATCH {
-        let body = Bytes::copy_from_slice(alloc, &zeros[..what.len.min(4096)])?;
-        if let Err((why, _body)) = peer.submit(0, what.flags, body) {
+        if let Err((why, _body)) = peer.submit(0, flags, body.clone()?) {
             bail!("{why}");
         }
     }
