@@ -9,7 +9,7 @@ use Rattle.enet_codec.specs.Message.{Body, acknowledge, send_reliable, send_unre
 use Rattle.enet_fragment.specs.declared.data.DataCommand.{DataCommand}
 use Rattle.enet_fragment.specs.DataCommand.{data_of, read_of}
 use Rattle.enet_peer.specs.Peering.{Peering}
-use Rattle.enet_peer.specs.Arrivals.{Outcome, Stops, obeyed}
+use Rattle.enet_peer.specs.Arrivals.{Outcome, Stops, obeyed, wants_memory}
 use Rattle.enet_datagram.specs.Handling.{HandlesEach, one_more}
 use Rattle.enet_datagram.proofs.Each.{handles-each}
 use Rattle.enet_link.specs.Link as link
@@ -83,9 +83,9 @@ same-peer : (own : End) (p : Peering) → own.peer ≡ Some p → own ≡ with_p
 same-peer own p is = ap (λ (o : Option Peering). record own { peer = o }) is
 
 -- a stopped command has no effect, or that which it is to have
-stopped : (why : Stop) (o : Outcome) (p q : Peering) → Stops why o p q → (q ≡ p) ⊎ (q ≡ o.after)
-stopped stop.Memory o p q h = inl h.1
-stopped _ o p q h = inr h.1
+stopped : (why : Stop) (wants : Bool) (o : Outcome) (p q : Peering) → Stops why wants o p q → (q ≡ p) ⊎ (q ≡ o.after)
+stopped stop.Memory wants o p q h = inl h.2
+stopped _ wants o p q h = inr h.1
 
 AllInTime : End → End → List Put → Type 0
 AllInTime own other ps = (x : Put) → Has ps x → InTime own other x
@@ -94,7 +94,7 @@ comes : (now : ℕ) (sent : Option ℕ) (ps : List Put) (handled : ℕ) (p : Pee
     → HandlesEach now sent handled (messages_of ps) p answer q → (es : List Event) × RunsAt es own other (with_peer own q)
 unfolding AllInTime
 comes now sent [] handled p answer q own other is times h = ([], same-peer own p is ∙ ap (with_peer own) (sym h.1))
-comes now sent (x ∷ ps) handled p answer q own other is times (inl s) = elim (stopped s.0 (obeyed p now sent x.message) p q s.1) [
+comes now sent (x ∷ ps) handled p answer q own other is times (inl s) = elim (stopped s.0 (wants_memory p now sent x.message) (obeyed p now sent x.message) p q s.1) [
   | inl stays ↦ ([], same-peer own p is ∙ ap (with_peer own) (sym stays))
   | inr after ↦ (Come x now sent ∷ [], (with_peer own q, (p, is, times x (inl refl), ap (with_peer own) after), refl))
 ]
