@@ -2,10 +2,10 @@
 # Refuses each growth of five worked rows, and of the two single peers of crates/check_memory, in turn, and prints what came of it.
 # The program is built once, by `rt try`, in which the growth number LAST fails; case k of a row is told to make LAST - k growths
 # before its calls, so that the refused one is growth k of what follows. It ends with status 4 where there are fewer than k.
-# LAST is the argument, 256 where none is given; it must be above the number of a row's growths. The last line is 'N growths
+# LAST is the argument, 128 where none is given; it must be above the number of a row's growths. The last line is 'N growths
 # refused in turn: ..'; the status is 0 where each run ended as expected.
 cd "$(dirname "$0")/../crates/check_memory" || exit 1
-last=${1:-256}
+last=${1:-128}
 rows=../../scripts/rows
 names='one-reliable-packet reliable-out-of-order unreliable-waits-for-reliable
 long-reliable-packet-goes-as-reliable-fragments ask-to-disconnect-with-packets-untaken single-peers'
