@@ -1,6 +1,19 @@
 //! Laws of one channel from a sender to a receiver, whatever the network loses, repeats or reorders. No code but the laws.
 //!
-//! They speak of the definitions that the contracts of `enet_sender::Outgoing` and `enet_receiver::Incoming` name.
+//! They speak of the definitions that the contracts of `enet_sender::Outgoing` and `enet_receiver::Incoming` name. A link is
+//! sender, receiver and everything that was ever put out both ways.
+//!
+//! Proved over every list of events from the empty link (submissions, first sends, resends, drops by the throttle, datagrams
+//! put out, arrivals at any later time and any number of times, acknowledgements, ends that stop) in which no command and no
+//! acknowledgement comes more than 32,768 late, for an mtu above 28 and packets of at most 16,384 pieces, with no invariant
+//! as a premise: what was dispatched is a subsequence of what was submitted, each packet whole and once, leaving out no
+//! reliable packet before its last (`one_link`, clause `follows`); an acknowledgement removes only what was dispatched or is
+//! held, unless the receiver no longer dispatches, the receiver's front stays within 24,575 numbers of the greatest number
+//! sent, every command that isn't late is read as it was meant or as nothing, and all pieces that are held under one number
+//! are of one packet (`keeps`); each command that is put out is read again as itself (`reads`). A receiver with wire numbers
+//! does with every command, hostile ones too, what one with unbounded numbers does (`wire_receiver`), and a sender with wire
+//! numbers does in each of its calls what one with unbounded numbers does (`wire_sender`).
+//! Not yet: no clause compares the bytes held of the two receivers.
 #![tactic(auto)]
 
 ghost use Rattle.std.specs.Prelude.{◌≡◌, ℕ, ◌+◌, ◌%◌, ◌<◌, ◌≤◌, Bool, true, List, length, Some};

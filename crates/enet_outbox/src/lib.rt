@@ -1,5 +1,14 @@
 //! All that a peer has to send in ENet 1.3: acknowledgements, the commands of channel 0xFF, unsequenced packets, and its
 //! channels' senders; and how they are packed into datagrams.
+//!
+//! Proved, exactly by specs/Outbox and specs/Emission: `emit` puts out the datagram that the definitions say
+//! (acknowledgements in the order of arrival, channel 0xFF, unsequenced packets, then the channels in turn; the throttle is
+//! asked of the first command of an unreliable packet that fits; at most 32 commands and the mtu; the sent time exactly
+//! where a command asks for an acknowledgement), byte for byte at the front of the buffer, and leaves what they say;
+//! `submit`, `matched` (what an acknowledgement takes out), `late`, `is_quiet`, `is_done`, `clear`, `narrow` and the rest.
+//! What later calls need has its room before, told as a number: `acknowledge` and `queue_control` ask for room, and `narrow`
+//! that nothing is in transit.
+//! Only tested: that calls succeed with ample memory, and worked datagrams byte for byte.
 #![tactic(auto)]
 
 mod laws;

@@ -1,5 +1,12 @@
-//! Packets that came and are not dispatched yet: the reliable ones by the number of their first piece, and the unreliable ones
-//! in lines, one line for each reliable number.
+//! Packets that came and are not dispatched yet: the reliable ones by the number of their first piece, and the unreliable
+//! ones in lines, one line for each reliable number.
+//!
+//! Proved, over finite maps: `Packets` (by number) and `Waiting` (unreliable packets in lines, by reliable number and then
+//! by unreliable number) insert, add a piece, remove, hand out and forget just what their contracts say; `dispatch` and
+//! `flush` hand out the whole packets of a line above the last one, by rising number, and drop those that have fallen
+//! behind; the counts of packets and bytes are exact (`len`, `bytes`, `packets`), by counters; want of memory changes
+//! nothing.
+//! Only tested: that calls succeed with ample memory, and worked lines.
 #![tactic(auto)]
 
 mod coming;

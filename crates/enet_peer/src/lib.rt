@@ -1,4 +1,18 @@
 //! The machine of one peer in ENet 1.3: what each command, datagram, moment and call makes of it.
+//!
+//! Proved, each exactly by the definitions of specs/ (Peering, Arrivals, Endings, Calls, Next): `command` makes of the peer
+//! what the rules say of that command in that state, and no other change; the stop is the first that applies, an
+//! acknowledgement is queued exactly where they say so, and want of memory changes nothing and comes only where no earlier
+//! test stops the command (`Obeys`, `obeyed`). `emit` puts out what the outbox's definition says and then goes on
+//! (`PutsOut`, `gone_on`). `tick` (`ticked`), the three disconnects (`Leaves`, `left`), `submit` (`Submits`: the first of
+//! E3, E4, E5, else E1, with nothing changed and the body handed back), `next_event` (`Takes`), `next_body`, `next_packet`,
+//! `submission_refusal`, the makers `joined`, `connecting`, `answering`, and what the user sets (`bandwidth`,
+//! `throttle_configure`, `throttle_limit`, `ping_interval`, `timeout`, `reserve`).
+//! `bandwidth` and `throttle_configure` ask for room for a command of channel 0xFF, which `reserve` makes; the second also
+//! for a connected peer. Calls without an answer for want of memory take none. The clause of `command` allows S11 for any
+//! command that nothing stops.
+//! Only tested, by `check_peer` and `check_captures`: that calls succeed with ample memory, worked trials with their bytes,
+//! and captures.
 #![tactic(auto)]
 
 mod arrivals;

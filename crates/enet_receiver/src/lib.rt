@@ -1,5 +1,13 @@
-//! One channel's receiver in ENet 1.3: it dispatches reliable packets in the order of their numbers, each once and whole, and
-//! unreliable ones in their places between them.
+//! One channel's receiver in ENet 1.3: it dispatches reliable packets in the order of their numbers, each once and whole,
+//! and unreliable ones in their places between them.
+//!
+//! Proved, each exactly by the definitions of specs/Receiver and specs/Reception: `Incoming`'s four receptions (`reliable`,
+//! `unreliable`, `fragment`, `unreliable_fragment`: the first outcome that applies, `took`, and the receiver after it,
+//! `held`; every other outcome changes nothing, `unchanged`; Memory comes only where the command would be held, `memory`),
+//! `foresee` (outcome, whether the window lets it be acknowledged, how many packets it dispatches), `held`, `pop`, `clear`,
+//! `open`. Laws: as many turns as packets are held are enough to dispatch all that is due (`turns_suffice`), and what was
+//! dispatched before makes no difference (`earlier_dispatches_do_not_matter`).
+//! Only tested: that calls succeed with ample memory, and the worked scripts of one channel.
 #![tactic(auto)]
 
 mod arriving;

@@ -1,4 +1,9 @@
 //! The program `enet_relay`. `enet_relay lab` runs a script of what happens to two hosts.
+//!
+//! Proved: it is safe and ends, for every command line.
+//! Only tested, by scripts/check-rows.sh: the scripts of scripts/rows, and the command lines `--help`, no subcommand, an
+//! unknown one, `serve`, a word too many, an input that can't be read and an output that can't be written. By hand alone:
+//! want of memory (`E1 Memory`, status 1).
 #![tactic(auto)]
 
 use clap::Command;

@@ -1,7 +1,8 @@
 //! The language of scripts: the words of a line, and the texts of answers.
 //!
-//! Proved: decimal numbers are read exactly, in the range of their type. Only tested, by the scripts: words, peers and bytes, and
-//! the text of each answer.
+//! Proved: decimal numbers are read exactly, in the range of their type (`u8_word` and its kin, by `number`).
+//! Only tested, by the scripts of scripts/rows and the trials of `check_peer`: words, peers and bytes, and the text of each
+//! answer.
 #![tactic(auto)]
 
 mod answers;

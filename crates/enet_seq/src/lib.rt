@@ -1,4 +1,10 @@
 //! Reliable sequence numbers of ENet 1.3: 16-bit numbers that wrap, and the windows in which they are read.
+//!
+//! Proved: each of the five functions gives what its definition says (`in_window`, `acknowledges`, `ahead`, `after`,
+//! `fragment_in_window`); which distances are inside the window and which numbers are acknowledged (`window_reach`); that
+//! distances and sums undo one another (`distances_and_sums`); and that a number that goes over the wire modulo 65536 is
+//! read as the number that was meant, or as nothing (`wire_numbers_as_meant`), for fragments too. No call takes memory.
+//! Only tested: that the definitions agree with values worked out by hand.
 #![tactic(auto)]
 
 ghost use Rattle.std.specs.Prelude.{◌≡◌};

@@ -1,5 +1,9 @@
 //! The types that all crates share: addresses, packets, refusals and stops; a host's peers, events and settings, and what it
 //! answers to a datagram.
+//!
+//! Proved: numbers and names of refusals and stops (`label`, `number`); `Config::standard` gives exactly the stated numbers,
+//! and `Config::is_in_range` is exactly the test that opening answers E8 by; `Packet::is_same` compares channel and bytes.
+//! Neither: the text of the derived `Display`.
 #![tactic(auto)]
 
 mod address;

@@ -1,4 +1,9 @@
 //! Unsequenced packets of ENet 1.3: each of their groups is dispatched at most once.
+//!
+//! Proved: `Groups::new`, `check` and `mark` are exact by the definitions of a base and a set of marks; over whole runs of
+//! groups numbered without bound, each is dispatched at most once where none comes over 32,768 late, and groups that come in
+//! order are all dispatched (`runs_of_groups`). No call takes memory.
+//! Only tested: that the definitions agree with values worked out by hand. Not promised: any order of unsequenced packets.
 #![tactic(auto)]
 
 ghost use Rattle.std.specs.Prelude.{◌≡◌, ℕ, ◌+◌, ◌%◌, ◌<◌, ◌≤◌, ◌≢◌, IsTrue, List, ◌∷◌, length, All, AllPairs, false};
