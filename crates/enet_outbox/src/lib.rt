@@ -8,6 +8,8 @@
 //! `submit`, `matched` (what an acknowledgement takes out), `late`, `is_quiet`, `is_done`, `clear`, `narrow` and the rest.
 //! What later calls need has its room before, told as a number: `acknowledge` and `queue_control` ask for room, and `narrow`
 //! that nothing is in transit.
+//! Laws: the bytes of a datagram spell its header and its commands, in their order, and nothing else
+//! (`what_goes_is_spelled`); the acknowledgement that waits longest goes first (`oldest_goes_first`).
 //! Only tested: that calls succeed with ample memory, and worked datagrams byte for byte.
 #![tactic(auto)]
 

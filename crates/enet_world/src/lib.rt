@@ -8,9 +8,13 @@
 //! was: a submission, a tick, a disconnect and a take by the peer's definitions, a delivery by the bytes of the very
 //! datagram (`Comes`: the tests of the header, then `Handles`), a turn by what the peer puts out (`PutsOut`), logged with
 //! the marks that its bytes spell. `run` is its steps in order, and `joined` is the stated fresh world.
+//!
+//! The headline, without a premise (`in_order` and `one_life` of `run` and `step`, specs/Headline): what the other side's
+//! user took of a channel is a subsequence of what a side's user submitted on it, unsequenced packets apart, each packet
+//! whole and once, leaving out no reliable packet before its last; and nothing follows a user's Disconnect event.
 //! Only tested, by scripts/rows and `check_lab`: that calls succeed with ample memory, the worked scripts, late and too late
 //! commands.
-//! Open: the headline on the world; and no tick shares out bandwidth yet.
+//! Open: one joined pair alone; no tick shares out bandwidth yet.
 #![tactic(auto)]
 
 mod arriving;
