@@ -133,11 +133,7 @@ impl Inbox {
             } => self.append(head.channel, *group, payload),
             _ => self.take_in_sequenced(command, what),
         };
-        if is_taken {
-            Ok(())
-        } else {
-            Err(Stop::Memory)
-        }
+        if is_taken { Ok(()) } else { Err(Stop::Memory) }
     }
 
     /// Passes a data command over, as a peer does that dispatches nothing more: S6, S8 and S9 as in `data`, where only
@@ -242,13 +238,8 @@ impl Inbox {
         let full = self.is_full();
         let receiver = &mut self.receivers[arriving.head.channel as usize];
         let before = receiver.held();
-        let Some(bytes) = take_in(
-            receiver,
-            &mut self.untaken,
-            command,
-            full,
-            what.dispatches,
-        ) else {
+        let Some(bytes) = take_in(receiver, &mut self.untaken, command, full, what.dispatches)
+        else {
             return false;
         };
         self.waiting = self.waiting - u128::from(before) + u128::from(receiver.held()) + bytes;

@@ -189,7 +189,12 @@ fn unsequenced_groups_once(rt: HostRuntime) {
         unsequenced(0, 1024, b"c"),
         unsequenced(0, 1023, b"d"),
     ];
-    assert!(rt; inbox.foresee(&unsequenced(0, 1023, b"a")) == Ok(true));
+    let foreseen = Foreseen {
+        acknowledged: true,
+        kept: true,
+        dispatches: 1,
+    };
+    assert!(rt; inbox.foresee(&unsequenced(0, 1023, b"a")) == Ok(foreseen));
     assert!(rt; holds(&mut inbox, &commands));
     assert!(rt; takes(&mut inbox, &[(0, 2, b"a"), (0, 2, b"c")]));
     assert!(rt; inbox.take().is_none());
