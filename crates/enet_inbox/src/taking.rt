@@ -1,11 +1,11 @@
 //! How what comes is put to the packets that wait to be taken.
 
-ghost use Rattle.std.specs.Prelude.{◌≡◌, ◌≢◌, ◌+◌, ◌++◌, ◌≤◌, [], ◌∷◌, All, IsTrue, IfSome, IfNone, false, length, map, sum_by};
+ghost use Rattle.std.specs.Prelude.{◌≡◌, ◌+◌, ◌++◌, ◌≤◌, [], ◌∷◌, All, IsTrue, IfSome, IfNone, false, length, map, sum_by};
 ghost use Rattle.std.specs.VecDeque.{deque_len, deque_capacity};
 ghost use Rattle.enet_codec.specs.Message.{view};
 ghost use Rattle.enet_types.specs.declared.packet.Packet.{Packet};
 ghost use Rattle.enet_fragment.specs.DataCommand.{data_of};
-ghost use Rattle.enet_receiver.specs.Foresight.{outcome_for, after_command, foreseen};
+ghost use Rattle.enet_receiver.specs.Foresight.{outcome_for, after_command, foreseen, Receives};
 ghost use Rattle.enet_inbox.specs.Arrivals.{packet_of, emptied};
 ghost use Rattle.enet_inbox.specs.Kept.{IsShort, bytes_in};
 
@@ -20,10 +20,7 @@ const UNSEQUENCED: u8 = 2;
 
 /// Takes a sequenced data command in by the call that its receiver has for it. What is none is `Bad`.
 fn receive(receiver: &mut Incoming, command: &Command<'_>, full: bool) -> Took
-    ensures took { result ≢ Took.Memory → result ≡ outcome_for receiver.old (data_of (view command.now)) full }
-    ensures memory { result ≡ Took.Memory → outcome_for receiver.old (data_of (view command.now)) full ≡ Took.Held }
-    ensures held { result ≡ Took.Held → receiver.new ≡ after_command receiver.old (data_of (view command.now)) full }
-    ensures unchanged { result ≢ Took.Held → receiver.new ≡ receiver.old }
+    ensures { Receives (data_of (view command.now)) full result receiver.old receiver.new }
 {
     match command {
         Command::SendReliable { .. } => receiver.reliable(command, full),

@@ -1,11 +1,11 @@
 -- What a receiver does with a command of a datagram.
-use Rattle.std.specs.Prelude.{ℕ, Bool, true, false, if◌then◌else◌, Option, Some, None}
+use Rattle.std.specs.Prelude.{◌≡◌, ◌≢◌, ℕ, Bool, true, false, if◌then◌else◌, Option, Some, None}
 use Rattle.enet_codec.specs.Message.{Message, Body, send_reliable, send_unreliable, send_fragment, send_unreliable_fragment}
 use Rattle.enet_seq.specs.Numbering.{wire}
 use Rattle.enet_fragment.specs.declared.data.DataCommand.{DataCommand}
 use Rattle.enet_fragment.specs.DataCommand.{data_of}
 use Rattle.enet_receiver.specs.declared.took.Took.{Took}
-use Rattle.enet_receiver.specs.declared.took.Took.TheVariants.{Bad}
+use Rattle.enet_receiver.specs.declared.took.Took.TheVariants.{Held, Bad, Memory}
 use Rattle.enet_receiver.specs.declared.took.Foresight.{Foresight}
 use Rattle.enet_receiver.specs.Receiver.{Receiver, nothing_received}
 use Rattle.enet_receiver.specs.Reception.{outcome, received, acknowledged, dispatch_count}
@@ -49,6 +49,14 @@ outcome_for e (Some c) full = outcome wire e.max_packet e.receiver c full
 abbrev pub after_command : ReceivingEnd → Option DataCommand → Bool → ReceivingEnd
 after_command e None full = e
 after_command e (Some c) full = record e { receiver = received wire e.max_packet e.receiver c full }
+
+-- what a call did that takes a command in: it answers the outcome, and only what is held changes the receiver. Memory may be
+-- wanted only where the command would be held
+pub record Receives (o : Option DataCommand) (full : Bool) (result : Took) (old new : ReceivingEnd) : Type 0 where
+  pub took : result ≢ Memory → result ≡ outcome_for old o full
+  pub memory : result ≡ Memory → outcome_for old o full ≡ Held
+  pub held : result ≡ Held → new ≡ after_command old o full
+  pub unchanged : result ≢ Held → new ≡ old
 
 -- what a command would do with ample memory
 abbrev pub foreseen : ReceivingEnd → Option DataCommand → Bool → Foresight

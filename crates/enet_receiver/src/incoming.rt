@@ -12,7 +12,7 @@ ghost use Rattle.enet_receiver.specs.Parts.{with_first, grown_at, answered_with}
 ghost use Rattle.enet_receiver.specs.Walk.{Completes};
 ghost use Rattle.enet_receiver.specs.Receiver.{held_bytes, cleared};
 ghost use Rattle.enet_receiver.specs.Reception.{outcome, outcome_of, place_read, came_at, is_behind, is_handled, dispatch_count};
-ghost use Rattle.enet_receiver.specs.Foresight.{new_end, data_if, is_reliable, is_unreliable, is_fragment, is_unreliable_fragment, outcome_for, after_command, foreseen};
+ghost use Rattle.enet_receiver.specs.Foresight.{new_end, data_if, is_reliable, is_unreliable, is_fragment, is_unreliable_fragment, Receives, foreseen};
 
 use crate::arriving::Arriving;
 use crate::foreseeing::{Completed, dispatches};
@@ -101,10 +101,7 @@ impl Incoming {
     /// rule; the order is our profile). Where it is `Held`, what it completes is dispatched in this call. All other outcomes
     /// change nothing. A command that is not SEND_RELIABLE is `Bad`.
     pub fn reliable(&mut self, command: &Command<'_>, full: bool) -> Took
-        ensures took { result ≢ Took.Memory → result ≡ outcome_for self.old (data_if (is_reliable (view command.now).body) (view command.now)) full }
-        ensures memory { result ≡ Took.Memory → outcome_for self.old (data_if (is_reliable (view command.now).body) (view command.now)) full ≡ Took.Held }
-        ensures held { result ≡ Took.Held → self.new ≡ after_command self.old (data_if (is_reliable (view command.now).body) (view command.now)) full }
-        ensures unchanged { result ≢ Took.Held → self.new ≡ self.old }
+        ensures { Receives (data_if (is_reliable (view command.now).body) (view command.now)) full result self.old self.new }
     {
         let Command::SendReliable { head, payload } = command else {
             return Took::Bad;
@@ -122,10 +119,7 @@ impl Incoming {
     /// Takes a SEND_UNRELIABLE in, as `reliable` does a SEND_RELIABLE. It is `Again` too where its unreliable number is not
     /// above the last one dispatched with its reliable number (ENet 1.3).
     pub fn unreliable(&mut self, command: &Command<'_>, full: bool) -> Took
-        ensures took { result ≢ Took.Memory → result ≡ outcome_for self.old (data_if (is_unreliable (view command.now).body) (view command.now)) full }
-        ensures memory { result ≡ Took.Memory → outcome_for self.old (data_if (is_unreliable (view command.now).body) (view command.now)) full ≡ Took.Held }
-        ensures held { result ≡ Took.Held → self.new ≡ after_command self.old (data_if (is_unreliable (view command.now).body) (view command.now)) full }
-        ensures unchanged { result ≢ Took.Held → self.new ≡ self.old }
+        ensures { Receives (data_if (is_unreliable (view command.now).body) (view command.now)) full result self.old self.new }
     {
         let Command::SendUnreliable {
             head,
@@ -149,10 +143,7 @@ impl Incoming {
     /// its number is not that of its piece (our profile), and `Outside` too where its start is. Inside the window it is `Bad`
     /// where it can't be a piece of the packet that is held; outside it is compared with none.
     pub fn fragment(&mut self, command: &Command<'_>, full: bool) -> Took
-        ensures took { result ≢ Took.Memory → result ≡ outcome_for self.old (data_if (is_fragment (view command.now).body) (view command.now)) full }
-        ensures memory { result ≡ Took.Memory → outcome_for self.old (data_if (is_fragment (view command.now).body) (view command.now)) full ≡ Took.Held }
-        ensures held { result ≡ Took.Held → self.new ≡ after_command self.old (data_if (is_fragment (view command.now).body) (view command.now)) full }
-        ensures unchanged { result ≢ Took.Held → self.new ≡ self.old }
+        ensures { Receives (data_if (is_fragment (view command.now).body) (view command.now)) full result self.old self.new }
     {
         let Command::SendFragment {
             head,
@@ -175,10 +166,7 @@ impl Incoming {
     /// Takes a SEND_UNRELIABLE_FRAGMENT in, as `unreliable` does a SEND_UNRELIABLE. It is `Bad` too where it can't be a piece
     /// of a packet, or, inside the window, of the one that waits (our profile).
     pub fn unreliable_fragment(&mut self, command: &Command<'_>, full: bool) -> Took
-        ensures took { result ≢ Took.Memory → result ≡ outcome_for self.old (data_if (is_unreliable_fragment (view command.now).body) (view command.now)) full }
-        ensures memory { result ≡ Took.Memory → outcome_for self.old (data_if (is_unreliable_fragment (view command.now).body) (view command.now)) full ≡ Took.Held }
-        ensures held { result ≡ Took.Held → self.new ≡ after_command self.old (data_if (is_unreliable_fragment (view command.now).body) (view command.now)) full }
-        ensures unchanged { result ≢ Took.Held → self.new ≡ self.old }
+        ensures { Receives (data_if (is_unreliable_fragment (view command.now).body) (view command.now)) full result self.old self.new }
     {
         let Command::SendUnreliableFragment {
             head,
@@ -254,10 +242,7 @@ impl Incoming {
 
     /// Takes a command in.
     fn take_in(&mut self, arriving: Arriving<'_>, full: bool) -> Took
-        ensures took { result ≢ Took.Memory → result ≡ outcome_for self.old (Some (data_command arriving.entry)) full }
-        ensures memory { result ≡ Took.Memory → outcome_for self.old (Some (data_command arriving.entry)) full ≡ Took.Held }
-        ensures held { result ≡ Took.Held → self.new ≡ after_command self.old (Some (data_command arriving.entry)) full }
-        ensures unchanged { result ≢ Took.Held → self.new ≡ self.old }
+        ensures { Receives (Some (data_command arriving.entry)) full result self.old self.new }
     {
         let place = match self.admit(arriving, full) {
             Ok(place) => place,
