@@ -10,7 +10,7 @@
 //! that nothing is in transit.
 //! Laws: the bytes of a datagram spell its header and its commands, in their order, and nothing else
 //! (`what_goes_is_spelled`); the acknowledgement that waits longest goes first (`oldest_goes_first`).
-//! Only tested: that calls succeed with ample memory, and worked datagrams byte for byte.
+//! Only tested, by `check_outbox`: that calls succeed with ample memory, and worked datagrams byte for byte.
 #![tactic(auto)]
 
 mod laws;
@@ -23,8 +23,3 @@ mod readings;
 pub use laws::{oldest_goes_first, what_goes_is_spelled};
 pub use outbox::Outbox;
 pub use parts::{Acknowledgement, Destination, Matched, Pace, Unsequenced};
-
-#[cfg(test)]
-mod packing_tests;
-#[cfg(test)]
-mod tests;

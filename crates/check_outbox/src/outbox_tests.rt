@@ -1,7 +1,7 @@
-use super::*;
 use bytes::Bytes;
 use enet_codec::Refusal;
 use enet_control::Control;
+use enet_outbox::{Acknowledgement, Destination, Matched, Outbox, Pace};
 use enet_rtt::{Expiry, Patience};
 use enet_throttle::Throttle;
 use std::alloc::{AllocError, Global};

@@ -1,7 +1,7 @@
-use crate::tests::{acknowledge, open, queue, zeros};
-use crate::*;
+use crate::outbox_tests::{acknowledge, open, queue, zeros};
 use bytes::Bytes;
 use enet_control::Control;
+use enet_outbox::{Acknowledgement, Destination, Matched, Outbox, Pace};
 use enet_throttle::Throttle;
 use std::alloc::Global;
 
