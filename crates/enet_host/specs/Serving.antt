@@ -1,0 +1,67 @@
+-- A host puts out a datagram.
+use Rattle.std.specs.Prelude.{◌≡◌, ℕ, ◌+◌, ◌<◌, min, Option, Some, None, List, length, slice_get}
+use Rattle.enet_types.specs.declared.address.Addr.{Addr}
+use Rattle.enet_types.specs.declared.event.PeerRef.{PeerRef}
+use Rattle.enet_peer.specs.Peering.{Peering}
+use Rattle.enet_peer.specs.Calls.{PutsOut}
+use Rattle.enet_host.specs.declared.totals.Totals.{Totals}
+use Rattle.enet_host.specs.Host.{Host, SlotState, with_peer, name_of, greatest}
+use Rattle.enet_host.specs.Turns.{turn_of, slot_after}
+use Rattle.enet_host.specs.Receiving.{added}
+
+abbrev pub with_emitted : SlotState → ℕ → SlotState
+with_emitted s len = record s { emitted = min (s.emitted + len) greatest }
+
+-- the peer of a slot puts out a datagram of this length
+pub record Gives (now len : ℕ) (buf : List ℕ) (s t : SlotState) : Type 0 where
+  pub peer : Peering
+  pub after : Peering
+  pub held : s.peer ≡ Some peer
+  pub puts : PutsOut now (Some len) peer after buf
+  pub left : t ≡ with_peer (with_emitted s len) after
+
+-- the peer of a slot is asked and has nothing to put out; it may still go on
+pub record HasNothing (now : ℕ) (s t : SlotState) (p : Peering) : Type 0 where
+  pub after : Peering
+  pub buf : List ℕ
+  pub puts : PutsOut now None p after buf
+  pub left : t ≡ with_peer s after
+
+-- a slot is asked in vain: it is free, or its peer has nothing to put out
+abbrev pub passes_by : ℕ → SlotState → SlotState → Option Peering → Type 0
+passes_by now s t None = t ≡ s
+passes_by now s t (Some p) = HasNothing now s t p
+
+abbrev pub Passes : ℕ → SlotState → SlotState → Type 0
+Passes now s t = passes_by now s t s.peer
+
+-- what became of slot i, where slot `gave` gave a datagram of this length: those before it in turn were asked in vain, those
+-- after it are as they were
+pub record InTurn (now from count gave len : ℕ) (buf : List ℕ) (i : ℕ) (s t : SlotState) : Type 0 where
+  pub before : turn_of count from i < turn_of count from gave → Passes now s t
+  pub here : i ≡ gave → Gives now len buf s t
+  pub after : turn_of count from gave < turn_of count from i → t ≡ s
+
+abbrev pub with_datagram_out : Totals → ℕ → Totals
+with_datagram_out t len = record t { datagrams_out = added t.datagrams_out 1; bytes_out = added t.bytes_out len }
+
+-- no slot had something to put out
+pub record ServesNothing (old new : Host) : Type 0 where
+  pub count : length new.slots ≡ length old.slots
+  pub slots : (i : ℕ) (s t : SlotState) → slice_get old.slots i ≡ Some s → slice_get new.slots i ≡ Some t → Passes old.clock s t
+  pub rest : new ≡ record old { slots = new.slots }
+
+-- the first slot in turn that has something to put out gave a datagram, and is named as it was before
+pub record ServesOne (old : Host) (name : PeerRef) (address : Addr) (len : ℕ) (buf : List ℕ) (new : Host) : Type 0 where
+  pub slot : SlotState
+  pub there : slice_get old.slots name.slot ≡ Some slot
+  pub named : name ≡ name_of name.slot slot
+  pub addressed : address ≡ slot.address
+  pub count : length new.slots ≡ length old.slots
+  pub slots : (i : ℕ) (s t : SlotState) → slice_get old.slots i ≡ Some s → slice_get new.slots i ≡ Some t
+      → InTurn old.clock old.service_from (length old.slots) name.slot len buf i s t
+  pub rest : new ≡ record old { slots = new.slots; service_from = slot_after (length old.slots) name.slot; totals = with_datagram_out old.totals len }
+
+abbrev pub Serves : Host → Option (PeerRef × Addr × ℕ) → List ℕ → Host → Type 0
+Serves old None buf new = ServesNothing old new
+Serves old (Some gave) buf new = ServesOne old gave.0 gave.1 gave.2 buf new

@@ -1,0 +1,91 @@
+//! What a host tells its user.
+
+ghost use Rattle.std.specs.Prelude.{◌≡◌, ◌<◌, length, IfSome, IfNone};
+ghost use Rattle.enet_host.specs.Calls.{tells, event_of};
+ghost use Rattle.enet_host.specs.Turns.{IsFirst, HoldsNowhere};
+ghost use Rattle.enet_host.specs.Shown.{shown, all_shown};
+
+use crate::service::slot_after;
+use crate::slot::Slot;
+use bytes::Bytes;
+use enet_peer::PeerEvent;
+use enet_types::{Event, PeerRef};
+
+/// An event of a peer, as the host tells it.
+fn event_of(peer: PeerRef, event: PeerEvent) -> Event
+    ensures { result ≡ event_of peer event }
+{
+    match event {
+        PeerEvent::Connect { info } => Event::Connect { peer, info },
+        PeerEvent::Receive { packet } => Event::Receive { peer, packet },
+        PeerEvent::Disconnect { info } => Event::Disconnect { peer, info },
+    }
+}
+
+impl Slot {
+    /// Whether its peer has an event.
+    fn tells(&self) -> bool
+        ensures { result ≡ tells (shown self.now) }
+    {
+        match &self.peer {
+            Some(peer) => peer.has_event(),
+            None => false,
+        }
+    }
+
+    /// The next event of its peer.
+    fn take(&mut self, number: u16) -> Option<Event> {
+        let name = PeerRef {
+            slot: number,
+            generation: self.generation,
+        };
+        let peer = match &mut self.peer {
+            Some(peer) => peer,
+            None => return None,
+        };
+        let event = peer.next_event()?;
+        self.let_go();
+        Some(event_of(name, event))
+    }
+
+    /// The body that its peer's next event hands out.
+    fn next_body(&self) -> Option<&Bytes> {
+        match &self.peer {
+            Some(peer) => peer.next_body(),
+            None => None,
+        }
+    }
+}
+
+/// The first slot in turn that has an event.
+pub(crate) fn first_telling(slots: &[Slot], peers: u16, from: u16) -> Option<u16>
+    requires within { from < peers }
+    requires all { peers ≡ length slots.now }
+    ensures first { IfSome result (λ i. IsFirst tells (all_shown slots.now) from i) }
+    ensures none { IfNone result (HoldsNowhere tells (all_shown slots.now)) }
+    ensures within { IfSome result (λ i. i < peers) }
+{
+    let mut number = from;
+    for _turn in 0..peers {
+        if slots[usize::from(number)].tells() {
+            return Some(number);
+        }
+        number = slot_after(peers, number);
+    }
+    None
+}
+
+/// The next event of a slot.
+pub(crate) fn take_from(slots: &mut Vec<Slot>, number: u16) -> Option<Event>
+    requires { number < length slots.old.items }
+{
+    let slot = &mut slots[usize::from(number)];
+    slot.take(number)
+}
+
+/// The body that a slot's next event hands out.
+pub(crate) fn body_of(slots: &[Slot], number: u16) -> Option<&Bytes>
+    requires { number < length slots.now }
+{
+    slots[usize::from(number)].next_body()
+}

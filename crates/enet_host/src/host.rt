@@ -1,0 +1,228 @@
+//! A host, and what it does with slots, datagrams and time.
+
+ghost use Rattle.std.specs.Prelude.{◌≡◌, ◌<◌, ◌≤◌, length, IsTrue, IfOk, IfErr, OnOk, OnErr};
+ghost use Rattle.std.specs.Option.{option_copied};
+ghost use Rattle.enet_types.specs.Config.{is_in_range};
+ghost use Rattle.enet_host.specs.Host.{KeepsRest};
+ghost use Rattle.enet_host.specs.Opening.{opened, joined, Opens, Connects};
+ghost use Rattle.enet_host.specs.Receiving.{Receives};
+ghost use Rattle.enet_host.specs.Serving.{Serves};
+ghost use Rattle.enet_host.specs.Ticking.{ticked};
+ghost use Rattle.enet_host.specs.Calls.{with_bandwidth, Takes, Shows};
+ghost use Rattle.enet_host.specs.Calls as calls;
+
+use crate::connecting::{Question, connect};
+use crate::events::{body_of, first_telling, take_from};
+use crate::opening::unused_slots;
+use crate::receiving::receive;
+use crate::service::{serve, slot_after};
+use crate::sharing::{set_bandwidth, share_out, tick_all};
+use crate::slot::Slot;
+use crate::totals::Totals;
+use bytes::Bytes;
+use enet_rtt::elapsed;
+use enet_types::{Addr, Config, Event, PeerRef, Received, Refusal};
+use std::alloc::Global;
+use std::marker::Model;
+
+/// The longest tick, in milliseconds (our profile).
+const LONGEST_TICK: u32 = 60_000;
+
+/// How many milliseconds pass at least between two moments at which the bandwidth is shared out (our profile).
+const SHARING_INTERVAL: u32 = 1000;
+
+/// A host of ENet 1.3 without a socket. It has a fixed number of slots, each of which is free or holds one peer; contracts see
+/// it as a `Host`: its settings, clock and totals, and what each slot holds. Times are in milliseconds.
+#[derive(Drop)]
+pub struct HostCore {
+    pub(crate) alloc: Global,
+    /// Its settings, with the bandwidths as they were last set.
+    pub(crate) config: Config,
+    pub(crate) clock: u32,
+    /// When the bandwidth was last shared out, at first the opening.
+    pub(crate) shared_at: u32,
+    /// The slot that is asked first for a datagram.
+    pub(crate) service_from: u16,
+    /// The slot that is asked first for an event.
+    pub(crate) event_from: u16,
+    pub(crate) totals: Totals,
+    pub(crate) slots: Vec<Slot>,
+}
+
+impl Model for HostCore {
+    ghost use Rattle.enet_host.specs.Host.{Host};
+    ghost use Rattle.enet_host.specs.Shown.{all_shown, KeepsHost};
+    ghost use Rattle.std.specs.Coded.{codes};
+    ghost use Rattle.enet_inbox.specs.Codes.{inbox_code};
+
+    ghost Value = { Host };
+
+    ghost coded = { Prim.hlevel (codes, inbox_code) };
+
+    ghost view = { λ h. record {
+      config = h.config;
+      clock = h.clock;
+      shared_at = h.shared_at;
+      service_from = h.service_from;
+      event_from = h.event_from;
+      totals = h.totals;
+      slots = all_shown h.slots.items;
+    } };
+
+    ghost invariant = { λ h. KeepsHost h.config.peers h.service_from h.event_from h.slots.items };
+}
+
+impl HostCore {
+    /// A host with these settings, whose slots are all free. E8 where a number of the settings is out of its range, E1 where
+    /// memory is refused.
+    pub fn open(alloc: Global, config: Config) -> Result<HostCore, Refusal>
+        ensures { Opens config result (opened config) }
+    {
+        if !config.is_in_range() {
+            return Err(Refusal::BadConfig);
+        }
+        Ok(HostCore {
+            alloc,
+            config,
+            clock: config.clock,
+            shared_at: config.clock,
+            service_from: 0,
+            event_from: 0,
+            totals: Totals::none(),
+            slots: unused_slots(alloc, config.peers)?,
+        })
+    }
+
+    /// A host that is connected from the start: slot 0, in generation 0, to slot 0 of a host at this address, with the
+    /// channels and the mtu of the settings, sessions and connect id 0; number 1 of channel 0xFF counts as sent, and no event
+    /// waits (our profile, for tests and trials of two hosts). E8 where a number of the settings is out of its range, E1 where
+    /// memory is refused.
+    pub fn joined(alloc: Global, config: Config, address: Addr) -> Result<HostCore, Refusal>
+        ensures { Opens config result (joined config address) }
+    {
+        let mut host = HostCore::open(alloc, config)?;
+        host.slots[0].join(alloc, &config, address)?;
+        Ok(host)
+    }
+
+    /// Asks the host at this address for a connection with so many channels, from the lowest slot that is free and has a
+    /// generation left. `info` is a word for the other host's user, `word` the connect id (ENet 1.3). E8 for no channels, E7
+    /// where there is no such slot, E1 where memory is refused; after each of them nothing has changed.
+    pub fn connect(
+        &mut self,
+        address: Addr,
+        channels: u8,
+        info: u32,
+        word: u32,
+    ) -> Result<PeerRef, Refusal>
+        ensures connects { Connects self.old.config self.old.clock self.old.slots address channels info word result self.new.slots }
+        ensures rest { KeepsRest self.old self.new }
+    {
+        let question = Question {
+            address,
+            channels,
+            info,
+            word,
+        };
+        connect(
+            &mut self.slots,
+            self.alloc,
+            &self.config,
+            self.clock,
+            question,
+        )
+    }
+
+    /// A datagram comes from an address. It goes to the peer of the slot that its header names, or is the offer of one who has
+    /// no peer yet (ENet 1.3). The stop is the first that applies:
+    ///
+    /// - S1 where the header is cut short, S2 where the datagram is compressed;
+    /// - S3 for a stranger's datagram that is anything but one CONNECT, and where the slot is free, has ended or is parting;
+    ///   S4 where the peer is at another address; S5 where its session is another, once the other end's slot is known;
+    /// - of an offer S6 where it names no slot, S8 where it asks for no channel or for more than 255, S13 where no slot is free
+    ///   that has a generation left, S11 where memory is refused; an offer of a connection that is there has no effect;
+    /// - else the stop of the first command that the peer stops.
+    ///
+    /// The commands before a stop have taken effect, and the stopped one has none, that of S12 excepted. Each datagram counts
+    /// in the totals.
+    pub fn receive(&mut self, from: Addr, bytes: &[u8]) -> Received
+        ensures { Receives self.old from bytes.now result self.new }
+    {
+        self.totals = self.totals.with_datagram_in(bytes.len());
+        receive(
+            &mut self.slots,
+            self.alloc,
+            &self.config,
+            self.clock,
+            from,
+            bytes,
+        )
+    }
+
+    /// One datagram of the next slot that has something to send: whose it is, where it goes, and how many bytes of the buffer
+    /// it has. Slots are asked in turn, beginning after the one that was served last, at first with slot 0. The peer is named
+    /// as it was before the call, also where the datagram was its last. None where no slot has something to send. It takes no
+    /// memory.
+    pub fn service(&mut self, buf: &mut [u8; 4096]) -> Option<(PeerRef, Addr, usize)>
+        ensures { Serves self.old result buf.new self.new }
+    {
+        let sent = serve(
+            &mut self.slots,
+            self.config.peers,
+            self.service_from,
+            self.clock,
+            buf,
+        )?;
+        self.service_from = slot_after(self.config.peers, sent.0.slot);
+        self.totals = self.totals.with_datagram_out(sent.2);
+        Some(sent)
+    }
+
+    /// The clock goes on by so many milliseconds, by a minute at most (our profile). What waited out its timeout is due to go
+    /// again, or its connection has ended; connected peers that are quiet are pinged. Once a second or more has passed since
+    /// the last such moment, the host's outgoing bandwidth is shared out among the connected peers: each one's throttle is
+    /// limited by what it put out since and what it may (our profile). It takes no memory.
+    pub fn tick(&mut self, ms: u32)
+        ensures { self.new ≡ ticked self.old ms }
+    {
+        self.clock = self.clock.wrapping_add(ms.min(LONGEST_TICK));
+        tick_all(&mut self.slots, self.clock);
+        if elapsed(self.clock, self.shared_at) >= SHARING_INTERVAL {
+            self.shared_at = self.clock;
+            share_out(&mut self.slots, self.config.outgoing);
+        }
+    }
+
+    /// Sets the host's bandwidths, in bytes per second, where 0 says that no limit is known. Each connected peer is told (ENet
+    /// 1.3). E1 where memory is refused, with nothing changed.
+    pub fn set_bandwidth(&mut self, incoming: u32, outgoing: u32) -> Result<(), Refusal>
+        ensures set { OnOk result (self.new ≡ with_bandwidth self.old incoming outgoing) }
+        ensures unchanged { OnErr result (self.new ≡ self.old) }
+        ensures memory { IfErr result (λ why. why ≡ Refusal.Memory) }
+    {
+        set_bandwidth(&mut self.slots, incoming, outgoing)?;
+        self.config.incoming = incoming;
+        self.config.outgoing = outgoing;
+        Ok(())
+    }
+
+    /// The next event of the next slot that has one: Connect first, then the packets in the order of dispatch, then Disconnect,
+    /// with which the slot is free and the peer's name is spent. Slots are asked in turn, beginning after the one that gave the
+    /// last event, at first with slot 0. None, with nothing changed, where there is none. It takes no memory.
+    pub fn next_event(&mut self) -> Option<Event>
+        ensures { Takes result self.old self.new }
+    {
+        let slot = first_telling(&self.slots, self.config.peers, self.event_from)?;
+        let event = take_from(&mut self.slots, slot)?;
+        self.event_from = slot_after(self.config.peers, slot);
+        Some(event)
+    }
+
+    /// The body of the packet that `next_event` would hand out; None where that would be no packet.
+    pub fn next_body(&self) -> Option<&Bytes>
+        ensures { Shows self.now (option_copied result) }
+    {
+        let slot = first_telling(&self.slots, self.config.peers, self.event_from)?;
+        body_of(&self.slots, slot)
+    }
+}

@@ -1,0 +1,161 @@
+//! What a user does with one peer of a host. Each call names the peer; it answers E2, or None, where there is no such peer: the
+//! slot is out of range or free, or has another generation.
+
+ghost use Rattle.std.specs.Prelude.{◌≡◌, length};
+ghost use Rattle.std.specs.Option.{option_map};
+ghost use Rattle.enet_types.specs.declared.event.DisconnectMode.TheVariants.{Now, Ask, Later};
+ghost use Rattle.enet_outbox.specs.Outbox.{transit_of};
+ghost use Rattle.enet_host.specs.Host.{KeepsRest, named, slot_named};
+ghost use Rattle.enet_host.specs.Calls.{address_named, Submits, Does, DoesWithMemory, disconnected, throttled, with_ping_interval, with_timeout};
+
+use crate::calls;
+use crate::host::HostCore;
+use crate::totals::Totals;
+use bytes::Bytes;
+use enet_connect::Terms;
+use enet_peer::{PeerState, RoundTrip};
+use enet_types::{Addr, DisconnectMode, PeerRef, Refusal};
+
+impl HostCore {
+    /// Submits a packet to a peer on a channel; `flags` are its flags (RELIABLE 1, UNSEQUENCED 2, UNRELIABLE_FRAGMENT 8, others
+    /// are ignored).
+    ///
+    /// A refusal is the first that applies: E2 where there is no such peer; E3 where it is not connected; E4 where there is no
+    /// such channel; E5 where the body is longer than the settings allow, or would be cut into more than 16,384 pieces; E1
+    /// where memory is refused. After it nothing has changed, and the body comes back.
+    pub fn submit(
+        &mut self,
+        peer: PeerRef,
+        channel: u8,
+        flags: u8,
+        body: Bytes,
+    ) -> Result<(), (Refusal, Bytes)>
+        ensures submits { Submits result self.old.slots self.new.slots peer channel (record { flags = flags; body = body }) }
+        ensures rest { KeepsRest self.old self.new }
+    {
+        calls::submit(&mut self.slots, peer, channel, flags, body)
+    }
+
+    /// Disconnects with a word for the other end's user: all that is held, queued or unacknowledged is dropped, and a reliable
+    /// DISCONNECT goes; the event comes once it is acknowledged. Where the peer still connects, its slot is free at once; where
+    /// it still answers, one unsequenced DISCONNECT goes. E2 where there is no such peer, E3 where its connection ends already:
+    /// then nothing has changed.
+    pub fn disconnect(&mut self, peer: PeerRef, info: u32) -> Result<(), Refusal>
+        ensures disconnects { Does result (disconnected Ask self.old.slots peer info) self.old.slots self.new.slots }
+        ensures rest { KeepsRest self.old self.new }
+    {
+        calls::disconnect(&mut self.slots, peer, DisconnectMode::Ask, info)
+    }
+
+    /// Ends the connection for the user at once: all is dropped, events too, and one unsequenced DISCONNECT with this word
+    /// goes, with which the slot is free. Where the peer still connects, its slot is free at once. E2 where there is no such
+    /// peer, E3 where its connection ends already: then nothing has changed.
+    pub fn disconnect_now(&mut self, peer: PeerRef, info: u32) -> Result<(), Refusal>
+        ensures disconnects { Does result (disconnected Now self.old.slots peer info) self.old.slots self.new.slots }
+        ensures rest { KeepsRest self.old self.new }
+    {
+        calls::disconnect(&mut self.slots, peer, DisconnectMode::Now, info)
+    }
+
+    /// Disconnects with this word once all that is queued has gone and each reliable command is acknowledged; data that comes
+    /// meanwhile is dropped. Where the peer still connects, its slot is free at once; where it still answers, one unsequenced
+    /// DISCONNECT goes. E2 where there is no such peer, E3 where its connection ends already or is to end later: then nothing
+    /// has changed.
+    pub fn disconnect_later(&mut self, peer: PeerRef, info: u32) -> Result<(), Refusal>
+        ensures disconnects { Does result (disconnected Later self.old.slots peer info) self.old.slots self.new.slots }
+        ensures rest { KeepsRest self.old self.new }
+    {
+        calls::disconnect(&mut self.slots, peer, DisconnectMode::Later, info)
+    }
+
+    /// Sets the throttle's interval in milliseconds, and its acceleration and deceleration in parts of 32, of which the other
+    /// end is told (ENet 1.3). E2 where there is no such peer, E3 where it is not connected, E1 where memory is refused: then
+    /// nothing has changed.
+    pub fn throttle_configure(
+        &mut self,
+        peer: PeerRef,
+        interval: u32,
+        acceleration: u32,
+        deceleration: u32,
+    ) -> Result<(), Refusal>
+        ensures configures { DoesWithMemory result (throttled self.old.slots peer interval acceleration deceleration) self.old.slots self.new.slots }
+        ensures rest { KeepsRest self.old self.new }
+    {
+        calls::throttle_configure(&mut self.slots, peer, interval, acceleration, deceleration)
+    }
+
+    /// Sets after how many milliseconds a peer that was not heard is pinged; 0 stands for the default of 500. E2 where there is
+    /// no such peer.
+    pub fn set_ping_interval(&mut self, peer: PeerRef, ms: u32) -> Result<(), Refusal>
+        ensures sets { Does result (with_ping_interval self.old.slots peer ms) self.old.slots self.new.slots }
+        ensures rest { KeepsRest self.old self.new }
+    {
+        calls::set_ping_interval(&mut self.slots, peer, ms)
+    }
+
+    /// Sets how long the other end may leave a command unacknowledged: the connection ends after `maximum` milliseconds
+    /// (30,000 by the standard), or after `minimum` milliseconds (5,000) once 2^(attempts - 1) is at least `limit` (32). A 0
+    /// stands for the standard number. E2 where there is no such peer.
+    pub fn set_timeout(
+        &mut self,
+        peer: PeerRef,
+        limit: u32,
+        minimum: u32,
+        maximum: u32,
+    ) -> Result<(), Refusal>
+        ensures sets { Does result (with_timeout self.old.slots peer limit minimum maximum) self.old.slots self.new.slots }
+        ensures rest { KeepsRest self.old self.new }
+    {
+        calls::set_timeout(&mut self.slots, peer, limit, minimum, maximum)
+    }
+
+    /// How far the peer's connection has come.
+    pub fn state(&self, peer: PeerRef) -> Option<PeerState>
+        ensures { result ≡ option_map (λ p. p.state) (named self.now.slots peer) }
+    {
+        Some(calls::peer_of(&self.slots, peer)?.state())
+    }
+
+    /// The terms on which this end of the connection stands; while it still connects, those that it asked for, with slot
+    /// 0xFFF.
+    pub fn terms(&self, peer: PeerRef) -> Option<Terms>
+        ensures { result ≡ option_map (λ p. p.terms) (named self.now.slots peer) }
+    {
+        Some(calls::peer_of(&self.slots, peer)?.terms())
+    }
+
+    /// How long the peer's acknowledgements take, as it is estimated.
+    pub fn round_trip(&self, peer: PeerRef) -> Option<RoundTrip>
+        ensures { result ≡ option_map (λ p. record { mean = p.estimate.round_trip; variance = p.estimate.variance }) (named self.now.slots peer) }
+    {
+        Some(calls::peer_of(&self.slots, peer)?.round_trip())
+    }
+
+    /// How many payload bytes of reliable packets were sent to the peer and are not acknowledged.
+    pub fn in_transit(&self, peer: PeerRef) -> Option<u32>
+        ensures { result ≡ option_map (λ p. transit_of p.outbox) (named self.now.slots peer) }
+    {
+        Some(calls::peer_of(&self.slots, peer)?.in_transit())
+    }
+
+    /// How much of the peer's unreliable packets goes, in parts of 32.
+    pub fn throttle(&self, peer: PeerRef) -> Option<u32>
+        ensures { result ≡ option_map (λ p. p.outbox.throttle.value) (named self.now.slots peer) }
+    {
+        Some(calls::peer_of(&self.slots, peer)?.throttle())
+    }
+
+    /// Where the peer is.
+    pub fn address(&self, peer: PeerRef) -> Option<Addr>
+        ensures { result ≡ address_named self.now.slots peer }
+    {
+        calls::address_of(&self.slots, peer)
+    }
+
+    /// How much went through the host.
+    pub fn totals(&self) -> Totals
+        ensures { result ≡ self.now.totals }
+    {
+        self.totals
+    }
+}

@@ -1,0 +1,177 @@
+//! A datagram comes to a host.
+
+ghost use Rattle.std.specs.Prelude.{◌≡◌, ◌<◌, ◌≤◌, false, length, slice_get, Some, IfSome, IfNone};
+ghost use Rattle.enet_host.specs.Opening.{is_vacant};
+ghost use Rattle.enet_host.specs.Receiving.{is_deaf, fits_session, stopped, refused_by_slot, refused_by, offer_refused, is_known, Hears, Offers, Arrives};
+ghost use Rattle.enet_host.specs.Shown.{shown, all_shown};
+
+use crate::connecting::lowest_available;
+use crate::slot::Slot;
+use enet_codec::Header;
+use enet_connect::Offer;
+use enet_datagram::{obey, read_heading, read_offer};
+use enet_peer::{Peer, PeerState};
+use enet_types::{Addr, Config, Received, Stop};
+use std::alloc::Global;
+
+/// The peer id in the header of one who has no peer yet (ENet 1.3).
+const NO_PEER: u16 = 0xFFF;
+
+/// The answer to a datagram of which nothing was looked at.
+const fn stopped(why: Stop) -> Received
+    ensures { result ≡ stopped why }
+{
+    Received {
+        handled: 0,
+        stop: Some(why),
+    }
+}
+
+/// The answer to an offer that was taken.
+const HANDLED_ONE: Received = Received {
+    handled: 1,
+    stop: None,
+};
+
+/// Whether a peer in this state takes no datagram in.
+pub(crate) fn is_deaf(state: PeerState) -> bool
+    ensures { result ≡ is_deaf state }
+{
+    matches!(
+        state,
+        PeerState::Free | PeerState::Ended | PeerState::Parting
+    )
+}
+
+/// Whether a datagram's session is the one that a peer takes in. It isn't tested before the other end's slot is known.
+fn fits_session(peer: &Peer, session: u8) -> bool
+    ensures { result ≡ fits_session peer.now.peer session }
+{
+    let terms = peer.terms();
+    terms.slot == NO_PEER || session == terms.incoming_session
+}
+
+impl Slot {
+    /// Why it takes a datagram of this session from an address not in: S3 where it is free or its peer takes nothing in, S4
+    /// where the peer is at another address, S5 where its session is another.
+    fn refused_by(&self, from: Addr, session: u8) -> Option<Stop>
+        ensures { result ≡ refused_by_slot from session (Some (shown self.now)) }
+    {
+        let Some(peer) = &self.peer else {
+            return Some(Stop::UnknownPeer);
+        };
+        if is_deaf(peer.state()) {
+            return Some(Stop::UnknownPeer);
+        }
+        if self.address != from {
+            return Some(Stop::WrongAddress);
+        }
+        if !fits_session(peer, session) {
+            return Some(Stop::WrongSession);
+        }
+        None
+    }
+
+    /// The commands of a datagram come to its peer.
+    fn hear(&mut self, now: u32, sent: Option<u16>, commands: &[u8]) -> Received
+        ensures { is_vacant (shown self.old).peer ≡ false → Hears now sent commands.now (shown self.old) result (shown self.new) }
+    {
+        let Some(peer) = &mut self.peer else {
+            return stopped(Stop::UnknownPeer);
+        };
+        let answer = obey(peer, now, sent, commands);
+        self.let_go();
+        answer
+    }
+}
+
+/// Why a datagram with this header isn't taken in by the slot that it names.
+fn refused_by(slots: &[Slot], from: Addr, header: &Header) -> Option<Stop>
+    ensures stop { result ≡ refused_by (all_shown slots.now) from header.now }
+    ensures within { IfNone result (header.now.peer < length slots.now) }
+{
+    match slots.get(usize::from(header.peer)) {
+        Some(slot) => slot.refused_by(from, header.session),
+        None => Some(Stop::UnknownPeer),
+    }
+}
+
+/// Why an offer is not answered, before slots are looked at: S6 where it names no slot, S8 where it asks for no channel or for
+/// more than 255.
+fn offer_refused(offer: &Offer) -> Option<Stop>
+    ensures { result ≡ offer_refused offer.now }
+{
+    if offer.outgoing_peer >= NO_PEER {
+        return Some(Stop::BadCommand);
+    }
+    if offer.channels < 1 || offer.channels > 255 {
+        return Some(Stop::BadChannel);
+    }
+    None
+}
+
+/// Whether the connection of an offer is there already.
+fn is_known(slots: &[Slot], from: Addr, offer: &Offer) -> bool
+    ensures { result ≡ is_known (all_shown slots.now) from offer.now }
+{
+    slots
+        .iter()
+        .any(|slot| slot.is_connection(from, offer.connect_id))
+}
+
+/// An offer comes.
+fn take_offer(
+    slots: &mut Vec<Slot>,
+    alloc: Global,
+    config: &Config,
+    now: u32,
+    from: Addr,
+    offer: Offer,
+) -> Received
+    requires { length slots.old.items ≤ 4095 }
+    ensures { Offers config.now now (all_shown slots.old.items) from offer result (all_shown slots.new.items) }
+{
+    if let Some(why) = offer_refused(&offer) {
+        return stopped(why);
+    }
+    if is_known(slots, from, &offer) {
+        return HANDLED_ONE;
+    }
+    let Some(place) = lowest_available(slots, config) else {
+        return stopped(Stop::NoSlot);
+    };
+    let slot = &mut slots[place];
+    match slot.answer(alloc, config, now, place as u16, from, offer) {
+        Ok(()) => HANDLED_ONE,
+        Err(_) => stopped(Stop::Memory),
+    }
+}
+
+/// A datagram comes at the time `now` to the slot that it names, or is one of a stranger, who may offer a connection.
+pub(crate) fn receive(
+    slots: &mut Vec<Slot>,
+    alloc: Global,
+    config: &Config,
+    now: u32,
+    from: Addr,
+    bytes: &[u8],
+) -> Received
+    requires { length slots.old.items ≤ 4095 }
+    ensures { Arrives config.now now (all_shown slots.old.items) from bytes.now result (all_shown slots.new.items) }
+{
+    let (header, commands) = match read_heading(bytes) {
+        Ok(found) => found,
+        Err(why) => return stopped(why),
+    };
+    if header.peer == NO_PEER {
+        return match read_offer(commands) {
+            Some(offer) => take_offer(slots, alloc, config, now, from, offer),
+            None => stopped(Stop::UnknownPeer),
+        };
+    }
+    if let Some(why) = refused_by(slots, from, &header) {
+        return stopped(why);
+    }
+    let slot = &mut slots[usize::from(header.peer)];
+    slot.hear(now, header.sent, commands)
+}

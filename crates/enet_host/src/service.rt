@@ -1,0 +1,74 @@
+//! A host puts out a datagram.
+
+ghost use Rattle.std.specs.Prelude.{◌≡◌, ◌<◌, ◌≤◌, length, slice_get, Some, None, IfSome, IfNone};
+ghost use Rattle.enet_host.specs.Host.{SlotState, name_of};
+ghost use Rattle.enet_host.specs.Serving.{Gives, Passes, InTurn, Serves};
+ghost use Rattle.enet_host.specs.Turns.{slot_after};
+ghost use Rattle.enet_host.specs.Shown.{shown, all_shown};
+
+use crate::slot::Slot;
+use enet_types::{Addr, PeerRef};
+
+/// The slot after one of so many; after the last comes slot 0.
+pub(crate) fn slot_after(peers: u16, slot: u16) -> u16
+    requires { slot < peers }
+    ensures after { result ≡ slot_after peers slot }
+    ensures within { result < peers }
+{
+    if slot + 1 < peers { slot + 1 } else { 0 }
+}
+
+impl Slot {
+    /// Asks its peer, if there is one, for a datagram at the time `now`.
+    fn serve(&mut self, now: u32, buf: &mut [u8; 4096]) -> Option<usize>
+        ensures gives { IfSome result (λ len. Gives now len buf.new (shown self.old) (shown self.new)) }
+        ensures passes { IfNone result (Passes now (shown self.old) (shown self.new)) }
+    {
+        let peer = match &mut self.peer {
+            Some(peer) => peer,
+            None => return None,
+        };
+        let sent = peer.emit(now, buf);
+        if let Some(len) = sent {
+            self.emitted = self.emitted.saturating_add(len as u32);
+        }
+        self.let_go();
+        sent
+    }
+}
+
+/// A datagram of a slot: the slot's peer as it was named before, where it goes, and its length.
+pub(crate) type Sent = (PeerRef, Addr, usize);
+
+/// Asks a slot for a datagram at the time `now`.
+fn serve_slot(slots: &mut Vec<Slot>, number: u16, now: u32, buf: &mut [u8; 4096]) -> Option<Sent>
+    requires { number < length slots.old.items }
+{
+    let slot = &mut slots[usize::from(number)];
+    let name = PeerRef {
+        slot: number,
+        generation: slot.generation,
+    };
+    let address = slot.address;
+    let len = slot.serve(now, buf)?;
+    Some((name, address, len))
+}
+
+/// Asks one slot after another for a datagram at the time `now`, up to the first that has one.
+pub(crate) fn serve(
+    slots: &mut Vec<Slot>,
+    peers: u16,
+    from: u16,
+    now: u32,
+    buf: &mut [u8; 4096],
+) -> Option<Sent> {
+    let mut number = from;
+    for _turn in 0..peers {
+        let sent = serve_slot(slots, number, now, buf);
+        if sent.is_some() {
+            return sent;
+        }
+        number = slot_after(peers, number);
+    }
+    None
+}
