@@ -1,5 +1,5 @@
 -- What a user's calls make of a host.
-use Rattle.std.specs.Prelude.{◌≡◌, ◌⊎◌, ℕ, Bool, true, false, if◌then◌else◌, Option, Some, None, Result, Ok, Err, List, length, map, is_some, is_ok}
+use Rattle.std.specs.Prelude.{◌≡◌, ◌⊎◌, ℕ, Bool, true, false, if◌then◌else◌, Option, Some, None, Result, Ok, Err, List, length, map, is_some, is_ok, slice_set}
 use Rattle.enet_types.specs.declared.address.Addr.{Addr}
 use Rattle.enet_types.specs.declared.event.DisconnectMode.{DisconnectMode}
 use Rattle.enet_types.specs.declared.event.DisconnectMode.TheVariants.{Now, Ask, Later}
@@ -13,79 +13,84 @@ use Rattle.enet_peer.specs.declared.parts.PeerEvent.{PeerEvent}
 use Rattle.enet_peer.specs.declared.parts.PeerEvent.TheVariants as told
 use Rattle.enet_peer.specs.Peering.{Peering}
 use Rattle.enet_peer.specs.Calls as peers
-use Rattle.enet_host.specs.Host.{Host, SlotState, named, slot_named, with_peer_at, changed, name_of}
+use Rattle.enet_host.specs.Host.{Host, SlotState, named, slot_named, with_peer, changed, name_of}
 use Rattle.enet_host.specs.Turns.{IsFirst, HoldsNowhere, slot_after}
 
--- what a call did that takes no memory: `outcome` is the slots after it, or its refusal, which changes nothing
-abbrev pub Does : {T : Type 0} → Result T Refusal → Result (List SlotState) Refusal → List SlotState → List SlotState → Type 0
+-- a call on the peer of a slot leaves the slot so, or is refused; E2 where the slot is free
+abbrev pub kept : SlotState → Result Peering Refusal → Result SlotState Refusal
+kept s (Ok p) = Ok (with_peer s p)
+kept s (Err why) = Err why
+
+abbrev pub on_peer_in : SlotState → (Peering → Result Peering Refusal) → Option Peering → Result SlotState Refusal
+on_peer_in s call None = Err NoSuchPeer
+on_peer_in s call (Some p) = kept s (call p)
+
+abbrev pub on_peer : SlotState → (Peering → Result Peering Refusal) → Result SlotState Refusal
+on_peer s call = on_peer_in s call s.peer
+
+-- a call on the peer that a name means changes its slot alone; E2 where there is no such peer
+abbrev pub put_back : List SlotState → ℕ → Result SlotState Refusal → Result (List SlotState) Refusal
+put_back slots i (Ok s) = Ok (slice_set slots i s)
+put_back slots i (Err why) = Err why
+
+abbrev pub on_slot : List SlotState → ℕ → (Peering → Result Peering Refusal) → Option SlotState → Result (List SlotState) Refusal
+on_slot slots i call None = Err NoSuchPeer
+on_slot slots i call (Some s) = put_back slots i (on_peer s call)
+
+abbrev pub on_named : List SlotState → PeerRef → (Peering → Result Peering Refusal) → Result (List SlotState) Refusal
+on_named slots name call = on_slot slots name.slot call (slot_named slots name)
+
+-- what a call did that takes no memory: `outcome` is what it leaves, or its refusal, which changes nothing
+abbrev pub Does : {T S : Type 0} → Result T Refusal → Result S Refusal → S → S → Type 0
 Does (Ok done) outcome old new = outcome ≡ Ok new
 Does (Err why) outcome old new = (outcome ≡ Err why) × (new ≡ old)
 
 -- what a call did that takes memory: where nothing else is refused, memory may be, and that changes nothing
-abbrev pub DoesWithMemory : {T : Type 0} → Result T Refusal → Result (List SlotState) Refusal → List SlotState → List SlotState → Type 0
+abbrev pub IsRefusedBy : {S : Type 0} → Refusal → Result S Refusal → Type 0
+IsRefusedBy Memory outcome = is_ok outcome ≡ true
+IsRefusedBy why outcome = outcome ≡ Err why
+
+abbrev pub DoesWithMemory : {T S : Type 0} → Result T Refusal → Result S Refusal → S → S → Type 0
 DoesWithMemory (Ok done) outcome old new = outcome ≡ Ok new
-DoesWithMemory (Err Memory) outcome old new = (is_ok outcome ≡ true) × (new ≡ old)
-DoesWithMemory (Err why) outcome old new = (outcome ≡ Err why) × (new ≡ old)
+DoesWithMemory (Err why) outcome old new = IsRefusedBy why outcome × (new ≡ old)
 
--- the first refusal but want of memory that a submission meets
-abbrev pub refusal_by : Option Peering → ℕ → ℕ → Option Refusal
-refusal_by None channel len = Some NoSuchPeer
-refusal_by (Some p) channel len = peers.submission_refusal p channel len
+-- the same of a call that is given a packet, whose body a refusal hands back
+abbrev pub Submits : {T S : Type 0} → Result T (Refusal × List ℕ) → Packet → Result S Refusal → S → S → Type 0
+Submits (Ok done) q outcome old new = outcome ≡ Ok new
+Submits (Err e) q outcome old new = IsRefusedBy e.0 outcome × (e.1 ≡ q.body) × (new ≡ old)
 
-abbrev pub submission_refusal : List SlotState → PeerRef → ℕ → ℕ → Option Refusal
-submission_refusal slots name channel len = refusal_by (named slots name) channel len
+-- a packet is submitted to a peer on a channel
+abbrev pub submitted_unless : Peering → ℕ → Packet → Option Refusal → Result Peering Refusal
+submitted_unless p channel q None = Ok (peers.submitted p channel q)
+submitted_unless p channel q (Some why) = Err why
 
--- a packet is submitted to a peer
-abbrev pub with_submission : List SlotState → ℕ → ℕ → Packet → Option Peering → List SlotState
-with_submission slots i channel q None = slots
-with_submission slots i channel q (Some p) = with_peer_at slots i (peers.submitted p channel q)
+abbrev pub submission : ℕ → Packet → Peering → Result Peering Refusal
+submission channel q p = submitted_unless p channel q (peers.submission_refusal p channel (length q.body))
 
-abbrev pub submitted_to : List SlotState → PeerRef → ℕ → Packet → List SlotState
-submitted_to slots name channel q = with_submission slots name.slot channel q (named slots name)
-
--- what a call of submit did: a refusal changes nothing and hands the body back; E1 comes where nothing else is refused
-abbrev pub Submits : {T : Type 0} → Result T (Refusal × List ℕ) → List SlotState → List SlotState → PeerRef → ℕ → Packet → Type 0
-Submits (Ok done) old new name channel q = (submission_refusal old name channel (length q.body) ≡ None) × (new ≡ submitted_to old name channel q)
-Submits (Err e) old new name channel q =
-    (e.1 ≡ q.body) × (new ≡ old) × peers.Refuses e.0 (submission_refusal old name channel (length q.body))
-
--- the peer after a disconnect call of a mode; None stands for E3
+-- a disconnect call of a mode
 abbrev pub left_by : DisconnectMode → Peering → ℕ → Option Peering
 left_by Now p info = peers.left (peers.leave_now p.state) p info
 left_by Ask p info = peers.left (peers.leave_by_asking p.state) p info
 left_by Later p info = peers.left (peers.leave_later p.state) p info
 
-abbrev pub after_leaving : List SlotState → ℕ → Option Peering → Result (List SlotState) Refusal
-after_leaving slots i None = Err NotConnected
-after_leaving slots i (Some after) = Ok (with_peer_at slots i after)
+abbrev pub or_not_connected : Option Peering → Result Peering Refusal
+or_not_connected None = Err NotConnected
+or_not_connected (Some p) = Ok p
 
-abbrev pub disconnected_by : DisconnectMode → List SlotState → ℕ → ℕ → Option Peering → Result (List SlotState) Refusal
-disconnected_by mode slots i info None = Err NoSuchPeer
-disconnected_by mode slots i info (Some p) = after_leaving slots i (left_by mode p info)
-
--- the slots after a disconnect call of a mode, or its refusal
-abbrev pub disconnected : DisconnectMode → List SlotState → PeerRef → ℕ → Result (List SlotState) Refusal
-disconnected mode slots name info = disconnected_by mode slots name.slot info (named slots name)
+abbrev pub leaving : DisconnectMode → ℕ → Peering → Result Peering Refusal
+leaving mode info p = or_not_connected (left_by mode p info)
 
 -- new numbers of a connected peer's throttle
-abbrev pub throttled_by : List SlotState → ℕ → ℕ → ℕ → ℕ → Option Peering → Result (List SlotState) Refusal
-throttled_by slots i interval acceleration deceleration None = Err NoSuchPeer
-throttled_by slots i interval acceleration deceleration (Some p) =
-    if peers.is_connected p.state then Ok (with_peer_at slots i (peers.with_throttle p interval acceleration deceleration)) else Err NotConnected
+abbrev pub throttling : ℕ → ℕ → ℕ → Peering → Result Peering Refusal
+throttling interval acceleration deceleration p =
+    if peers.is_connected p.state then Ok (peers.with_throttle p interval acceleration deceleration) else Err NotConnected
 
-abbrev pub throttled : List SlotState → PeerRef → ℕ → ℕ → ℕ → Result (List SlotState) Refusal
-throttled slots name interval acceleration deceleration = throttled_by slots name.slot interval acceleration deceleration (named slots name)
+-- settings of a peer in any state
+abbrev pub pinging : ℕ → Peering → Result Peering Refusal
+pinging ms p = Ok (peers.with_ping_interval p ms)
 
--- a setting of a peer in any state
-abbrev pub set_by : List SlotState → ℕ → (Peering → Peering) → Option Peering → Result (List SlotState) Refusal
-set_by slots i change None = Err NoSuchPeer
-set_by slots i change (Some p) = Ok (with_peer_at slots i (change p))
-
-abbrev pub with_ping_interval : List SlotState → PeerRef → ℕ → Result (List SlotState) Refusal
-with_ping_interval slots name ms = set_by slots name.slot (λ p. peers.with_ping_interval p ms) (named slots name)
-
-abbrev pub with_timeout : List SlotState → PeerRef → ℕ → ℕ → ℕ → Result (List SlotState) Refusal
-with_timeout slots name limit minimum maximum = set_by slots name.slot (λ p. peers.with_timeout p limit minimum maximum) (named slots name)
+abbrev pub waiting : ℕ → ℕ → ℕ → Peering → Result Peering Refusal
+waiting limit minimum maximum p = Ok (peers.with_timeout p limit minimum maximum)
 
 -- where the peer is that a name means
 abbrev pub address_of : SlotState → Option Peering → Option Addr
@@ -120,16 +125,22 @@ event_of name (told.Connect info) = events.Connect name info
 event_of name (told.Receive packet) = events.Receive name packet
 event_of name (told.Disconnect info) = events.Disconnect name info
 
+-- the peer of slot i gave an event
+pub record GivesEvent (i : ℕ) (event : Event) (s t : SlotState) : Type 0 where
+  pub peer : Peering
+  pub held : s.peer ≡ Some peer
+  pub taken : peers.Taken
+  pub next : peers.next_event peer ≡ Some taken
+  pub told : event ≡ event_of (name_of i s) taken.event
+  pub left : t ≡ with_peer s taken.after
+
 -- the first slot in turn that has an event gave it
 pub record TakesOne (old : Host) (event : Event) (new : Host) : Type 0 where
   pub from : ℕ
   pub first : IsFirst tells old.slots old.event_from from
-  pub peer : Peering
-  pub held : first.slot.peer ≡ Some peer
-  pub taken : peers.Taken
-  pub next : peers.next_event peer ≡ Some taken
-  pub told : event ≡ event_of (name_of from first.slot) taken.event
-  pub after : new ≡ record old { slots = with_peer_at old.slots from taken.after; event_from = slot_after (length old.slots) from }
+  pub after : SlotState
+  pub gives : GivesEvent from event first.slot after
+  pub rest : new ≡ record old { slots = slice_set old.slots from after; event_from = slot_after (length old.slots) from }
 
 -- what a call of next_event gives and leaves
 abbrev pub Takes : Option Event → Host → Host → Type 0

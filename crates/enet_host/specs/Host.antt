@@ -1,5 +1,5 @@
 -- A host as its callers see it: slots, a clock, and where the turns of `service` and `next_event` begin. Times are in milliseconds.
-use Rattle.std.specs.Prelude.{◌≡◌, ℕ, ◌+◌, ◌==◌, ◌&&◌, Bool, min, if◌then◌else◌, Option, Some, None, List, slice_get, slice_set}
+use Rattle.std.specs.Prelude.{◌≡◌, ℕ, ◌+◌, ◌==◌, ◌&&◌, Bool, min, if◌then◌else◌, Option, Some, None, List, slice_get}
 use Rattle.enet_types.specs.declared.address.Addr.{Addr}
 use Rattle.enet_types.specs.declared.config.Config.{Config}
 use Rattle.enet_types.specs.declared.event.PeerRef.{PeerRef}
@@ -76,14 +76,6 @@ peer_in (Some s) = s.peer
 -- the peer that a name means, if there is one
 abbrev pub named : List SlotState → PeerRef → Option Peering
 named slots name = peer_in (slot_named slots name)
-
--- a call left the peer of slot i so
-abbrev pub with_peer_of : List SlotState → ℕ → Peering → Option SlotState → List SlotState
-with_peer_of slots i p None = slots
-with_peer_of slots i p (Some s) = slice_set slots i (with_peer s p)
-
-abbrev pub with_peer_at : List SlotState → ℕ → Peering → List SlotState
-with_peer_at slots i p = with_peer_of slots i p (slice_get slots i)
 
 -- a call changed slots alone
 abbrev pub KeepsRest : Host → Host → Type 0

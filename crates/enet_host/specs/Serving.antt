@@ -42,26 +42,26 @@ pub record InTurn (now from count gave len : ℕ) (buf : List ℕ) (i : ℕ) (s 
   pub here : i ≡ gave → Gives now len buf s t
   pub after : turn_of count from gave < turn_of count from i → t ≡ s
 
+-- the first slot in turn that has something to put out gave a datagram, and is named as it was before
+pub record GivesInTurn (now from : ℕ) (old : List SlotState) (name : PeerRef) (address : Addr) (len : ℕ) (buf : List ℕ) (new : List SlotState) : Type 0 where
+  pub slot : SlotState
+  pub there : slice_get old name.slot ≡ Some slot
+  pub named : name ≡ name_of name.slot slot
+  pub addressed : address ≡ slot.address
+  pub slots : (i : ℕ) (s t : SlotState) → slice_get old i ≡ Some s → slice_get new i ≡ Some t → InTurn now from (length old) name.slot len buf i s t
+  pub count : length new ≡ length old
+
+-- each slot was asked in vain
+pub record AllPass (now : ℕ) (old new : List SlotState) : Type 0 where
+  pub slots : (i : ℕ) (s t : SlotState) → slice_get old i ≡ Some s → slice_get new i ≡ Some t → Passes now s t
+  pub count : length new ≡ length old
+
 abbrev pub with_datagram_out : Totals → ℕ → Totals
 with_datagram_out t len = record t { datagrams_out = added t.datagrams_out 1; bytes_out = added t.bytes_out len }
 
--- no slot had something to put out
-pub record ServesNothing (old new : Host) : Type 0 where
-  pub count : length new.slots ≡ length old.slots
-  pub slots : (i : ℕ) (s t : SlotState) → slice_get old.slots i ≡ Some s → slice_get new.slots i ≡ Some t → Passes old.clock s t
-  pub rest : new ≡ record old { slots = new.slots }
-
--- the first slot in turn that has something to put out gave a datagram, and is named as it was before
-pub record ServesOne (old : Host) (name : PeerRef) (address : Addr) (len : ℕ) (buf : List ℕ) (new : Host) : Type 0 where
-  pub slot : SlotState
-  pub there : slice_get old.slots name.slot ≡ Some slot
-  pub named : name ≡ name_of name.slot slot
-  pub addressed : address ≡ slot.address
-  pub count : length new.slots ≡ length old.slots
-  pub slots : (i : ℕ) (s t : SlotState) → slice_get old.slots i ≡ Some s → slice_get new.slots i ≡ Some t
-      → InTurn old.clock old.service_from (length old.slots) name.slot len buf i s t
-  pub rest : new ≡ record old { slots = new.slots; service_from = slot_after (length old.slots) name.slot; totals = with_datagram_out old.totals len }
-
+-- what a call of service gives and leaves
 abbrev pub Serves : Host → Option (PeerRef × Addr × ℕ) → List ℕ → Host → Type 0
-Serves old None buf new = ServesNothing old new
-Serves old (Some gave) buf new = ServesOne old gave.0 gave.1 gave.2 buf new
+Serves old None buf new = AllPass old.clock old.slots new.slots × (new ≡ record old { slots = new.slots })
+Serves old (Some gave) buf new =
+    GivesInTurn old.clock old.service_from old.slots gave.0 gave.1 gave.2 buf new.slots
+    × (new ≡ record old { slots = new.slots; service_from = slot_after (length old.slots) gave.0.slot; totals = with_datagram_out old.totals gave.2 })

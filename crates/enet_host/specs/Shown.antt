@@ -1,10 +1,15 @@
 -- A slot of the code as the contracts of the host's calls see it.
-use Rattle.std.specs.Prelude.{◌≡◌, ◌≤◌, ◌<◌, IsTrue, length, ℕ, Option, Some, None, List, map}
+use Rattle.std.specs.Prelude.{◌≡◌, ◌≤◌, ◌<◌, IsTrue, length, ℕ, false, Option, Some, None, List, map, slice_get, slice_set}
 use Rattle.enet_peer.specs.Peered.{Peered}
 use Rattle.enet_peer.specs.Peering.{Peering}
 use Rattle.enet_peer.specs.Calls.{is_connected}
 use Rattle.enet_host.specs.declared.slot.Slot.{Slot}
-use Rattle.enet_host.specs.Host.{SlotState}
+use Rattle.enet_types.specs.declared.address.Addr.{Addr}
+use Rattle.enet_types.specs.declared.event.PeerRef.{PeerRef}
+use Rattle.enet_types.specs.declared.event.Event.{Event}
+use Rattle.enet_host.specs.Host.{SlotState, name_of}
+use Rattle.enet_host.specs.Serving.{Gives, Passes}
+use Rattle.enet_host.specs.Calls.{tells, peer_body, GivesEvent}
 
 abbrev pub peer_shown : Option Peered → Option Peering
 peer_shown None = None
@@ -37,3 +42,41 @@ pub record KeepsHost (peers service_from event_from : ℕ) (slots : List Slot) :
   pub many : peers ≤ 4095
   pub service : service_from < peers
   pub event : event_from < peers
+
+-- slot i gives a datagram
+pub record SlotGives (now : ℕ) (old : List SlotState) (i : ℕ) (name : PeerRef) (address : Addr) (len : ℕ) (buf : List ℕ) (new : List SlotState) : Type 0 where
+  pub slot : SlotState
+  pub left : SlotState
+  pub there : slice_get old i ≡ Some slot
+  pub named : name ≡ name_of i slot
+  pub addressed : address ≡ slot.address
+  pub gives : Gives now len buf slot left
+  pub after : new ≡ slice_set old i left
+
+-- slot i is asked in vain
+pub record SlotPasses (now : ℕ) (old : List SlotState) (i : ℕ) (new : List SlotState) : Type 0 where
+  pub slot : SlotState
+  pub left : SlotState
+  pub there : slice_get old i ≡ Some slot
+  pub passes : Passes now slot left
+  pub after : new ≡ slice_set old i left
+
+-- slot i gives an event
+pub record SlotGivesEvent (old : List SlotState) (i : ℕ) (event : Event) (new : List SlotState) : Type 0 where
+  pub slot : SlotState
+  pub left : SlotState
+  pub there : slice_get old i ≡ Some slot
+  pub gives : GivesEvent i event slot left
+  pub after : new ≡ slice_set old i left
+
+-- slot i has no event
+pub record SlotIsMute (slots : List SlotState) (i : ℕ) : Type 0 where
+  pub slot : SlotState
+  pub there : slice_get slots i ≡ Some slot
+  pub mute : tells slot ≡ false
+
+-- slot i shows this body
+pub record SlotShows (slots : List SlotState) (i : ℕ) (body : Option (List ℕ)) : Type 0 where
+  pub slot : SlotState
+  pub there : slice_get slots i ≡ Some slot
+  pub shows : body ≡ peer_body slot.peer

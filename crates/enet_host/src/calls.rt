@@ -1,26 +1,33 @@
 //! Calls on the slot that a name means.
 
-ghost use Rattle.std.specs.Prelude.{◌≡◌, ◌<◌, length, IfSome, IfNone, None, Some};
-ghost use Rattle.enet_host.specs.Calls.{Submits, Does, DoesWithMemory, disconnected, throttled, with_ping_interval, with_timeout};
-ghost use Rattle.enet_host.specs.Host.{named};
-ghost use Rattle.enet_host.specs.Shown.{shown, all_shown};
+ghost use Rattle.std.specs.Prelude.{◌≡◌, ◌<◌, length, is_some, IsTrue, IfSome, IfNone, None, Some};
+ghost use Rattle.std.specs.Option.{option_copied};
+ghost use Rattle.enet_host.specs.Calls.{address_named, address_of, on_peer, on_named, Submits, Does, DoesWithMemory, submission, leaving, throttling, pinging, waiting};
+ghost use Rattle.enet_host.specs.Host.{named, slot_named};
+ghost use Rattle.enet_host.specs.Shown.{shown, peer_shown, all_shown};
 
 use crate::slot::Slot;
 use bytes::Bytes;
 use enet_peer::{Peer, PeerState};
 use enet_types::{Addr, DisconnectMode, PeerRef, Refusal};
 
-/// The place of the slot that holds the peer of this name.
-fn place_of(slots: &[Slot], name: PeerRef) -> Option<usize> {
+/// The place of the slot of this name, where it has this generation.
+fn place_of(slots: &[Slot], name: PeerRef) -> Option<usize>
+    ensures place { IfSome result (λ i. (i ≡ name.slot) × (i < length slots.now)) }
+    ensures found { IfSome result (λ i. IsTrue (is_some (slot_named (all_shown slots.now) name))) }
+    ensures none { IfNone result (slot_named (all_shown slots.now) name ≡ None) }
+{
     let place = usize::from(name.slot);
     match slots.get(place) {
-        Some(slot) if slot.holds(name.generation) => Some(place),
+        Some(slot) if slot.generation == name.generation => Some(place),
         _ => None,
     }
 }
 
 /// The peer of this name.
-pub(crate) fn peer_of(slots: &[Slot], name: PeerRef) -> Option<&Peer> {
+pub(crate) fn peer_of(slots: &[Slot], name: PeerRef) -> Option<&Peer>
+    ensures { peer_shown (option_copied result) ≡ named (all_shown slots.now) name }
+{
     let place = place_of(slots, name)?;
     match &slots[place].peer {
         Some(peer) => Some(peer),
@@ -29,16 +36,33 @@ pub(crate) fn peer_of(slots: &[Slot], name: PeerRef) -> Option<&Peer> {
 }
 
 impl Slot {
-    /// Submits a packet to its peer.
-    fn submit(&mut self, channel: u8, flags: u8, body: Bytes) -> Result<(), (Refusal, Bytes)> {
-        match &mut self.peer {
-            Some(peer) => peer.submit(channel, flags, body),
-            None => Err((Refusal::NoSuchPeer, body)),
+    /// Where its peer is.
+    fn address_held(&self) -> Option<Addr>
+        ensures { result ≡ address_of (shown self.now) (shown self.now).peer }
+    {
+        match &self.peer {
+            Some(_) => Some(self.address),
+            None => None,
         }
     }
 
+    /// Submits a packet to its peer.
+    fn submit(&mut self, channel: u8, flags: u8, body: Bytes) -> Result<(), (Refusal, Bytes)>
+        ensures { Submits result (record { flags = flags; body = body }) (on_peer (shown self.old) (submission channel (record { flags = flags; body = body }))) (shown self.old) (shown self.new) }
+    {
+        let peer = match &mut self.peer {
+            Some(peer) => peer,
+            None => return Err((Refusal::NoSuchPeer, body)),
+        };
+        peer.submit(channel, flags, body)?;
+        self.let_go();
+        Ok(())
+    }
+
     /// Ends the connection in this way.
-    fn leave(&mut self, mode: DisconnectMode, info: u32) -> Result<(), Refusal> {
+    fn leave(&mut self, mode: DisconnectMode, info: u32) -> Result<(), Refusal>
+        ensures { Does result (on_peer (shown self.old) (leaving mode info)) (shown self.old) (shown self.new) }
+    {
         let peer = match &mut self.peer {
             Some(peer) => peer,
             None => return Err(Refusal::NoSuchPeer),
@@ -58,7 +82,9 @@ impl Slot {
         interval: u32,
         acceleration: u32,
         deceleration: u32,
-    ) -> Result<(), Refusal> {
+    ) -> Result<(), Refusal>
+        ensures { DoesWithMemory result (on_peer (shown self.old) (throttling interval acceleration deceleration)) (shown self.old) (shown self.new) }
+    {
         let peer = match &mut self.peer {
             Some(peer) => peer,
             None => return Err(Refusal::NoSuchPeer),
@@ -68,23 +94,34 @@ impl Slot {
         }
         peer.reserve()?;
         peer.throttle_configure(interval, acceleration, deceleration);
+        self.let_go();
         Ok(())
     }
 
     /// Sets its peer's ping interval.
-    fn set_ping_interval(&mut self, ms: u32) {
-        if let Some(peer) = &mut self.peer {
-            peer.ping_interval(ms);
-            self.let_go();
-        }
+    fn set_ping_interval(&mut self, ms: u32) -> Result<(), Refusal>
+        ensures { Does result (on_peer (shown self.old) (pinging ms)) (shown self.old) (shown self.new) }
+    {
+        let peer = match &mut self.peer {
+            Some(peer) => peer,
+            None => return Err(Refusal::NoSuchPeer),
+        };
+        peer.ping_interval(ms);
+        self.let_go();
+        Ok(())
     }
 
     /// Sets its peer's timeouts.
-    fn set_timeout(&mut self, limit: u32, minimum: u32, maximum: u32) {
-        if let Some(peer) = &mut self.peer {
-            peer.timeout(limit, minimum, maximum);
-            self.let_go();
-        }
+    fn set_timeout(&mut self, limit: u32, minimum: u32, maximum: u32) -> Result<(), Refusal>
+        ensures { Does result (on_peer (shown self.old) (waiting limit minimum maximum)) (shown self.old) (shown self.new) }
+    {
+        let peer = match &mut self.peer {
+            Some(peer) => peer,
+            None => return Err(Refusal::NoSuchPeer),
+        };
+        peer.timeout(limit, minimum, maximum);
+        self.let_go();
+        Ok(())
     }
 }
 
@@ -96,7 +133,8 @@ pub(crate) fn submit(
     flags: u8,
     body: Bytes,
 ) -> Result<(), (Refusal, Bytes)>
-    ensures { Submits result (all_shown slots.old.items) (all_shown slots.new.items) name channel (record { flags = flags; body = body }) }
+    ensures does { Submits result (record { flags = flags; body = body }) (on_named (all_shown slots.old.items) name (submission channel (record { flags = flags; body = body }))) (all_shown slots.old.items) (all_shown slots.new.items) }
+    ensures count { length slots.new.items ≡ length slots.old.items }
 {
     let Some(place) = place_of(slots, name) else {
         return Err((Refusal::NoSuchPeer, body));
@@ -111,7 +149,8 @@ pub(crate) fn disconnect(
     mode: DisconnectMode,
     info: u32,
 ) -> Result<(), Refusal>
-    ensures { Does result (disconnected mode (all_shown slots.old.items) name info) (all_shown slots.old.items) (all_shown slots.new.items) }
+    ensures does { Does result (on_named (all_shown slots.old.items) name (leaving mode info)) (all_shown slots.old.items) (all_shown slots.new.items) }
+    ensures count { length slots.new.items ≡ length slots.old.items }
 {
     let Some(place) = place_of(slots, name) else {
         return Err(Refusal::NoSuchPeer);
@@ -127,7 +166,8 @@ pub(crate) fn throttle_configure(
     acceleration: u32,
     deceleration: u32,
 ) -> Result<(), Refusal>
-    ensures { DoesWithMemory result (throttled (all_shown slots.old.items) name interval acceleration deceleration) (all_shown slots.old.items) (all_shown slots.new.items) }
+    ensures does { DoesWithMemory result (on_named (all_shown slots.old.items) name (throttling interval acceleration deceleration)) (all_shown slots.old.items) (all_shown slots.new.items) }
+    ensures count { length slots.new.items ≡ length slots.old.items }
 {
     let Some(place) = place_of(slots, name) else {
         return Err(Refusal::NoSuchPeer);
@@ -141,13 +181,13 @@ pub(crate) fn set_ping_interval(
     name: PeerRef,
     ms: u32,
 ) -> Result<(), Refusal>
-    ensures { Does result (with_ping_interval (all_shown slots.old.items) name ms) (all_shown slots.old.items) (all_shown slots.new.items) }
+    ensures does { Does result (on_named (all_shown slots.old.items) name (pinging ms)) (all_shown slots.old.items) (all_shown slots.new.items) }
+    ensures count { length slots.new.items ≡ length slots.old.items }
 {
     let Some(place) = place_of(slots, name) else {
         return Err(Refusal::NoSuchPeer);
     };
-    slots[place].set_ping_interval(ms);
-    Ok(())
+    slots[place].set_ping_interval(ms)
 }
 
 /// Sets the timeouts of the peer of this name.
@@ -158,17 +198,19 @@ pub(crate) fn set_timeout(
     minimum: u32,
     maximum: u32,
 ) -> Result<(), Refusal>
-    ensures { Does result (with_timeout (all_shown slots.old.items) name limit minimum maximum) (all_shown slots.old.items) (all_shown slots.new.items) }
+    ensures does { Does result (on_named (all_shown slots.old.items) name (waiting limit minimum maximum)) (all_shown slots.old.items) (all_shown slots.new.items) }
+    ensures count { length slots.new.items ≡ length slots.old.items }
 {
     let Some(place) = place_of(slots, name) else {
         return Err(Refusal::NoSuchPeer);
     };
-    slots[place].set_timeout(limit, minimum, maximum);
-    Ok(())
+    slots[place].set_timeout(limit, minimum, maximum)
 }
 
 /// Where the peer of this name is.
-pub(crate) fn address_of(slots: &[Slot], name: PeerRef) -> Option<Addr> {
+pub(crate) fn address_of(slots: &[Slot], name: PeerRef) -> Option<Addr>
+    ensures { result ≡ address_named (all_shown slots.now) name }
+{
     let place = place_of(slots, name)?;
-    Some(slots[place].address)
+    slots[place].address_held()
 }

@@ -118,7 +118,8 @@ pub(crate) fn connect(
     question: Question,
 ) -> Result<PeerRef, Refusal>
     requires { length slots.old.items ≤ 4095 }
-    ensures { Connects config.now now (all_shown slots.old.items) question.address question.channels question.info question.word result (all_shown slots.new.items) }
+    ensures count { length slots.new.items ≡ length slots.old.items }
+    ensures connects { Connects config.now now (all_shown slots.old.items) question.address question.channels question.info question.word result (all_shown slots.new.items) }
 {
     if question.channels == 0 {
         return Err(Refusal::BadConfig);

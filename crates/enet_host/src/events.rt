@@ -1,9 +1,10 @@
 //! What a host tells its user.
 
-ghost use Rattle.std.specs.Prelude.{◌≡◌, ◌<◌, length, IfSome, IfNone};
-ghost use Rattle.enet_host.specs.Calls.{tells, event_of};
+ghost use Rattle.std.specs.Prelude.{◌≡◌, ◌<◌, false, length, IfSome, IfNone};
+ghost use Rattle.std.specs.Option.{option_copied};
+ghost use Rattle.enet_host.specs.Calls.{tells, event_of, peer_body, GivesEvent};
 ghost use Rattle.enet_host.specs.Turns.{IsFirst, HoldsNowhere};
-ghost use Rattle.enet_host.specs.Shown.{shown, all_shown};
+ghost use Rattle.enet_host.specs.Shown.{shown, all_shown, SlotGivesEvent, SlotIsMute, SlotShows};
 
 use crate::service::slot_after;
 use crate::slot::Slot;
@@ -34,7 +35,10 @@ impl Slot {
     }
 
     /// The next event of its peer.
-    fn take(&mut self, number: u16) -> Option<Event> {
+    fn take(&mut self, number: u16) -> Option<Event>
+        ensures gives { IfSome result (λ event. GivesEvent number event (shown self.old) (shown self.new)) }
+        ensures none { IfNone result ((tells (shown self.old) ≡ false) × (shown self.new ≡ shown self.old)) }
+    {
         let name = PeerRef {
             slot: number,
             generation: self.generation,
@@ -49,7 +53,9 @@ impl Slot {
     }
 
     /// The body that its peer's next event hands out.
-    fn next_body(&self) -> Option<&Bytes> {
+    fn next_body(&self) -> Option<&Bytes>
+        ensures { option_copied result ≡ peer_body (shown self.now).peer }
+    {
         match &self.peer {
             Some(peer) => peer.next_body(),
             None => None,
@@ -78,6 +84,9 @@ pub(crate) fn first_telling(slots: &[Slot], peers: u16, from: u16) -> Option<u16
 /// The next event of a slot.
 pub(crate) fn take_from(slots: &mut Vec<Slot>, number: u16) -> Option<Event>
     requires { number < length slots.old.items }
+    ensures gives { IfSome result (λ event. SlotGivesEvent (all_shown slots.old.items) number event (all_shown slots.new.items)) }
+    ensures none { IfNone result (SlotIsMute (all_shown slots.old.items) number) }
+    ensures count { length slots.new.items ≡ length slots.old.items }
 {
     let slot = &mut slots[usize::from(number)];
     slot.take(number)
@@ -86,6 +95,7 @@ pub(crate) fn take_from(slots: &mut Vec<Slot>, number: u16) -> Option<Event>
 /// The body that a slot's next event hands out.
 pub(crate) fn body_of(slots: &[Slot], number: u16) -> Option<&Bytes>
     requires { number < length slots.now }
+    ensures { SlotShows (all_shown slots.now) number (option_copied result) }
 {
     slots[usize::from(number)].next_body()
 }

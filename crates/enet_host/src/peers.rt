@@ -6,7 +6,7 @@ ghost use Rattle.std.specs.Option.{option_map};
 ghost use Rattle.enet_types.specs.declared.event.DisconnectMode.TheVariants.{Now, Ask, Later};
 ghost use Rattle.enet_outbox.specs.Outbox.{transit_of};
 ghost use Rattle.enet_host.specs.Host.{KeepsRest, named, slot_named};
-ghost use Rattle.enet_host.specs.Calls.{address_named, Submits, Does, DoesWithMemory, disconnected, throttled, with_ping_interval, with_timeout};
+ghost use Rattle.enet_host.specs.Calls.{address_named, Submits, Does, DoesWithMemory, on_named, submission, leaving, throttling, pinging, waiting};
 
 use crate::calls;
 use crate::host::HostCore;
@@ -30,7 +30,7 @@ impl HostCore {
         flags: u8,
         body: Bytes,
     ) -> Result<(), (Refusal, Bytes)>
-        ensures submits { Submits result self.old.slots self.new.slots peer channel (record { flags = flags; body = body }) }
+        ensures submits { Submits result (record { flags = flags; body = body }) (on_named self.old.slots peer (submission channel (record { flags = flags; body = body }))) self.old.slots self.new.slots }
         ensures rest { KeepsRest self.old self.new }
     {
         calls::submit(&mut self.slots, peer, channel, flags, body)
@@ -41,7 +41,7 @@ impl HostCore {
     /// it still answers, one unsequenced DISCONNECT goes. E2 where there is no such peer, E3 where its connection ends already:
     /// then nothing has changed.
     pub fn disconnect(&mut self, peer: PeerRef, info: u32) -> Result<(), Refusal>
-        ensures disconnects { Does result (disconnected Ask self.old.slots peer info) self.old.slots self.new.slots }
+        ensures disconnects { Does result (on_named self.old.slots peer (leaving Ask info)) self.old.slots self.new.slots }
         ensures rest { KeepsRest self.old self.new }
     {
         calls::disconnect(&mut self.slots, peer, DisconnectMode::Ask, info)
@@ -51,7 +51,7 @@ impl HostCore {
     /// goes, with which the slot is free. Where the peer still connects, its slot is free at once. E2 where there is no such
     /// peer, E3 where its connection ends already: then nothing has changed.
     pub fn disconnect_now(&mut self, peer: PeerRef, info: u32) -> Result<(), Refusal>
-        ensures disconnects { Does result (disconnected Now self.old.slots peer info) self.old.slots self.new.slots }
+        ensures disconnects { Does result (on_named self.old.slots peer (leaving Now info)) self.old.slots self.new.slots }
         ensures rest { KeepsRest self.old self.new }
     {
         calls::disconnect(&mut self.slots, peer, DisconnectMode::Now, info)
@@ -62,7 +62,7 @@ impl HostCore {
     /// DISCONNECT goes. E2 where there is no such peer, E3 where its connection ends already or is to end later: then nothing
     /// has changed.
     pub fn disconnect_later(&mut self, peer: PeerRef, info: u32) -> Result<(), Refusal>
-        ensures disconnects { Does result (disconnected Later self.old.slots peer info) self.old.slots self.new.slots }
+        ensures disconnects { Does result (on_named self.old.slots peer (leaving Later info)) self.old.slots self.new.slots }
         ensures rest { KeepsRest self.old self.new }
     {
         calls::disconnect(&mut self.slots, peer, DisconnectMode::Later, info)
@@ -78,7 +78,7 @@ impl HostCore {
         acceleration: u32,
         deceleration: u32,
     ) -> Result<(), Refusal>
-        ensures configures { DoesWithMemory result (throttled self.old.slots peer interval acceleration deceleration) self.old.slots self.new.slots }
+        ensures configures { DoesWithMemory result (on_named self.old.slots peer (throttling interval acceleration deceleration)) self.old.slots self.new.slots }
         ensures rest { KeepsRest self.old self.new }
     {
         calls::throttle_configure(&mut self.slots, peer, interval, acceleration, deceleration)
@@ -87,7 +87,7 @@ impl HostCore {
     /// Sets after how many milliseconds a peer that was not heard is pinged; 0 stands for the default of 500. E2 where there is
     /// no such peer.
     pub fn set_ping_interval(&mut self, peer: PeerRef, ms: u32) -> Result<(), Refusal>
-        ensures sets { Does result (with_ping_interval self.old.slots peer ms) self.old.slots self.new.slots }
+        ensures sets { Does result (on_named self.old.slots peer (pinging ms)) self.old.slots self.new.slots }
         ensures rest { KeepsRest self.old self.new }
     {
         calls::set_ping_interval(&mut self.slots, peer, ms)
@@ -103,7 +103,7 @@ impl HostCore {
         minimum: u32,
         maximum: u32,
     ) -> Result<(), Refusal>
-        ensures sets { Does result (with_timeout self.old.slots peer limit minimum maximum) self.old.slots self.new.slots }
+        ensures sets { Does result (on_named self.old.slots peer (waiting limit minimum maximum)) self.old.slots self.new.slots }
         ensures rest { KeepsRest self.old self.new }
     {
         calls::set_timeout(&mut self.slots, peer, limit, minimum, maximum)

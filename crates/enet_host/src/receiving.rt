@@ -129,7 +129,8 @@ fn take_offer(
     offer: Offer,
 ) -> Received
     requires { length slots.old.items ≤ 4095 }
-    ensures { Offers config.now now (all_shown slots.old.items) from offer result (all_shown slots.new.items) }
+    ensures count { length slots.new.items ≡ length slots.old.items }
+    ensures offers { Offers config.now now (all_shown slots.old.items) from offer result (all_shown slots.new.items) }
 {
     if let Some(why) = offer_refused(&offer) {
         return stopped(why);
@@ -157,7 +158,8 @@ pub(crate) fn receive(
     bytes: &[u8],
 ) -> Received
     requires { length slots.old.items ≤ 4095 }
-    ensures { Arrives config.now now (all_shown slots.old.items) from bytes.now result (all_shown slots.new.items) }
+    ensures count { length slots.new.items ≡ length slots.old.items }
+    ensures arrives { Arrives config.now now (all_shown slots.old.items) from bytes.now result (all_shown slots.new.items) }
 {
     let (header, commands) = match read_heading(bytes) {
         Ok(found) => found,

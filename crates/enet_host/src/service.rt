@@ -1,10 +1,9 @@
 //! A host puts out a datagram.
 
 ghost use Rattle.std.specs.Prelude.{◌≡◌, ◌<◌, ◌≤◌, length, slice_get, Some, None, IfSome, IfNone};
-ghost use Rattle.enet_host.specs.Host.{SlotState, name_of};
-ghost use Rattle.enet_host.specs.Serving.{Gives, Passes, InTurn, Serves};
+ghost use Rattle.enet_host.specs.Serving.{Gives, Passes, GivesInTurn, AllPass};
 ghost use Rattle.enet_host.specs.Turns.{slot_after};
-ghost use Rattle.enet_host.specs.Shown.{shown, all_shown};
+ghost use Rattle.enet_host.specs.Shown.{shown, all_shown, SlotGives, SlotPasses};
 
 use crate::slot::Slot;
 use enet_types::{Addr, PeerRef};
@@ -43,6 +42,9 @@ pub(crate) type Sent = (PeerRef, Addr, usize);
 /// Asks a slot for a datagram at the time `now`.
 fn serve_slot(slots: &mut Vec<Slot>, number: u16, now: u32, buf: &mut [u8; 4096]) -> Option<Sent>
     requires { number < length slots.old.items }
+    ensures gives { IfSome result (λ gave. SlotGives now (all_shown slots.old.items) number gave.0 gave.1 gave.2 buf.new (all_shown slots.new.items)) }
+    ensures passes { IfNone result (SlotPasses now (all_shown slots.old.items) number (all_shown slots.new.items)) }
+    ensures count { length slots.new.items ≡ length slots.old.items }
 {
     let slot = &mut slots[usize::from(number)];
     let name = PeerRef {
@@ -61,12 +63,18 @@ pub(crate) fn serve(
     from: u16,
     now: u32,
     buf: &mut [u8; 4096],
-) -> Option<Sent> {
+) -> Option<Sent>
+    requires within { from < peers }
+    requires all { length slots.old.items ≡ peers }
+    ensures gives { IfSome result (λ gave. GivesInTurn now from (all_shown slots.old.items) gave.0 gave.1 gave.2 buf.new (all_shown slots.new.items)) }
+    ensures passes { IfNone result (AllPass now (all_shown slots.old.items) (all_shown slots.new.items)) }
+    ensures within { IfSome result (λ gave. gave.0.slot < peers) }
+    ensures count { length slots.new.items ≡ length slots.old.items }
+{
     let mut number = from;
     for _turn in 0..peers {
-        let sent = serve_slot(slots, number, now, buf);
-        if sent.is_some() {
-            return sent;
+        if let Some(sent) = serve_slot(slots, number, now, buf) {
+            return Some(sent);
         }
         number = slot_after(peers, number);
     }

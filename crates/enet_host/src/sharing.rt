@@ -73,7 +73,8 @@ impl Slot {
 
 /// Time has come to `now` at each slot.
 pub(crate) fn tick_all(slots: &mut Vec<Slot>, now: u32)
-    ensures { all_shown slots.new.items ≡ map (changed (λ (p : Peering). peers.ticked p now)) (all_shown slots.old.items) }
+    ensures slots { all_shown slots.new.items ≡ map (changed (λ (p : Peering). peers.ticked p now)) (all_shown slots.old.items) }
+    ensures count { length slots.new.items ≡ length slots.old.items }
 {
     for place in 0..slots.len() {
         slots[place].tick(now);
@@ -96,7 +97,8 @@ fn count_standing(slots: &[Slot]) -> u32
 
 /// Limits each connected peer's throttle to its share of the host's outgoing bandwidth.
 fn share_all(slots: &mut Vec<Slot>, outgoing: u32, standing: u32)
-    ensures { all_shown slots.new.items ≡ map (shared outgoing standing) (all_shown slots.old.items) }
+    ensures slots { all_shown slots.new.items ≡ map (shared outgoing standing) (all_shown slots.old.items) }
+    ensures count { length slots.new.items ≡ length slots.old.items }
 {
     for place in 0..slots.len() {
         slots[place].share(outgoing, standing);
@@ -106,7 +108,8 @@ fn share_all(slots: &mut Vec<Slot>, outgoing: u32, standing: u32)
 /// Shares the host's outgoing bandwidth out among its connected peers.
 pub(crate) fn share_out(slots: &mut Vec<Slot>, outgoing: u32)
     requires { length slots.old.items ≤ 4095 }
-    ensures { all_shown slots.new.items ≡ map (shared outgoing (count_by is_standing (all_shown slots.old.items))) (all_shown slots.old.items) }
+    ensures slots { all_shown slots.new.items ≡ map (shared outgoing (count_by is_standing (all_shown slots.old.items))) (all_shown slots.old.items) }
+    ensures count { length slots.new.items ≡ length slots.old.items }
 {
     let standing = count_standing(slots);
     share_all(slots, outgoing, standing);
@@ -115,6 +118,7 @@ pub(crate) fn share_out(slots: &mut Vec<Slot>, outgoing: u32)
 /// Makes room for one command of channel 0xFF of each peer. E1 where memory is refused.
 fn reserve_all(slots: &mut Vec<Slot>) -> Result<(), Refusal>
     ensures unchanged { all_shown slots.new.items ≡ all_shown slots.old.items }
+    ensures count { length slots.new.items ≡ length slots.old.items }
     ensures room { OnOk result (All HasRoom slots.new.items) }
     ensures memory { IfErr result (λ why. why ≡ Refusal.Memory) }
 {
@@ -127,7 +131,8 @@ fn reserve_all(slots: &mut Vec<Slot>) -> Result<(), Refusal>
 /// Sets each peer's bandwidths; the connected ones are told, for which there must be room.
 fn set_all(slots: &mut Vec<Slot>, incoming: u32, outgoing: u32)
     requires { All HasRoom slots.old.items }
-    ensures { all_shown slots.new.items ≡ map (changed (λ (p : Peering). peers.with_bandwidth p incoming outgoing)) (all_shown slots.old.items) }
+    ensures slots { all_shown slots.new.items ≡ map (changed (λ (p : Peering). peers.with_bandwidth p incoming outgoing)) (all_shown slots.old.items) }
+    ensures count { length slots.new.items ≡ length slots.old.items }
 {
     for place in 0..slots.len() {
         slots[place].set_bandwidth(incoming, outgoing);
@@ -141,6 +146,7 @@ pub(crate) fn set_bandwidth(
     outgoing: u32,
 ) -> Result<(), Refusal>
     ensures set { OnOk result (all_shown slots.new.items ≡ map (changed (λ (p : Peering). peers.with_bandwidth p incoming outgoing)) (all_shown slots.old.items)) }
+    ensures count { length slots.new.items ≡ length slots.old.items }
     ensures unchanged { OnErr result (all_shown slots.new.items ≡ all_shown slots.old.items) }
     ensures memory { IfErr result (λ why. why ≡ Refusal.Memory) }
 {

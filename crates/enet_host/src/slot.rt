@@ -50,13 +50,6 @@ impl Slot {
         self.peer.is_none() && self.generation < generations
     }
 
-    /// Whether it holds a peer of this generation.
-    pub fn holds(&self, generation: u32) -> bool
-        ensures { result ≡ is_some (peer_in (with_generation generation (Some (shown self.now)))) }
-    {
-        self.peer.is_some() && self.generation == generation
-    }
-
     /// Frees the slot where its peer is free. It keeps the sessions of the connection that it had, and its next peer has the
     /// next generation.
     pub fn let_go(&mut self)
