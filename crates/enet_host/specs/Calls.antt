@@ -13,7 +13,7 @@ use Rattle.enet_peer.specs.declared.parts.PeerEvent.{PeerEvent}
 use Rattle.enet_peer.specs.declared.parts.PeerEvent.TheVariants as told
 use Rattle.enet_peer.specs.Peering.{Peering}
 use Rattle.enet_peer.specs.Calls as peers
-use Rattle.enet_host.specs.Host.{Host, SlotState, named, slot_named, with_peer, changed, name_of}
+use Rattle.enet_host.specs.Host.{Host, SlotState, slot_named, with_peer, changed, name_of}
 use Rattle.enet_host.specs.Turns.{IsFirst, HoldsNowhere, slot_after}
 
 -- a call on the peer of a slot leaves the slot so, or is refused; E2 where the slot is free

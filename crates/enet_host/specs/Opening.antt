@@ -1,5 +1,5 @@
 -- How a host begins, and how one of its slots is given out.
-use Rattle.std.specs.Prelude.{◌≡◌, ◌≢◌, ℕ, ◌==◌, ◌&&◌, Bool, true, false, nat_lt, Option, Some, None, Result, Ok, Err, List, ◌∷◌, slice_get, slice_set, replicate, length, if◌then◌else◌}
+use Rattle.std.specs.Prelude.{◌≡◌, ◌≢◌, ℕ, ◌&&◌, Bool, true, false, nat_lt, Option, Some, None, Result, Ok, Err, List, slice_get, slice_set, replicate}
 use Rattle.std.specs.List.{position}
 use Rattle.enet_codec.specs.declared.command.Offer.{Offer}
 use Rattle.enet_types.specs.declared.address.Addr.{Addr}

@@ -1,12 +1,12 @@
 -- Time goes on at a host.
-use Rattle.std.specs.Prelude.{ℕ, ◌+◌, ◌%◌, ◌^◌, Bool, false, min, nat_le, if◌then◌else◌, Option, Some, None, List, map}
+use Rattle.std.specs.Prelude.{ℕ, ◌+◌, ◌%◌, ◌^◌, Bool, false, min, nat_le, if◌then◌else◌, Option, Some, None, map}
 use Rattle.std.specs.List.{count_by}
 use Rattle.enet_rtt.specs.Clock.{elapsed_time}
 use Rattle.enet_throttle.specs.Bandwidth.{budget, throttle_limit}
 use Rattle.enet_peer.specs.Peering.{Peering}
 use Rattle.enet_peer.specs.Calls.{is_connected, with_throttle_limit}
 use Rattle.enet_peer.specs.Calls as peers
-use Rattle.enet_host.specs.Host.{Host, SlotState, with_peer, changed}
+use Rattle.enet_host.specs.Host.{Host, SlotState, changed}
 
 -- the clock goes on by at most a minute
 abbrev pub clock_after : ℕ → ℕ → ℕ

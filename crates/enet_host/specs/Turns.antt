@@ -1,5 +1,5 @@
 -- Slots in turn.
-use Rattle.std.specs.Prelude.{◌≡◌, ℕ, ◌+◌, ◌-◌, ◌<◌, Bool, true, false, nat_lt, if◌then◌else◌, Option, Some, None, List, length, slice_get}
+use Rattle.std.specs.Prelude.{◌≡◌, ℕ, ◌+◌, ◌-◌, ◌<◌, Bool, true, false, nat_lt, if◌then◌else◌, Some, List, length, slice_get}
 use Rattle.enet_host.specs.Host.{SlotState}
 
 -- how many of n slots come before slot i, where slot `from` is first and slot 0 comes after the last

@@ -3,8 +3,9 @@
 ghost use Rattle.std.specs.Prelude.{◌≡◌, ◌<◌, ◌≤◌, length, IsTrue, OnOk, OnErr, IfOk, IfErr, IfSome, slice_get, Some};
 ghost use Rattle.enet_connect.specs.Terms.{is_channel_count};
 ghost use Rattle.enet_peer.specs.Peering as peers;
-ghost use Rattle.enet_host.specs.Host.{SlotState, limits_of, name_of};
-ghost use Rattle.enet_host.specs.Opening.{available, given, asking, answering, joined_terms, Connects};
+ghost use Rattle.std.specs.List.{position};
+ghost use Rattle.enet_host.specs.Host.{limits_of, name_of};
+ghost use Rattle.enet_host.specs.Opening.{is_available, available, given, asking, answering, joined_terms, Connects};
 ghost use Rattle.enet_host.specs.Shown.{shown, all_shown};
 
 use crate::opening::{joined_terms, limits_of, offer_from, server_from};
@@ -14,14 +15,20 @@ use enet_peer::Peer;
 use enet_types::{Addr, Config, PeerRef, Refusal};
 use std::alloc::Global;
 
+/// The first slot of the list that is free and has a generation left of so many.
+fn first_available(slots: &[Slot], generations: u32) -> Option<usize>
+    ensures first { result ≡ position (λ (s : Slot). is_available generations (shown s)) slots.now }
+    ensures within { IfSome result (λ i. i < length slots.now) }
+{
+    slots.iter().position(|slot| slot.is_available(generations))
+}
+
 /// The lowest slot that is free and has a generation left.
 pub(crate) fn lowest_available(slots: &[Slot], config: &Config) -> Option<usize>
     ensures lowest { result ≡ available config.now (all_shown slots.now) }
     ensures within { IfSome result (λ i. i < length slots.now) }
 {
-    slots
-        .iter()
-        .position(|slot| slot.is_available(config.generations))
+    first_available(slots, config.generations)
 }
 
 /// Whom a host asks for a connection, and for what.

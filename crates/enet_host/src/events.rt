@@ -47,7 +47,9 @@ impl Slot {
             Some(peer) => peer,
             None => return None,
         };
-        let event = peer.next_event()?;
+        let Some(event) = peer.next_event() else {
+            return None;
+        };
         self.let_go();
         Some(event_of(name, event))
     }

@@ -166,13 +166,15 @@ impl HostCore {
     pub fn service(&mut self, buf: &mut [u8; 4096]) -> Option<(PeerRef, Addr, usize)>
         ensures { Serves self.old result buf.new self.new }
     {
-        let sent = serve(
+        let Some(sent) = serve(
             &mut self.slots,
             self.config.peers,
             self.service_from,
             self.clock,
             buf,
-        )?;
+        ) else {
+            return None;
+        };
         self.service_from = slot_after(self.config.peers, sent.0.slot);
         self.totals = self.totals.with_datagram_out(sent.2);
         Some(sent)
@@ -212,8 +214,13 @@ impl HostCore {
     pub fn next_event(&mut self) -> Option<Event>
         ensures { Takes result self.old self.new }
     {
-        let slot = first_telling(&self.slots, self.config.peers, self.event_from)?;
-        let event = take_from(&mut self.slots, slot)?;
+        let Some(slot) = first_telling(&self.slots, self.config.peers, self.event_from) else {
+            return None;
+        };
+        let Some(event) = take_from(&mut self.slots, slot) else {
+            // Never: the slot has an event.
+            return None;
+        };
         self.event_from = slot_after(self.config.peers, slot);
         Some(event)
     }
@@ -222,7 +229,9 @@ impl HostCore {
     pub fn next_body(&self) -> Option<&Bytes>
         ensures { Shows self.now (option_copied result) }
     {
-        let slot = first_telling(&self.slots, self.config.peers, self.event_from)?;
+        let Some(slot) = first_telling(&self.slots, self.config.peers, self.event_from) else {
+            return None;
+        };
         body_of(&self.slots, slot)
     }
 }

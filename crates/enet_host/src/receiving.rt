@@ -1,8 +1,9 @@
 //! A datagram comes to a host.
 
 ghost use Rattle.std.specs.Prelude.{◌≡◌, ◌<◌, ◌≤◌, false, length, slice_get, Some, IfSome, IfNone};
+ghost use Rattle.std.specs.List.{list_any};
 ghost use Rattle.enet_host.specs.Opening.{is_vacant};
-ghost use Rattle.enet_host.specs.Receiving.{is_deaf, fits_session, stopped, refused_by_slot, refused_by, offer_refused, is_known, Hears, Offers, Arrives};
+ghost use Rattle.enet_host.specs.Receiving.{is_deaf, fits_session, stopped, refused_by_slot, refused_by, offer_refused, is_connection, is_known, Hears, Offers, Arrives};
 ghost use Rattle.enet_host.specs.Shown.{shown, all_shown};
 
 use crate::connecting::lowest_available;
@@ -110,13 +111,20 @@ fn offer_refused(offer: &Offer) -> Option<Stop>
     None
 }
 
+/// Whether a slot holds a connection with this address and connect id.
+fn any_is_connection(slots: &[Slot], from: Addr, connect_id: u32) -> bool
+    ensures { result ≡ list_any (λ (s : Slot). is_connection from connect_id (shown s)) slots.now }
+{
+    slots
+        .iter()
+        .any(|slot| slot.is_connection(from, connect_id))
+}
+
 /// Whether the connection of an offer is there already.
 fn is_known(slots: &[Slot], from: Addr, offer: &Offer) -> bool
     ensures { result ≡ is_known (all_shown slots.now) from offer.now }
 {
-    slots
-        .iter()
-        .any(|slot| slot.is_connection(from, offer.connect_id))
+    any_is_connection(slots, from, offer.connect_id)
 }
 
 /// An offer comes.

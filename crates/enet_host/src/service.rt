@@ -27,12 +27,13 @@ impl Slot {
             Some(peer) => peer,
             None => return None,
         };
-        let sent = peer.emit(now, buf);
-        if let Some(len) = sent {
-            self.emitted = self.emitted.saturating_add(len as u32);
-        }
+        let Some(len) = peer.emit(now, buf) else {
+            self.let_go();
+            return None;
+        };
+        self.emitted = self.emitted.saturating_add(len as u32);
         self.let_go();
-        sent
+        Some(len)
     }
 }
 
@@ -52,7 +53,9 @@ fn serve_slot(slots: &mut Vec<Slot>, number: u16, now: u32, buf: &mut [u8; 4096]
         generation: slot.generation,
     };
     let address = slot.address;
-    let len = slot.serve(now, buf)?;
+    let Some(len) = slot.serve(now, buf) else {
+        return None;
+    };
     Some((name, address, len))
 }
 

@@ -1,6 +1,6 @@
 //! What a moment brings to all slots, and what the host's bandwidths do to them.
 
-ghost use Rattle.std.specs.Prelude.{◌≡◌, ◌≤◌, map, length, All, OnOk, OnErr, IfErr};
+ghost use Rattle.std.specs.Prelude.{◌≡◌, ◌≤◌, if◌then◌else◌, map, length, All, OnOk, OnErr, IfErr};
 ghost use Rattle.std.specs.List.{count_by};
 ghost use Rattle.enet_peer.specs.Peering.{Peering};
 ghost use Rattle.enet_peer.specs.Calls as peers;
@@ -32,6 +32,13 @@ impl Slot {
             Some(peer) => peer.state() == PeerState::Connected,
             None => false,
         }
+    }
+
+    /// 1 where its connection stands, else 0.
+    fn standing(&self) -> u32
+        ensures { result ≡ (if is_standing (shown self.now) then 1 else 0) }
+    {
+        if self.is_standing() { 1 } else { 0 }
     }
 
     /// Limits a connected peer's throttle to its share of the host's outgoing bandwidth among so many connected peers.
@@ -88,9 +95,7 @@ fn count_standing(slots: &[Slot]) -> u32
 {
     let mut count: u32 = 0;
     for slot in slots {
-        if slot.is_standing() {
-            count += 1;
-        }
+        count += slot.standing();
     }
     count
 }

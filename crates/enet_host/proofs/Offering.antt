@@ -1,0 +1,55 @@
+-- A slot is given out.
+use Rattle.std.proofs.Common.{◌≡◌, ◌≢◌, ℕ, ◌<◌, Bool, false, Option, Some, None, Result, Ok, Err, IfOk, IfErr, OnOk, OnErr, List, length, slice_set, get_or, sym, ap, subst, ◌∙◌}
+use Rattle.enet_codec.specs.declared.command.Offer.{Offer}
+use Rattle.enet_types.specs.declared.address.Addr.{Addr}
+use Rattle.enet_types.specs.declared.config.Config.{Config}
+use Rattle.enet_types.specs.declared.event.PeerRef.{PeerRef}
+use Rattle.enet_types.specs.declared.event.Received.{Received}
+use Rattle.enet_types.specs.declared.refusal.Refusal.{Refusal}
+use Rattle.enet_types.specs.declared.refusal.Refusal.TheVariants.{Memory}
+use Rattle.enet_types.specs.declared.stop.Stop.TheVariants as stop
+use Rattle.enet_host.specs.declared.slot.Slot.{Slot}
+use Rattle.enet_host.specs.Host.{SlotState, name_of}
+use Rattle.enet_host.specs.Opening.{available, asking, answering, Connects, no_memory, asks}
+use Rattle.enet_host.specs.Receiving.{Offers, offer_refused, is_known, handled_one, stopped}
+use Rattle.enet_host.specs.Receiving as receiving
+use Rattle.enet_host.specs.Shown.{shown, all_shown}
+use Rattle.enet_host.proofs.Slots.{get-shown, set-shown, same-shown}
+
+-- what was found among the slots of a vector
+pub found-in : (c : Config) (xs ys : List Slot) (r a : Option ℕ) → r ≡ available c (all_shown ys) → ys ≡ xs → r ≡ a → available c (all_shown xs) ≡ a
+found-in c xs ys r a e same is = sym (subst (λ (zs : List Slot). r ≡ available c (all_shown zs)) same e) ∙ is
+
+given-at : (xs : List Slot) (i : ℕ) (y : Slot) (t : SlotState) → shown y ≡ t → slice_set (all_shown xs) i t ≡ all_shown (slice_set xs i y)
+given-at xs i y t given = ap (λ (s : SlotState). slice_set (all_shown xs) i s) (sym given) ∙ sym (set-shown xs i y)
+
+pub connects-at : (c : Config) (now : ℕ) (xs : List Slot) (address : Addr) (channels info word i : ℕ) (x y : Slot) (result : Result PeerRef Refusal)
+    → channels ≢ 0 → available c (all_shown xs) ≡ Some i → i < length xs → x ≡ get_or xs i x
+    → OnOk result (shown y ≡ asking c now i (shown x) address channels info word) → IfOk result (λ name. name ≡ name_of i (shown x))
+    → OnErr result (shown y ≡ shown x) → IfErr result (λ why. why ≡ Memory)
+    → Connects c now (all_shown xs) address channels info word result (all_shown (slice_set xs i y))
+connects-at c now xs address channels info word i x y (Ok name) some found inside read asked named same why =
+    subst (λ (ss : List SlotState). Connects c now (all_shown xs) address channels info word (Ok name) ss)
+    (given-at xs i y (asking c now i (shown x) address channels info word) asked)
+    (subst (λ (n : PeerRef). Connects c now (all_shown xs) address channels info word (Ok n) (slice_set (all_shown xs) i (asking c now i (shown x) address channels info word)))
+    (sym named) (asks i (shown x) some found (get-shown xs i x inside read)))
+connects-at c now xs address channels info word i x y (Err e) some found inside read asked named same why =
+    subst (λ (ss : List SlotState). Connects c now (all_shown xs) address channels info word (Err e) ss) (sym (same-shown xs i x y read same))
+    (subst (λ (f : Refusal). Connects c now (all_shown xs) address channels info word (Err f) (all_shown xs)) (sym why) (no_memory i some found))
+
+pub answers-at : (c : Config) (now : ℕ) (xs : List Slot) (from : Addr) (o : Offer) (i : ℕ) (x y : Slot)
+    → offer_refused o ≡ None → is_known (all_shown xs) from o ≡ false → available c (all_shown xs) ≡ Some i → i < length xs → x ≡ get_or xs i x
+    → shown y ≡ answering c now i (shown x) from o → Offers c now (all_shown xs) from o handled_one (all_shown (slice_set xs i y))
+answers-at c now xs from o i x y fine unknown found inside read answered =
+    subst (λ (ss : List SlotState). Offers c now (all_shown xs) from o handled_one ss) (given-at xs i y (answering c now i (shown x) from o) answered)
+    (receiving.answers i (shown x) fine unknown found (get-shown xs i x inside read))
+
+pub no-memory-at : (c : Config) (now : ℕ) (xs : List Slot) (from : Addr) (o : Offer) (i : ℕ) (x y : Slot) (answer : Received)
+    → offer_refused o ≡ None → is_known (all_shown xs) from o ≡ false → available c (all_shown xs) ≡ Some i → x ≡ get_or xs i x
+    → shown y ≡ shown x → answer ≡ stopped stop.Memory → Offers c now (all_shown xs) from o answer (all_shown (slice_set xs i y))
+no-memory-at c now xs from o i x y answer fine unknown found read same is =
+    subst (λ (ss : List SlotState). Offers c now (all_shown xs) from o answer ss) (sym (same-shown xs i x y read same))
+    (subst (λ (a : Received). Offers c now (all_shown xs) from o a (all_shown xs)) (sym is) (receiving.no_memory i fine unknown found))
+
+pub known-in : (xs ys : List Slot) (from : Addr) (o : Offer) (r b : Bool) → r ≡ is_known (all_shown ys) from o → ys ≡ xs → r ≡ b → is_known (all_shown xs) from o ≡ b
+known-in xs ys from o r b e same is = sym (subst (λ (zs : List Slot). r ≡ is_known (all_shown zs) from o) same e) ∙ is

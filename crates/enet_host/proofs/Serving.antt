@@ -1,0 +1,64 @@
+-- One slot is asked for a datagram, or gives an event.
+use Rattle.std.proofs.Common.{◌≡◌, ℕ, ◌<◌, false, Option, Some, None, IfSome, IfNone, List, length, slice_get, slice_set, get_or, refl, sym, ap, subst, ◌∙◌}
+use Rattle.enet_types.specs.declared.event.Event.{Event}
+use Rattle.enet_peer.specs.Peering.{Peering}
+use Rattle.enet_host.specs.declared.slot.Slot.{Slot}
+use Rattle.enet_host.specs.Host.{SlotState, name_of}
+use Rattle.enet_host.specs.Serving.{Gives, HasNothing, Passes, passes_by}
+use Rattle.enet_host.specs.Calls.{tells, peer_body, GivesEvent}
+use Rattle.enet_host.specs.Shown.{shown, all_shown, SlotGives, SlotPasses, SlotGivesEvent, SlotIsMute, SlotShows}
+use Rattle.enet_host.proofs.Slots.{get-shown, set-shown}
+
+pub passes-of : (now : ℕ) (s t : SlotState) (p : Peering) → s.peer ≡ Some p → HasNothing now s t p → Passes now s t
+passes-of now s t p held h = subst (λ (o : Option Peering). passes_by now s t o) (sym held) h
+
+-- slot n of the vector is slot `number`
+pub at-number : (xs : List Slot) (n number : ℕ) (x : Slot) → n ≡ number → n < length xs → x ≡ get_or xs n x → slice_get (all_shown xs) number ≡ Some (shown x)
+at-number xs n number x e inside read = subst (λ (i : ℕ). slice_get (all_shown xs) i ≡ Some (shown x)) e (get-shown xs n x inside read)
+
+set-number : (xs : List Slot) (n number : ℕ) (y : Slot) → n ≡ number → all_shown (slice_set xs n y) ≡ slice_set (all_shown xs) number (shown y)
+set-number xs n number y e = set-shown xs n y ∙ ap (λ (i : ℕ). slice_set (all_shown xs) i (shown y)) e
+
+pub slot-passes : (now : ℕ) (xs : List Slot) (n number : ℕ) (x y : Slot) → n ≡ number → n < length xs → x ≡ get_or xs n x → Passes now (shown x) (shown y)
+    → SlotPasses now (all_shown xs) number (all_shown (slice_set xs n y))
+slot-passes now xs n number x y e inside read passes = record {
+  slot = shown x;
+  left = shown y;
+  there = at-number xs n number x e inside read;
+  passes = passes;
+  after = set-number xs n number y e;
+}
+
+pub slot-gives : (now len : ℕ) (buf : List ℕ) (xs : List Slot) (n number : ℕ) (x y : Slot) → n ≡ number → n < length xs → x ≡ get_or xs n x
+    → Gives now len buf (shown x) (shown y)
+    → SlotGives now (all_shown xs) number (name_of number (shown x)) x.address len buf (all_shown (slice_set xs n y))
+slot-gives now len buf xs n number x y e inside read gives = record {
+  slot = shown x;
+  left = shown y;
+  there = at-number xs n number x e inside read;
+  named = refl;
+  addressed = refl;
+  gives = gives;
+  after = set-number xs n number y e;
+}
+
+pub slot-gives-event : (xs : List Slot) (n number : ℕ) (x y : Slot) (r : Option Event) → n ≡ number → n < length xs → x ≡ get_or xs n x
+    → IfSome r (λ event. GivesEvent number event (shown x) (shown y))
+    → IfSome r (λ event. SlotGivesEvent (all_shown xs) number event (all_shown (slice_set xs n y)))
+slot-gives-event xs n number x y None e inside read gives = gives
+slot-gives-event xs n number x y (Some event) e inside read gives = record {
+  slot = shown x;
+  left = shown y;
+  there = at-number xs n number x e inside read;
+  gives = gives;
+  after = set-number xs n number y e;
+}
+
+pub slot-is-mute : (xs : List Slot) (n number : ℕ) (x y : Slot) (r : Option Event) → n ≡ number → n < length xs → x ≡ get_or xs n x
+    → IfNone r ((tells (shown x) ≡ false) × (shown y ≡ shown x)) → IfNone r (SlotIsMute (all_shown xs) number)
+slot-is-mute xs n number x y None e inside read mute = record { slot = shown x; there = at-number xs n number x e inside read; mute = mute.0 }
+slot-is-mute xs n number x y (Some event) e inside read mute = mute
+
+pub slot-shows : (xs : List Slot) (n number : ℕ) (x : Slot) (body : Option (List ℕ)) → n ≡ number → n < length xs → x ≡ get_or xs n x
+    → body ≡ peer_body (shown x).peer → SlotShows (all_shown xs) number body
+slot-shows xs n number x body e inside read shows = record { slot = shown x; there = at-number xs n number x e inside read; shows = shows }

@@ -1,0 +1,25 @@
+use Rattle.std.proofs.Common.{ℕ, List, subst, ap, sym, ◌∙◌}
+use Rattle.enet_host.specs.declared.slot.Slot.{Slot}
+use Rattle.enet_host.specs.Host.{Host}
+use Rattle.enet_host.specs.Turns.{IsFirst, slot_after}
+use Rattle.enet_host.specs.Calls.{tells}
+use Rattle.enet_host.specs.Shown.{all_shown}
+use Rattle.enet_host.proofs.Slots.{length-shown}
+use Rattle.enet_host.proofs.Telling.{takes-at}
+use Rattle.enet_host.proofs.host.HostCore.next_event.Goals as goal
+
+pub returns : goal.returns
+returns c =
+    let inside = c.self.inside in
+    let v : Host = record {
+      config = inside.config;
+      clock = inside.clock;
+      shared_at = inside.shared_at;
+      service_from = inside.service_from;
+      event_from = inside.event_from;
+      totals = inside.totals;
+      slots = all_shown inside.slots.items;
+    } in
+    takes-at v c.args.self.now (all_shown c.take_from.new.slots.items) c.in-Some.slot c.slot_after-self-inside.result c.in-Some-take_from.event c.self.view_is
+    (subst (λ (xs : List Slot). IsFirst tells (all_shown xs) inside.event_from c.in-Some.slot) c.deref.ensures.value c.in-Some.ensures.first) c.in-Some-take_from.ensures.gives
+    (c.slot_after-self-inside.ensures.after ∙ ap (λ (m : ℕ). slot_after m c.in-Some.slot) (sym (length-shown inside.slots.items ∙ c.self.invariant.count)))

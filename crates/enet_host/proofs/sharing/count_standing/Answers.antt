@@ -1,0 +1,23 @@
+use Rattle.std.proofs.Common.{◌≡◌, if◌then◌else◌, ap, ◌∙◌, arith, List}
+use Rattle.std.specs.List.{count_by}
+use Rattle.std.proofs.lemmas.List.{take_all}
+use Rattle.enet_host.specs.declared.slot.Slot.{Slot}
+use Rattle.enet_host.specs.Ticking.{is_standing}
+use Rattle.enet_host.specs.Shown.{shown, all_shown}
+use Rattle.enet_host.proofs.Slots.{count-more, at-most-one}
+use Rattle.enet_host.proofs.sharing.count_standing.Goals as goal
+
+pub loop-slot-preserved : goal.loop-slot-preserved
+loop-slot-preserved c =
+    let more = count-more is_standing c.args.slots.now c.loop-slot.slot-index c.slot-item.result c.loop-slot-test.true c.slot-item.is in
+    let counted = c.loop-slot.invariant.counted in
+    let few = c.loop-slot.invariant.few in
+    let one : c.standing-count.result ≡ (if is_standing (shown c.slot-item.result) then 1 else 0) = c.standing-count.ensures in
+    let small = at-most-one (is_standing (shown c.slot-item.result)) in
+    record {
+      counted = omega (arith, more, counted, one);
+      few = omega (arith, one, small, few);
+    }
+
+pub returns : goal.returns
+returns c = c.loop-slot.invariant.counted ∙ ap (λ (xs : List Slot). count_by is_standing (all_shown xs)) (take_all c.loop-slot.slot-index c.args.slots.now c.loop-slot-test.false)

@@ -1,0 +1,11 @@
+use Rattle.std.proofs.Common.{◌≡◌, ◌≤◌, take}
+use Rattle.std.specs.List.{count_by}
+use Rattle.enet_host.specs.Ticking.{is_standing}
+use Rattle.enet_host.specs.Shown.{all_shown}
+use Rattle.enet_host.proofs.sharing.count_standing.Given as goal
+
+abbrev pub invariant-loop-slot : goal.invariant-loop-slot
+invariant-loop-slot l = record {
+  counted : l.count ≡ count_by is_standing (all_shown (take l.slot-index l.slots));
+  few : l.count ≤ l.slot-index;
+}

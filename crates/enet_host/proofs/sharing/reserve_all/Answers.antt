@@ -1,0 +1,21 @@
+use Rattle.std.proofs.Common.{arith, ◌∙◌}
+use Rattle.enet_host.proofs.Slots.{same-shown, room-more, all-room}
+use Rattle.enet_host.proofs.sharing.reserve_all.Goals as goal
+
+pub loop-place-preserved : goal.loop-place-preserved
+loop-place-preserved c =
+    let len = c.loop-place.invariant.len in
+    let end = c.loop-place.invariant.end in
+    record {
+      items = same-shown c.loop-place.slots.items c.loop-place.place c.index_mut.result.now c.reserve.new.self c.index_mut.ensures.value c.reserve.ensures.unchanged ∙ c.loop-place.invariant.items;
+      room = room-more c.loop-place.slots.items c.loop-place.place c.reserve.new.self (grind arith) c.loop-place.invariant.room c.in_ok-reserve.ensures.room;
+      len = len;
+      end = end;
+    }
+
+pub returns-in_err-reserve-clause-unchanged : goal.returns-in_err-reserve-clause-unchanged
+returns-in_err-reserve-clause-unchanged c =
+    same-shown c.loop-place.slots.items c.loop-place.place c.index_mut.result.now c.reserve.new.self c.index_mut.ensures.value c.reserve.ensures.unchanged ∙ c.loop-place.invariant.items
+
+pub returns-clause-room : goal.returns-clause-room
+returns-clause-room c = all-room c.loop-place.slots.items c.loop-place.place (grind arith) c.loop-place.invariant.room

@@ -1,0 +1,13 @@
+use Rattle.std.proofs.Common.{◌≡◌, ◌++◌, map, take, drop, vec_len}
+use Rattle.enet_peer.specs.Peering.{Peering}
+use Rattle.enet_peer.specs.Calls as peers
+use Rattle.enet_host.specs.Host.{changed}
+use Rattle.enet_host.specs.Shown.{all_shown}
+use Rattle.enet_host.proofs.sharing.tick_all.Given as goal
+
+abbrev pub invariant-loop-place : goal.invariant-loop-place
+invariant-loop-place l = record {
+  items : all_shown l.slots.items ≡ map (changed (λ (p : Peering). peers.ticked p l.now)) (take l.place (all_shown l.initial.slots.items)) ++ drop l.place (all_shown l.initial.slots.items);
+  len : vec_len l.slots ≡ vec_len l.initial.slots;
+  end : l.place-end ≡ vec_len l.initial.slots;
+}
