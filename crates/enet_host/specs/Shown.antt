@@ -1,15 +1,18 @@
 -- A slot of the code as the contracts of the host's calls see it.
-use Rattle.std.specs.Prelude.{◌≡◌, ◌≤◌, ◌<◌, IsTrue, length, ℕ, false, Option, Some, None, List, map, slice_get, slice_set}
+use Rattle.std.specs.Prelude.{Result, ◌≡◌, ◌≤◌, ◌<◌, IsTrue, length, ℕ, false, Option, Some, None, List, map, slice_get, slice_set}
 use Rattle.enet_peer.specs.Peered.{Peered}
 use Rattle.enet_peer.specs.Peering.{Peering}
 use Rattle.enet_peer.specs.Calls.{is_connected}
+use Rattle.enet_types.specs.declared.refusal.Refusal.{Refusal}
+use Rattle.enet_host.specs.declared.calls.Setting.{Setting}
+use Rattle.enet_host.specs.declared.calls.Setting.TheVariants.{PingInterval, Timeout}
 use Rattle.enet_host.specs.declared.slot.Slot.{Slot}
 use Rattle.enet_types.specs.declared.address.Addr.{Addr}
 use Rattle.enet_types.specs.declared.event.PeerRef.{PeerRef}
 use Rattle.enet_types.specs.declared.event.Event.{Event}
 use Rattle.enet_host.specs.Host.{SlotState, name_of}
 use Rattle.enet_host.specs.Serving.{Gives, Passes}
-use Rattle.enet_host.specs.Calls.{tells, peer_body, GivesEvent}
+use Rattle.enet_host.specs.Calls.{tells, peer_body, GivesEvent, pinging, waiting}
 
 abbrev pub peer_shown : Option Peered → Option Peering
 peer_shown None = None
@@ -80,3 +83,8 @@ pub record SlotShows (slots : List SlotState) (i : ℕ) (body : Option (List ℕ
   pub slot : SlotState
   pub there : slice_get slots i ≡ Some slot
   pub shows : body ≡ peer_body slot.peer
+
+-- what a setting changes of a peer
+abbrev pub set_by : Setting → Peering → Result Peering Refusal
+set_by (PingInterval ms) = pinging ms
+set_by (Timeout limit minimum maximum) = waiting limit minimum maximum

@@ -2,14 +2,27 @@
 
 ghost use Rattle.std.specs.Prelude.{◌≡◌, ◌<◌, length, is_some, IsTrue, IfSome, IfNone, None, Some};
 ghost use Rattle.std.specs.Option.{option_copied};
-ghost use Rattle.enet_host.specs.Calls.{address_named, address_of, on_peer, on_named, Submits, Does, DoesWithMemory, submission, leaving, throttling, pinging, waiting};
+ghost use Rattle.enet_host.specs.Calls.{address_named, address_of, on_peer, on_named, Submits, Does, DoesWithMemory, submission, leaving, throttling};
 ghost use Rattle.enet_host.specs.Host.{named, slot_named};
-ghost use Rattle.enet_host.specs.Shown.{shown, peer_shown, all_shown};
+ghost use Rattle.enet_host.specs.Shown.{shown, peer_shown, all_shown, set_by};
 
 use crate::slot::Slot;
 use bytes::Bytes;
 use enet_peer::{Peer, PeerState};
 use enet_types::{Addr, DisconnectMode, PeerRef, Refusal};
+
+/// What a user may set of a peer in any state. Times are in milliseconds.
+#[derive(Clone, Copy)]
+pub(crate) enum Setting {
+    PingInterval {
+        ms: u32,
+    },
+    Timeout {
+        limit: u32,
+        minimum: u32,
+        maximum: u32,
+    },
+}
 
 /// The place of the slot of this name, where it has this generation.
 fn place_of(slots: &[Slot], name: PeerRef) -> Option<usize>
@@ -50,9 +63,8 @@ impl Slot {
     fn submit(&mut self, channel: u8, flags: u8, body: Bytes) -> Result<(), (Refusal, Bytes)>
         ensures { Submits result (record { flags = flags; body = body }) (on_peer (shown self.old) (submission channel (record { flags = flags; body = body }))) (shown self.old) (shown self.new) }
     {
-        let peer = match &mut self.peer {
-            Some(peer) => peer,
-            None => return Err((Refusal::NoSuchPeer, body)),
+        let Some(peer) = &mut self.peer else {
+            return Err((Refusal::NoSuchPeer, body));
         };
         peer.submit(channel, flags, body)?;
         self.let_go();
@@ -63,9 +75,8 @@ impl Slot {
     fn leave(&mut self, mode: DisconnectMode, info: u32) -> Result<(), Refusal>
         ensures { Does result (on_peer (shown self.old) (leaving mode info)) (shown self.old) (shown self.new) }
     {
-        let peer = match &mut self.peer {
-            Some(peer) => peer,
-            None => return Err(Refusal::NoSuchPeer),
+        let Some(peer) = &mut self.peer else {
+            return Err(Refusal::NoSuchPeer);
         };
         match mode {
             DisconnectMode::Now => peer.disconnect_now(info)?,
@@ -85,9 +96,8 @@ impl Slot {
     ) -> Result<(), Refusal>
         ensures { DoesWithMemory result (on_peer (shown self.old) (throttling interval acceleration deceleration)) (shown self.old) (shown self.new) }
     {
-        let peer = match &mut self.peer {
-            Some(peer) => peer,
-            None => return Err(Refusal::NoSuchPeer),
+        let Some(peer) = &mut self.peer else {
+            return Err(Refusal::NoSuchPeer);
         };
         if peer.state() != PeerState::Connected {
             return Err(Refusal::NotConnected);
@@ -98,28 +108,21 @@ impl Slot {
         Ok(())
     }
 
-    /// Sets its peer's ping interval.
-    fn set_ping_interval(&mut self, ms: u32) -> Result<(), Refusal>
-        ensures { Does result (on_peer (shown self.old) (pinging ms)) (shown self.old) (shown self.new) }
+    /// Sets something of its peer.
+    fn set(&mut self, setting: Setting) -> Result<(), Refusal>
+        ensures { Does result (on_peer (shown self.old) (set_by setting)) (shown self.old) (shown self.new) }
     {
-        let peer = match &mut self.peer {
-            Some(peer) => peer,
-            None => return Err(Refusal::NoSuchPeer),
+        let Some(peer) = &mut self.peer else {
+            return Err(Refusal::NoSuchPeer);
         };
-        peer.ping_interval(ms);
-        self.let_go();
-        Ok(())
-    }
-
-    /// Sets its peer's timeouts.
-    fn set_timeout(&mut self, limit: u32, minimum: u32, maximum: u32) -> Result<(), Refusal>
-        ensures { Does result (on_peer (shown self.old) (waiting limit minimum maximum)) (shown self.old) (shown self.new) }
-    {
-        let peer = match &mut self.peer {
-            Some(peer) => peer,
-            None => return Err(Refusal::NoSuchPeer),
-        };
-        peer.timeout(limit, minimum, maximum);
+        match setting {
+            Setting::PingInterval { ms } => peer.ping_interval(ms),
+            Setting::Timeout {
+                limit,
+                minimum,
+                maximum,
+            } => peer.timeout(limit, minimum, maximum),
+        }
         self.let_go();
         Ok(())
     }
@@ -175,36 +178,15 @@ pub(crate) fn throttle_configure(
     slots[place].configure(interval, acceleration, deceleration)
 }
 
-/// Sets the ping interval of the peer of this name.
-pub(crate) fn set_ping_interval(
-    slots: &mut Vec<Slot>,
-    name: PeerRef,
-    ms: u32,
-) -> Result<(), Refusal>
-    ensures does { Does result (on_named (all_shown slots.old.items) name (pinging ms)) (all_shown slots.old.items) (all_shown slots.new.items) }
+/// Sets something of the peer of this name.
+pub(crate) fn set(slots: &mut Vec<Slot>, name: PeerRef, setting: Setting) -> Result<(), Refusal>
+    ensures does { Does result (on_named (all_shown slots.old.items) name (set_by setting)) (all_shown slots.old.items) (all_shown slots.new.items) }
     ensures count { length slots.new.items ≡ length slots.old.items }
 {
     let Some(place) = place_of(slots, name) else {
         return Err(Refusal::NoSuchPeer);
     };
-    slots[place].set_ping_interval(ms)
-}
-
-/// Sets the timeouts of the peer of this name.
-pub(crate) fn set_timeout(
-    slots: &mut Vec<Slot>,
-    name: PeerRef,
-    limit: u32,
-    minimum: u32,
-    maximum: u32,
-) -> Result<(), Refusal>
-    ensures does { Does result (on_named (all_shown slots.old.items) name (waiting limit minimum maximum)) (all_shown slots.old.items) (all_shown slots.new.items) }
-    ensures count { length slots.new.items ≡ length slots.old.items }
-{
-    let Some(place) = place_of(slots, name) else {
-        return Err(Refusal::NoSuchPeer);
-    };
-    slots[place].set_timeout(limit, minimum, maximum)
+    slots[place].set(setting)
 }
 
 /// Where the peer of this name is.

@@ -43,9 +43,8 @@ impl Slot {
             slot: number,
             generation: self.generation,
         };
-        let peer = match &mut self.peer {
-            Some(peer) => peer,
-            None => return None,
+        let Some(peer) = &mut self.peer else {
+            return None;
         };
         let Some(event) = peer.next_event() else {
             return None;

@@ -1,6 +1,6 @@
 //! A host, and what it does with slots, datagrams and time.
 
-ghost use Rattle.std.specs.Prelude.{◌≡◌, ◌<◌, ◌≤◌, length, IsTrue, IfOk, IfErr, OnOk, OnErr};
+ghost use Rattle.std.specs.Prelude.{◌≡◌, ◌<◌, ◌≤◌, length, IsTrue, IfSome, IfOk, IfErr, OnOk, OnErr};
 ghost use Rattle.std.specs.Option.{option_copied};
 ghost use Rattle.enet_types.specs.Config.{is_in_range};
 ghost use Rattle.enet_host.specs.Host.{KeepsRest};
@@ -134,17 +134,13 @@ impl HostCore {
     }
 
     /// A datagram comes from an address. It goes to the peer of the slot that its header names, or is the offer of one who has
-    /// no peer yet (ENet 1.3). The stop is the first that applies:
-    ///
-    /// - S1 where the header is cut short, S2 where the datagram is compressed;
-    /// - S3 for a stranger's datagram that is anything but one CONNECT, and where the slot is free, has ended or is parting;
-    ///   S4 where the peer is at another address; S5 where its session is another, once the other end's slot is known;
-    /// - of an offer S6 where it names no slot, S8 where it asks for no channel or for more than 255, S13 where no slot is free
-    ///   that has a generation left, S11 where memory is refused; an offer of a connection that is there has no effect;
-    /// - else the stop of the first command that the peer stops.
-    ///
-    /// The commands before a stop have taken effect, and the stopped one has none, that of S12 excepted. Each datagram counts
-    /// in the totals.
+    /// no peer yet (ENet 1.3). The stop is the first that applies: S1 where the header is cut short, S2 where the datagram is
+    /// compressed, S3 for a stranger's datagram that is anything but one CONNECT and where the slot is free, has ended or is
+    /// parting, S4 where the peer is at another address, S5 where its session is another, once the other end's slot is known.
+    /// Of an offer S6 where it names no slot, S8 where it asks for no channel or for more than 255, S13 where no slot is free
+    /// that has a generation left, S11 where memory is refused; an offer of a connection that is there has no effect. Else it
+    /// is the stop of the first command that the peer stops: the commands before it have taken effect, and the stopped one has
+    /// none, that of S12 excepted. Each datagram counts in the totals.
     pub fn receive(&mut self, from: Addr, bytes: &[u8]) -> Received
         ensures { Receives self.old from bytes.now result self.new }
     {
@@ -164,7 +160,8 @@ impl HostCore {
     /// as it was before the call, also where the datagram was its last. None where no slot has something to send. It takes no
     /// memory.
     pub fn service(&mut self, buf: &mut [u8; 4096]) -> Option<(PeerRef, Addr, usize)>
-        ensures { Serves self.old result buf.new self.new }
+        ensures serves { Serves self.old result buf.new self.new }
+        ensures fits { IfSome result (λ sent. sent.2 ≤ 4096) }
     {
         let Some(sent) = serve(
             &mut self.slots,

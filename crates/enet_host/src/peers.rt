@@ -8,7 +8,7 @@ ghost use Rattle.enet_outbox.specs.Outbox.{transit_of};
 ghost use Rattle.enet_host.specs.Host.{KeepsRest, named, slot_named};
 ghost use Rattle.enet_host.specs.Calls.{address_named, Submits, Does, DoesWithMemory, on_named, submission, leaving, throttling, pinging, waiting};
 
-use crate::calls;
+use crate::calls::{self, Setting};
 use crate::host::HostCore;
 use crate::totals::Totals;
 use bytes::Bytes;
@@ -90,7 +90,7 @@ impl HostCore {
         ensures sets { Does result (on_named self.old.slots peer (pinging ms)) self.old.slots self.new.slots }
         ensures rest { KeepsRest self.old self.new }
     {
-        calls::set_ping_interval(&mut self.slots, peer, ms)
+        calls::set(&mut self.slots, peer, Setting::PingInterval { ms })
     }
 
     /// Sets how long the other end may leave a command unacknowledged: the connection ends after `maximum` milliseconds
@@ -106,7 +106,12 @@ impl HostCore {
         ensures sets { Does result (on_named self.old.slots peer (waiting limit minimum maximum)) self.old.slots self.new.slots }
         ensures rest { KeepsRest self.old self.new }
     {
-        calls::set_timeout(&mut self.slots, peer, limit, minimum, maximum)
+        let setting = Setting::Timeout {
+            limit,
+            minimum,
+            maximum,
+        };
+        calls::set(&mut self.slots, peer, setting)
     }
 
     /// How far the peer's connection has come.

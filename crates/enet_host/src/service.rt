@@ -22,10 +22,10 @@ impl Slot {
     fn serve(&mut self, now: u32, buf: &mut [u8; 4096]) -> Option<usize>
         ensures gives { IfSome result (λ len. Gives now len buf.new (shown self.old) (shown self.new)) }
         ensures passes { IfNone result (Passes now (shown self.old) (shown self.new)) }
+        ensures fits { IfSome result (λ len. len ≤ 4096) }
     {
-        let peer = match &mut self.peer {
-            Some(peer) => peer,
-            None => return None,
+        let Some(peer) = &mut self.peer else {
+            return None;
         };
         let Some(len) = peer.emit(now, buf) else {
             self.let_go();
@@ -45,6 +45,7 @@ fn serve_slot(slots: &mut Vec<Slot>, number: u16, now: u32, buf: &mut [u8; 4096]
     requires { number < length slots.old.items }
     ensures gives { IfSome result (λ gave. SlotGives now (all_shown slots.old.items) number gave.0 gave.1 gave.2 buf.new (all_shown slots.new.items)) }
     ensures passes { IfNone result (SlotPasses now (all_shown slots.old.items) number (all_shown slots.new.items)) }
+    ensures fits { IfSome result (λ gave. gave.2 ≤ 4096) }
     ensures count { length slots.new.items ≡ length slots.old.items }
 {
     let slot = &mut slots[usize::from(number)];
@@ -72,6 +73,7 @@ pub(crate) fn serve(
     ensures gives { IfSome result (λ gave. GivesInTurn now from (all_shown slots.old.items) gave.0 gave.1 gave.2 buf.new (all_shown slots.new.items)) }
     ensures passes { IfNone result (AllPass now (all_shown slots.old.items) (all_shown slots.new.items)) }
     ensures within { IfSome result (λ gave. gave.0.slot < peers) }
+    ensures fits { IfSome result (λ gave. gave.2 ≤ 4096) }
     ensures count { length slots.new.items ≡ length slots.old.items }
 {
     let mut number = from;

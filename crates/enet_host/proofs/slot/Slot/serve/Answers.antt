@@ -6,14 +6,14 @@ use Rattle.enet_host.proofs.Changes.{with-peer-over}
 use Rattle.enet_host.proofs.Serving.{passes-of}
 use Rattle.enet_host.proofs.slot.Slot.serve.Goals as goal
 
-pub returns-in_default-clause-passes : goal.returns-in_default-clause-passes
-returns-in_default-clause-passes c =
+pub returns-in_default-emit-clause-passes : goal.returns-in_default-emit-clause-passes
+returns-in_default-emit-clause-passes c =
     let s = shown c.args.self.now in
     let p = c.in-Some.peer.peer in
     let q = c.emit.new.self.peer in
     let left : shown c.let_go.new.self ≡ with_peer (record s { peer = Some q }) q = c.let_go.ensures in
     passes-of c.args.now s (shown c.let_go.new.self) p (ap peer_shown c.in-Some.is)
-    (record { after = q; buf = c.emit.new.buf; puts = c.in_default.ensures; left = left ∙ with-peer-over s (Some q) q })
+    (record { after = q; buf = c.emit.new.buf; puts = c.in_default-emit.ensures; left = left ∙ with-peer-over s (Some q) q })
 
 pub returns-clause-gives : goal.returns-clause-gives
 returns-clause-gives c =

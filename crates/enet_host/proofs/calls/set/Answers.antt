@@ -1,0 +1,12 @@
+use Rattle.std.proofs.Common.{◌<◌, IsTrue, is_some, List, length, subst}
+use Rattle.enet_host.specs.declared.slot.Slot.{Slot}
+use Rattle.enet_host.specs.Host.{slot_named}
+use Rattle.enet_host.specs.Shown.{all_shown, set_by}
+use Rattle.enet_host.proofs.Slots.{does-named}
+use Rattle.enet_host.proofs.calls.set.Goals as goal
+
+pub returns-clause-does : goal.returns-clause-does
+returns-clause-does c =
+    does-named c.args.slots.now.items c.args.name (set_by c.args.setting) c.in-Some.place c.index_mut.result.now c.set.new.self c.set.result c.in-Some.ensures.place.0
+    (subst (λ (xs : List Slot). c.in-Some.place < length xs) c.deref.ensures.value c.in-Some.ensures.place.1) c.index_mut.ensures.value
+    (subst (λ (xs : List Slot). IsTrue (is_some (slot_named (all_shown xs) c.args.name))) c.deref.ensures.value c.in-Some.ensures.found) c.set.ensures
