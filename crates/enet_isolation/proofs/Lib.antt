@@ -1,0 +1,10 @@
+pub mod Lists
+pub mod Slots
+pub mod Coming
+pub mod Single
+pub mod Ticking
+pub mod Receiving
+pub mod Serving
+pub mod OneCall
+pub mod Names
+pub mod AllCalls

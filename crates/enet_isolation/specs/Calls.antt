@@ -1,0 +1,60 @@
+-- A host through a list of calls, each of which does what its contract says.
+use Rattle.std.specs.Prelude.{◌≡◌, ℕ, List, [], ◌∷◌, Option, Result, Ok, Err}
+use Rattle.enet_types.specs.declared.address.Addr.{Addr}
+use Rattle.enet_types.specs.declared.event.DisconnectMode.{DisconnectMode}
+use Rattle.enet_types.specs.declared.event.Event.{Event}
+use Rattle.enet_types.specs.declared.event.PeerRef.{PeerRef}
+use Rattle.enet_types.specs.declared.event.Received.{Received}
+use Rattle.enet_types.specs.declared.refusal.Refusal.{Refusal}
+use Rattle.enet_types.specs.declared.refusal.Refusal.TheVariants as refusal
+use Rattle.enet_sender.specs.Carriage.{Packet}
+use Rattle.enet_host.specs.Host.{Host, KeepsRest}
+use Rattle.enet_host.specs.Opening.{Connects}
+use Rattle.enet_host.specs.Receiving.{Receives}
+use Rattle.enet_host.specs.Serving.{Serves}
+use Rattle.enet_host.specs.Ticking.{ticked}
+use Rattle.enet_host.specs.Calls.{Submits, Does, DoesWithMemory, Takes, on_named, submission, leaving, throttling, pinging, waiting, with_bandwidth}
+
+-- whether a call without a result was refused, and why
+abbrev pub Done : Type 0
+Done = Result (Unit {0}) Refusal
+
+-- a call of a host with what it answered
+pub data Call : Type 0 where
+  Connect : (address : Addr) (channels info word : ℕ) (answer : Result PeerRef Refusal) → Call
+  Submit : (name : PeerRef) (channel : ℕ) (packet : Packet) (answer : Result (Unit {0}) (Refusal × List ℕ)) → Call
+  Receive : (from : Addr) (bytes : List ℕ) (answer : Received) → Call
+  Service : (answer : Option (PeerRef × Addr × ℕ)) (buf : List ℕ) → Call
+  Tick : (ms : ℕ) → Call
+  Disconnect : (mode : DisconnectMode) (name : PeerRef) (info : ℕ) (answer : Done) → Call
+  SetBandwidth : (incoming outgoing : ℕ) (answer : Done) → Call
+  ConfigureThrottle : (name : PeerRef) (interval acceleration deceleration : ℕ) (answer : Done) → Call
+  SetPingInterval : (name : PeerRef) (ms : ℕ) (answer : Done) → Call
+  SetTimeout : (name : PeerRef) (limit minimum maximum : ℕ) (answer : Done) → Call
+  NextEvent : (answer : Option Event) → Call
+
+-- what a call of set_bandwidth did: want of memory changes nothing
+abbrev pub Sets : Done → Host → Host → Host → Type 0
+Sets (Ok done) after old new = new ≡ after
+Sets (Err why) after old new = (why ≡ refusal.Memory) × (new ≡ old)
+
+-- what a call did, by the contract of `HostCore`
+abbrev pub Acts : Call → Host → Host → Type 0
+Acts (Connect address channels info word answer) old new = Connects old.config old.clock old.slots address channels info word answer new.slots × KeepsRest old new
+Acts (Submit name channel q answer) old new = Submits answer q (on_named old.slots name (submission channel q)) old.slots new.slots × KeepsRest old new
+Acts (Receive from bytes answer) old new = Receives old from bytes answer new
+Acts (Service answer buf) old new = Serves old answer buf new
+Acts (Tick ms) old new = new ≡ ticked old ms
+Acts (Disconnect mode name info answer) old new = Does answer (on_named old.slots name (leaving mode info)) old.slots new.slots × KeepsRest old new
+Acts (SetBandwidth incoming outgoing answer) old new = Sets answer (with_bandwidth old incoming outgoing) old new
+Acts (ConfigureThrottle name interval acceleration deceleration answer) old new =
+    DoesWithMemory answer (on_named old.slots name (throttling interval acceleration deceleration)) old.slots new.slots × KeepsRest old new
+Acts (SetPingInterval name ms answer) old new = Does answer (on_named old.slots name (pinging ms)) old.slots new.slots × KeepsRest old new
+Acts (SetTimeout name limit minimum maximum answer) old new =
+    Does answer (on_named old.slots name (waiting limit minimum maximum)) old.slots new.slots × KeepsRest old new
+Acts (NextEvent answer) old new = Takes answer old new
+
+-- calls, one after another
+abbrev pub Steps : List Call → Host → Host → Type 0
+Steps [] old new = old ≡ new
+Steps (c ∷ cs) old new = (next : Host) × Acts c old next × Steps cs next new

@@ -1,0 +1,4 @@
+pub mod Calls
+pub mod Deeds
+pub mod Falling
+pub mod Law
