@@ -1,0 +1,73 @@
+//! Bytes as scripts write them: `-` for none, else parts between commas. A part is bytes in hex, or one byte in hex, `x` and
+//! how often it stands there.
+
+use crate::fault::{Fault, UNREADABLE};
+use std::alloc::{AllocError, Global};
+
+/// From so many on, equal bytes are told by their count.
+const MANY: usize = 16;
+
+/// The bytes that a word writes.
+pub(crate) fn read_bytes(alloc: Global, word: &str) -> Result<Vec<u8>, Fault> {
+    let mut bytes = Vec::new(alloc);
+    if word == "-" {
+        return Ok(bytes);
+    }
+    for part in word.split(',') {
+        read_part(alloc, part, &mut bytes)?;
+    }
+    Ok(bytes)
+}
+
+fn read_part(alloc: Global, part: &str, bytes: &mut Vec<u8>) -> Result<(), Fault> {
+    let (text, count) = match part.split_once('x') {
+        None => (part, 1),
+        Some((text, count)) => (text, count.parse::<usize>().map_err(|_| UNREADABLE)?),
+    };
+    let Ok(once) = hex::decode(alloc, text) else {
+        return Err(UNREADABLE);
+    };
+    for _ in 0..count {
+        bytes.extend_from_slice(once.as_slice())?;
+    }
+    Ok(())
+}
+
+/// Writes bytes so that `read_bytes` reads them.
+pub(crate) fn push_bytes(text: &mut String, bytes: &[u8]) -> Result<(), AllocError> {
+    if bytes.is_empty() {
+        return text.push_str("-");
+    }
+    let mut is_first = true;
+    let mut was_many = false;
+    for run in bytes.chunk_by(|one, other| one == other) {
+        let is_many = run.len() >= MANY;
+        if !is_first && (is_many || was_many) {
+            text.push_str(",")?;
+        }
+        if is_many {
+            push_many(text, run)?;
+        } else {
+            push_each(text, run)?;
+        }
+        is_first = false;
+        was_many = is_many;
+    }
+    Ok(())
+}
+
+/// Writes equal bytes by their count.
+fn push_many(text: &mut String, run: &[u8]) -> Result<(), AllocError> {
+    let Some(byte) = run.first() else {
+        return Ok(());
+    };
+    let count = run.len();
+    write!(text, "{byte:02x}x{count}")
+}
+
+fn push_each(text: &mut String, bytes: &[u8]) -> Result<(), AllocError> {
+    for byte in bytes {
+        write!(text, "{byte:02x}")?;
+    }
+    Ok(())
+}

@@ -1,0 +1,141 @@
+//! `check_hosts` runs scripts over hosts of ours and compares each answer with the one that the script wants. A script is a
+//! file NAME.hosts; the files lie where the program runs. The wanted answers were worked out by hand from the rules, and those
+//! of the captured scripts come from what the reference library's users saw and from a model of the rules that shares no code
+//! with this program.
+//!
+//! A line is `COMMAND = ANSWER`, or begins with `#`, or is blank. The commands are those of `Field::run`. For each script the
+//! program prints how many steps went as wanted, or the first line that differs, and ends there with status 1.
+//!
+//! Standard input may have a decimal number: then only the scripts of connecting and of settings run, and so many growths are
+//! made before the first. A run that refuses the growth of one number so refuses any of the scripts', by the input alone.
+//! Where a step is refused for want of memory, nothing that the host tells may have changed, and the step is repeated once.
+//! Status 2: a growth of the program's own was refused. Status 3: input or output failed. Status 4: the growth behind the last
+//! script's was refused, so that the scripts have no more.
+#![tactic(auto)]
+
+mod bytes_text;
+mod fault;
+mod field;
+mod script;
+mod seen;
+mod setting;
+mod telling;
+mod words;
+
+use fault::Fault;
+use script::run_script;
+use std::alloc::Global;
+use std::fs;
+use std::io::Read;
+use std::process::ExitCode;
+use std::rt::Files;
+
+/// The scripts whose growths are refused in turn.
+const SCARCE: [&str; 5] = [
+    "connect-offer",
+    "connect-handshake",
+    "connect-refusals",
+    "disconnect-now-and-connect-again",
+    "bandwidth-and-throttle-commands",
+];
+
+/// The other scripts.
+const SCRIPTS: [&str; 17] = [
+    "configurations-refused",
+    "stops-of-a-datagram",
+    "fronts-of-an-offer",
+    "no-sent-time",
+    "waiting-data",
+    "disagreeing-total",
+    "three-slots-four-clients",
+    "slot-used-up",
+    "same-connect-id",
+    "repeated-offer",
+    "crossing-connects",
+    "captured-channels",
+    "captured-data",
+    "captured-ends",
+    "captured-idle",
+    "captured-reconnect",
+    "captured-strangers",
+];
+
+fn main(rt: HostRuntime) -> ExitCode {
+    match run(&rt) {
+        Ok(()) => ExitCode::SUCCESS,
+        Err(fault) => ExitCode::from(fault.status()),
+    }
+}
+
+fn run<R: Files + Print + Input + AllocGlobal>(rt: &R) -> Result<(), Fault> {
+    let alloc = rt.alloc();
+    let Some(count) = growths_before(&mut rt.reader())? else {
+        run_files(rt, &SCARCE)?;
+        return run_files(rt, &SCRIPTS);
+    };
+    grow(alloc, count, Fault::OwnMemory)?;
+    run_files(rt, &SCARCE)?;
+    grow(alloc, 1, Fault::NoMoreGrowths)
+}
+
+/// How many growths are to be made before the first script, if the input has a number.
+fn growths_before<R: Read>(reader: &mut R) -> Result<Option<u32>, Fault> {
+    let mut text = [0; 16];
+    let Ok(len) = reader.read(&mut text) else {
+        return Err(Fault::Io);
+    };
+    if len == 0 {
+        return Ok(None);
+    }
+    let mut number = 0u32;
+    for byte in &text {
+        if byte.is_ascii_digit() {
+            number = number
+                .wrapping_mul(10)
+                .wrapping_add(u32::from(*byte - b'0'));
+        }
+    }
+    Ok(Some(number))
+}
+
+/// Makes so many growths, and gives them back. Where one is refused, this is the fault.
+fn grow(alloc: Global, count: u32, refused: Fault) -> Result<(), Fault> {
+    for _growth in 0..count {
+        if Vec::<u8>::with_capacity(alloc, 1).is_err() {
+            return Err(refused);
+        }
+    }
+    Ok(())
+}
+
+fn run_files<R: Files + Print + AllocGlobal>(rt: &R, names: &[&str]) -> Result<(), Fault> {
+    for name in names {
+        run_file(rt, name)?;
+    }
+    Ok(())
+}
+
+/// Runs one script, and prints how it ended.
+fn run_file<R: Files + Print + AllocGlobal>(rt: &R, name: &str) -> Result<(), Fault> {
+    let alloc = rt.alloc();
+    let path = format!(in alloc; "{name}.hosts")?;
+    let Ok(text) = fs::read_to_string(rt, path.as_str()) else {
+        return Err(Fault::Io);
+    };
+    let mut seen = String::with_capacity(alloc, script::LONGEST_ANSWER)?;
+    let outcome = run_script(alloc, text.as_str(), &mut seen);
+    let told = match outcome {
+        Ok(account) => {
+            let steps = account.steps;
+            let repeated = account.repeated;
+            println!(rt; "{name}: {steps} steps as wanted, {repeated} repeated for want of memory")
+        }
+        Err(Fault::Differs(line)) => println!(rt; "{name}: line {line} differs, there was: {seen}"),
+        Err(Fault::Unreadable(line)) => println!(rt; "{name}: line {line} can't be read"),
+        Err(_) => Ok(()),
+    };
+    if told.is_err() {
+        return Err(Fault::Io);
+    }
+    outcome.map(|_| ())
+}

@@ -1,0 +1,75 @@
+//! The text of answers.
+
+use crate::bytes_text::push_bytes;
+use crate::fault::Fault;
+use enet_connect::Terms;
+use enet_types::{Event, Packet, PeerRef, Received, Refusal};
+use std::alloc::AllocError;
+
+/// `ok`, or a refusal's number and name.
+pub(crate) fn push_done(text: &mut String, outcome: Result<(), Refusal>) -> Result<(), Fault> {
+    match outcome {
+        Ok(()) => text.push_str("ok")?,
+        Err(why) => text.push_str(why.label())?,
+    }
+    Ok(())
+}
+
+pub(crate) fn push_received(text: &mut String, received: Received) -> Result<(), AllocError> {
+    let handled = received.handled;
+    write!(text, "handled {handled}")?;
+    if let Some(stop) = received.stop {
+        write!(text, " stop S{}", stop.number())?;
+    }
+    Ok(())
+}
+
+pub(crate) fn push_event(text: &mut String, event: &Event) -> Result<(), AllocError> {
+    match event {
+        Event::Connect { peer, info } => push_end(text, "connect", *peer, *info),
+        Event::Disconnect { peer, info } => push_end(text, "disconnect", *peer, *info),
+        Event::Receive { peer, packet } => push_packet(text, *peer, packet),
+        Event::Refused { .. } => text.push_str("refused"),
+    }
+}
+
+fn push_end(text: &mut String, name: &str, peer: PeerRef, info: u32) -> Result<(), AllocError> {
+    let slot = peer.slot;
+    let generation = peer.generation;
+    write!(text, "{name} {slot}.{generation} data {info}")
+}
+
+fn push_packet(text: &mut String, peer: PeerRef, packet: &Packet) -> Result<(), AllocError> {
+    let slot = peer.slot;
+    let generation = peer.generation;
+    let channel = packet.channel;
+    let flags = packet.flags;
+    write!(
+        text,
+        "receive {slot}.{generation} ch {channel} flags {flags} "
+    )?;
+    push_bytes(text, packet.body.as_slice())
+}
+
+/// Terms, or `none`.
+pub(crate) fn push_terms(text: &mut String, terms: Option<Terms>) -> Result<(), AllocError> {
+    let Some(terms) = terms else {
+        return text.push_str("none");
+    };
+    let slot = terms.slot;
+    let channels = terms.channels;
+    let mtu = terms.mtu;
+    let window = terms.window;
+    write!(
+        text,
+        "slot {slot} channels {channels} mtu {mtu} window {window}"
+    )?;
+    let incoming = terms.incoming_session;
+    let outgoing = terms.outgoing_session;
+    write!(text, " sessions {incoming} {outgoing}")?;
+    let interval = terms.throttle_interval;
+    let up = terms.acceleration;
+    let down = terms.deceleration;
+    let id = terms.connect_id;
+    write!(text, " throttle {interval} {up} {down} id {id:08x}")
+}
