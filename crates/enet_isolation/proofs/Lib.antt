@@ -8,3 +8,4 @@ pub mod Serving
 pub mod OneCall
 pub mod Names
 pub mod AllCalls
+pub mod Matching

@@ -2,3 +2,4 @@ pub mod Calls
 pub mod Deeds
 pub mod Falling
 pub mod Law
+pub mod Ends

@@ -3,6 +3,7 @@
 //! It speaks of the definitions that the contracts of `enet_host::HostCore` and `enet_peer::Peer` name.
 #![tactic(auto)]
 
+ghost use Rattle.enet_isolation.specs.Ends.{Matches};
 ghost use Rattle.enet_isolation.specs.Law.{OneCall, Isolation};
 
 /// What calls of a host make of one of its connections.
@@ -17,9 +18,13 @@ ghost use Rattle.enet_isolation.specs.Law.{OneCall, Isolation};
 /// slot, in order; what was refused, for want of memory too, is none of them. Once the connection is over nobody has its name
 /// again.
 ///
+/// `events`: each deed is the event of that name at one end of a connection, as the law of one connection has it, where a command
+/// that comes is one of the other end's log and in time. So a connection of two hosts is two such lists of deeds.
+///
 /// What connections share stands in the definition of what falls to a slot: the clock, the turn order of slots, through the
 /// number of connected peers the throttle limit, and where they begin, the free slots with their generations and sessions.
 pub fn isolation()
     ensures one_call { OneCall }
     ensures calls { Isolation }
+    ensures events { Matches }
 {}

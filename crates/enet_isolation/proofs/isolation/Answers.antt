@@ -1,5 +1,6 @@
 use Rattle.enet_isolation.proofs.OneCall.{one-call}
 use Rattle.enet_isolation.proofs.AllCalls as all
+use Rattle.enet_isolation.proofs.Matching.{matches}
 use Rattle.enet_isolation.proofs.isolation.Goals as goal
 
 pub returns-clause-one_call : goal.returns-clause-one_call
@@ -7,3 +8,6 @@ returns-clause-one_call c = one-call
 
 pub returns-clause-calls : goal.returns-clause-calls
 returns-clause-calls c = all.isolation
+
+pub returns-clause-events : goal.returns-clause-events
+returns-clause-events c = matches
