@@ -1,12 +1,12 @@
-//! `check_hosts` runs scripts over hosts of ours and compares each answer with the one that the script wants. A script is a
-//! file NAME.hosts; the files lie where the program runs. The wanted answers were worked out by hand from the rules, and those
+//! `check_hosts` runs scripts over hosts of ours and compares each answer with the one that the script wants. Five scripts
+//! stand in the program, each other one is a file NAME.hosts; the files lie where the program runs. The wanted answers were worked out by hand from the rules, and those
 //! of the captured scripts come from what the reference library's users saw and from a model of the rules that shares no code
 //! with this program.
 //!
 //! A line is `COMMAND = ANSWER`, or begins with `#`, or is blank. The commands are those of `Field::run`. For each script the
 //! program prints how many steps went as wanted, or the first line that differs, and ends there with status 1.
 //!
-//! Standard input may have a decimal number: then only the scripts of connecting and of settings run, and so many growths are
+//! Standard input may have a decimal number: then only the five scripts run, and so many growths are
 //! made before the first. A run that refuses the growth of one number so refuses any of the scripts', by the input alone.
 //! Where a step is refused for want of memory, nothing that the host tells may have changed, and the step is repeated once.
 //! Status 2: a growth of the program's own was refused. Status 3: input or output failed. Status 4: the growth behind the last
@@ -16,6 +16,7 @@
 mod bytes_text;
 mod fault;
 mod field;
+mod scarce;
 mod script;
 mod seen;
 mod setting;
@@ -23,6 +24,7 @@ mod telling;
 mod words;
 
 use fault::Fault;
+use scarce::SCARCE;
 use script::run_script;
 use std::alloc::Global;
 use std::fs;
@@ -30,16 +32,7 @@ use std::io::Read;
 use std::process::ExitCode;
 use std::rt::Files;
 
-/// The scripts whose growths are refused in turn.
-const SCARCE: [&str; 5] = [
-    "connect-offer",
-    "connect-handshake",
-    "connect-refusals",
-    "disconnect-now-and-connect-again",
-    "bandwidth-and-throttle-commands",
-];
-
-/// The other scripts.
+/// The scripts in files.
 const SCRIPTS: [&str; 17] = [
     "configurations-refused",
     "stops-of-a-datagram",
@@ -70,11 +63,11 @@ fn main(rt: HostRuntime) -> ExitCode {
 fn run<R: Files + Print + Input + AllocGlobal>(rt: &R) -> Result<(), Fault> {
     let alloc = rt.alloc();
     let Some(count) = growths_before(&mut rt.reader())? else {
-        run_files(rt, &SCARCE)?;
+        run_kept(rt)?;
         return run_files(rt, &SCRIPTS);
     };
     grow(alloc, count, Fault::OwnMemory)?;
-    run_files(rt, &SCARCE)?;
+    run_kept(rt)?;
     grow(alloc, 1, Fault::NoMoreGrowths)
 }
 
@@ -108,6 +101,14 @@ fn grow(alloc: Global, count: u32, refused: Fault) -> Result<(), Fault> {
     Ok(())
 }
 
+/// Runs the scripts that stand in the program.
+fn run_kept<R: Print + AllocGlobal>(rt: &R) -> Result<(), Fault> {
+    for script in &SCARCE {
+        run_text(rt, script.name, script.text)?;
+    }
+    Ok(())
+}
+
 fn run_files<R: Files + Print + AllocGlobal>(rt: &R, names: &[&str]) -> Result<(), Fault> {
     for name in names {
         run_file(rt, name)?;
@@ -115,22 +116,27 @@ fn run_files<R: Files + Print + AllocGlobal>(rt: &R, names: &[&str]) -> Result<(
     Ok(())
 }
 
-/// Runs one script, and prints how it ended.
+/// Runs the script of a file.
 fn run_file<R: Files + Print + AllocGlobal>(rt: &R, name: &str) -> Result<(), Fault> {
-    let alloc = rt.alloc();
-    let path = format!(in alloc; "{name}.hosts")?;
+    let path = format!(in rt.alloc(); "{name}.hosts")?;
     let Ok(text) = fs::read_to_string(rt, path.as_str()) else {
         return Err(Fault::Io);
     };
+    run_text(rt, name, text.as_str())
+}
+
+/// Runs a script, and prints how it ended.
+fn run_text<R: Print + AllocGlobal>(rt: &R, name: &str, text: &str) -> Result<(), Fault> {
+    let alloc = rt.alloc();
     let mut seen = String::with_capacity(alloc, script::LONGEST_ANSWER)?;
-    let outcome = run_script(alloc, text.as_str(), &mut seen);
+    let outcome = run_script(alloc, text, &mut seen);
     let told = match outcome {
         Ok(account) => {
             let steps = account.steps;
             let repeated = account.repeated;
-            println!(rt; "{name}: {steps} steps as wanted, {repeated} repeated for want of memory")
+            println!(rt; "{name}: {steps} steps: as expected, {repeated} growths refused")
         }
-        Err(Fault::Differs(line)) => println!(rt; "{name}: line {line} differs, there was: {seen}"),
+        Err(Fault::Differs(line)) => println!(rt; "{name}: line {line}: {seen} differs"),
         Err(Fault::Unreadable(line)) => println!(rt; "{name}: line {line} can't be read"),
         Err(_) => Ok(()),
     };
