@@ -1,13 +1,12 @@
 -- Each deed is the event that it is named after.
-use Rattle.std.proofs.Common.{◌≡◌, refl, sym, ap, subst, ◌∙◌, Option, Some}
+use Rattle.std.proofs.Common.{◌≡◌, refl, sym, ap, ◌∙◌, Option, Some}
 use Rattle.enet_codec.specs.Message.{Message}
 use Rattle.enet_peer.specs.Peering.{Peering}
 use Rattle.enet_peer.specs.Arrivals.{obeyed}
-use Rattle.enet_connection.specs.Connection.{Put, End}
-use Rattle.enet_connection.specs.Steps.{Happens, with_peer}
+use Rattle.enet_connection.specs.Steps.{with_peer}
 use Rattle.enet_isolation.specs.Deeds as deed
 use Rattle.enet_isolation.specs.Deeds.{Deed, Alone}
-use Rattle.enet_isolation.specs.Ends.{event_of, Brings, end_after, Matches}
+use Rattle.enet_isolation.specs.Ends.{Matches}
 
 some : (p q : Peering) → p ≡ q → ◌≡◌ {A = Option Peering} (Some q) (Some p)
 some p q e = ap (λ (x : Peering). Some x) (sym e)

@@ -1,5 +1,5 @@
 -- A deed of a peer as an event of one end of a connection.
-use Rattle.std.specs.Prelude.{◌≡◌, List, [], ◌∷◌, ◌++◌, Option, Some}
+use Rattle.std.specs.Prelude.{◌≡◌, [], ◌∷◌, ◌++◌, Some}
 use Rattle.enet_peer.specs.Peering.{Peering}
 use Rattle.enet_connection.specs.Connection.{Put, End}
 use Rattle.enet_connection.specs.Steps.{Event, Happens, InTime, with_peer, with_submission, with_emission}
