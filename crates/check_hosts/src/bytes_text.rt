@@ -24,13 +24,24 @@ fn read_part(alloc: Global, part: &str, bytes: &mut Vec<u8>) -> Result<(), Fault
         None => (part, 1),
         Some((text, count)) => (text, count.parse::<usize>().map_err(|_| UNREADABLE)?),
     };
-    let Ok(once) = hex::decode(alloc, text) else {
-        return Err(UNREADABLE);
-    };
+    let mut once = Vec::new(alloc);
+    for pair in text.as_bytes().chunks(2) {
+        once.push(read_byte(pair)?).map_err(AllocError::from)?;
+    }
     for _ in 0..count {
         bytes.extend_from_slice(once.as_slice())?;
     }
     Ok(())
+}
+
+/// The byte of two hex digits.
+fn read_byte(pair: &[u8]) -> Result<u8, Fault> {
+    let [high, low] = pair else {
+        return Err(UNREADABLE);
+    };
+    let high = char::from(*high).to_digit(16).ok_or(UNREADABLE)?;
+    let low = char::from(*low).to_digit(16).ok_or(UNREADABLE)?;
+    u8::try_from(high * 16 + low).map_err(|_| UNREADABLE)
 }
 
 /// Writes bytes so that `read_bytes` reads them.
