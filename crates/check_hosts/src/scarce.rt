@@ -137,8 +137,7 @@ bandwidth B 0 65536 = ok
 throttle B 0.0 1000 4 1 = ok
 turn B = 0.0 A 800000008aff000200000000000100008bff0003000003e80000000400000001
 deliver A B 2 = handled 2
-turn A = 0.0 B 000001ff00020002000001ff000300030000
-deliver B A 2 = handled 2
+drain A = ok
 # Once the connection is over no further number is taken.
 ask A 0.0 0 = ok
 throttle A 0.0 1 1 1 = E3 NotConnected
