@@ -1,0 +1,4 @@
+pub mod Options
+pub mod PhaseSteps
+pub mod Reporting
+pub mod Tellings
