@@ -18,7 +18,7 @@ use std::rt::{Env, Files};
 use std::{env, fs};
 
 /// How many datagrams are drawn where no number is given.
-const DRAWN: u32 = 200_000;
+const DRAWN: u32 = 20_000;
 
 fn main(rt: HostRuntime) -> Result<()> {
     let drawn = match env::args(&rt)?.skip(1).next() {
