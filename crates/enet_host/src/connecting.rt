@@ -8,7 +8,7 @@ ghost use Rattle.enet_host.specs.Host.{limits_of, name_of};
 ghost use Rattle.enet_host.specs.Opening.{is_available, available, given, asking, answering, joined_terms, Connects};
 ghost use Rattle.enet_host.specs.Shown.{shown, all_shown};
 
-use crate::opening::{joined_terms, limits_of, offer_from, server_from};
+use crate::opening::{Start, joined_terms, limits_of, offer_from, server_from};
 use crate::slot::Slot;
 use enet_connect::Offer;
 use enet_peer::Peer;
@@ -64,28 +64,15 @@ impl Slot {
     }
 
     /// Gives the slot of this number to a peer that asks. E1 where memory is refused, with nothing changed.
-    fn ask(
-        &mut self,
-        alloc: Global,
-        config: &Config,
-        now: u32,
-        number: u16,
-        question: Question,
-    ) -> Result<PeerRef, Refusal>
-        ensures asks { OnOk result (shown self.new ≡ asking config.now now number (shown self.old) question.address question.channels question.info question.word) }
+    fn ask(&mut self, start: &Start, number: u16, question: Question) -> Result<PeerRef, Refusal>
+        ensures asks { OnOk result (shown self.new ≡ asking start.now.config start.now.clock number (shown self.old) question.address question.channels question.info question.word) }
         ensures named { IfOk result (λ name. name ≡ name_of number (shown self.old)) }
         ensures unchanged { OnErr result (shown self.new ≡ shown self.old) }
         ensures memory { IfErr result (λ why. why ≡ Refusal.Memory) }
     {
-        let offer = offer_from(
-            config,
-            number,
-            self,
-            question.channels,
-            question.info,
-            question.word,
-        );
-        let peer = Peer::connecting(alloc, now, offer, limits_of(config))?;
+        let offer = offer_from(&start.config, number, self, &question);
+        let limits = limits_of(&start.config);
+        let peer = Peer::connecting(start.alloc, start.clock, offer, limits)?;
         self.give(question.address, peer);
         Ok(PeerRef {
             slot: number,
@@ -96,44 +83,41 @@ impl Slot {
     /// Gives the slot of this number to a peer that answers an offer. E1 where memory is refused, with nothing changed.
     pub fn answer(
         &mut self,
-        alloc: Global,
-        config: &Config,
-        now: u32,
+        start: &Start,
         number: u16,
         from: Addr,
         offer: Offer,
     ) -> Result<(), Refusal>
         requires { IsTrue (is_channel_count offer.channels) }
-        ensures answers { OnOk result (shown self.new ≡ answering config.now now number (shown self.old) from offer) }
+        ensures answers { OnOk result (shown self.new ≡ answering start.now.config start.now.clock number (shown self.old) from offer) }
         ensures unchanged { OnErr result (shown self.new ≡ shown self.old) }
         ensures memory { IfErr result (λ why. why ≡ Refusal.Memory) }
     {
-        let server = server_from(config, number, self);
-        let peer = Peer::answering(alloc, now, offer, server, limits_of(config))?;
+        let server = server_from(&start.config, number, self);
+        let limits = limits_of(&start.config);
+        let peer = Peer::answering(start.alloc, start.clock, offer, server, limits)?;
         self.give(from, peer);
         Ok(())
     }
 }
 
-/// The lowest available slot asks for a connection at the time `now`. E8 for no channels, E7 where no slot is available, E1
+/// The lowest available slot asks for a connection. E8 for no channels, E7 where no slot is available, E1
 /// where memory is refused; after each of them nothing has changed.
 pub(crate) fn connect(
     slots: &mut Vec<Slot>,
-    alloc: Global,
-    config: &Config,
-    now: u32,
+    start: &Start,
     question: Question,
 ) -> Result<PeerRef, Refusal>
     requires { length slots.old.items ≤ 4095 }
     ensures count { length slots.new.items ≡ length slots.old.items }
-    ensures connects { Connects config.now now (all_shown slots.old.items) question.address question.channels question.info question.word result (all_shown slots.new.items) }
+    ensures connects { Connects start.now.config start.now.clock (all_shown slots.old.items) question.address question.channels question.info question.word result (all_shown slots.new.items) }
 {
     if question.channels == 0 {
         return Err(Refusal::BadConfig);
     }
-    let Some(place) = lowest_available(slots, config) else {
+    let Some(place) = lowest_available(slots, &start.config) else {
         return Err(Refusal::NoSlot);
     };
     let slot = &mut slots[place];
-    slot.ask(alloc, config, now, place as u16, question)
+    slot.ask(start, place as u16, question)
 }

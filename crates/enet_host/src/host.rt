@@ -13,7 +13,7 @@ ghost use Rattle.enet_host.specs.Calls as calls;
 
 use crate::connecting::{Question, connect};
 use crate::events::{body_of, first_telling, take_from};
-use crate::opening::unused_slots;
+use crate::opening::{Start, unused_slots};
 use crate::receiving::receive;
 use crate::service::{serve, slot_after};
 use crate::sharing::{set_bandwidth, share_out, tick_all};
@@ -35,10 +35,8 @@ const SHARING_INTERVAL: u32 = 1000;
 /// it as a `Host`: its settings, clock and totals, and what each slot holds. Times are in milliseconds.
 #[derive(Drop)]
 pub struct HostCore {
-    pub(crate) alloc: Global,
-    /// Its settings, with the bandwidths as they were last set.
-    pub(crate) config: Config,
-    pub(crate) clock: u32,
+    /// Its settings and its clock.
+    pub(crate) start: Start,
     /// When the bandwidth was last shared out, at first the opening.
     pub(crate) shared_at: u32,
     /// The slot that is asked first for a datagram.
@@ -60,8 +58,8 @@ impl Model for HostCore {
     ghost coded = { Prim.hlevel (codes, inbox_code) };
 
     ghost view = { λ h. record {
-      config = h.config;
-      clock = h.clock;
+      config = h.start.config;
+      clock = h.start.clock;
       shared_at = h.shared_at;
       service_from = h.service_from;
       event_from = h.event_from;
@@ -69,7 +67,7 @@ impl Model for HostCore {
       slots = all_shown h.slots.items;
     } };
 
-    ghost invariant = { λ h. KeepsHost h.config.peers h.service_from h.event_from h.slots.items };
+    ghost invariant = { λ h. KeepsHost h.start.config.peers h.service_from h.event_from h.slots.items };
 }
 
 impl HostCore {
@@ -82,9 +80,11 @@ impl HostCore {
             return Err(Refusal::BadConfig);
         }
         Ok(HostCore {
-            alloc,
-            config,
-            clock: config.clock,
+            start: Start {
+                alloc,
+                config,
+                clock: config.clock,
+            },
             shared_at: config.clock,
             service_from: 0,
             event_from: 0,
@@ -124,13 +124,7 @@ impl HostCore {
             info,
             word,
         };
-        connect(
-            &mut self.slots,
-            self.alloc,
-            &self.config,
-            self.clock,
-            question,
-        )
+        connect(&mut self.slots, &self.start, question)
     }
 
     /// A datagram comes from an address. It goes to the peer of the slot that its header names, or is the offer of one who has
@@ -145,14 +139,7 @@ impl HostCore {
         ensures { Receives self.old from bytes.now result self.new }
     {
         self.totals = self.totals.with_datagram_in(bytes.len());
-        receive(
-            &mut self.slots,
-            self.alloc,
-            &self.config,
-            self.clock,
-            from,
-            bytes,
-        )
+        receive(&mut self.slots, &self.start, from, bytes)
     }
 
     /// One datagram of the next slot that has something to send: whose it is, where it goes, and how many bytes of the buffer
@@ -165,14 +152,14 @@ impl HostCore {
     {
         let Some(sent) = serve(
             &mut self.slots,
-            self.config.peers,
+            self.start.config.peers,
             self.service_from,
-            self.clock,
+            self.start.clock,
             buf,
         ) else {
             return None;
         };
-        self.service_from = slot_after(self.config.peers, sent.0.slot);
+        self.service_from = slot_after(self.start.config.peers, sent.0.slot);
         self.totals = self.totals.with_datagram_out(sent.2);
         Some(sent)
     }
@@ -184,11 +171,11 @@ impl HostCore {
     pub fn tick(&mut self, ms: u32)
         ensures { self.new ≡ ticked self.old ms }
     {
-        self.clock = self.clock.wrapping_add(ms.min(LONGEST_TICK));
-        tick_all(&mut self.slots, self.clock);
-        if elapsed(self.clock, self.shared_at) >= SHARING_INTERVAL {
-            self.shared_at = self.clock;
-            share_out(&mut self.slots, self.config.outgoing);
+        self.start.clock = self.start.clock.wrapping_add(ms.min(LONGEST_TICK));
+        tick_all(&mut self.slots, self.start.clock);
+        if elapsed(self.start.clock, self.shared_at) >= SHARING_INTERVAL {
+            self.shared_at = self.start.clock;
+            share_out(&mut self.slots, self.start.config.outgoing);
         }
     }
 
@@ -200,8 +187,8 @@ impl HostCore {
         ensures memory { IfErr result (λ why. why ≡ Refusal.Memory) }
     {
         set_bandwidth(&mut self.slots, incoming, outgoing)?;
-        self.config.incoming = incoming;
-        self.config.outgoing = outgoing;
+        self.start.config.incoming = incoming;
+        self.start.config.outgoing = outgoing;
         Ok(())
     }
 
@@ -211,14 +198,14 @@ impl HostCore {
     pub fn next_event(&mut self) -> Option<Event>
         ensures { Takes result self.old self.new }
     {
-        let Some(slot) = first_telling(&self.slots, self.config.peers, self.event_from) else {
+        let Some(slot) = first_telling(&self.slots, self.start.config.peers, self.event_from) else {
             return None;
         };
         let Some(event) = take_from(&mut self.slots, slot) else {
             // Never: the slot has an event.
             return None;
         };
-        self.event_from = slot_after(self.config.peers, slot);
+        self.event_from = slot_after(self.start.config.peers, slot);
         Some(event)
     }
 
@@ -226,7 +213,7 @@ impl HostCore {
     pub fn next_body(&self) -> Option<&Bytes>
         ensures { Shows self.now (option_copied result) }
     {
-        let Some(slot) = first_telling(&self.slots, self.config.peers, self.event_from) else {
+        let Some(slot) = first_telling(&self.slots, self.start.config.peers, self.event_from) else {
             return None;
         };
         body_of(&self.slots, slot)

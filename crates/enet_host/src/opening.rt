@@ -5,6 +5,7 @@ ghost use Rattle.enet_host.specs.Host.{limits_of};
 ghost use Rattle.enet_host.specs.Opening.{unused_slot, joined_terms, offer_from, server_from};
 ghost use Rattle.enet_host.specs.Shown.{shown, all_shown};
 
+use crate::connecting::Question;
 use crate::slot::Slot;
 use enet_connect::{Offer, Server, Terms};
 use enet_peer::Limits;
@@ -18,6 +19,15 @@ const THROTTLE_INTERVAL: u32 = 5000;
 const ACCELERATION: u32 = 2;
 
 const DECELERATION: u32 = 2;
+
+/// What a peer begins with.
+#[derive(Drop)]
+pub(crate) struct Start {
+    pub alloc: Global,
+    /// The host's settings, with the bandwidths as they were last set.
+    pub config: Config,
+    pub clock: u32,
+}
 
 /// So many slots that held no peer yet.
 pub(crate) fn unused_slots(alloc: Global, count: u16) -> Result<Vec<Slot>, Refusal>
@@ -63,16 +73,9 @@ pub(crate) fn joined_terms(config: &Config) -> Terms
     }
 }
 
-/// What a client offers from a slot, with a word for the server's user and a connect id.
-pub(crate) fn offer_from(
-    config: &Config,
-    number: u16,
-    slot: &Slot,
-    channels: u8,
-    info: u32,
-    word: u32,
-) -> Offer
-    ensures { result ≡ offer_from config.now number (shown slot.now) channels info word }
+/// What a client offers from the slot of this number.
+pub(crate) fn offer_from(config: &Config, number: u16, slot: &Slot, question: &Question) -> Offer
+    ensures { result ≡ offer_from config.now number (shown slot.now) question.now.channels question.now.info question.now.word }
 {
     Offer {
         outgoing_peer: number,
@@ -80,14 +83,14 @@ pub(crate) fn offer_from(
         outgoing_session: slot.outgoing_session,
         mtu: config.mtu,
         window: window_of(config.outgoing, 0),
-        channels: u32::from(channels),
+        channels: u32::from(question.channels),
         incoming_bandwidth: config.incoming,
         outgoing_bandwidth: config.outgoing,
         throttle_interval: THROTTLE_INTERVAL,
         acceleration: ACCELERATION,
         deceleration: DECELERATION,
-        connect_id: word,
-        info,
+        connect_id: question.word,
+        info: question.info,
     }
 }
 

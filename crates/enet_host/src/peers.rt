@@ -20,8 +20,7 @@ impl HostCore {
     /// Submits a packet to a peer on a channel; `flags` are its flags (RELIABLE 1, UNSEQUENCED 2, UNRELIABLE_FRAGMENT 8, others
     /// are ignored).
     ///
-    /// A refusal is the first that applies: E2 where there is no such peer; E3 where it is not connected; E4 where there is no
-    /// such channel; E5 where the body is longer than the settings allow, or would be cut into more than 16,384 pieces; E1
+    /// A refusal is the first that applies: E2; E3 where the peer is not connected; E4 where there is no such channel; E5 where the body is longer than the settings allow, or would be cut into more than 16,384 pieces; E1
     /// where memory is refused. After it nothing has changed, and the body comes back.
     pub fn submit(
         &mut self,
@@ -38,8 +37,7 @@ impl HostCore {
 
     /// Disconnects with a word for the other end's user: all that is held, queued or unacknowledged is dropped, and a reliable
     /// DISCONNECT goes; the event comes once it is acknowledged. Where the peer still connects, its slot is free at once; where
-    /// it still answers, one unsequenced DISCONNECT goes. E2 where there is no such peer, E3 where its connection ends already:
-    /// then nothing has changed.
+    /// it still answers, one unsequenced DISCONNECT goes. E2; E3 where its connection ends already: then nothing has changed.
     pub fn disconnect(&mut self, peer: PeerRef, info: u32) -> Result<(), Refusal>
         ensures disconnects { Does result (on_named self.old.slots peer (leaving Ask info)) self.old.slots self.new.slots }
         ensures rest { KeepsRest self.old self.new }
@@ -48,8 +46,8 @@ impl HostCore {
     }
 
     /// Ends the connection for the user at once: all is dropped, events too, and one unsequenced DISCONNECT with this word
-    /// goes, with which the slot is free. Where the peer still connects, its slot is free at once. E2 where there is no such
-    /// peer, E3 where its connection ends already: then nothing has changed.
+    /// goes, with which the slot is free. Where the peer still connects, its slot is free at once. E2; E3 where its connection
+    /// ends already: then nothing has changed.
     pub fn disconnect_now(&mut self, peer: PeerRef, info: u32) -> Result<(), Refusal>
         ensures disconnects { Does result (on_named self.old.slots peer (leaving Now info)) self.old.slots self.new.slots }
         ensures rest { KeepsRest self.old self.new }
@@ -58,9 +56,8 @@ impl HostCore {
     }
 
     /// Disconnects with this word once all that is queued has gone and each reliable command is acknowledged; data that comes
-    /// meanwhile is dropped. Where the peer still connects, its slot is free at once; where it still answers, one unsequenced
-    /// DISCONNECT goes. E2 where there is no such peer, E3 where its connection ends already or is to end later: then nothing
-    /// has changed.
+    /// meanwhile is dropped. Where the peer still connects or answers, it goes as by `disconnect`. E2; E3 where its connection
+    /// ends already or is to end later: then nothing has changed.
     pub fn disconnect_later(&mut self, peer: PeerRef, info: u32) -> Result<(), Refusal>
         ensures disconnects { Does result (on_named self.old.slots peer (leaving Later info)) self.old.slots self.new.slots }
         ensures rest { KeepsRest self.old self.new }

@@ -7,13 +7,13 @@ ghost use Rattle.enet_host.specs.Receiving.{is_deaf, fits_session, stopped, refu
 ghost use Rattle.enet_host.specs.Shown.{shown, all_shown};
 
 use crate::connecting::lowest_available;
+use crate::opening::Start;
 use crate::slot::Slot;
 use enet_codec::Header;
 use enet_connect::Offer;
 use enet_datagram::{obey, read_heading, read_offer};
 use enet_peer::{Peer, PeerState};
-use enet_types::{Addr, Config, Received, Stop};
-use std::alloc::Global;
+use enet_types::{Addr, Received, Stop};
 
 /// The peer id in the header of one who has no peer yet (ENet 1.3).
 const NO_PEER: u16 = 0xFFF;
@@ -128,17 +128,10 @@ fn is_known(slots: &[Slot], from: Addr, offer: &Offer) -> bool
 }
 
 /// An offer comes.
-fn take_offer(
-    slots: &mut Vec<Slot>,
-    alloc: Global,
-    config: &Config,
-    now: u32,
-    from: Addr,
-    offer: Offer,
-) -> Received
+fn take_offer(slots: &mut Vec<Slot>, start: &Start, from: Addr, offer: Offer) -> Received
     requires { length slots.old.items ≤ 4095 }
     ensures count { length slots.new.items ≡ length slots.old.items }
-    ensures offers { Offers config.now now (all_shown slots.old.items) from offer result (all_shown slots.new.items) }
+    ensures offers { Offers start.now.config start.now.clock (all_shown slots.old.items) from offer result (all_shown slots.new.items) }
 {
     if let Some(why) = offer_refused(&offer) {
         return stopped(why);
@@ -146,28 +139,21 @@ fn take_offer(
     if is_known(slots, from, &offer) {
         return HANDLED_ONE;
     }
-    let Some(place) = lowest_available(slots, config) else {
+    let Some(place) = lowest_available(slots, &start.config) else {
         return stopped(Stop::NoSlot);
     };
     let slot = &mut slots[place];
-    match slot.answer(alloc, config, now, place as u16, from, offer) {
+    match slot.answer(start, place as u16, from, offer) {
         Ok(()) => HANDLED_ONE,
         Err(_) => stopped(Stop::Memory),
     }
 }
 
-/// A datagram comes at the time `now` to the slot that it names, or is one of a stranger, who may offer a connection.
-pub(crate) fn receive(
-    slots: &mut Vec<Slot>,
-    alloc: Global,
-    config: &Config,
-    now: u32,
-    from: Addr,
-    bytes: &[u8],
-) -> Received
+/// A datagram comes to the slot that it names, or is one of a stranger, who may offer a connection.
+pub(crate) fn receive(slots: &mut Vec<Slot>, start: &Start, from: Addr, bytes: &[u8]) -> Received
     requires { length slots.old.items ≤ 4095 }
     ensures count { length slots.new.items ≡ length slots.old.items }
-    ensures arrives { Arrives config.now now (all_shown slots.old.items) from bytes.now result (all_shown slots.new.items) }
+    ensures arrives { Arrives start.now.config start.now.clock (all_shown slots.old.items) from bytes.now result (all_shown slots.new.items) }
 {
     let (header, commands) = match read_heading(bytes) {
         Ok(found) => found,
@@ -175,7 +161,7 @@ pub(crate) fn receive(
     };
     if header.peer == NO_PEER {
         return match read_offer(commands) {
-            Some(offer) => take_offer(slots, alloc, config, now, from, offer),
+            Some(offer) => take_offer(slots, start, from, offer),
             None => stopped(Stop::UnknownPeer),
         };
     }
@@ -183,5 +169,5 @@ pub(crate) fn receive(
         return stopped(why);
     }
     let slot = &mut slots[usize::from(header.peer)];
-    slot.hear(now, header.sent, commands)
+    slot.hear(start.clock, header.sent, commands)
 }

@@ -7,7 +7,7 @@ use Rattle.enet_host.proofs.receiving.take_offer.Goals as goal
 
 pub returns-in-Some-clause-offers : goal.returns-in-Some-clause-offers
 returns-in-Some-clause-offers c =
-    subst (λ (a : Received). Offers c.args.config.now c.args.now (all_shown c.args.slots.now.items) c.args.from c.args.offer a (all_shown c.args.slots.now.items)) (sym c.stopped.ensures)
+    subst (λ (a : Received). Offers c.args.start.now.config c.args.start.now.clock (all_shown c.args.slots.now.items) c.args.from c.args.offer a (all_shown c.args.slots.now.items)) (sym c.stopped.ensures)
     (refused c.in-Some.why (sym c.offer_refused.ensures ∙ c.in-Some.is))
 
 pub returns-then-is_known-clause-offers : goal.returns-then-is_known-clause-offers
@@ -17,23 +17,23 @@ returns-then-is_known-clause-offers c =
 
 pub returns-in_default-lowest_available-clause-offers : goal.returns-in_default-lowest_available-clause-offers
 returns-in_default-lowest_available-clause-offers c =
-    subst (λ (a : Received). Offers c.args.config.now c.args.now (all_shown c.args.slots.now.items) c.args.from c.args.offer a (all_shown c.args.slots.now.items)) (sym c.stopped-in_default-lowest_available.ensures)
+    subst (λ (a : Received). Offers c.args.start.now.config c.args.start.now.clock (all_shown c.args.slots.now.items) c.args.from c.args.offer a (all_shown c.args.slots.now.items)) (sym c.stopped-in_default-lowest_available.ensures)
     (no_slot (sym c.offer_refused.ensures ∙ c.in_default.is)
     (known-in c.args.slots.now.items c.deref.result.now c.args.from c.args.offer _ _ c.is_known.ensures c.deref.ensures.value c.if-is_known.false)
-    (found-in c.args.config.now c.args.slots.now.items c.deref-2.result.now _ _ c.lowest_available.ensures.lowest c.deref-2.ensures.value c.in_default-lowest_available.is))
+    (found-in c.args.start.now.config c.args.slots.now.items c.deref-2.result.now _ _ c.lowest_available.ensures.lowest c.deref-2.ensures.value c.in_default-lowest_available.is))
 
 pub returns-in-Ok-clause-offers : goal.returns-in-Ok-clause-offers
 returns-in-Ok-clause-offers c =
-    answers-at c.args.config.now c.args.now c.args.slots.now.items c.args.from c.args.offer c.in-Some-lowest_available.place c.index_mut-slot.result.now c.answer.new.self
+    answers-at c.args.start.now.config c.args.start.now.clock c.args.slots.now.items c.args.from c.args.offer c.in-Some-lowest_available.place c.index_mut-slot.result.now c.answer.new.self
     (sym c.offer_refused.ensures ∙ c.in_default.is)
     (known-in c.args.slots.now.items c.deref.result.now c.args.from c.args.offer _ _ c.is_known.ensures c.deref.ensures.value c.if-is_known.false)
-    (found-in c.args.config.now c.args.slots.now.items c.deref-2.result.now _ _ c.lowest_available.ensures.lowest c.deref-2.ensures.value c.in-Some-lowest_available.is)
+    (found-in c.args.start.now.config c.args.slots.now.items c.deref-2.result.now _ _ c.lowest_available.ensures.lowest c.deref-2.ensures.value c.in-Some-lowest_available.is)
     (let within = c.in-Some-lowest_available.ensures.within in let len = c.deref-2.ensures.len in grind (arith, within, len)) c.index_mut-slot.ensures.value c.in-Ok.ensures.answers
 
 pub returns-in-Err-clause-offers : goal.returns-in-Err-clause-offers
 returns-in-Err-clause-offers c =
-    no-memory-at c.args.config.now c.args.now c.args.slots.now.items c.args.from c.args.offer c.in-Some-lowest_available.place c.index_mut-slot.result.now c.answer.new.self
+    no-memory-at c.args.start.now.config c.args.start.now.clock c.args.slots.now.items c.args.from c.args.offer c.in-Some-lowest_available.place c.index_mut-slot.result.now c.answer.new.self
     c.stopped-in-Err.result (sym c.offer_refused.ensures ∙ c.in_default.is)
     (known-in c.args.slots.now.items c.deref.result.now c.args.from c.args.offer _ _ c.is_known.ensures c.deref.ensures.value c.if-is_known.false)
-    (found-in c.args.config.now c.args.slots.now.items c.deref-2.result.now _ _ c.lowest_available.ensures.lowest c.deref-2.ensures.value c.in-Some-lowest_available.is)
+    (found-in c.args.start.now.config c.args.slots.now.items c.deref-2.result.now _ _ c.lowest_available.ensures.lowest c.deref-2.ensures.value c.in-Some-lowest_available.is)
     c.index_mut-slot.ensures.value c.in-Err.ensures.unchanged c.stopped-in-Err.ensures

@@ -12,8 +12,8 @@ pub returns : goal.returns
 returns c =
     let inside = c.self.inside in
     let v : Host = record {
-      config = inside.config;
-      clock = inside.clock;
+      config = inside.start.config;
+      clock = inside.start.clock;
       shared_at = inside.shared_at;
       service_from = inside.service_from;
       event_from = inside.event_from;
