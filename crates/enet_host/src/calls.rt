@@ -49,16 +49,6 @@ pub(crate) fn peer_of(slots: &[Slot], name: PeerRef) -> Option<&Peer>
 }
 
 impl Slot {
-    /// Where its peer is.
-    fn address_held(&self) -> Option<Addr>
-        ensures { result ≡ address_of (shown self.now) (shown self.now).peer }
-    {
-        match &self.peer {
-            Some(_) => Some(self.address),
-            None => None,
-        }
-    }
-
     /// Submits a packet to its peer.
     fn submit(&mut self, channel: u8, flags: u8, body: Bytes) -> Result<(), (Refusal, Bytes)>
         ensures { Submits result (record { flags = flags; body = body }) (on_peer (shown self.old) (submission channel (record { flags = flags; body = body }))) (shown self.old) (shown self.new) }
@@ -193,6 +183,6 @@ pub(crate) fn set(slots: &mut Vec<Slot>, name: PeerRef, setting: Setting) -> Res
 pub(crate) fn address_of(slots: &[Slot], name: PeerRef) -> Option<Addr>
     ensures { result ≡ address_named (all_shown slots.now) name }
 {
-    let place = place_of(slots, name)?;
-    slots[place].address_held()
+    peer_of(slots, name)?;
+    Some(slots[usize::from(name.slot)].address)
 }

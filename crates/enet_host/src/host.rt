@@ -95,8 +95,7 @@ impl HostCore {
 
     /// A host that is connected from the start: slot 0, in generation 0, to slot 0 of a host at this address, with the
     /// channels and the mtu of the settings, sessions and connect id 0; number 1 of channel 0xFF counts as sent, and no event
-    /// waits (our profile, for tests and trials of two hosts). E8 where a number of the settings is out of its range, E1 where
-    /// memory is refused.
+    /// waits (our profile, for trials of two hosts). E8 and E1 as by `open`.
     pub fn joined(alloc: Global, config: Config, address: Addr) -> Result<HostCore, Refusal>
         ensures { Opens config result (joined config address) }
     {
@@ -144,8 +143,7 @@ impl HostCore {
 
     /// One datagram of the next slot that has something to send: whose it is, where it goes, and how many bytes of the buffer
     /// it has. Slots are asked in turn, beginning after the one that was served last, at first with slot 0. The peer is named
-    /// as it was before the call, also where the datagram was its last. None where no slot has something to send. It takes no
-    /// memory.
+    /// as it was before the call. None where no slot has something to send. It takes no memory.
     pub fn service(&mut self, buf: &mut [u8; 4096]) -> Option<(PeerRef, Addr, usize)>
         ensures serves { Serves self.old result buf.new self.new }
         ensures fits { IfSome result (λ sent. sent.2 ≤ 4096) }

@@ -66,8 +66,7 @@ impl HostCore {
     }
 
     /// Sets the throttle's interval in milliseconds, and its acceleration and deceleration in parts of 32, of which the other
-    /// end is told (ENet 1.3). E2 where there is no such peer, E3 where it is not connected, E1 where memory is refused: then
-    /// nothing has changed.
+    /// end is told (ENet 1.3). E2; E3 where the peer is not connected; E1: then nothing has changed.
     pub fn throttle_configure(
         &mut self,
         peer: PeerRef,
@@ -81,8 +80,7 @@ impl HostCore {
         calls::throttle_configure(&mut self.slots, peer, interval, acceleration, deceleration)
     }
 
-    /// Sets after how many milliseconds a peer that was not heard is pinged; 0 stands for the default of 500. E2 where there is
-    /// no such peer.
+    /// Sets after how many milliseconds a peer that was not heard is pinged; 0 stands for the default of 500. E2.
     pub fn set_ping_interval(&mut self, peer: PeerRef, ms: u32) -> Result<(), Refusal>
         ensures sets { Does result (on_named self.old.slots peer (pinging ms)) self.old.slots self.new.slots }
         ensures rest { KeepsRest self.old self.new }

@@ -3,7 +3,7 @@
 ghost use Rattle.std.specs.Prelude.{◌≡◌, ◌<◌, ◌≤◌, false, length, slice_get, Some, IfSome, IfNone};
 ghost use Rattle.std.specs.List.{list_any};
 ghost use Rattle.enet_host.specs.Opening.{is_vacant};
-ghost use Rattle.enet_host.specs.Receiving.{is_deaf, fits_session, stopped, refused_by_slot, refused_by, offer_refused, is_connection, is_known, Hears, Offers, Arrives};
+ghost use Rattle.enet_host.specs.Receiving.{is_deaf, stopped, refused_by_slot, refused_by, offer_refused, is_connection, is_known, Hears, Offers, Arrives};
 ghost use Rattle.enet_host.specs.Shown.{shown, all_shown};
 
 use crate::connecting::lowest_available;
@@ -12,7 +12,7 @@ use crate::slot::Slot;
 use enet_codec::Header;
 use enet_connect::Offer;
 use enet_datagram::{obey, read_heading, read_offer};
-use enet_peer::{Peer, PeerState};
+use enet_peer::PeerState;
 use enet_types::{Addr, Received, Stop};
 
 /// The peer id in the header of one who has no peer yet (ENet 1.3).
@@ -44,17 +44,10 @@ pub(crate) fn is_deaf(state: PeerState) -> bool
     )
 }
 
-/// Whether a datagram's session is the one that a peer takes in. It isn't tested before the other end's slot is known.
-fn fits_session(peer: &Peer, session: u8) -> bool
-    ensures { result ≡ fits_session peer.now.peer session }
-{
-    let terms = peer.terms();
-    terms.slot == NO_PEER || session == terms.incoming_session
-}
-
 impl Slot {
     /// Why it takes a datagram of this session from an address not in: S3 where it is free or its peer takes nothing in, S4
-    /// where the peer is at another address, S5 where its session is another.
+    /// where the peer is at another address, S5 where its session is another; that isn't tested
+    /// before the other end's slot is known.
     fn refused_by(&self, from: Addr, session: u8) -> Option<Stop>
         ensures { result ≡ refused_by_slot from session (Some (shown self.now)) }
     {
@@ -67,7 +60,8 @@ impl Slot {
         if self.address != from {
             return Some(Stop::WrongAddress);
         }
-        if !fits_session(peer, session) {
+        let terms = peer.terms();
+        if terms.slot != NO_PEER && session != terms.incoming_session {
             return Some(Stop::WrongSession);
         }
         None

@@ -37,11 +37,13 @@ impl Slot {
     }
 }
 
-/// A datagram of a slot: the slot's peer as it was named before, where it goes, and its length.
-pub(crate) type Sent = (PeerRef, Addr, usize);
-
-/// Asks a slot for a datagram at the time `now`.
-fn serve_slot(slots: &mut Vec<Slot>, number: u16, now: u32, buf: &mut [u8; 4096]) -> Option<Sent>
+/// Asks a slot for a datagram at the time `now`: the slot's peer as it was named before, where it goes, and its length.
+fn serve_slot(
+    slots: &mut Vec<Slot>,
+    number: u16,
+    now: u32,
+    buf: &mut [u8; 4096],
+) -> Option<(PeerRef, Addr, usize)>
     requires { number < length slots.old.items }
     ensures gives { IfSome result (λ gave. SlotGives now (all_shown slots.old.items) number gave.0 gave.1 gave.2 buf.new (all_shown slots.new.items)) }
     ensures passes { IfNone result (SlotPasses now (all_shown slots.old.items) number (all_shown slots.new.items)) }
@@ -67,7 +69,7 @@ pub(crate) fn serve(
     from: u16,
     now: u32,
     buf: &mut [u8; 4096],
-) -> Option<Sent>
+) -> Option<(PeerRef, Addr, usize)>
     requires within { from < peers }
     requires all { length slots.old.items ≡ peers }
     ensures gives { IfSome result (λ gave. GivesInTurn now from (all_shown slots.old.items) gave.0 gave.1 gave.2 buf.new (all_shown slots.new.items)) }
