@@ -23,6 +23,3 @@ pub use enet_types::{
 };
 pub use host::HostCore;
 pub use totals::Totals;
-
-#[cfg(test)]
-mod tests;
