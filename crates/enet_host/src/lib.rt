@@ -2,6 +2,18 @@
 //!
 //! A host has a fixed number of slots, each of which is free or holds one peer. Times are in milliseconds, bandwidths in bytes
 //! per second.
+//!
+//! Proved, each call exactly by small definitions over the slots: one that names a peer is that peer's call on the one slot of
+//! that number and generation (`on_named`), with E2 where there is none, and leaves all else as it was (`rest`). `receive` is
+//! `Arrives`: the tests of a datagram in their order, a stranger's offer, which takes the lowest slot that is free and has a
+//! generation left, or the commands of a datagram at the one slot that its header names. `service` asks slot after slot,
+//! beginning after the one served last, up to the first that gives a datagram, and names its peer as it was before
+//! (`GivesInTurn`); `next_event` and `next_body` go by the first slot in turn that has an event (`IsFirst`). `tick` and
+//! `set_bandwidth` are one change on each slot; once a second the outgoing bandwidth is shared out among the connected peers.
+//! A slot whose peer is free keeps its sessions and has the next generation (`vacated`). Want of memory, of which no clause
+//! can say when it comes, changes nothing.
+//! Only tested, by `check_hosts`, `check_foreign` and `check_crowd`: that calls succeed with ample memory, worked scripts,
+//! captured files, foreign bytes.
 #![tactic(auto)]
 
 mod calls;
