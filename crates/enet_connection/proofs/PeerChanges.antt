@@ -40,7 +40,7 @@ use Rattle.enet_peer.specs.Endings.{dropped, ended, freed, disconnecting, partin
 use Rattle.enet_peer.specs.Arrivals.{Outcome, answered, answered_at, is_answered_in, is_allowed, is_of_handshake, obeyed, by_body, by_answer, by_arrival, on_data, stopped, sampled, with_answer, on_match, on_acknowledge, welcomed, on_verify_in, on_last_disconnect, on_disconnect_in, on_bandwidth, on_throttle}
 use Rattle.enet_peer.specs.Calls.{left, after_timeouts, after_timeouts_by, is_pinged, ticked, is_connected, pace_of, gone_on, gone_on_in}
 use Rattle.enet_connection.specs.Steps.{Way, Asking, Now, Later, leave_by, Setting, Bandwidth, Throttle, ThrottleLimit, PingInterval, Timeout, with_setting, MaySet}
-use Rattle.enet_connection.proofs.Fillings.{by-filling}
+use Rattle.enet_outbox.proofs.Filled.{by-filling}
 use Rattle.enet_connection.proofs.Runs.{either, and-left}
 
 -- what a property may speak of
