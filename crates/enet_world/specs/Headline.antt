@@ -9,7 +9,7 @@ use Rattle.enet_link.specs.Follows.{Follows}
 use Rattle.enet_world.specs.declared.event.Side.{Side}
 use Rattle.enet_world.specs.World.{Joined, end_of, submitted_of, dispatched_of}
 
--- the greatest length of the datagrams that a side puts out, in bytes
+-- the greatest length of the datagrams that a side puts out, in bytes: of a joined pair the lesser of both configurations' for ever
 abbrev pub mtu_of : Joined → Side → ℕ
 mtu_of w side = (end_of w side).peer.terms.mtu
 

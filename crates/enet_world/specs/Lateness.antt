@@ -6,7 +6,8 @@ use Rattle.enet_world.specs.declared.log.Mark.{Mark}
 use Rattle.enet_world.specs.declared.log.MarkKind.{MarkKind}
 use Rattle.enet_world.specs.declared.log.MarkKind.TheVariants.{Data, Acknowledgement, Control}
 
--- whether a command is more than 32,768 late; one of channel 0xFF never is. `sender channel` and `taker channel` are the
+-- whether a command is more than 32,768 late; one of channel 0xFF never is, but an acknowledgement of one may be.
+-- `sender channel` and `taker channel` are the
 -- greatest numbers sent on a channel by the end that put the datagram out and by the end that takes it in: the former numbers
 -- its commands, the latter what it acknowledges.
 abbrev pub is_late_by : MarkKind → (ℕ → ℕ) → (ℕ → ℕ) → Mark → Bool

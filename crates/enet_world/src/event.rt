@@ -3,7 +3,7 @@
 use bytes::Bytes;
 use enet_types::{DisconnectMode, Event, PeerRef, Received};
 
-/// One of the two hosts.
+/// One of the two sides. The addresses are those that its host is to have.
 #[derive(Clone, Copy, Debug, PartialEq, Eq)]
 pub enum Side {
     /// The host at 10.0.0.1 port 7001.
@@ -68,7 +68,7 @@ pub enum WorldEvent {
 /// What a step answers.
 #[derive(Debug, Drop)]
 pub enum Answer {
-    /// The peer that was made.
+    /// The peer that was made; a world of joined peers makes none.
     Peer(PeerRef),
     /// A submission, a tick or a disconnect was done.
     Done,

@@ -1,5 +1,5 @@
-//! A world of two hosts and the network between them, for scripts and for proofs: each thing that happens is one event, and
-//! each host sees of the other only the bytes that the network brings.
+//! A world of two joined peers and the network between them, for scripts and for proofs: each thing that happens is one
+//! event, and each peer sees of the other only the bytes that the network brings.
 //!
 //! Proved: each refusal of `joined`, `step` and `run` is answered exactly where it is the first that applies (`Refuses`,
 //! `refusal_of`); want of memory, of which no clause can say when it comes, only where none before it applies, and for a

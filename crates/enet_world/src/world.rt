@@ -15,8 +15,8 @@ use enet_types::{Config, Event};
 use std::alloc::Global;
 use std::marker::Model;
 
-/// Two hosts and the network between them, which loses, repeats and reorders datagrams as the events say. Each host sees
-/// of the other only the bytes of datagrams.
+/// Two peers, each with a clock and what its side keeps, and the network between them, which loses, repeats and reorders
+/// datagrams as the events say. Each sees of the other only the bytes of datagrams.
 ///
 /// Every world is one that steps made of a joined pair, so `step` and `run` promise without any premise that packets are
 /// handed out in order.
@@ -76,8 +76,13 @@ impl World {
     ///
     /// Whatever the events: `in_order`, what the other side's user took of a channel is a subsequence of what a side's user
     /// submitted on it, unsequenced packets apart, each packet whole and once, and leaves out no reliable packet before its
-    /// last. `one_life`, a user's events of the connection are packets and then at most one Disconnect, which nothing follows.
-    /// Datagrams that come more than 32,768 numbers late are refused with E11, which changes nothing.
+    /// last that was taken. `one_life`, a user's events of the connection are packets and then at most one Disconnect, which
+    /// nothing follows. A datagram with a command or an acknowledgement of one that is over 32,768 reliable numbers behind the
+    /// greatest sent on its channel is refused with E11, which changes nothing.
+    ///
+    /// Packets are compared by channel and bytes. Reliable are those with the flag RELIABLE, long ones without
+    /// UNRELIABLE_FRAGMENT, and one after 65,535 unreliable ones in a row. Nothing is promised of unsequenced packets here, nor
+    /// that a packet arrives. Connection 0 alone has lists.
     pub fn run(&mut self, events: &[WorldEvent]) -> Result<Vec<Result<Answer, Refusal>>, Refusal>
         ensures memory { IfErr result (λ why. why ≡ Refusal.Memory) }
         ensures unchanged { OnErr result (self.new ≡ self.old) }
