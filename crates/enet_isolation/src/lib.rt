@@ -22,7 +22,8 @@ ghost use Rattle.enet_isolation.specs.Law.{OneCall, Isolation};
 /// that comes is one of the other end's log and in time. So a connection of two hosts is two such lists of deeds.
 ///
 /// What connections share stands in the definition of what falls to a slot: the clock, the turn order of slots, through the
-/// number of connected peers the throttle limit, and where they begin, the free slots with their generations and sessions.
+/// number of connected peers the throttle limit, and where they begin, the free slots with their generations and sessions, and
+/// the test of a CONNECT's address and connect id. How many bytes a slot counts for its next share of bandwidth is left open.
 pub fn isolation()
     ensures one_call { OneCall }
     ensures calls { Isolation }
