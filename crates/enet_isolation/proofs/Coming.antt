@@ -16,7 +16,7 @@ use Rattle.enet_inbox.specs.Arrivals.{Arrival, by_took, sequenced_on, sequenced,
 use Rattle.enet_inbox.specs.Arrivals as inbox
 use Rattle.enet_peer.specs.Peering.{Peering}
 use Rattle.enet_peer.specs.Endings.{is_later}
-use Rattle.enet_peer.specs.Arrivals.{Outcome, stopped, answered, answered_at, is_answered_in, by_answer, by_arrival, on_data, by_body, obeyed, is_connect, is_allowed, on_acknowledge, on_verify_in, on_disconnect_in, on_bandwidth, on_throttle, Stops}
+use Rattle.enet_peer.specs.Arrivals.{Outcome, stopped, answered, answered_at, is_answered_in, by_answer, by_arrival, on_data, by_body, obeyed, is_connect, is_allowed, on_acknowledge, on_verify_in, on_disconnect_in, on_bandwidth, on_throttle, Stops, wants_memory}
 use Rattle.std.specs.Prelude.{is_some}
 use Rattle.enet_datagram.specs.Handling.{Handles, nothing_left, no_command, stops, goes_on, one_more, counted}
 use Rattle.enet_host.specs.Host.{greatest}
@@ -128,11 +128,11 @@ pub record Came (now : ℕ) (sent : Option ℕ) (before : ℕ) (bytes : List ℕ
 came-none : (now : ℕ) (sent : Option ℕ) (before : ℕ) (bytes : List ℕ) (p q : Peering) (s : Option Stop) → before ≤ greatest → q ≡ p → Came now sent before bytes p (record { handled = before; stop = s }) q
 came-none now sent before bytes p q s low same = record { messages = []; spelled = tt; count = omega arith; alone = sym same }
 
-came-stopped : (now : ℕ) (sent : Option ℕ) (before : ℕ) (text rest : List ℕ) (m : Message) (why : Stop) (p q : Peering) → before ≤ greatest → Spells text m → Stops why (obeyed p now sent m) p q
+came-stopped : (now : ℕ) (sent : Option ℕ) (before : ℕ) (text rest : List ℕ) (m : Message) (why : Stop) (p q : Peering) → before ≤ greatest → Spells text m → Stops why (wants_memory p now sent m) (obeyed p now sent m) p q
     → Came now sent before (text ++ rest) p (record { handled = counted before why; stop = Some why }) q
 came-stopped now sent before text rest m stop.NoSentTime p q low spells h =
     record { messages = m ∷ []; spelled = (text, rest, refl, spells, tt); count = (let e : length (m ∷ []) ≡ 1 = refl in ap (λ (n : ℕ). min (before + n) greatest) (sym e)); alone = (q, (inr h.0, h.1), refl) }
-came-stopped now sent before text rest m stop.Memory p q low spells h = came-none now sent before (text ++ rest) p q (Some stop.Memory) low h.1
+came-stopped now sent before text rest m stop.Memory p q low spells h = came-none now sent before (text ++ rest) p q (Some stop.Memory) low h.2
 came-stopped now sent before text rest m why p q low spells h =
     came-none now sent before (text ++ rest) p q (Some why) low (kept p q (obeyed p now sent m) why (keeps-obeyed p now sent m) (λ e. absurd (cc)) h.0 h.1)
 

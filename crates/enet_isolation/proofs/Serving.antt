@@ -26,7 +26,7 @@ use Rattle.enet_isolation.proofs.Single.{Each, each-set}
 
 -- a peer that was asked for a datagram
 puts-some : (now len : ℕ) (p q : Peering) (buf : List ℕ) → PutsOut now (Some len) p q buf → q ≡ emitted p now
-puts-some now len p q buf x = x.after ∙ ap (λ (o : _). gone_on (record p { outbox = o })) x.emits.1
+puts-some now len p q buf x = x.after ∙ ap (λ (o : _). gone_on (record p { outbox = o })) x.emits.0
 
 puts-none : (now : ℕ) (p q : Peering) (buf : List ℕ) → PutsOut now None p q buf → q ≡ emitted p now
 puts-none now p q buf x = x.after ∙ ap (λ (o : _). gone_on (record p { outbox = o })) x.emits.1
