@@ -1,5 +1,5 @@
 //! `check_foreign [DRAWN]`: a host with connected peers takes in datagrams that nobody should send: each front and each change
-//! of one bit of 60 captured datagrams of the reference library, and so many drawn ones (200,000 where no number is given),
+//! of one bit of 60 captured datagrams of the reference library, and so many drawn ones (1,000,000 where no number is given),
 //! half of them captured ones with a few bytes changed or cut off. The draws begin at seed 1, so each run is the same. After
 //! each the peers of the other slots must tell what they told before, and nothing may come of theirs; from time to time one of
 //! them goes on where it was. It prints how many datagrams were taken in; where a peer of another slot has changed it ends
@@ -18,7 +18,7 @@ use std::rt::{Env, Files};
 use std::{env, fs};
 
 /// How many datagrams are drawn where no number is given.
-const DRAWN: u32 = 20_000;
+const DRAWN: u32 = 1_000_000;
 
 fn main(rt: HostRuntime) -> Result<()> {
     let drawn = match env::args(&rt)?.skip(1).next() {
