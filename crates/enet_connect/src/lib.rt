@@ -8,7 +8,7 @@
 //! is never the one that the slot had (`next_session`); mtu and window of all agreed terms are in range; a client accepts
 //! the answer to its own offer, after which both ends have the same channels, mtu, throttle numbers and connect id, and what
 //! one sends with, the other takes in (`both_ends_agree`).
-//! Only tested: that the worked handshakes' bytes stand for these values.
+//! Only tested, in `check_numbers`: that the worked handshakes' bytes stand for these values.
 #![tactic(auto)]
 
 mod client;
@@ -21,6 +21,3 @@ pub use enet_codec::{Offer, Verify};
 pub use server::{Server, answer, both_ends_agree, verification};
 pub use session::next_session;
 pub use terms::Terms;
-
-#[cfg(test)]
-mod tests;

@@ -11,8 +11,8 @@
 //! that brings it (`add`), so that handing the body out (`into_body`) takes no memory. `DataCommand::command` is the command
 //! on the wire, and what is written so is read again as itself (`what_is_read_was_written`). A huge count or total is had in
 //! full or is E1, never a wrapped size.
-//! Only tested: that calls succeed with ample memory; by hand, not by the gate, that each allocation may fail (two in `new`,
-//! one in `finish`).
+//! Only tested, in `check_sending`: that calls succeed with ample memory; by hand, not by the gate, that each allocation may
+//! fail (two in `new`, one in `finish`).
 //! Neither: how much time and memory the calls take. By the code, an assembly takes `total` bytes and one byte a piece,
 //! `put` copies the piece once and walks over nothing else, `finish` copies nothing.
 #![tactic(auto)]
@@ -34,6 +34,3 @@ pub const FRAGMENT_LIMIT: u32 = 16_384;
 
 /// How many bytes of a datagram a fragment's payload can't use: 4 of the datagram's header, 24 of the command.
 pub const FRAGMENT_OVERHEAD: u32 = 28;
-
-#[cfg(test)]
-mod tests;

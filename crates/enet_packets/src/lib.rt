@@ -6,7 +6,7 @@
 //! `flush` hand out the whole packets of a line above the last one, by rising number, and drop those that have fallen
 //! behind; the counts of packets and bytes are exact (`len`, `bytes`, `packets`), by counters; want of memory changes
 //! nothing.
-//! Only tested: that calls succeed with ample memory, and worked lines.
+//! Only tested, in `check_receiving`: that calls succeed with ample memory, and worked lines.
 #![tactic(auto)]
 
 mod coming;
@@ -16,6 +16,3 @@ mod waiting;
 pub use coming::{Coming, Dispatched};
 pub use packets::Packets;
 pub use waiting::Waiting;
-
-#[cfg(test)]
-mod tests;

@@ -6,8 +6,8 @@
 //! docs/PROTOCOL.md on whole numbers, with the stops at 4,294,967,295 and 255 (`Timing::sample`, `Timing::timeout_of`,
 //! `expired`, `doubled`, `one_more`, `earlier`, `elapsed`, `round_trip_sample`); the clock that wraps tells elapsed time and
 //! order rightly (`clock_is_right`), and the estimate stays within what bounds it and its samples (`estimate_stays_within`).
-//! Only tested: that worked samples and a worked run of resends give the numbers that they should. Not claimed: that the
-//! estimate is near the network's real delay.
+//! Only tested, in `check_numbers`: that worked samples and a worked run of resends give the numbers that they should. Not
+//! claimed: that the estimate is near the network's real delay.
 #![tactic(auto)]
 
 mod clock;
@@ -17,6 +17,3 @@ mod timing;
 pub use clock::{clock_is_right, earlier, elapsed, round_trip_sample};
 pub use expiry::{Expiry, Patience, doubled, expired, one_more};
 pub use timing::{Timing, estimate_stays_within};
-
-#[cfg(test)]
-mod tests;

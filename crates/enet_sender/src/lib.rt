@@ -7,7 +7,7 @@
 //! span and the bytes in transit let it go, written where it fits; NoRoom and Nothing change nothing), `skip`,
 //! `acknowledge`, `late`, `clear`, `left`. Laws: how the bytes in transit change (`transit_follows`) and what stays left
 //! (`reliable_stays_left`).
-//! Only tested: that calls succeed with ample memory, and worked rows.
+//! Only tested, in `check_sending`: that calls succeed with ample memory, and worked rows.
 #![tactic(auto)]
 
 mod course;
@@ -19,6 +19,3 @@ mod sent;
 pub use laws::{reliable_stays_left, transit_follows};
 pub use outgoing::{Due, Kind, Left, Outgoing};
 pub use sent::Sent;
-
-#[cfg(test)]
-mod tests;

@@ -4,15 +4,13 @@
 //! `fragment_in_window`); which distances are inside the window and which numbers are acknowledged (`window_reach`); that
 //! distances and sums undo one another (`distances_and_sums`); and that a number that goes over the wire modulo 65536 is
 //! read as the number that was meant, or as nothing (`wire_numbers_as_meant`), for fragments too. No call takes memory.
-//! Only tested: that the definitions agree with values worked out by hand.
+//! Only tested, in `check_numbers`: that the definitions agree with values worked out by hand.
 #![tactic(auto)]
 
 ghost use Rattle.std.specs.Prelude.{◌≡◌};
 ghost use Rattle.enet_seq.specs.Windows.{window_of, in_window, acknowledges, ahead, after, fragment_in_window};
 
 mod laws;
-#[cfg(test)]
-mod tests;
 
 pub use laws::{distances_and_sums, window_reach, wire_numbers_as_meant};
 

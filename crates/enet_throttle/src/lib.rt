@@ -8,7 +8,7 @@
 //! bandwidth, each exactly the formula (`Throttle::sample`, `admits`, `configure`, `set_limit`, `transit_limit`,
 //! `window_of`, `budget_of`, `limit_of`); the throttle is never above its limit, nor the limit above 32 (`value`); of 32
 //! packets in a row `min(throttle + 1, 32)` go out (`throttle_shares_out`).
-//! Only tested: worked values by hand.
+//! Only tested, in `check_numbers`: worked values by hand.
 #![tactic(auto)]
 
 mod bandwidth;
@@ -16,6 +16,3 @@ mod throttle;
 
 pub use bandwidth::{budget_of, limit_of, window_of};
 pub use throttle::{Throttle, throttle_shares_out};
-
-#[cfg(test)]
-mod tests;

@@ -19,6 +19,3 @@ pub use event::{DisconnectMode, Event, PeerRef, Received};
 pub use packet::Packet;
 pub use refusal::Refusal;
 pub use stop::Stop;
-
-#[cfg(test)]
-mod tests;

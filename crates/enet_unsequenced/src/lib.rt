@@ -3,7 +3,8 @@
 //! Proved: `Groups::new`, `check` and `mark` are exact by the definitions of a base and a set of marks; over whole runs of
 //! groups numbered without bound, each is dispatched at most once where none comes over 32,768 late, and groups that come in
 //! order are all dispatched (`runs_of_groups`). No call takes memory.
-//! Only tested: that the definitions agree with values worked out by hand. Not promised: any order of unsequenced packets.
+//! Only tested, in `check_numbers`: that the definitions agree with values worked out by hand. Not promised: any order of
+//! unsequenced packets.
 #![tactic(auto)]
 
 ghost use Rattle.std.specs.Prelude.{◌≡◌, ℕ, ◌+◌, ◌%◌, ◌<◌, ◌≤◌, ◌≢◌, IsTrue, List, ◌∷◌, length, All, AllPairs, false};
@@ -12,9 +13,6 @@ ghost use Rattle.std.specs.FinSet as set;
 ghost use Rattle.enet_unsequenced.specs.Groups.{nothing_seen, dispatches, mark, dispatched};
 
 use std::marker::Model;
-
-#[cfg(test)]
-mod tests;
 
 /// How many groups a block has.
 const BLOCK_SIZE: u16 = 1024;

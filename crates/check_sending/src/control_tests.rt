@@ -1,5 +1,5 @@
-use super::*;
 use enet_codec::{Offer, Verify};
+use enet_control::{Control, ControlChannel, Written};
 use enet_rtt::{Expiry, Patience};
 use std::alloc::Global;
 

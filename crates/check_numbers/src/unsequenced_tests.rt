@@ -1,4 +1,4 @@
-use super::*;
+use enet_unsequenced::Groups;
 
 /// Whether a packet of this group is dispatched, which marks it.
 fn receive(groups: &mut Groups, group: u16) -> bool {

@@ -1,4 +1,6 @@
-use super::*;
+use enet_connect::{
+    Offer, Server, Terms, Verify, answer, asked_terms, confirm, next_session, verification,
+};
 
 // The CONNECT of a client's first connection, as bytes from the fifth on:
 // 0000 ff ff 00000570 00010000 00000002 00000000 00000000 00001388 00000002 00000002 01020304 00000007.

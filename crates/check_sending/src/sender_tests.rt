@@ -1,7 +1,7 @@
-use super::*;
 use bytes::Bytes;
 use enet_codec::Refusal;
 use enet_rtt::{Expiry, Patience};
+use enet_sender::{Due, Kind, Left, Outgoing, Sent};
 use std::alloc::{AllocError, Global};
 
 /// What may be in transit in these tests.

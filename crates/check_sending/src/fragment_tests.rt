@@ -1,6 +1,6 @@
-use crate::{Assembly, DataCommand, Gathering, Place, Put, piece, plan};
 use bytes::Bytes;
 use enet_codec::{Command, Fragment, Head};
+use enet_fragment::{Assembly, DataCommand, Gathering, Place, Put, piece, plan};
 use std::alloc::{AllocError, Global};
 
 const MTU: u32 = 1392;

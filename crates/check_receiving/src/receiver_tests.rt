@@ -1,5 +1,5 @@
-use super::*;
 use enet_codec::{Command, Fragment, Head, Packet};
+use enet_receiver::{Foresight, Incoming, Took};
 use std::alloc::Global;
 
 fn head(number: u16) -> Head {

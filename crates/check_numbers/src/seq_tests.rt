@@ -1,4 +1,4 @@
-use super::*;
+use enet_seq::{acknowledges, after, ahead, fragment_in_window, in_window};
 
 #[test]
 fn windows_by_hand(rt: HostRuntime) {

@@ -1,5 +1,5 @@
-use super::*;
 use bytes::Bytes;
+use enet_types::{Config, Packet, Refusal, Stop};
 use std::test::Fail;
 
 #[test]

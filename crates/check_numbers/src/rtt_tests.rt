@@ -1,4 +1,6 @@
-use super::*;
+use enet_rtt::{
+    Expiry, Patience, Timing, doubled, earlier, elapsed, expired, one_more, round_trip_sample,
+};
 
 #[test]
 fn round_trip_samples(rt: HostRuntime) {

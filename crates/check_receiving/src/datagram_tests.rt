@@ -1,7 +1,8 @@
-use super::*;
-use enet_codec::Refusal;
+use enet_codec::{Refusal, Stop};
 use enet_connect::Terms;
-use enet_peer::{Limits, PeerEvent};
+use enet_datagram::obey;
+use enet_peer::{Limits, Peer, PeerEvent};
+use enet_types::Received;
 use std::alloc::Global;
 
 /// A peer of two channels that is connected from the start.

@@ -1,4 +1,4 @@
-use super::*;
+use enet_throttle::{Throttle, budget_of, limit_of, window_of};
 
 // A throttle after two samples, of which the second came 100 ms later.
 fn moved_by_second_sample(measured: u32) -> Throttle {

@@ -1,6 +1,6 @@
-use super::*;
 use bytes::Bytes;
 use enet_fragment::{Gathering, Place};
+use enet_packets::{Coming, Dispatched, Packets, Waiting};
 use std::alloc::Global;
 use std::collections::VecDeque;
 

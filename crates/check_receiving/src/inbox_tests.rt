@@ -1,5 +1,5 @@
-use super::*;
 use enet_codec::{Command, Fragment, Head, Packet, Stop};
+use enet_inbox::{Foreseen, Inbox};
 use std::alloc::Global;
 
 fn head(channel: u8, number: u16) -> Head {
