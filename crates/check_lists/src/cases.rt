@@ -1,8 +1,8 @@
 //! Worked cases of what follows, judged before any list is drawn.
 
-use crate::following::follows;
 use anyhow::{Result, bail};
 use bytes::Bytes;
+use check_outcome::follows;
 use enet_codec::Packet;
 use std::alloc::{AllocError, Global};
 

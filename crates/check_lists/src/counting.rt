@@ -1,8 +1,7 @@
 //! What is counted of the lists.
 
 use crate::drawing::Setting;
-use crate::following::came_unsequenced;
-use crate::outcome::is_disconnect;
+use check_outcome::{came_unsequenced, is_disconnect};
 use enet_codec::Packet;
 use enet_types::Event;
 use enet_world::{Side, World};

@@ -6,14 +6,12 @@
 mod cases;
 mod counting;
 mod drawing;
-mod following;
 mod list;
-mod outcome;
 
 use anyhow::{Result, bail};
+use check_outcome::verdict;
 use counting::Counts;
 use drawing::Draw;
-use outcome::verdict;
 use std::alloc::Global;
 
 const LISTS: u32 = 1000;
@@ -32,7 +30,7 @@ fn run<R: Print>(rt: &R, alloc: Global) -> Result<()> {
     for number in 1..=LISTS {
         let setting = draw.setting();
         let world = list::happens(alloc, &mut draw, setting)?;
-        if let Err(fault) = verdict(&world, setting) {
+        if let Err(fault) = verdict(&world, setting.mtu, setting.channels) {
             bail!("list {number}: {fault}");
         }
         counts.add_world(&world, setting);

@@ -3,10 +3,9 @@
 ghost use Rattle.std.specs.Prelude.{◌≡◌, ◌<◌, ◌≤◌, ◌↔◌, ℕ, IsTrue, IsNone, IfSome, OnOk, OnErr};
 ghost use Rattle.std.specs.List.{All};
 ghost use Rattle.enet_world.specs.declared.event.Side.TheVariants as sides;
-ghost use Rattle.check_lists.specs.Ending.{is_disconnect, EndsOnce};
-ghost use Rattle.check_lists.specs.Sound.{IsOn, HoldsOn, IsSound};
+ghost use Rattle.check_outcome.specs.Ending.{is_disconnect, EndsOnce};
+ghost use Rattle.check_outcome.specs.Sound.{IsOn, HoldsOn, IsSound};
 
-use crate::drawing::Setting;
 use crate::following::follows;
 use enet_codec::Packet;
 use enet_types::Event;
@@ -73,11 +72,12 @@ fn first_broken(world: &World, mtu: u32, channels: u8, side: Side) -> Option<u8>
 }
 
 /// Tests what a side submitted, and what it was told.
-fn of_side(world: &World, setting: Setting, side: Side) -> Result<(), Fault>
-    ensures sound { OnOk result (IsSound world.now setting.mtu setting.channels side) }
-    ensures broken { OnErr result (¬ IsSound world.now setting.mtu setting.channels side) }
+fn of_side(world: &World, mtu: u32, channels: u8, side: Side) -> Result<(), Fault>
+    requires { 576 ≤ mtu }
+    ensures sound { OnOk result (IsSound world.now mtu channels side) }
+    ensures broken { OnErr result (¬ IsSound world.now mtu channels side) }
 {
-    if let Some(channel) = first_broken(world, setting.mtu, setting.channels, side) {
+    if let Some(channel) = first_broken(world, mtu, channels, side) {
         return Err(Fault::NotFollowed { side, channel });
     }
     if !ends_once(world.events(0, side)) {
@@ -86,12 +86,13 @@ fn of_side(world: &World, setting: Setting, side: Side) -> Result<(), Fault>
     Ok(())
 }
 
-/// Tests all that happened in a world: for each side and channel what came follows what was submitted, and each side was
-/// told nothing after a Disconnect. The fault is the first that is found.
-pub fn verdict(world: &World, setting: Setting) -> Result<(), Fault>
-    ensures sound { OnOk result (IsSound world.now setting.mtu setting.channels sides.A × IsSound world.now setting.mtu setting.channels sides.B) }
-    ensures broken { OnErr result (¬ (IsSound world.now setting.mtu setting.channels sides.A × IsSound world.now setting.mtu setting.channels sides.B)) }
+/// Tests all that happened in a world whose ends have this mtu, in bytes, and so many channels: for each side and channel what
+/// came follows what was submitted, and each side was told nothing after a Disconnect. The fault is the first that is found.
+pub fn verdict(world: &World, mtu: u32, channels: u8) -> Result<(), Fault>
+    requires { 576 ≤ mtu }
+    ensures sound { OnOk result (IsSound world.now mtu channels sides.A × IsSound world.now mtu channels sides.B) }
+    ensures broken { OnErr result (¬ (IsSound world.now mtu channels sides.A × IsSound world.now mtu channels sides.B)) }
 {
-    of_side(world, setting, Side::A)?;
-    of_side(world, setting, Side::B)
+    of_side(world, mtu, channels, Side::A)?;
+    of_side(world, mtu, channels, Side::B)
 }

@@ -3,7 +3,7 @@
 ghost use Rattle.std.specs.Prelude.{◌≡◌, ◌≤◌, ◌==◌, ◌↔◌, IsTrue};
 ghost use Rattle.enet_sender.specs.Carriage.{is_long, goes_reliable};
 ghost use Rattle.enet_outbox.specs.Outbox.{is_unsequenced};
-ghost use Rattle.check_lists.specs.Following.{submission, FollowsFrom};
+ghost use Rattle.check_outcome.specs.Following.{submission, FollowsFrom};
 
 use enet_codec::Packet;
 

@@ -4,8 +4,8 @@ use Rattle.std.specs.List.{All}
 use Rattle.enet_types.specs.declared.packet.Packet.{Packet}
 use Rattle.enet_world.specs.declared.event.Side.{Side}
 use Rattle.enet_world.specs.World.{Joined, submitted_of, dispatched_of, events_of}
-use Rattle.check_lists.specs.Ending.{EndsOnce}
-use Rattle.check_lists.specs.Following.{FollowsFrom}
+use Rattle.check_outcome.specs.Ending.{EndsOnce}
+use Rattle.check_outcome.specs.Following.{FollowsFrom}
 
 abbrev pub IsOn : ℕ → Packet → Type 0
 IsOn channel p = p.channel ≡ channel
