@@ -18,6 +18,7 @@ mod header_read;
 mod header_write;
 mod read;
 mod spelling;
+mod table;
 mod write;
 
 pub use command::{Command, Fragment, Head, Offer, Verify};

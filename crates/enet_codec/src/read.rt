@@ -1,11 +1,12 @@
 //! Reading a command.
 
-ghost use Rattle.std.specs.Prelude.{◌≡◌, ℕ, ◌≤◌, ◌+◌, ◌<◌, length, drop, take, slice_index, List, ◌++◌, IfSome, IfNone, IsSomeAnd};
+ghost use Rattle.std.specs.Prelude.{◌≡◌, ℕ, ◌≤◌, ◌+◌, ◌<◌, length, drop, take, slice_index, List, [], ◌++◌, true, IfSome, IfNone, IsSomeAnd};
 ghost use Rattle.enet_codec.specs.Message.{Message, Spells, view};
 ghost use Rattle.std.specs.Int.{w8, w16, w32, from_be_bytes};
-ghost use Rattle.enet_codec.specs.Reading.{Gives, command_at, head_at, message_at, numbers_at, offer_layout, verify_layout, fragment_layout, offer_of, verify_of, fragment_of};
+ghost use Rattle.enet_codec.specs.Reading.{Gives, command_at, head_at, is_kind, layout, message_at, message_of, numbers_at, size_of, offer_of, verify_of, fragment_of};
 
 use crate::command::{ACKNOWLEDGE, Command, Fragment, Head, Offer, UNSEQUENCED, Verify};
+use crate::table::row_of;
 
 // The byte at a place.
 fn u8_at(bytes: &[u8], at: usize) -> u8
@@ -31,238 +32,154 @@ fn u32_at(bytes: &[u8], at: usize) -> u32
     u32::from_be_bytes([bytes[at], bytes[at + 1], bytes[at + 2], bytes[at + 3]])
 }
 
-// Each of the next functions reads one kind of command, after its head: the command, and the bytes behind it.
-
-fn acknowledge<'a>(head: Head, bytes: &'a [u8]) -> Option<(Command<'a>, &'a [u8])>
-    ensures { Gives result (command_at 1 head bytes.now) }
-{
-    if bytes.len() < 4 {
-        return None;
-    }
-    Some((
-        Command::Acknowledge {
-            head,
-            received_number: u16_at(bytes, 0),
-            received_time: u16_at(bytes, 2),
-        },
-        &bytes[4..],
-    ))
-}
-
-fn offer_at(bytes: &[u8]) -> Offer
-    requires { 44 ≤ length bytes.now }
-    ensures { result ≡ offer_of (numbers_at offer_layout 0 bytes.now) }
+fn offer_at(fields: &[u8]) -> Offer
+    requires { 44 ≤ length fields.now }
+    ensures { result ≡ offer_of (numbers_at (layout 2) 0 fields.now) }
 {
     Offer {
-        outgoing_peer: u16_at(bytes, 0),
-        incoming_session: u8_at(bytes, 2),
-        outgoing_session: u8_at(bytes, 3),
-        mtu: u32_at(bytes, 4),
-        window: u32_at(bytes, 8),
-        channels: u32_at(bytes, 12),
-        incoming_bandwidth: u32_at(bytes, 16),
-        outgoing_bandwidth: u32_at(bytes, 20),
-        throttle_interval: u32_at(bytes, 24),
-        acceleration: u32_at(bytes, 28),
-        deceleration: u32_at(bytes, 32),
-        connect_id: u32_at(bytes, 36),
-        info: u32_at(bytes, 40),
+        outgoing_peer: u16_at(fields, 0),
+        incoming_session: u8_at(fields, 2),
+        outgoing_session: u8_at(fields, 3),
+        mtu: u32_at(fields, 4),
+        window: u32_at(fields, 8),
+        channels: u32_at(fields, 12),
+        incoming_bandwidth: u32_at(fields, 16),
+        outgoing_bandwidth: u32_at(fields, 20),
+        throttle_interval: u32_at(fields, 24),
+        acceleration: u32_at(fields, 28),
+        deceleration: u32_at(fields, 32),
+        connect_id: u32_at(fields, 36),
+        info: u32_at(fields, 40),
     }
 }
 
-fn connect<'a>(head: Head, bytes: &'a [u8]) -> Option<(Command<'a>, &'a [u8])>
-    ensures { Gives result (command_at 2 head bytes.now) }
-{
-    if bytes.len() < 44 {
-        return None;
-    }
-    Some((
-        Command::Connect {
-            head,
-            offer: offer_at(bytes),
-        },
-        &bytes[44..],
-    ))
-}
-
-fn verify_at(bytes: &[u8]) -> Verify
-    requires { 40 ≤ length bytes.now }
-    ensures { result ≡ verify_of (numbers_at verify_layout 0 bytes.now) }
+fn verify_at(fields: &[u8]) -> Verify
+    requires { 40 ≤ length fields.now }
+    ensures { result ≡ verify_of (numbers_at (layout 3) 0 fields.now) }
 {
     Verify {
-        outgoing_peer: u16_at(bytes, 0),
-        incoming_session: u8_at(bytes, 2),
-        outgoing_session: u8_at(bytes, 3),
-        mtu: u32_at(bytes, 4),
-        window: u32_at(bytes, 8),
-        channels: u32_at(bytes, 12),
-        incoming_bandwidth: u32_at(bytes, 16),
-        outgoing_bandwidth: u32_at(bytes, 20),
-        throttle_interval: u32_at(bytes, 24),
-        acceleration: u32_at(bytes, 28),
-        deceleration: u32_at(bytes, 32),
-        connect_id: u32_at(bytes, 36),
+        outgoing_peer: u16_at(fields, 0),
+        incoming_session: u8_at(fields, 2),
+        outgoing_session: u8_at(fields, 3),
+        mtu: u32_at(fields, 4),
+        window: u32_at(fields, 8),
+        channels: u32_at(fields, 12),
+        incoming_bandwidth: u32_at(fields, 16),
+        outgoing_bandwidth: u32_at(fields, 20),
+        throttle_interval: u32_at(fields, 24),
+        acceleration: u32_at(fields, 28),
+        deceleration: u32_at(fields, 32),
+        connect_id: u32_at(fields, 36),
     }
 }
 
-fn verify_connect<'a>(head: Head, bytes: &'a [u8]) -> Option<(Command<'a>, &'a [u8])>
-    ensures { Gives result (command_at 3 head bytes.now) }
-{
-    if bytes.len() < 40 {
-        return None;
-    }
-    Some((
-        Command::VerifyConnect {
-            head,
-            verify: verify_at(bytes),
-        },
-        &bytes[40..],
-    ))
-}
-
-fn disconnect<'a>(head: Head, bytes: &'a [u8]) -> Option<(Command<'a>, &'a [u8])>
-    ensures { Gives result (command_at 4 head bytes.now) }
-{
-    if bytes.len() < 4 {
-        return None;
-    }
-    Some((
-        Command::Disconnect {
-            head,
-            info: u32_at(bytes, 0),
-        },
-        &bytes[4..],
-    ))
-}
-
-fn ping<'a>(head: Head, bytes: &'a [u8]) -> Option<(Command<'a>, &'a [u8])>
-    ensures { Gives result (command_at 5 head bytes.now) }
-{
-    Some((Command::Ping { head }, bytes))
-}
-
-fn send_reliable<'a>(head: Head, bytes: &'a [u8]) -> Option<(Command<'a>, &'a [u8])>
-    ensures { Gives result (command_at 6 head bytes.now) }
-{
-    if bytes.len() < 2 {
-        return None;
-    }
-    let (payload, rest) = bytes[2..].split_at_checked(u16_at(bytes, 0) as usize)?;
-    Some((Command::SendReliable { head, payload }, rest))
-}
-
-fn send_unreliable<'a>(head: Head, bytes: &'a [u8]) -> Option<(Command<'a>, &'a [u8])>
-    ensures { Gives result (command_at 7 head bytes.now) }
-{
-    if bytes.len() < 4 {
-        return None;
-    }
-    let (payload, rest) = bytes[4..].split_at_checked(u16_at(bytes, 2) as usize)?;
-    Some((
-        Command::SendUnreliable {
-            head,
-            unreliable: u16_at(bytes, 0),
-            payload,
-        },
-        rest,
-    ))
-}
-
-fn fragment_at(bytes: &[u8]) -> Fragment
-    requires { 20 ≤ length bytes.now }
-    ensures { result ≡ fragment_of (numbers_at fragment_layout 0 bytes.now) }
+fn fragment_at(fields: &[u8]) -> Fragment
+    requires { 20 ≤ length fields.now }
+    ensures { result ≡ fragment_of (numbers_at (layout 8) 0 fields.now) }
 {
     Fragment {
-        start: u16_at(bytes, 0),
-        count: u32_at(bytes, 4),
-        number: u32_at(bytes, 8),
-        total: u32_at(bytes, 12),
-        offset: u32_at(bytes, 16),
+        start: u16_at(fields, 0),
+        count: u32_at(fields, 4),
+        number: u32_at(fields, 8),
+        total: u32_at(fields, 12),
+        offset: u32_at(fields, 16),
     }
 }
 
-fn send_fragment<'a>(head: Head, bytes: &'a [u8]) -> Option<(Command<'a>, &'a [u8])>
-    ensures { Gives result (command_at 8 head bytes.now) }
+fn acknowledge(head: Head, fields: &[u8]) -> Command<'static>
+    requires { 4 ≤ length fields.now }
+    ensures { view result ≡ message_of 1 head fields.now [] }
 {
-    if bytes.len() < 20 {
-        return None;
+    Command::Acknowledge {
+        head,
+        received_number: u16_at(fields, 0),
+        received_time: u16_at(fields, 2),
     }
-    let (payload, rest) = bytes[20..].split_at_checked(u16_at(bytes, 2) as usize)?;
-    Some((
-        Command::SendFragment {
+}
+
+fn send_unreliable<'a>(head: Head, fields: &[u8], payload: &'a [u8]) -> Command<'a>
+    requires { 4 ≤ length fields.now }
+    ensures { view result ≡ message_of 7 head fields.now payload.now }
+{
+    Command::SendUnreliable {
+        head,
+        unreliable: u16_at(fields, 0),
+        payload,
+    }
+}
+
+fn send_unsequenced<'a>(head: Head, fields: &[u8], payload: &'a [u8]) -> Command<'a>
+    requires { 4 ≤ length fields.now }
+    ensures { view result ≡ message_of 9 head fields.now payload.now }
+{
+    Command::SendUnsequenced {
+        head,
+        group: u16_at(fields, 0),
+        payload,
+    }
+}
+
+fn bandwidth_limit(head: Head, fields: &[u8]) -> Command<'static>
+    requires { 8 ≤ length fields.now }
+    ensures { view result ≡ message_of 10 head fields.now [] }
+{
+    Command::BandwidthLimit {
+        head,
+        incoming: u32_at(fields, 0),
+        outgoing: u32_at(fields, 4),
+    }
+}
+
+fn throttle_configure(head: Head, fields: &[u8]) -> Command<'static>
+    requires { 12 ≤ length fields.now }
+    ensures { view result ≡ message_of 11 head fields.now [] }
+{
+    Command::ThrottleConfigure {
+        head,
+        interval: u32_at(fields, 0),
+        acceleration: u32_at(fields, 4),
+        deceleration: u32_at(fields, 8),
+    }
+}
+
+// The command of this number, by the fields at the front of the bytes, and its payload.
+fn command<'a>(kind: u8, head: Head, fields: &[u8], payload: &'a [u8]) -> Command<'a>
+    requires known { is_kind kind ≡ true }
+    requires whole { size_of (layout kind) ≤ length fields.now }
+    ensures { view result ≡ message_of kind head fields.now payload.now }
+{
+    match kind {
+        1 => acknowledge(head, fields),
+        2 => Command::Connect {
             head,
-            fragment: fragment_at(bytes),
+            offer: offer_at(fields),
+        },
+        3 => Command::VerifyConnect {
+            head,
+            verify: verify_at(fields),
+        },
+        4 => Command::Disconnect {
+            head,
+            info: u32_at(fields, 0),
+        },
+        5 => Command::Ping { head },
+        6 => Command::SendReliable { head, payload },
+        7 => send_unreliable(head, fields, payload),
+        8 => Command::SendFragment {
+            head,
+            fragment: fragment_at(fields),
             payload,
         },
-        rest,
-    ))
-}
-
-fn send_unsequenced<'a>(head: Head, bytes: &'a [u8]) -> Option<(Command<'a>, &'a [u8])>
-    ensures { Gives result (command_at 9 head bytes.now) }
-{
-    if bytes.len() < 4 {
-        return None;
-    }
-    let (payload, rest) = bytes[4..].split_at_checked(u16_at(bytes, 2) as usize)?;
-    Some((
-        Command::SendUnsequenced {
+        9 => send_unsequenced(head, fields, payload),
+        10 => bandwidth_limit(head, fields),
+        11 => throttle_configure(head, fields),
+        12 => Command::SendUnreliableFragment {
             head,
-            group: u16_at(bytes, 0),
+            fragment: fragment_at(fields),
             payload,
         },
-        rest,
-    ))
-}
-
-fn bandwidth_limit<'a>(head: Head, bytes: &'a [u8]) -> Option<(Command<'a>, &'a [u8])>
-    ensures { Gives result (command_at 10 head bytes.now) }
-{
-    if bytes.len() < 8 {
-        return None;
+        _ => unreachable!(),
     }
-    Some((
-        Command::BandwidthLimit {
-            head,
-            incoming: u32_at(bytes, 0),
-            outgoing: u32_at(bytes, 4),
-        },
-        &bytes[8..],
-    ))
-}
-
-fn throttle_configure<'a>(head: Head, bytes: &'a [u8]) -> Option<(Command<'a>, &'a [u8])>
-    ensures { Gives result (command_at 11 head bytes.now) }
-{
-    if bytes.len() < 12 {
-        return None;
-    }
-    Some((
-        Command::ThrottleConfigure {
-            head,
-            interval: u32_at(bytes, 0),
-            acceleration: u32_at(bytes, 4),
-            deceleration: u32_at(bytes, 8),
-        },
-        &bytes[12..],
-    ))
-}
-
-fn send_unreliable_fragment<'a>(head: Head, bytes: &'a [u8]) -> Option<(Command<'a>, &'a [u8])>
-    ensures { Gives result (command_at 12 head bytes.now) }
-{
-    if bytes.len() < 20 {
-        return None;
-    }
-    let (payload, rest) = bytes[20..].split_at_checked(u16_at(bytes, 2) as usize)?;
-    Some((
-        Command::SendUnreliableFragment {
-            head,
-            fragment: fragment_at(bytes),
-            payload,
-        },
-        rest,
-    ))
 }
 
 // The first four bytes. Bits 4 and 5 of the first are ignored (our profile).
@@ -278,25 +195,16 @@ fn head_at(bytes: &[u8]) -> Head
     }
 }
 
-// The command of this kind, the low four bits of the first byte. 0 and 13 to 15 are no command.
-fn dispatch(kind: u8, head: Head, bytes: &[u8]) -> Option<(Command<'_>, &[u8])>
+// The command of this number, the low four bits of the first byte, whose head was read, and the bytes behind it.
+fn after_head(kind: u8, head: Head, bytes: &[u8]) -> Option<(Command<'_>, &[u8])>
     ensures { Gives result (command_at kind head bytes.now) }
 {
-    match kind {
-        1 => acknowledge(head, bytes),
-        2 => connect(head, bytes),
-        3 => verify_connect(head, bytes),
-        4 => disconnect(head, bytes),
-        5 => ping(head, bytes),
-        6 => send_reliable(head, bytes),
-        7 => send_unreliable(head, bytes),
-        8 => send_fragment(head, bytes),
-        9 => send_unsequenced(head, bytes),
-        10 => bandwidth_limit(head, bytes),
-        11 => throttle_configure(head, bytes),
-        12 => send_unreliable_fragment(head, bytes),
-        _ => None,
+    let row = row_of(kind)?;
+    if bytes.len() < row.fields {
+        return None;
     }
+    let (payload, rest) = bytes[row.fields..].split_at_checked(row.payload_len(bytes))?;
+    Some((command(kind, head, bytes, payload), rest))
 }
 
 // The command at the front, and the bytes behind it.
@@ -307,7 +215,7 @@ fn read(bytes: &[u8]) -> Option<(Command<'_>, &[u8])>
     if bytes.len() < 4 {
         return None;
     }
-    dispatch(bytes[0] & 0x0f, head_at(bytes), &bytes[4..])
+    after_head(bytes[0] & 0x0f, head_at(bytes), &bytes[4..])
 }
 
 /// The command at the front of the bytes and its length, at least 4. Whatever follows it plays no part. None exactly where

@@ -3,10 +3,11 @@
 ghost use Rattle.std.specs.Prelude.{◌≡◌, ℕ, ◌≤◌, ◌+◌, ◌*◌, ◌<◌, ◌^◌, ◌↔◌, length, IfSome, IfNone, IsSome, ◌∷◌, []};
 ghost use Rattle.std.specs.List.{AllByRecursion};
 ghost use Rattle.std.specs.Int.{w8, w16, w32, to_be_bytes};
-ghost use Rattle.enet_codec.specs.Message.{Message, Spells, IsMessage, Fits, connect, verify_connect, fields_of, fragment_fields, text, view, canonical, payload_of, bit};
+ghost use Rattle.enet_codec.specs.Message.{Message, Spells, IsMessage, Fits, connect, verify_connect, fields_of, fragment_fields, kind_of, text, view, canonical, payload_of, bit};
 ghost use Rattle.enet_codec.specs.Writing.{overwrite, Puts};
 
 use crate::command::{ACKNOWLEDGE, Command, Fragment, Head, Offer, UNSEQUENCED, Verify};
+use crate::table::row_of;
 
 // Writes bytes at a place, and gives the place after them. So do all functions here named `put_..`.
 fn put(buf: &mut [u8], at: usize, bytes: &[u8]) -> usize
@@ -115,25 +116,129 @@ fn put_fragment(buf: &mut [u8], at: usize, fragment: &Fragment, len: u16) -> usi
     put_u32(buf, at, fragment.offset)
 }
 
+fn put_two_u16(buf: &mut [u8], at: usize, first: u16, second: u16) -> usize
+    requires { at + 4 ≤ length buf.old }
+    ensures puts { Puts buf.old at (text ((w16, first) ∷ (w16, second) ∷ [])) buf.new result }
+    ensures fits { AllByRecursion Fits ((w16, first) ∷ (w16, second) ∷ []) }
+{
+    let at = put_u16(buf, at, first);
+    put_u16(buf, at, second)
+}
+
+fn put_two_u32(buf: &mut [u8], at: usize, first: u32, second: u32) -> usize
+    requires { at + 8 ≤ length buf.old }
+    ensures puts { Puts buf.old at (text ((w32, first) ∷ (w32, second) ∷ [])) buf.new result }
+    ensures fits { AllByRecursion Fits ((w32, first) ∷ (w32, second) ∷ []) }
+{
+    let at = put_u32(buf, at, first);
+    put_u32(buf, at, second)
+}
+
+fn put_three_u32(buf: &mut [u8], at: usize, first: u32, second: u32, third: u32) -> usize
+    requires { at + 12 ≤ length buf.old }
+    ensures puts { Puts buf.old at (text ((w32, first) ∷ (w32, second) ∷ (w32, third) ∷ [])) buf.new result }
+    ensures fits { AllByRecursion Fits ((w32, first) ∷ (w32, second) ∷ (w32, third) ∷ []) }
+{
+    let at = put_two_u32(buf, at, first, second);
+    put_u32(buf, at, third)
+}
+
+fn kind_of(command: &Command<'_>) -> u8
+    ensures { result ≡ kind_of (view command.now).body }
+{
+    match command {
+        Command::Acknowledge { .. } => 1,
+        Command::Connect { .. } => 2,
+        Command::VerifyConnect { .. } => 3,
+        Command::Disconnect { .. } => 4,
+        Command::Ping { .. } => 5,
+        Command::SendReliable { .. } => 6,
+        Command::SendUnreliable { .. } => 7,
+        Command::SendFragment { .. } => 8,
+        Command::SendUnsequenced { .. } => 9,
+        Command::BandwidthLimit { .. } => 10,
+        Command::ThrottleConfigure { .. } => 11,
+        Command::SendUnreliableFragment { .. } => 12,
+    }
+}
+
+fn head_of(command: &Command<'_>) -> Head
+    ensures { result ≡ (view command.now).head }
+{
+    match command {
+        Command::Acknowledge { head, .. }
+        | Command::Connect { head, .. }
+        | Command::VerifyConnect { head, .. }
+        | Command::Disconnect { head, .. }
+        | Command::Ping { head }
+        | Command::SendReliable { head, .. }
+        | Command::SendUnreliable { head, .. }
+        | Command::SendFragment { head, .. }
+        | Command::SendUnsequenced { head, .. }
+        | Command::BandwidthLimit { head, .. }
+        | Command::ThrottleConfigure { head, .. }
+        | Command::SendUnreliableFragment { head, .. } => *head,
+    }
+}
+
+fn payload_of<'a>(command: &Command<'a>) -> &'a [u8]
+    ensures { result.now ≡ payload_of (view command.now).body }
+{
+    match command {
+        Command::SendReliable { payload, .. }
+        | Command::SendUnreliable { payload, .. }
+        | Command::SendFragment { payload, .. }
+        | Command::SendUnsequenced { payload, .. }
+        | Command::SendUnreliableFragment { payload, .. } => payload,
+        _ => &[],
+    }
+}
+
+// The fields after the head; `len` is the payload's length.
+fn put_fields(buf: &mut [u8], at: usize, command: &Command<'_>, len: u16) -> usize
+    requires payload { len ≡ length (payload_of (view command.now).body) }
+    requires room { at + length (text (fields_of (view command.now).body)) ≤ length buf.old }
+    ensures puts { Puts buf.old at (text (fields_of (view command.now).body)) buf.new result }
+    ensures fits { AllByRecursion Fits (fields_of (view command.now).body) }
+{
+    match command {
+        Command::Acknowledge {
+            received_number,
+            received_time,
+            ..
+        } => put_two_u16(buf, at, *received_number, *received_time),
+        Command::Connect { offer, .. } => put_offer(buf, at, offer),
+        Command::VerifyConnect { verify, .. } => put_verify(buf, at, verify),
+        Command::Disconnect { info, .. } => put_u32(buf, at, *info),
+        Command::Ping { .. } => at,
+        Command::SendReliable { .. } => put_u16(buf, at, len),
+        Command::SendUnreliable { unreliable, .. } => put_two_u16(buf, at, *unreliable, len),
+        Command::SendFragment { fragment, .. } => put_fragment(buf, at, fragment, len),
+        Command::SendUnsequenced { group, .. } => put_two_u16(buf, at, *group, len),
+        Command::BandwidthLimit {
+            incoming,
+            outgoing,
+            ..
+        } => put_two_u32(buf, at, *incoming, *outgoing),
+        Command::ThrottleConfigure {
+            interval,
+            acceleration,
+            deceleration,
+            ..
+        } => put_three_u32(buf, at, *interval, *acceleration, *deceleration),
+        Command::SendUnreliableFragment { fragment, .. } => put_fragment(buf, at, fragment, len),
+    }
+}
+
 // How many bytes the command takes.
 fn len_of(command: &Command<'_>) -> usize
     requires { length (payload_of (view command.now).body) < 2 ^ 16 }
     ensures { result ≡ length (canonical (view command.now)) }
 {
-    match command {
-        Command::Acknowledge { .. } => 8,
-        Command::Connect { .. } => 48,
-        Command::VerifyConnect { .. } => 44,
-        Command::Disconnect { .. } => 8,
-        Command::Ping { .. } => 4,
-        Command::SendReliable { payload, .. } => 6 + payload.len(),
-        Command::SendUnreliable { payload, .. } => 8 + payload.len(),
-        Command::SendFragment { payload, .. } => 24 + payload.len(),
-        Command::SendUnsequenced { payload, .. } => 8 + payload.len(),
-        Command::BandwidthLimit { .. } => 12,
-        Command::ThrottleConfigure { .. } => 16,
-        Command::SendUnreliableFragment { payload, .. } => 24 + payload.len(),
-    }
+    let Some(row) = row_of(kind_of(command)) else {
+        unreachable!()
+    };
+    4 + row.fields + payload_of(command).len()
 }
 
 fn put_command(buf: &mut [u8], at: usize, command: &Command<'_>) -> usize
@@ -142,93 +247,10 @@ fn put_command(buf: &mut [u8], at: usize, command: &Command<'_>) -> usize
     ensures puts { Puts buf.old at (canonical (view command.now)) buf.new result }
     ensures message { IsMessage (view command.now) }
 {
-    match command {
-        Command::Acknowledge {
-            head,
-            received_number,
-            received_time,
-        } => {
-            let at = put_head(buf, at, 1, *head);
-            let at = put_u16(buf, at, *received_number);
-            put_u16(buf, at, *received_time)
-        }
-        Command::Connect { head, offer } => {
-            let at = put_head(buf, at, 2, *head);
-            put_offer(buf, at, offer)
-        }
-        Command::VerifyConnect { head, verify } => {
-            let at = put_head(buf, at, 3, *head);
-            put_verify(buf, at, verify)
-        }
-        Command::Disconnect { head, info } => {
-            let at = put_head(buf, at, 4, *head);
-            put_u32(buf, at, *info)
-        }
-        Command::Ping { head } => put_head(buf, at, 5, *head),
-        Command::SendReliable { head, payload } => {
-            let at = put_head(buf, at, 6, *head);
-            let at = put_u16(buf, at, payload.len() as u16);
-            put(buf, at, payload)
-        }
-        Command::SendUnreliable {
-            head,
-            unreliable,
-            payload,
-        } => {
-            let at = put_head(buf, at, 7, *head);
-            let at = put_u16(buf, at, *unreliable);
-            let at = put_u16(buf, at, payload.len() as u16);
-            put(buf, at, payload)
-        }
-        Command::SendFragment {
-            head,
-            fragment,
-            payload,
-        } => {
-            let at = put_head(buf, at, 8, *head);
-            let at = put_fragment(buf, at, fragment, payload.len() as u16);
-            put(buf, at, payload)
-        }
-        Command::SendUnsequenced {
-            head,
-            group,
-            payload,
-        } => {
-            let at = put_head(buf, at, 9, *head);
-            let at = put_u16(buf, at, *group);
-            let at = put_u16(buf, at, payload.len() as u16);
-            put(buf, at, payload)
-        }
-        Command::BandwidthLimit {
-            head,
-            incoming,
-            outgoing,
-        } => {
-            let at = put_head(buf, at, 10, *head);
-            let at = put_u32(buf, at, *incoming);
-            put_u32(buf, at, *outgoing)
-        }
-        Command::ThrottleConfigure {
-            head,
-            interval,
-            acceleration,
-            deceleration,
-        } => {
-            let at = put_head(buf, at, 11, *head);
-            let at = put_u32(buf, at, *interval);
-            let at = put_u32(buf, at, *acceleration);
-            put_u32(buf, at, *deceleration)
-        }
-        Command::SendUnreliableFragment {
-            head,
-            fragment,
-            payload,
-        } => {
-            let at = put_head(buf, at, 12, *head);
-            let at = put_fragment(buf, at, fragment, payload.len() as u16);
-            put(buf, at, payload)
-        }
-    }
+    let payload = payload_of(command);
+    let at = put_head(buf, at, kind_of(command), head_of(command));
+    let at = put_fields(buf, at, command, payload.len() as u16);
+    put(buf, at, payload)
 }
 
 /// Writes the command at a place of the buffer and gives the place after it; no other byte changes. A payload has at most

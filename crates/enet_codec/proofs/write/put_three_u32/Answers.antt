@@ -1,0 +1,5 @@
+use Rattle.enet_codec.proofs.Joins.{◌▸◌}
+use Rattle.enet_codec.proofs.write.put_three_u32.Goals as goal
+
+pub returns-clause-puts : goal.returns-clause-puts
+returns-clause-puts c = c.put_two_u32-at.ensures.puts ▸ c.put_u32.ensures.puts
