@@ -16,7 +16,7 @@ use Rattle.enet_outbox.specs.declared.packing.Progress.{Progress}
 use Rattle.enet_outbox.specs.declared.packing.Flow.{Flow}
 use Rattle.enet_outbox.specs.Outbox.{Outbox, transit_of}
 use Rattle.enet_outbox.specs.Emission.{Filling, empty_datagram, with_acknowledgements_of, with_controls_of, with_unsequenced, with_unsequenced_of, with_channels, unless_closed, turn_order, filled, asks, datagram, Emits}
-use Rattle.enet_outbox.specs.Packing.{Holds, Leads, with_flow, Shares, PacksAcknowledgements, PacksControls, PacksUnsequenced, PacksChannels, turns, header_asking}
+use Rattle.enet_outbox.specs.Packing.{Holds, Leads, with_flow, Shares, Page, PacksAcknowledgements, PacksControls, PacksUnsequenced, PacksChannels, turns, header_asking}
 
 -- an empty datagram
 abbrev pub start : Progress
@@ -53,14 +53,14 @@ left_by o acknowledgements control unsequenced senders w = record o {
 }
 
 -- one stage after another
-pub filled-leads : (pace : Pace) (o : Outbox) (first transit : ℕ) (p1 p2 p3 p4 : Progress) (b0 b1 b2 b3 b4 : List ℕ) (acknowledgements : List Acknowledgement) (control : Commands)
+pub filled-leads : (pace : Pace) (o : Outbox) (first transit : ℕ) (b0 : List ℕ) (d1 d2 d3 d4 : Page) (acknowledgements : List Acknowledgement) (control : Commands)
     (unsequenced : List Unsequenced) (throttle : Throttling) (last : Option ℕ) (senders : List SendingEnd) (w : Flow) →
     4 ≤ pace.mtu → length b0 ≡ pace.mtu → first ≡ unwrap_or (option_map (λ channel. channel + 1) o.last) 0 → transit_of o ≡ transit →
-    PacksAcknowledgements o.acknowledgements acknowledgements start p1 b0 b1 → PacksControls pace o.control control p1 p2 b1 b2 →
-    PacksUnsequenced o.unsequenced unsequenced o.throttle throttle o.last last p2 p3 b2 b3 →
-    PacksChannels pace first o.senders senders (record { throttle = throttle; transit = transit; last = last }) w p3 p4 b3 b4 →
-    Leads (filled pace o) (left_by o acknowledgements control unsequenced senders w) p4 b4 × (transit_of (left_by o acknowledgements control unsequenced senders w) ≡ w.transit)
-filled-leads pace o first transit p1 p2 p3 p4 b0 b1 b2 b3 b4 acknowledgements control unsequenced throttle last senders w long whole is counted pa pc pu ps =
+    PacksAcknowledgements o.acknowledgements acknowledgements (record { progress = start; buf = b0 }) d1 → PacksControls pace o.control control d1 d2 →
+    PacksUnsequenced (record { packets = o.unsequenced; throttle = o.throttle; last = o.last }) (record { packets = unsequenced; throttle = throttle; last = last }) d2 d3 →
+    PacksChannels pace first (record { senders = o.senders; flow = record { throttle = throttle; transit = transit; last = last } }) (record { senders = senders; flow = w }) d3 d4 →
+    Leads (filled pace o) (left_by o acknowledgements control unsequenced senders w) d4.progress d4.buf × (transit_of (left_by o acknowledgements control unsequenced senders w) ≡ w.transit)
+filled-leads pace o first transit b0 d1 d2 d3 d4 acknowledgements control unsequenced throttle last senders w long whole is counted pa pc pu ps =
     let f0 : Filling = empty_datagram pace o in
     let l1 = pa f0 (holds-start pace o b0 long whole) refl in
     let f1 : Filling = with_acknowledgements_of f0 in
@@ -72,14 +72,14 @@ filled-leads pace o first transit p1 p2 p3 p4 b0 b1 b2 b3 b4 acknowledgements co
     let same : unless_closed (with_unsequenced o.unsequenced) f2 ≡ f3 = ap (λ (us : List Unsequenced). unless_closed (with_unsequenced us) f2) (sym (ap (λ (o : Outbox). o.unsequenced) o2)) in
     let o3 : f3.outbox ≡ record o { acknowledgements = acknowledgements; control = control; unsequenced = unsequenced; throttle = throttle; last = last } =
     ap (λ (f : Filling). f.outbox) (sym same) ∙ l3.outbox ∙ ap (λ (o : Outbox). record o { unsequenced = unsequenced; throttle = throttle; last = last }) o2 in
-    let h3 : Holds f3 p3 b3 = (let P : Filling → Type 0 = λ f. Holds f p3 b3 in subst P same l3.holds) in
+    let h3 : Holds f3 d3.progress d3.buf = (let P : Filling → Type 0 = λ f. Holds f d3.progress d3.buf in subst P same l3.holds) in
     let v : Flow = record { throttle = throttle; transit = transit; last = last } in
     let shares : Shares f3.outbox v = (ap (λ (o : Outbox). o.throttle) o3, ap (λ (o : Outbox). o.last) o3, ap transit_of o3 ∙ counted) in
     let l4 = ps f3 h3 (ap (λ (o : Outbox). o.senders) o3) shares in
     let all : with_channels pace (turns first (length o.senders) 0) f3 ≡ filled pace o = ap (λ (order : List ℕ). with_channels pace order f3) (turns-all o first is) in
     let o4 : with_flow f3.outbox senders w ≡ left_by o acknowledgements control unsequenced senders w = ap (λ (o : Outbox). with_flow o senders w) o3 in (
       record {
-        holds = let P : Filling → Type 0 = λ f. Holds f p4 b4 in subst P all l4.0.holds;
+        holds = let P : Filling → Type 0 = λ f. Holds f d4.progress d4.buf in subst P all l4.0.holds;
         outbox = ap (λ (f : Filling). f.outbox) (sym all) ∙ l4.0.outbox ∙ o4;
       },
       ap transit_of (sym o4) ∙ l4.1,

@@ -43,25 +43,38 @@ pub record Leads (g : Filling) (o : Outbox) (q : Progress) (to : List ℕ) : Typ
   pub holds : Holds g q to
   pub outbox : g.outbox ≡ o
 
+-- the datagram as a stage finds or leaves it: how far it has come, and its buffer
+pub record Page : Type 0 where
+  pub progress : Progress
+  pub buf : List ℕ
+
 -- the acknowledgements, of which those are left
-abbrev pub PacksAcknowledgements : List Acknowledgement → List Acknowledgement → Progress → Progress → List ℕ → List ℕ → Type 0
-PacksAcknowledgements old new p q from to =
-    (f : Filling) → Holds f p from → f.outbox.acknowledgements ≡ old → Leads (with_acknowledgements old f) (record f.outbox { acknowledgements = new }) q to
+abbrev pub PacksAcknowledgements : List Acknowledgement → List Acknowledgement → Page → Page → Type 0
+PacksAcknowledgements old new from to =
+    (f : Filling) → Holds f from.progress from.buf → f.outbox.acknowledgements ≡ old
+    → Leads (with_acknowledgements old f) (record f.outbox { acknowledgements = new }) to.progress to.buf
 
 -- where the next command goes; where the datagram takes no more, at the end of the buffer, where none fits
 abbrev pub place_in : Progress → List ℕ → ℕ
 place_in p buf = if p.commands == 0 then length buf else p.at
 
 -- the commands of channel 0xFF
-abbrev pub PacksControls : Pace → Commands → Commands → Progress → Progress → List ℕ → List ℕ → Type 0
-PacksControls pace old new p q from to =
-    (f : Filling) → Holds f p from → f.outbox.control ≡ old → Leads (unless_closed (with_controls pace (control_turns f.outbox)) f) (record f.outbox { control = new }) q to
+abbrev pub PacksControls : Pace → Commands → Commands → Page → Page → Type 0
+PacksControls pace old new from to =
+    (f : Filling) → Holds f from.progress from.buf → f.outbox.control ≡ old
+    → Leads (unless_closed (with_controls pace (control_turns f.outbox)) f) (record f.outbox { control = new }) to.progress to.buf
+
+-- what the unsequenced packets go by: those that wait, the throttle, and the channel of the last data command
+pub record UnsequencedSource : Type 0 where
+  pub packets : List Unsequenced
+  pub throttle : Throttling
+  pub last : Option ℕ
 
 -- the unsequenced packets
-abbrev pub PacksUnsequenced : List Unsequenced → List Unsequenced → Throttling → Throttling → Option ℕ → Option ℕ → Progress → Progress → List ℕ → List ℕ → Type 0
-PacksUnsequenced old new throttle1 throttle2 last1 last2 p q from to =
-    (f : Filling) → Holds f p from → f.outbox.unsequenced ≡ old → f.outbox.throttle ≡ throttle1 → f.outbox.last ≡ last1
-    → Leads (unless_closed (with_unsequenced old) f) (record f.outbox { unsequenced = new; throttle = throttle2; last = last2 }) q to
+abbrev pub PacksUnsequenced : UnsequencedSource → UnsequencedSource → Page → Page → Type 0
+PacksUnsequenced old new from to =
+    (f : Filling) → Holds f from.progress from.buf → f.outbox.unsequenced ≡ old.packets → f.outbox.throttle ≡ old.throttle → f.outbox.last ≡ old.last
+    → Leads (unless_closed (with_unsequenced old.packets) f) (record f.outbox { unsequenced = new.packets; throttle = new.throttle; last = new.last }) to.progress to.buf
 
 -- the throttle is asked of the first command of an unreliable packet alone
 abbrev pub asked_for : Kind → Throttling → Throttling
@@ -79,22 +92,34 @@ with_flow o senders w = record o { senders = senders; throttle = w.throttle; las
 abbrev pub Shares : Outbox → Flow → Type 0
 Shares o w = (o.throttle ≡ w.throttle) × (o.last ≡ w.last) × (transit_of o ≡ w.transit)
 
--- one channel
-abbrev pub PacksChannel : Pace → ℕ → SendingEnd → SendingEnd → Flow → Flow → Progress → Progress → List ℕ → List ℕ → Type 0
-PacksChannel pace channel old new v w p q from to =
-    (f : Filling) → Holds f p from → slice_get f.outbox.senders channel ≡ Some old → Shares f.outbox v
-    → Leads (with_channel pace channel (channel_turns f.outbox channel) f) (with_flow f.outbox (slice_set f.outbox.senders channel new) w) q to
-    × (transit_of (with_flow f.outbox (slice_set f.outbox.senders channel new) w) ≡ w.transit)
+-- one channel: its sender, and what it shares
+pub record ChannelSource : Type 0 where
+  pub sender : SendingEnd
+  pub flow : Flow
+
+abbrev pub with_channel_left : Outbox → ℕ → ChannelSource → Outbox
+with_channel_left o channel left = with_flow o (slice_set o.senders channel left.sender) left.flow
+
+abbrev pub PacksChannel : Pace → ℕ → ChannelSource → ChannelSource → Page → Page → Type 0
+PacksChannel pace channel old new from to =
+    (f : Filling) → Holds f from.progress from.buf → slice_get f.outbox.senders channel ≡ Some old.sender → Shares f.outbox old.flow
+    → Leads (with_channel pace channel (channel_turns f.outbox channel) f) (with_channel_left f.outbox channel new) to.progress to.buf
+    × (transit_of (with_channel_left f.outbox channel new) ≡ new.flow.transit)
 
 -- all n channels from turn k on, cyclically, beginning with the first
 abbrev pub turns : ℕ → ℕ → ℕ → List ℕ
 turns first n k = map (λ turn. (first + turn) % n) (range_with_len k (n - k))
 
--- the channels
-abbrev pub PacksChannels : Pace → ℕ → List SendingEnd → List SendingEnd → Flow → Flow → Progress → Progress → List ℕ → List ℕ → Type 0
-PacksChannels pace first old new v w p q from to =
-    (f : Filling) → Holds f p from → f.outbox.senders ≡ old → Shares f.outbox v
-    → Leads (with_channels pace (turns first (length old) 0) f) (with_flow f.outbox new w) q to × (transit_of (with_flow f.outbox new w) ≡ w.transit)
+-- the channels: their senders, and what they share
+pub record ChannelsSource : Type 0 where
+  pub senders : List SendingEnd
+  pub flow : Flow
+
+abbrev pub PacksChannels : Pace → ℕ → ChannelsSource → ChannelsSource → Page → Page → Type 0
+PacksChannels pace first old new from to =
+    (f : Filling) → Holds f from.progress from.buf → f.outbox.senders ≡ old.senders → Shares f.outbox old.flow
+    → Leads (with_channels pace (turns first (length old.senders) 0) f) (with_flow f.outbox new.senders new.flow) to.progress to.buf
+    × (transit_of (with_flow f.outbox new.senders new.flow) ≡ new.flow.transit)
 
 -- the header, where a command asks for an acknowledgement and where none does
 abbrev pub header_asking : ℕ → Destination → Bool → Header

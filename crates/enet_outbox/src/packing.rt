@@ -139,7 +139,7 @@ pub(crate) fn pack_acknowledgements(
     buf: &mut [u8],
     from: Progress,
 ) -> Progress
-    ensures packs { PacksAcknowledgements acknowledgements.old.items acknowledgements.new.items from result buf.old buf.new }
+    ensures packs { PacksAcknowledgements acknowledgements.old.items acknowledgements.new.items (record { progress = from; buf = buf.old }) (record { progress = result; buf = buf.new }) }
     ensures room { deque_capacity acknowledgements.old - deque_len acknowledgements.old ≤ deque_capacity acknowledgements.new - deque_len acknowledgements.new }
 {
     let mut progress = from;
@@ -172,7 +172,7 @@ pub(crate) fn pack_controls(
     buf: &mut [u8],
     from: Progress,
 ) -> Progress
-    ensures packs { PacksControls pace control.old.commands control.new.commands from result buf.old buf.new }
+    ensures packs { PacksControls pace control.old.commands control.new.commands (record { progress = from; buf = buf.old }) (record { progress = result; buf = buf.new }) }
     ensures room { control.old.room ≤ control.new.room }
 {
     if from.closed {
@@ -206,7 +206,8 @@ pub(crate) fn pack_unsequenced(
     from: Progress,
 ) -> Progress
     requires { length buf.old ≤ 4096 }
-    ensures { PacksUnsequenced unsequenced.old.items unsequenced.new.items throttle.old throttle.new last.old last.new from result buf.old buf.new }
+    ensures { PacksUnsequenced (record { packets = unsequenced.old.items; throttle = throttle.old; last = last.old })
+        (record { packets = unsequenced.new.items; throttle = throttle.new; last = last.new }) (record { progress = from; buf = buf.old }) (record { progress = result; buf = buf.new }) }
 {
     if from.closed {
         return from;
@@ -246,7 +247,8 @@ fn pack_channel(
     buf: &mut [u8],
     from: Progress,
 ) -> Progress
-    ensures { PacksChannel pace channel sender.old sender.new flow.old flow.new from result buf.old buf.new }
+    ensures { PacksChannel pace channel (record { sender = sender.old; flow = flow.old }) (record { sender = sender.new; flow = flow.new })
+        (record { progress = from; buf = buf.old }) (record { progress = result; buf = buf.new }) }
 {
     let mut progress = from;
     'turns: loop {
@@ -280,7 +282,8 @@ pub(crate) fn pack_channels(
 ) -> Progress
     requires few { length senders.old ≤ 255 }
     requires first { first ≤ 256 }
-    ensures { PacksChannels pace first senders.old senders.new flow.old flow.new from result buf.old buf.new }
+    ensures { PacksChannels pace first (record { senders = senders.old; flow = flow.old }) (record { senders = senders.new; flow = flow.new })
+        (record { progress = from; buf = buf.old }) (record { progress = result; buf = buf.new }) }
 {
     let channels = senders.len();
     let mut progress = from;
@@ -312,7 +315,8 @@ fn pack_senders(
 ) -> Progress
     requires few { length senders.old.items ≤ 255 }
     requires first { first ≤ 256 }
-    ensures packs { PacksChannels pace first senders.old.items senders.new.items flow.old flow.new from result buf.old buf.new }
+    ensures packs { PacksChannels pace first (record { senders = senders.old.items; flow = flow.old }) (record { senders = senders.new.items; flow = flow.new })
+        (record { progress = from; buf = buf.old }) (record { progress = result; buf = buf.new }) }
     ensures kept { length senders.new.items ≡ length senders.old.items }
 {
     let senders = senders.as_mut_slice();

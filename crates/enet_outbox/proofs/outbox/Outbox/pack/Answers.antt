@@ -10,8 +10,11 @@ pub invariant_of-self : goal.invariant_of-self
 invariant_of-self c =
     let o : Outbox = (the_view c.self.inside).outbox in
     let l = filled-leads c.args.pace o c.first_channel-first.result c.self.inside.transit
-    c.pack_acknowledgements-acknowledged.result c.pack_controls-controlled.result c.pack_unsequenced-unsequenced.result c.pack_senders-sent.result
-    c.args.buf.now c.pack_acknowledgements-acknowledged.new.buf c.pack_controls-controlled.new.buf c.pack_unsequenced-unsequenced.new.buf c.pack_senders-sent.new.buf
+    c.args.buf.now
+    (record { progress = c.pack_acknowledgements-acknowledged.result; buf = c.pack_acknowledgements-acknowledged.new.buf })
+    (record { progress = c.pack_controls-controlled.result; buf = c.pack_controls-controlled.new.buf })
+    (record { progress = c.pack_unsequenced-unsequenced.result; buf = c.pack_unsequenced-unsequenced.new.buf })
+    (record { progress = c.pack_senders-sent.result; buf = c.pack_senders-sent.new.buf })
     c.pack_acknowledgements-acknowledged.new.acknowledgements.items c.pack_controls-controlled.new.control.commands c.pack_unsequenced-unsequenced.new.unsequenced.items
     c.pack_unsequenced-unsequenced.new.throttle c.pack_unsequenced-unsequenced.new.last c.pack_senders-sent.new.senders.items c.pack_senders-sent.new.flow
     c.requires.long c.requires.whole c.first_channel-first.ensures.value (sym c.self.invariant.counted)
@@ -22,8 +25,11 @@ pub returns-clause-leads : goal.returns-clause-leads
 returns-clause-leads c =
     let o : Outbox = (the_view c.self.inside).outbox in
     let l = filled-leads c.args.pace o c.first_channel-first.result c.self.inside.transit
-    c.pack_acknowledgements-acknowledged.result c.pack_controls-controlled.result c.pack_unsequenced-unsequenced.result c.pack_senders-sent.result
-    c.args.buf.now c.pack_acknowledgements-acknowledged.new.buf c.pack_controls-controlled.new.buf c.pack_unsequenced-unsequenced.new.buf c.pack_senders-sent.new.buf
+    c.args.buf.now
+    (record { progress = c.pack_acknowledgements-acknowledged.result; buf = c.pack_acknowledgements-acknowledged.new.buf })
+    (record { progress = c.pack_controls-controlled.result; buf = c.pack_controls-controlled.new.buf })
+    (record { progress = c.pack_unsequenced-unsequenced.result; buf = c.pack_unsequenced-unsequenced.new.buf })
+    (record { progress = c.pack_senders-sent.result; buf = c.pack_senders-sent.new.buf })
     c.pack_acknowledgements-acknowledged.new.acknowledgements.items c.pack_controls-controlled.new.control.commands c.pack_unsequenced-unsequenced.new.unsequenced.items
     c.pack_unsequenced-unsequenced.new.throttle c.pack_unsequenced-unsequenced.new.last c.pack_senders-sent.new.senders.items c.pack_senders-sent.new.flow
     c.requires.long c.requires.whole c.first_channel-first.ensures.value (sym c.self.invariant.counted)
