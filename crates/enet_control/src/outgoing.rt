@@ -133,7 +133,7 @@ impl ControlChannel {
         ensures nothing { result ≡ Written.Nothing → self.new ≡ self.old }
     {
         let Some(sent) = self.sent.get(place) else {
-            return Written::Nothing;
+            unreachable!()
         };
         let Some(past) = put(buf, at, &sent.command) else {
             return Written::NoRoom;

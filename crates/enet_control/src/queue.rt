@@ -96,7 +96,8 @@ pub fn send_head(
     now: u32,
     timeout: u32,
 )
-    requires { KeepsRoom (deque_len queued.old) (deque_capacity queued.old) (deque_len sent.old) (deque_capacity sent.old) }
+    requires some { 0 < deque_len queued.old }
+    requires kept { KeepsRoom (deque_len queued.old) (deque_capacity queued.old) (deque_len sent.old) (deque_capacity sent.old) }
     ensures kept { KeepsRoom (deque_len queued.new) (deque_capacity queued.new) (deque_len sent.new) (deque_capacity sent.new) }
     ensures queued { queued.new.items ≡ drop 1 queued.old.items }
     ensures sent { (n : Numbered) (rest : List Numbered) → queued.old.items ≡ n ∷ rest
@@ -105,7 +106,7 @@ pub fn send_head(
         ≤ room_of (deque_len queued.new) (deque_capacity queued.new) (deque_len sent.new) (deque_capacity sent.new) }
 {
     let Some(command) = queued.pop_front() else {
-        return;
+        unreachable!()
     };
     if command.control.is_reliable() {
         sent.push_back_reserved(SentControl::begin(command, now, timeout));

@@ -178,7 +178,7 @@ impl Outgoing {
         ensures { Did (next_resent now self.old.sender place (slice_get self.old.sender.sent place)) result self.old self.new buf.old at buf.new }
     {
         let Some(sent) = self.sent.get(place) else {
-            return Due::Nothing;
+            unreachable!()
         };
         let kind = kind_of(&sent.command);
         let Some(past) = put(buf, at, self.channel, &sent.command) else {

@@ -191,7 +191,8 @@ pub fn send_head(
     now: u32,
     timeout: u32,
 )
-    requires { KeepsSender (deque_len sent.old) (deque_len queued.old) (deque_capacity sent.old) reliable.old sent.old.items queued.old.items }
+    requires some { 0 < deque_len queued.old }
+    requires kept { KeepsSender (deque_len sent.old) (deque_len queued.old) (deque_capacity sent.old) reliable.old sent.old.items queued.old.items }
     ensures kept { KeepsSender (deque_len sent.new) (deque_len queued.new) (deque_capacity sent.new) reliable.new sent.new.items queued.new.items }
     ensures queued { queued.new.items ≡ drop 1 queued.old.items }
     ensures sent { (c : DataCommand) (rest : List DataCommand) → queued.old.items ≡ c ∷ rest
@@ -199,7 +200,7 @@ pub fn send_head(
     ensures due { (may_be_due : Bool) → TellsDue may_be_due sent.old.items → TellsDue may_be_due sent.new.items }
 {
     let Some(command) = queued.pop_front() else {
-        return;
+        unreachable!()
     };
     if command.reliable {
         *reliable -= 1;
