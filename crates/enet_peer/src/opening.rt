@@ -59,8 +59,7 @@ impl Peer {
         ensures memory { IfErr result (λ why. why ≡ Refusal.Memory) }
     {
         let Some(terms) = answer(&offer, &server) else {
-            // Never: an offer of 1 to 255 channels has terms.
-            return Err(Refusal::Memory);
+            unreachable!()
         };
         let mut peer = Peer::opened(alloc, now, PeerState::Answering, 0, terms, limits)?;
         peer.info = offer.info;
