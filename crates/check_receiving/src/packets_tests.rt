@@ -142,15 +142,17 @@ impl Line {
     /// The last number, how many packets there are, and their bytes, after a dispatch. None for want of memory.
     fn dispatch(&mut self) -> Option<(u16, usize, u64)> {
         self.dispatched.reserve(self.packets.len()).ok()?;
-        self.packets.dispatch(&mut self.last, &mut self.dispatched);
+        let first = u32::from(self.last) + 1;
+        self.packets
+            .dispatch(first, &mut self.last, &mut self.dispatched);
         Some((self.last, self.packets.len(), self.packets.bytes()))
     }
 
-    /// The last fresh packet after `last`, and how many of them are whole.
+    /// The last whole packet after `last`, and how many of them there are.
     fn fresh(&self, last: u16) -> (u16, u32) {
         (
             self.packets.last_fresh(last),
-            self.packets.fresh_count(last),
+            self.packets.fresh_count(u32::from(last) + 1),
         )
     }
 
@@ -241,8 +243,9 @@ impl Lines {
     /// memory.
     fn flush(&mut self, number: u16) -> Option<(u16, usize, u64)> {
         self.dispatched.reserve(self.waiting.packets()).ok()?;
+        let first = u32::from(self.last) + 1;
         self.waiting
-            .flush(number, &mut self.last, &mut self.dispatched);
+            .flush(number, first, &mut self.last, &mut self.dispatched);
         Some((self.last, self.waiting.packets(), self.waiting.bytes()))
     }
 
@@ -276,8 +279,8 @@ fn line_is_flushed(rt: HostRuntime) {
     assert!(rt; lines.put(3, 2, whole(rt.alloc(), 0, b"a")));
     assert!(rt; lines.put(3, 5, begun(rt.alloc(), 8, 1)));
     assert!(rt; lines.put(4, 1, whole(rt.alloc(), 0, b"bb")));
-    for (number, last, count) in [(3u16, 0u16, 1u32), (3, 2, 0), (5, 0, 0)] {
-        assert!(rt; lines.waiting.fresh_count(number, last) == count);
+    for (number, first, count) in [(3u16, 1u32, 1u32), (3, 3, 0), (5, 1, 0)] {
+        assert!(rt; lines.waiting.fresh_count(number, first) == count);
     }
     assert!(rt; lines.flush(3) == Some((2, 2, 5)));
     assert!(rt; lines.hands_out(0, b"a"));

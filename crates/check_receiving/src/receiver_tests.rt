@@ -156,14 +156,21 @@ fn unreliable_fallen_behind(rt: HostRuntime) {
     assert!(rt; pops_none(&mut receiver));
 }
 
-// An unreliable packet that was sent after a reliable one waits for it.
+// Unreliable packets that were sent after a reliable one wait for it, one of number 0 too.
 #[test]
 fn unreliable_waits_for_reliable(rt: HostRuntime) {
     let mut receiver = open(rt.alloc(), 1000).expect(&rt, "open");
-    assert!(rt; holds(&mut receiver, &[unreliable(1, 1, b"u")]));
+    let first = reliable(1, b"r");
+    assert!(rt;
+        holds(
+            &mut receiver,
+            &[unreliable(1, 1, b"u"), unreliable(1, 0, b"z")]
+        )
+    );
     assert!(rt; pops_none(&mut receiver));
-    assert!(rt; holds(&mut receiver, &[reliable(1, b"r")]));
-    assert!(rt; pops(&mut receiver, &[(1, b"r"), (0, b"u")]));
+    assert!(rt; foresee(&receiver, &first, false).dispatches == 3);
+    assert!(rt; holds(&mut receiver, &[first]));
+    assert!(rt; pops(&mut receiver, &[(1, b"r"), (0, b"z"), (0, b"u")]));
     assert!(rt; pops_none(&mut receiver));
 }
 

@@ -1,5 +1,5 @@
 -- A receiver to which nothing came dispatches the first reliable packet at once. (Finite maps don't compute, so a run that takes a packet needs this.)
-use Rattle.std.proofs.Common.{◌≡◌, ℕ, zero, suc, true, false, cond, List, [], ◌∷◌, ◌++◌, length, map, refl, sym, ap, subst, ◌∙◌, arith, Option, Some, None}
+use Rattle.std.proofs.Common.{◌≡◌, ℕ, zero, suc, ◌+◌, true, false, cond, List, [], ◌∷◌, ◌++◌, length, map, refl, sym, ap, subst, ◌∙◌, arith, Option, Some, None}
 use Rattle.std.specs.Prelude.{sum_by}
 use Rattle.std.specs.Ordering.{nat_cmp}
 use Rattle.std.specs.FinMap.{FinMap, get, empty, len, entries, values, get-empty, len-empty, len-entries}
@@ -13,7 +13,7 @@ use Rattle.enet_packets.specs.declared.coming.Dispatched.{Dispatched}
 use Rattle.enet_packets.specs.Packets.{handed_out, fresh, bytes_of}
 use Rattle.enet_receiver.specs.declared.took.Took.{Took}
 use Rattle.enet_receiver.specs.declared.took.Took.TheVariants.{Held}
-use Rattle.enet_receiver.specs.Receiver.{Receiver, nothing_received, held_bytes, front_line, flushed, with_passed, next_whole, released, released_with, all_released}
+use Rattle.enet_receiver.specs.Receiver.{Receiver, nothing_received, held_bytes, front_line, flushed_from, with_passed, next_whole, released, released_with, all_released}
 use Rattle.enet_receiver.specs.Reception.{outcome, outcome_of, received, received_with, earlier_or_new, with_more, with_added}
 use Rattle.enet_receiver.proofs.Maps.{get-insert_same}
 use Rattle.enet_receiver.proofs.Released.{released-keeps, nothing_held}
@@ -21,8 +21,8 @@ use Rattle.enet_receiver.proofs.Released.{released-keeps, nothing_held}
 abbrev pub Begins : Dispatched → Receiver → Type 0
 Begins d r = (rest : List Dispatched) × (r.dispatched ≡ d ∷ rest)
 
-begins-flushed : (d : Dispatched) (r : Receiver) → Begins d r → Begins d (flushed r)
-begins-flushed d r h = (h.0 ++ fresh r.unreliable (entries (front_line r)), ap (λ (l : List Dispatched). l ++ fresh r.unreliable (entries (front_line r))) h.1)
+begins-flushed : (first : ℕ) (d : Dispatched) (r : Receiver) → Begins d r → Begins d (flushed_from first r)
+begins-flushed first d r h = (h.0 ++ fresh first (entries (front_line r)), ap (λ (l : List Dispatched). l ++ fresh first (entries (front_line r))) h.1)
 
 begins-passed : (d : Dispatched) (r : Receiver) (c : Coming) → Begins d r → Begins d (with_passed wire r c)
 begins-passed d r c h = (h.0 ++ handed_out c ∷ [], ap (λ (l : List Dispatched). l ++ handed_out c ∷ []) h.1)
@@ -30,12 +30,12 @@ begins-passed d r c h = (h.0 ++ handed_out c ∷ [], ap (λ (l : List Dispatched
 -- what stands whole just past the front is dispatched first
 first-dispatched : (r : Receiver) (e : Coming) → get r.held (wire.after r.front 1) ≡ Some e → is_whole e.making ≡ true → r.dispatched ≡ [] → Begins (handed_out e) (all_released wire r)
 unfolding released
-first-dispatched r e there whole none = begins-flushed (handed_out e) (released wire (len r.held) r) (by (len r.held) refl)
+first-dispatched r e there whole none = let s : Receiver = released wire (len r.held) r in begins-flushed (s.unreliable + 1) (handed_out e) s (by (len r.held) refl)
   where
     go : (n : ℕ) → Begins (handed_out e) (released_with (released wire n) wire r (next_whole (get r.held (wire.after r.front 1))))
     go n = subst (λ (o : Option Coming). Begins (handed_out e) (released_with (released wire n) wire r o)) (sym (ap next_whole there ∙ ap (λ b. cond b (Some e) None) whole))
-        (released-keeps wire (Begins (handed_out e)) (λ s c t h. begins-flushed (handed_out e) (with_passed wire s c) (begins-passed (handed_out e) s c h)) n (flushed (with_passed wire r e))
-        (begins-flushed (handed_out e) (with_passed wire r e) ([], ap (λ (l : List Dispatched). l ++ handed_out e ∷ []) none)))
+        (released-keeps wire (Begins (handed_out e)) (λ s c t h. begins-flushed 0 (handed_out e) (with_passed wire s c) (begins-passed (handed_out e) s c h)) n (flushed_from 0 (with_passed wire r e))
+        (begins-flushed 0 (handed_out e) (with_passed wire r e) ([], ap (λ (l : List Dispatched). l ++ handed_out e ∷ []) none)))
 
     by : (n : ℕ) → len r.held ≡ n → Begins (handed_out e) (released wire n r)
     by zero z = absurd (let f : get r.held (wire.after r.front 1) ≡ None = nothing_held r.held (wire.after r.front 1) (omega arith) in let x : Some e ≡ None = sym there ∙ f in cc)

@@ -1,10 +1,12 @@
 -- What is put out, held and dispatched are pieces and packets of what was submitted.
-use Rattle.std.proofs.Common.{◌≡◌, ◌≢◌, ℕ, ◌+◌, ◌*◌, ◌<◌, Bool, true, false, cond, List, [], ◌∷◌, ◌++◌, take, refl, sym, ap, subst, ◌∙◌, inl, inr, arith, Option, Some, None, append_assoc}
+use Rattle.std.proofs.Common.{◌≡◌, ◌≢◌, ℕ, ◌+◌, ◌*◌, ◌<◌, ◌≤◌, T, Bool, true, false, cond, List, [], ◌∷◌, ◌++◌, take, refl, sym, ap, subst, ◌∙◌, inl, inr, arith, Less, Equal, Greater, Option, Some, None, append_assoc}
 use Rattle.std.proofs.lemmas.Bool.Decides.{nat_tests}
 use Rattle.std.proofs.lemmas.List.{append-nil, map-append, take_all}
-use Rattle.std.specs.Ordering.{nat_cmp}
-use Rattle.std.specs.Prelude.{unwrap_or, nat_lt, ◌&&◌, ◌==◌}
-use Rattle.std.specs.FinMap.{FinMap, get, insert, remove, len, entries, empty, empty_of_len, get-empty, retain_keys}
+use Rattle.std.specs.Ordering.{nat_cmp, is_lt}
+use Rattle.std.specs.Cmp.{ranked}
+use Rattle.std.specs.Prelude.{unwrap_or, nat_lt, nat_le, ◌&&◌, ◌==◌}
+use Rattle.std.specs.FinMap.{FinMap, get, insert, remove, len, entries, entries_sorted, is_sorted, empty, empty_of_len, get-empty, retain_keys}
+use Rattle.std.specs.FinMap.Entries.{below_all}
 use Rattle.enet_seq.specs.Numbering.{unbounded}
 use Rattle.enet_fragment.specs.Cutting.{piece_length}
 use Rattle.enet_fragment.specs.Making.{Making, joined, count_of}
@@ -12,14 +14,14 @@ use Rattle.enet_fragment.specs.Whole.{is_whole}
 use Rattle.enet_packets.specs.declared.coming.Coming.{Coming}
 use Rattle.enet_packets.specs.declared.coming.Dispatched.{Dispatched}
 use Rattle.enet_packets.specs.Packets.{line_at, with_line, fresh, last_fresh, handed_out}
-use Rattle.enet_receiver.specs.Receiver.{Receiver, flushed, without, with_passed, with_dispatched}
+use Rattle.enet_receiver.specs.Receiver.{Receiver, flushed_from, flushed, without, with_passed, with_dispatched}
 use Rattle.enet_sender.specs.Carriage.{Carried}
 pub use Rattle.enet_link.specs.Meant.{Matches, OfReliable, OfUnreliable}
 pub use Rattle.enet_link.specs.Steps.{bodies_of}
 use Rattle.enet_link.proofs.Lists.{Has}
 use Rattle.enet_link.proofs.Makings.{joined-pieces}
 use Rattle.enet_receiver.proofs.Maps.{get-remove_other, get-remove_same, get-insert_other, get-insert_same, two_numbers}
-use Rattle.enet_link.proofs.Entries.{get_entry, get_retained}
+use Rattle.enet_link.proofs.Entries.{get_entry, get_retained, above_all, T_left, T_right}
 use Rattle.enet_receiver.proofs.Without.{get_without}
 use Rattle.enet_link.proofs.CarriageLemmas.{IsCut, AllCut, Stands, Stands-has, Stands-next, Stands-next_unreliable, Consumed, Consumed-append, Consumed-none, command_count-append, command_count-reliable, command_count-unreliable, count_after-push, IsNext, IsNextUnreliable, Has-append_left, Has-append_right}
 use Rattle.enet_link.specs.Follows.{command_count, count_after}
@@ -95,20 +97,45 @@ Passed-unreliable mtu cs front unreliable count bodies m all p h w low =
 bodies_of-push : (ds : List Dispatched) (e : Coming) → bodies_of (ds ++ handed_out e ∷ []) ≡ bodies_of ds ++ joined e.making.pieces ∷ []
 bodies_of-push ds e = map-append (λ (d : Dispatched). d.body) ds (handed_out e ∷ [])
 
+-- from where on they are dispatched
+above_same : (last k : ℕ) → nat_le (last + 1) k ≡ nat_lt last k
+above_same last k = elim (nat_lt last k) as (λ b. nat_lt last k ≡ b → nat_le (last + 1) k ≡ b) [ true ↦ λ t. grind (arith, nat_tests) | false ↦ λ t. grind (arith, nat_tests) ] refl
+
+both_above : (first last k : ℕ) → first ≤ k → last < k → nat_le first k ≡ nat_lt last k
+both_above first last k low up =
+    let here : nat_le first k ≡ true = grind (arith, nat_tests) in
+    let there : nat_lt last k ≡ true = grind (arith, nat_tests) in
+    here ∙ sym there
+
+is_up : (a b : ℕ) → T (is_lt (nat_cmp a b)) → a < b
+is_up a b t =
+    elim (nat_cmp a b) as (λ r. r ≡ nat_cmp a b → T (is_lt r) → a < b) [
+      | Less ↦ λ e _. ranked a b Less e
+      | Equal ↦ λ _ f. absurd f
+      | Greater ↦ λ _ f. absurd f
+    ] refl t
+
 -- those that waited are dispatched
-Passed-fresh : (mtu : ℕ) (cs : List Carried) (front unreliable : ℕ) (ds : List Dispatched) (es : List (ℕ × Coming)) → AllCut mtu cs → ((e : ℕ × Coming) → Has es e → OfUnreliable mtu cs front e.0 e.1.making) → Passed cs front unreliable (bodies_of ds)
-    → Passed cs front (last_fresh unreliable es) (bodies_of (ds ++ fresh unreliable es))
-Passed-fresh mtu cs front unreliable ds [] all h p = subst (λ (x : List Dispatched). Passed cs front unreliable (bodies_of x)) (sym (append-nil ds)) p
-Passed-fresh mtu cs front unreliable ds (e ∷ es) all h p =
-    elim (is_whole e.1.making && nat_lt unreliable e.0) as (λ b. (is_whole e.1.making && nat_lt unreliable e.0) ≡ b → Passed cs front (cond b (last_fresh e.0 es) (last_fresh unreliable es)) (bodies_of (ds ++ cond b (handed_out e.1 ∷ fresh e.0 es) (fresh unreliable es)))) [
+Passed-fresh : (mtu : ℕ) (cs : List Carried) (front first last : ℕ) (ds : List Dispatched) (es : List (ℕ × Coming)) → AllCut mtu cs → T (is_sorted nat_cmp es)
+    → ((e : ℕ × Coming) → Has es e → OfUnreliable mtu cs front e.0 e.1.making) → ((e : ℕ × Coming) → Has es e → nat_le first e.0 ≡ nat_lt last e.0)
+    → Passed cs front last (bodies_of ds) → Passed cs front (last_fresh last es) (bodies_of (ds ++ fresh first es))
+Passed-fresh mtu cs front first last ds [] all sorted h same p = subst (λ (x : List Dispatched). Passed cs front last (bodies_of x)) (sym (append-nil ds)) p
+Passed-fresh mtu cs front first last ds (e ∷ es) all sorted h same p =
+    let below_rest = T_left (below_all nat_cmp e.0 es) (is_sorted nat_cmp es) sorted in
+    let rest = T_right (below_all nat_cmp e.0 es) (is_sorted nat_cmp es) sorted in
+    let test : (is_whole e.1.making && nat_le first e.0) ≡ (is_whole e.1.making && nat_lt last e.0) = ap (λ b. is_whole e.1.making && b) (same e (inl refl)) in
+    subst (λ (b : Bool). Passed cs front (last_fresh last (e ∷ es)) (bodies_of (ds ++ cond b (handed_out e.1 ∷ fresh first es) (fresh first es)))) (sym test)
+    (elim (is_whole e.1.making && nat_lt last e.0) as (λ b. (is_whole e.1.making && nat_lt last e.0) ≡ b → Passed cs front (cond b (last_fresh e.0 es) (last_fresh last es)) (bodies_of (ds ++ cond b (handed_out e.1 ∷ fresh first es) (fresh first es)))) [
       | true ↦ λ t.
-          let both = parts (is_whole e.1.making) (nat_lt unreliable e.0) t in
-          let one = Passed-unreliable mtu cs front unreliable e.0 (bodies_of ds) e.1.making all p (h e (inl refl)) both.0 (below unreliable e.0 both.1) in
+          let both = parts (is_whole e.1.making) (nat_lt last e.0) t in
+          let one = Passed-unreliable mtu cs front last e.0 (bodies_of ds) e.1.making all p (h e (inl refl)) both.0 (below last e.0 both.1) in
           let next = subst (λ (x : List (List ℕ)). Passed cs front e.0 x) (sym (bodies_of-push ds e.1)) one in
-          subst (λ (x : List Dispatched). Passed cs front (last_fresh e.0 es) (bodies_of x)) (append_assoc ds (handed_out e.1 ∷ []) (fresh e.0 es))
-          (Passed-fresh mtu cs front e.0 (ds ++ handed_out e.1 ∷ []) es all (λ x k. h x (inr k)) next)
-      | false ↦ λ t. Passed-fresh mtu cs front unreliable ds es all (λ x k. h x (inr k)) p
-    ] refl
+          let from_here : first ≤ e.0 = not_before first e.0 (same e (inl refl) ∙ both.1) in
+          subst (λ (x : List Dispatched). Passed cs front (last_fresh e.0 es) (bodies_of x)) (append_assoc ds (handed_out e.1 ∷ []) (fresh first es))
+          (Passed-fresh mtu cs front first e.0 (ds ++ handed_out e.1 ∷ []) es all rest (λ x k. h x (inr k))
+          (λ x k. (let up = is_up e.0 x.0 (above_all e.0 es x below_rest k) in both_above first e.0 x.0 (omega arith) up)) next)
+      | false ↦ λ t. Passed-fresh mtu cs front first last ds es all rest (λ x k. h x (inr k)) (λ x k. same x (inr k)) p
+    ] refl)
   where
     parts : (a b : Bool) → (a && b) ≡ true → (a ≡ true) × (b ≡ true)
     parts true b k = (refl, k)
@@ -116,6 +143,9 @@ Passed-fresh mtu cs front unreliable ds (e ∷ es) all h p =
 
     below : (p q : ℕ) → nat_lt p q ≡ true → p < q
     below p q x = grind (arith, nat_tests)
+
+    not_before : (p q : ℕ) → nat_le p q ≡ true → p ≤ q
+    not_before p q x = grind (arith, nat_tests)
 
 -- what waits for a number after another number's packets were replaced
 pub waiting-replaced_same : (w : FinMap nat_cmp (FinMap nat_cmp Coming)) (n : ℕ) (packets : FinMap nat_cmp Coming) → unwrap_or (get (with_line w n packets) n) empty ≡ packets
@@ -149,8 +179,8 @@ Ready-passed mtu cs r c e w k = record {
       (Passed-more mtu cs r.front r.unreliable (bodies_of r.dispatched) c.making k.cut k.passed (k.held (r.front + 1) c e) w);
 }
 
-Ready-flushed : (mtu : ℕ) (cs : List Carried) (r : Receiver) → Ready mtu cs r → Ready mtu cs (flushed r)
-Ready-flushed mtu cs r k =
+Ready-flushed : (mtu : ℕ) (cs : List Carried) (first : ℕ) (r : Receiver) → Ready mtu cs r → ((q : ℕ) (x : Coming) → get (line_at r.waiting r.front) q ≡ Some x → nat_le first q ≡ nat_lt r.unreliable q) → Ready mtu cs (flushed_from first r)
+Ready-flushed mtu cs first r k same_from =
     let keep : ℕ → Bool = nat_lt (last_fresh r.unreliable (entries (line_at r.waiting r.front))) in
     record {
       cut = k.cut;
@@ -163,12 +193,16 @@ Ready-flushed mtu cs r k =
             subst (λ z. OfUnreliable mtu cs z q x.making) (sym same) (k.waiting r.front q x (get_retained (line_at r.waiting r.front) keep q x here))
         | inr apart ↦ k.waiting n q x (ap (λ (o : Option (FinMap nat_cmp Coming)). get (unwrap_or o empty) q) (sym (waiting-replaced_other r.waiting r.front n (retain_keys (line_at r.waiting r.front) keep) apart)) ∙ t)
       ];
-      passed = Passed-fresh mtu cs r.front r.unreliable r.dispatched (entries (line_at r.waiting r.front)) k.cut
-          (λ e h. k.waiting r.front e.0 e.1 (get_entry (line_at r.waiting r.front) e h)) k.passed;
+      passed = Passed-fresh mtu cs r.front first r.unreliable r.dispatched (entries (line_at r.waiting r.front)) k.cut (entries_sorted (line_at r.waiting r.front))
+          (λ e h. k.waiting r.front e.0 e.1 (get_entry (line_at r.waiting r.front) e h))
+          (λ e h. same_from e.0 e.1 (get_entry (line_at r.waiting r.front) e h)) k.passed;
     }
 
 pub Ready-dispatched : (mtu : ℕ) (cs : List Carried) (r : Receiver) (c : Coming) → get r.held (r.front + 1) ≡ Some c → is_whole c.making ≡ true → Ready mtu cs r → Ready mtu cs (with_dispatched unbounded r c)
-Ready-dispatched mtu cs r c e w k = Ready-flushed mtu cs (with_passed unbounded r c) (Ready-passed mtu cs r c e w k)
+Ready-dispatched mtu cs r c e w k =
+    let passed = Ready-passed mtu cs r c e w k in
+    let s : Receiver = with_passed unbounded r c in
+    Ready-flushed mtu cs 0 s passed (λ q x there. (let one = (passed.waiting s.front q x there).place in both_above 0 0 q (omega arith) (omega arith)))
 
 pub Ready-flush : (mtu : ℕ) (cs : List Carried) (r : Receiver) → Ready mtu cs r → Ready mtu cs (flushed r)
-Ready-flush = Ready-flushed
+Ready-flush mtu cs r k = Ready-flushed mtu cs (r.unreliable + 1) r k (λ q x _. above_same r.unreliable q)

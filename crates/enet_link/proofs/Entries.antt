@@ -11,15 +11,15 @@ use Rattle.enet_receiver.proofs.Maps.{apart_numbers}
 same_number : (k : ℕ) → eq_by_cmp nat_cmp k k ≡ true
 same_number k = grind (arith, nat_cmp_total, tied_itself)
 
-T_left : (a b : Bool) → T (a && b) → T a
+pub T_left : (a b : Bool) → T (a && b) → T a
 T_left true b h = tt
 T_left false b h = absurd h
 
-T_right : (a b : Bool) → T (a && b) → T b
+pub T_right : (a b : Bool) → T (a && b) → T b
 T_right true b h = h
 T_right false b h = absurd h
 
-above_all : {X : Type 0} (k : ℕ) (es : List (ℕ × X)) (e : ℕ × X) → T (below_all nat_cmp k es) → Has es e → T (is_lt (nat_cmp k e.0))
+pub above_all : {X : Type 0} (k : ℕ) (es : List (ℕ × X)) (e : ℕ × X) → T (below_all nat_cmp k es) → Has es e → T (is_lt (nat_cmp k e.0))
 above_all k [] e t h = absurd h
 above_all {X = X} k (x ∷ es) e t (inl is) = subst (λ (y : ℕ × X). T (is_lt (nat_cmp k y.0))) is (T_left (is_lt (nat_cmp k x.0)) (below_all nat_cmp k es) t)
 above_all k (x ∷ es) e t (inr h) = above_all k es e (T_right (is_lt (nat_cmp k x.0)) (below_all nat_cmp k es) t) h

@@ -18,7 +18,7 @@ use Rattle.enet_packets.specs.declared.coming.Coming.{Coming}
 use Rattle.enet_packets.specs.Packets.{line_at, with_line, fresh, last_fresh, handed_out}
 use Rattle.enet_receiver.specs.Reception.{is_piece, place_read, came_at, agrees_with, came, is_behind, outcome_of, outcome_at, outcome, earlier_or_new, with_more, with_added, added_at, received_with, received, is_handled, acknowledged, dispatch_count}
 use Rattle.enet_receiver.specs.declared.took.Took.TheVariants.{Memory, Bad, Outside, Again, Waiting, Held}
-use Rattle.enet_receiver.specs.Receiver.{Receiver, nothing_received, cleared, flushed, without, with_passed, with_dispatched, next_whole, released_with, released, all_released}
+use Rattle.enet_receiver.specs.Receiver.{Receiver, nothing_received, cleared, flushed_from, flushed, without, with_passed, with_dispatched, next_whole, released_with, released, all_released}
 pub use Rattle.enet_link.specs.Image.{IsSized, AllSized, ShowsReceiver}
 use Rattle.enet_link.proofs.Makings.{count_of-nothing, count_of-with}
 use Rattle.enet_receiver.proofs.Maps.{get-remove_other, get-remove_same, get-insert_other, get-insert_same, get_inserted, two_numbers}
@@ -139,8 +139,8 @@ Shows-waiting v r a packets near s = record {
   near_waiting = λ d far. get-with_waiting_other r.waiting (r.front + a) (r.front + d) packets (λ e. omega arith) ∙ s.near_waiting d far;
 }
 
-Shows-flushed : (v r : Receiver) → ShowsReceiver v r → ShowsReceiver (flushed v) (flushed r)
-Shows-flushed v r s =
+Shows-flushed_from : (first : ℕ) (v r : Receiver) → ShowsReceiver v r → ShowsReceiver (flushed_from first v) (flushed_from first r)
+Shows-flushed_from first v r s =
     let e = s.front in
     let here : v.front ≡ (r.front + 0) % 65536 = omega arith in
     let zero' : r.front + 0 ≡ r.front = omega arith in
@@ -166,11 +166,14 @@ Shows-flushed v r s =
           ∙ w.waiting d low
           ∙ ap (λ n. get (with_line r.waiting n left) (r.front + d)) zero';
       near_waiting = λ d far. ap (λ n. get (with_line r.waiting n left) (r.front + d)) (sym zero') ∙ w.near_waiting d far;
-      dispatched = λ i. s.dispatched i ++ fresh (s.unreliable i) (list i);
+      dispatched = λ i. s.dispatched i ++ fresh first (list i);
     }
 
+Shows-flushed : (v r : Receiver) → ShowsReceiver v r → ShowsReceiver (flushed v) (flushed r)
+Shows-flushed v r s = subst (λ n. ShowsReceiver (flushed_from (n + 1) v) (flushed r)) (sym s.unreliable) (Shows-flushed_from (r.unreliable + 1) v r s)
+
 pub Shows-dispatched : (v r : Receiver) (c : Coming) → IsSized c → ShowsReceiver v r → ShowsReceiver (with_dispatched wire v c) (with_dispatched unbounded r c)
-Shows-dispatched v r c size s = Shows-flushed (with_passed wire v c) (with_passed unbounded r c) (Shows-passed v r c size s)
+Shows-dispatched v r c size s = Shows-flushed_from 0 (with_passed wire v c) (with_passed unbounded r c) (Shows-passed v r c size s)
 
 whole_is : (o : Option Coming) (c : Coming) → next_whole o ≡ Some c → o ≡ Some c
 whole_is None c e = absurd (cc)

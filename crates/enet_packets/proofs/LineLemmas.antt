@@ -231,8 +231,8 @@ none_from None e = refl
 none_from (Some x) e = absurd (cc)
 
 -- nothing is handed out of no line
-pub fresh_nothing : (last : ℕ) → fresh last (entries (empty {X = Coming} {R = nat_cmp})) ≡ []
-fresh_nothing last = ap (fresh last) entries-empty
+pub fresh_nothing : (first : ℕ) → fresh first (entries (empty {X = Coming} {R = nat_cmp})) ≡ []
+fresh_nothing first = ap (fresh first) entries-empty
 
 pub last_nothing : (last : ℕ) → last_fresh last (entries (empty {X = Coming} {R = nat_cmp})) ≡ last
 last_nothing last = ap (last_fresh last) entries-empty

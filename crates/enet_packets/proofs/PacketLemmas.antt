@@ -1,6 +1,6 @@
 -- What a tree of packets keeps, and which of them are handed out.
 use Rattle.std.proofs.Common.{◌≡◌, ℕ, ◌+◌, ◌-◌, ◌*◌, ◌^◌, ◌<◌, ◌≤◌, ◌++◌, Bool, true, false, cond, List, [], ◌∷◌, length, sum_by, refl, sym, ap, subst, ◌∙◌, arith, Option, Some, None, Result, Ok, Err, OnOk, OnErr, All, Ordering, Less, Equal, Greater}
-use Rattle.std.specs.Prelude.{◌&&◌, nat_lt}
+use Rattle.std.specs.Prelude.{◌&&◌, nat_lt, nat_le}
 use Rattle.std.specs.Ordering.{nat_cmp, is_eq, match_ordering}
 use Rattle.std.specs.Cmp.{nat_cmp_is}
 use Rattle.std.proofs.lemmas.Map.Lookups.{exact_unsigned}
@@ -111,19 +111,19 @@ all_past most e es high sorted =
     (All-from_recursion (λ (y : ℕ). nat_cmp e.0 y ≡ Less) (keys_of es) (sorted_head nat_cmp e.0 (keys_of es) sorted)))
 
 -- none of those is handed out
-pub none_fresh : (most last : ℕ) (es : Entries) → AreWholeUpTo most es → All (λ (k : ℕ). most < k) (keys_of es) → (last_fresh last es ≡ last) × (fresh last es ≡ [])
-none_fresh most last [] a high = (refl, refl)
-none_fresh most last (e ∷ es) a high =
-    by (none_fresh most last es (All-tail (IsWholeUpTo most) e es a) (All-tail (λ (k : ℕ). most < k) e.0 (keys_of es) high)) (is_whole e.1.making) refl
+pub none_fresh : (most last first : ℕ) (es : Entries) → AreWholeUpTo most es → All (λ (k : ℕ). most < k) (keys_of es) → (last_fresh last es ≡ last) × (fresh first es ≡ [])
+none_fresh most last first [] a high = (refl, refl)
+none_fresh most last first (e ∷ es) a high =
+    by (none_fresh most last first es (All-tail (IsWholeUpTo most) e es a) (All-tail (λ (k : ℕ). most < k) e.0 (keys_of es) high)) (is_whole e.1.making) refl
   where
-    by : (last_fresh last es ≡ last) × (fresh last es ≡ []) → (w : Bool) → is_whole e.1.making ≡ w
-        → (cond (w && nat_lt last e.0) (last_fresh e.0 es) (last_fresh last es) ≡ last) × (cond (w && nat_lt last e.0) (handed_out e.1 ∷ fresh e.0 es) (fresh last es) ≡ [])
+    by : (last_fresh last es ≡ last) × (fresh first es ≡ []) → (w : Bool) → is_whole e.1.making ≡ w
+        → (cond (w && nat_lt last e.0) (last_fresh e.0 es) (last_fresh last es) ≡ last) × (cond (w && nat_le first e.0) (handed_out e.1 ∷ fresh first es) (fresh first es) ≡ [])
     by rest true t = absurd (let low = All-head (IsWholeUpTo most) e es a t in let past = All-head (λ (k : ℕ). most < k) e.0 (keys_of es) high in omega arith)
     by rest false t = rest
 
-pub none_fresh_past : (most last : ℕ) (e : ℕ × Coming) (es : Entries) → AreWholeUpTo most (e ∷ es) → IsStrictlySortedBy nat_cmp (keys_of (e ∷ es)) → most < e.0
-    → (last_fresh last (e ∷ es) ≡ last) × (fresh last (e ∷ es) ≡ [])
-none_fresh_past most last e es a sorted high = none_fresh most last (e ∷ es) a (all_past most e es high sorted)
+pub none_fresh_past : (most last first : ℕ) (e : ℕ × Coming) (es : Entries) → AreWholeUpTo most (e ∷ es) → IsStrictlySortedBy nat_cmp (keys_of (e ∷ es)) → most < e.0
+    → (last_fresh last (e ∷ es) ≡ last) × (fresh first (e ∷ es) ≡ [])
+none_fresh_past most last first e es a sorted high = none_fresh most last first (e ∷ es) a (all_past most e es high sorted)
 
 -- the same of what is left to look at after a packet
 pub left_after : (most : ℕ) (all : Entries) (e : ℕ × Coming) (es : Entries) → all ≡ e ∷ es → IsStrictlySortedBy nat_cmp (keys_of all) → AreWholeUpTo most all
@@ -134,11 +134,11 @@ left_after most all e es is sorted whole = (
 )
 
 -- nothing is handed out any more where the next packet is past that number
-pub none_fresh_after : (most last : ℕ) (all : Entries) (e : ℕ × Coming) (es : Entries) → all ≡ e ∷ es → IsStrictlySortedBy nat_cmp (keys_of all) → AreWholeUpTo most all → most < e.0
-    → (last_fresh last all ≡ last) × (fresh last all ≡ [])
-none_fresh_after most last all e es is sorted whole high =
-    subst (λ (xs : Entries). (last_fresh last xs ≡ last) × (fresh last xs ≡ [])) (sym is)
-    (none_fresh_past most last e es (subst (λ (xs : Entries). AreWholeUpTo most xs) is whole) (subst (λ (xs : Entries). IsStrictlySortedBy nat_cmp (keys_of xs)) is sorted) high)
+pub none_fresh_after : (most last first : ℕ) (all : Entries) (e : ℕ × Coming) (es : Entries) → all ≡ e ∷ es → IsStrictlySortedBy nat_cmp (keys_of all) → AreWholeUpTo most all → most < e.0
+    → (last_fresh last all ≡ last) × (fresh first all ≡ [])
+none_fresh_after most last first all e es is sorted whole high =
+    subst (λ (xs : Entries). (last_fresh last xs ≡ last) × (fresh first xs ≡ [])) (sym is)
+    (none_fresh_past most last first e es (subst (λ (xs : Entries). AreWholeUpTo most xs) is whole) (subst (λ (xs : Entries). IsStrictlySortedBy nat_cmp (keys_of xs)) is sorted) high)
 
 -- the packets' bytes are bounded
 pub bytes_bounded : (es : Entries) (bytes most : ℕ) → KeepsPackets es bytes most → bytes < 2 ^ 48
@@ -235,61 +235,72 @@ pub on_err : {A E : Type 0} (r : Result A E) (P Q : Type 0) → (P → Q) → On
 on_err (Ok _) P Q f h = h
 on_err (Err _) P Q f h = f h
 
--- whether a packet is handed out after a number
+-- whether a packet is whole and above a number
+abbrev pub is_newer : ℕ → ℕ × Coming → Bool
+is_newer last e = is_whole e.1.making && nat_lt last e.0
+
+-- whether a packet is handed out where those from a number on are
 abbrev pub is_fresh : ℕ → ℕ × Coming → Bool
-is_fresh last e = is_whole e.1.making && nat_lt last e.0
+is_fresh first e = is_whole e.1.making && nat_le first e.0
+
+-- the list from its front
+pub last_step : (last : ℕ) (e : ℕ × Coming) (es : Entries) → last_fresh last (e ∷ es) ≡ last_fresh (cond (is_newer last e) e.0 last) es
+last_step last e es = elim (is_newer last e) as (λ b. cond b (last_fresh e.0 es) (last_fresh last es) ≡ last_fresh (cond b e.0 last) es) [ true ↦ refl | false ↦ refl ]
+
+pub items_step : (out : List Dispatched) (first : ℕ) (e : ℕ × Coming) (es : Entries)
+    → out ++ fresh first (e ∷ es) ≡ cond (is_fresh first e) (out ++ handed_out e.1 ∷ []) out ++ fresh first es
+items_step out first e es =
+    elim (is_fresh first e) as (λ b. out ++ cond b (handed_out e.1 ∷ fresh first es) (fresh first es) ≡ cond b (out ++ handed_out e.1 ∷ []) out ++ fresh first es) [
+      | true ↦ sym (append_assoc out (handed_out e.1 ∷ []) (fresh first es))
+      | false ↦ refl
+    ]
+
+pub count_step : (first : ℕ) (e : ℕ × Coming) (es : Entries) → length (fresh first (e ∷ es)) ≡ cond (is_fresh first e) 1 0 + length (fresh first es)
+count_step first e es =
+    elim (is_fresh first e) as (λ b. length (cond b (handed_out e.1 ∷ fresh first es) (fresh first es)) ≡ cond b 1 0 + length (fresh first es)) [
+      | true ↦ omega arith
+      | false ↦ omega arith
+    ]
+
+pub length-fresh : (first : ℕ) (es : Entries) → length (fresh first es) ≤ length es
+length-fresh first [] = omega arith
+length-fresh first (e ∷ es) =
+    let step = count_step first e es in
+    let rest = length-fresh first es in
+    let one : cond (is_fresh first e) 1 0 ≤ 1 = elim (is_fresh first e) as (λ b. cond b 1 0 ≤ 1) [ true ↦ omega arith | false ↦ omega arith ] in
+    let n : length (e ∷ es) ≡ length es + 1 = omega arith in
+    omega arith
 
 right : (a b : Bool) → (a && b) ≡ true → b ≡ true
 right true b h = h
 right false b h = absurd (cc)
 
--- the list from its front
-pub last_step : (last : ℕ) (e : ℕ × Coming) (es : Entries) → last_fresh last (e ∷ es) ≡ last_fresh (cond (is_fresh last e) e.0 last) es
-last_step last e es = elim (is_fresh last e) as (λ b. cond b (last_fresh e.0 es) (last_fresh last es) ≡ last_fresh (cond b e.0 last) es) [ true ↦ refl | false ↦ refl ]
-
-pub items_step : (out : List Dispatched) (last : ℕ) (e : ℕ × Coming) (es : Entries)
-    → out ++ fresh last (e ∷ es) ≡ cond (is_fresh last e) (out ++ handed_out e.1 ∷ []) out ++ fresh (cond (is_fresh last e) e.0 last) es
-items_step out last e es =
-    elim (is_fresh last e) as (λ b. out ++ cond b (handed_out e.1 ∷ fresh e.0 es) (fresh last es) ≡ cond b (out ++ handed_out e.1 ∷ []) out ++ fresh (cond b e.0 last) es) [
-      | true ↦ sym (append_assoc out (handed_out e.1 ∷ []) (fresh e.0 es))
-      | false ↦ refl
-    ]
-
-pub count_step : (last : ℕ) (e : ℕ × Coming) (es : Entries) → length (fresh last (e ∷ es)) ≡ cond (is_fresh last e) 1 0 + length (fresh (cond (is_fresh last e) e.0 last) es)
-count_step last e es =
-    elim (is_fresh last e) as (λ b. length (cond b (handed_out e.1 ∷ fresh e.0 es) (fresh last es)) ≡ cond b 1 0 + length (fresh (cond b e.0 last) es)) [
-      | true ↦ omega arith
-      | false ↦ omega arith
-    ]
-
-pub length-fresh : (last : ℕ) (es : Entries) → length (fresh last es) ≤ length es
-length-fresh last [] = omega arith
-length-fresh last (e ∷ es) =
-    let step = count_step last e es in
-    let rest = length-fresh (cond (is_fresh last e) e.0 last) es in
-    let one : cond (is_fresh last e) 1 0 ≤ 1 = elim (is_fresh last e) as (λ b. cond b 1 0 ≤ 1) [ true ↦ omega arith | false ↦ omega arith ] in
-    let n : length (e ∷ es) ≡ length es + 1 = omega arith in
-    omega arith
+newer_is : (e : ℕ × Coming) (last : ℕ) → is_newer last e ≡ true → last < e.0
+newer_is e last t = let r = right (is_whole e.1.making) (nat_lt last e.0) t in grind (arith, nat_tests)
 
 -- the last number only grows
 pub last_from : (last : ℕ) (es : Entries) → last ≤ last_fresh last es
 last_from last [] = omega arith
 last_from last (e ∷ es) =
-    elim (is_fresh last e) as (λ b. is_fresh last e ≡ b → last ≤ cond b (last_fresh e.0 es) (last_fresh last es)) [
-      | true ↦ λ t. (let up : last < e.0 = (let r = right (is_whole e.1.making) (nat_lt last e.0) t in grind (arith, nat_tests)) in let more = last_from e.0 es in omega arith)
+    elim (is_newer last e) as (λ b. is_newer last e ≡ b → last ≤ cond b (last_fresh e.0 es) (last_fresh last es)) [
+      | true ↦ λ t. (let up = newer_is e last t in let more = last_from e.0 es in omega arith)
       | false ↦ λ t. last_from last es
     ] refl
 
--- packets past the last one that is handed out: none of them is
-pub past_last : (until last : ℕ) (es : Entries) → All (λ (k : ℕ). until < k) (keys_of es) → last_fresh last es ≡ until → (last ≡ until) × (fresh last es ≡ [])
-past_last until last [] all is = (is, refl)
-past_last until last (e ∷ es) all is =
-    elim (is_fresh last e) as (λ b. cond b (last_fresh e.0 es) (last_fresh last es) ≡ until → (last ≡ until) × (cond b (handed_out e.1 ∷ fresh e.0 es) (fresh last es) ≡ [])) [
-      | true ↦ λ h. absurd (let high = All-head (λ (k : ℕ). until < k) e.0 (keys_of es) all in let more = last_from e.0 es in omega arith)
-      | false ↦ λ h. past_last until last es (All-tail (λ (k : ℕ). until < k) e.0 (keys_of es) all) h
-    ] is
+not_newer : (w : Bool) (last k : ℕ) → (w && nat_lt last k) ≡ false → w ≡ true → k ≤ last
+not_newer true last k t w = grind (arith, nat_tests)
+not_newer false last k t w = absurd (cc)
 
--- and all of them stay
+-- no whole packet has a number above the last one's
+pub whole_to_last : (last : ℕ) (es : Entries) → AreWholeUpTo (last_fresh last es) es
+whole_to_last last [] = All-nil (IsWholeUpTo last)
+whole_to_last last (e ∷ es) =
+    elim (is_newer last e) as (λ b. is_newer last e ≡ b → AreWholeUpTo (cond b (last_fresh e.0 es) (last_fresh last es)) (e ∷ es)) [
+      | true ↦ λ t. All-cons (IsWholeUpTo (last_fresh e.0 es)) e es (λ w. last_from e.0 es) (whole_to_last e.0 es)
+      | false ↦ λ t. All-cons (IsWholeUpTo (last_fresh last es)) e es (λ w. (let low = not_newer (is_whole e.1.making) last e.0 t w in let up = last_from last es in omega arith)) (whole_to_last last es)
+    ] refl
+
+-- packets past a number stay
 pub past_stay : (until : ℕ) (es : Entries) → All (λ (k : ℕ). until < k) (keys_of es) → where_key nat_cmp (nat_lt until) es ≡ es
 past_stay until [] all = refl
 past_stay until (e ∷ es) all =

@@ -1,5 +1,5 @@
 -- Packets that came and are not dispatched yet.
-use Rattle.std.specs.Prelude.{ℕ, ◌&&◌, ◌==◌, nat_lt, if◌then◌else◌, List, [], ◌∷◌, unwrap_or, sum_by}
+use Rattle.std.specs.Prelude.{ℕ, ◌&&◌, ◌==◌, nat_lt, nat_le, if◌then◌else◌, List, [], ◌∷◌, unwrap_or, sum_by}
 use Rattle.std.specs.Ordering.{nat_cmp}
 use Rattle.std.specs.FinMap.{FinMap, get, insert, remove, len, empty, values, retain_keys}
 use Rattle.enet_fragment.specs.Making.{joined}
@@ -34,11 +34,12 @@ packets_in lines = sum_by len (values lines)
 abbrev pub bytes_in : Lines → ℕ
 bytes_in lines = sum_by bytes_of (values lines)
 
--- of packets by rising number, the whole ones above the last that was dispatched, and which is the last then
+-- of packets by rising number, the whole ones from this number on
 abbrev pub fresh : ℕ → List (ℕ × Coming) → List Dispatched
-fresh last [] = []
-fresh last (e ∷ es) = if is_whole e.1.making && nat_lt last e.0 then handed_out e.1 ∷ fresh e.0 es else fresh last es
+fresh first [] = []
+fresh first (e ∷ es) = if is_whole e.1.making && nat_le first e.0 then handed_out e.1 ∷ fresh first es else fresh first es
 
+-- the number of the last whole one, where that is above the last that was dispatched
 abbrev pub last_fresh : ℕ → List (ℕ × Coming) → ℕ
 last_fresh last [] = last
 last_fresh last (e ∷ es) = if is_whole e.1.making && nat_lt last e.0 then last_fresh e.0 es else last_fresh last es

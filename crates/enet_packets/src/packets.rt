@@ -1,6 +1,6 @@
 //! Packets by their numbers.
 
-ghost use Rattle.std.specs.Prelude.{◌≡◌, ℕ, ◌+◌, ◌^◌, ◌≤◌, ◌<◌, ◌++◌, [], ◌∷◌, false, length, ◌&&◌, nat_lt, if◌then◌else◌, IsTrue, OnOk, OnErr, IfErr, Some, None, All};
+ghost use Rattle.std.specs.Prelude.{◌≡◌, ℕ, ◌+◌, ◌^◌, ◌≤◌, ◌<◌, ◌++◌, [], ◌∷◌, false, length, ◌&&◌, nat_lt, nat_le, if◌then◌else◌, IsTrue, OnOk, OnErr, IfErr, Some, None, All};
 ghost use Rattle.std.specs.Option.{IsSomeAnd, IfSome, IfNone, option_copied};
 ghost use Rattle.std.specs.Ordering.{nat_cmp};
 ghost use Rattle.std.specs.BTreeMap as tree;
@@ -93,11 +93,18 @@ fn whole_up_to(last_whole: u16, number: u16, is_whole: bool) -> u16
     }
 }
 
-/// Whether a packet is handed out, where `last` is the last number that was.
-fn is_fresh(number: u16, coming: &Coming, last: u16) -> bool
+/// Whether a packet is whole and its number above `last`.
+fn is_newer(number: u16, coming: &Coming, last: u16) -> bool
     ensures { result ≡ (is_whole coming.now.making && nat_lt last number) }
 {
     coming.making.is_whole() && last < number
+}
+
+/// Whether a packet is handed out where those from `first` on are.
+fn is_fresh(number: u16, coming: &Coming, first: u32) -> bool
+    ensures { result ≡ (is_whole coming.now.making && nat_le first number) }
+{
+    coming.making.is_whole() && first <= u32::from(number)
 }
 
 /// Takes the first packet out, if its number is at most `until`.
@@ -114,16 +121,14 @@ fn pop_up_to(packets: &mut BTreeMap<u16, Coming>, until: u16) -> Option<(u16, Co
     packets.pop_first()
 }
 
-/// Hands a packet out if it is whole and above the last, which is then its number.
-fn hand_out(number: u16, coming: Coming, last: &mut u16, dispatched: &mut VecDeque<Dispatched>)
+/// Hands a packet out if it is whole and its number at least `first`.
+fn hand_out(number: u16, coming: Coming, first: u32, dispatched: &mut VecDeque<Dispatched>)
     requires { deque_len dispatched.old < deque_capacity dispatched.old }
-    ensures items { dispatched.new.items ≡ (if is_whole coming.making && nat_lt last.old number then dispatched.old.items ++ handed_out coming ∷ [] else dispatched.old.items) }
-    ensures last { last.new ≡ (if is_whole coming.making && nat_lt last.old number then number else last.old) }
+    ensures items { dispatched.new.items ≡ (if is_whole coming.making && nat_le first number then dispatched.old.items ++ handed_out coming ∷ [] else dispatched.old.items) }
     ensures room { deque_len dispatched.new ≤ deque_len dispatched.old + 1 }
     ensures capacity { deque_capacity dispatched.new ≡ deque_capacity dispatched.old }
 {
-    if is_fresh(number, &coming, *last) {
-        *last = number;
+    if is_fresh(number, &coming, first) {
         dispatched.push_back_reserved(coming.handed_out());
     }
 }
@@ -217,8 +222,8 @@ impl Packets {
         self.last_whole = 0;
     }
 
-    /// The number of the last packet that `dispatch` would hand out, and `last` where it would hand out none. It looks at no
-    /// packet that stays behind.
+    /// The number of the last whole packet, where that is above `last`, and else `last`. It looks at no packet that `dispatch`
+    /// would leave.
     pub fn last_fresh(&self, last: u16) -> u16
         ensures { result ≡ last_fresh last (map.entries self.now) }
     {
@@ -227,37 +232,36 @@ impl Packets {
             if *number > self.last_whole {
                 return newest;
             }
-            if is_fresh(*number, coming, newest) {
+            if is_newer(*number, coming, newest) {
                 newest = *number;
             }
         }
         newest
     }
 
-    /// How many packets `dispatch` would hand out. It looks at no packet that stays behind.
-    pub fn fresh_count(&self, last: u16) -> u32
-        ensures { result ≡ length (fresh last (map.entries self.now)) }
+    /// How many packets `dispatch` would hand out. It looks at no packet that it would leave.
+    pub fn fresh_count(&self, first: u32) -> u32
+        ensures count { result ≡ length (fresh first (map.entries self.now)) }
+        ensures few { result ≤ 65536 }
     {
-        let mut newest = last;
         let mut count = 0;
         for (number, coming) in &self.packets {
             if *number > self.last_whole {
                 return count;
             }
-            if is_fresh(*number, coming, newest) {
-                newest = *number;
+            if is_fresh(*number, coming, first) {
                 count += 1;
             }
         }
         count
     }
 
-    /// Hands the whole packets with numbers above `last` out, by rising numbers, and moves `last` up to the last of them.
-    /// The packets up to there have fallen behind and go (ENet 1.3), incomplete ones too (our profile); those above it stay.
-    /// It takes no memory.
-    pub fn dispatch(&mut self, last: &mut u16, dispatched: &mut VecDeque<Dispatched>)
+    /// Hands the whole packets from number `first` on out, by rising numbers, and moves `last` up to the last whole one. The
+    /// packets up to there have fallen behind and go (ENet 1.3), incomplete ones too (our profile); those above it stay. It
+    /// takes no memory.
+    pub fn dispatch(&mut self, first: u32, last: &mut u16, dispatched: &mut VecDeque<Dispatched>)
         requires room { deque_len dispatched.old + map.len self.old ≤ deque_capacity dispatched.old }
-        ensures items { dispatched.new.items ≡ dispatched.old.items ++ fresh last.old (map.entries self.old) }
+        ensures items { dispatched.new.items ≡ dispatched.old.items ++ fresh first (map.entries self.old) }
         ensures last { last.new ≡ last_fresh last.old (map.entries self.old) }
         ensures rest { self.new ≡ still_ahead self.old (last_fresh last.old (map.entries self.old)) }
         ensures room { deque_len dispatched.new + map.len self.new ≤ deque_len dispatched.old + map.len self.old }
@@ -266,7 +270,8 @@ impl Packets {
         let until = self.last_fresh(*last);
         while let Some((number, coming)) = pop_up_to(&mut self.packets, until) {
             self.bytes -= u64::from(coming.making.total());
-            hand_out(number, coming, last, dispatched);
+            hand_out(number, coming, first, dispatched);
         }
+        *last = until;
     }
 }

@@ -163,12 +163,13 @@ fn add_piece(
 fn dispatch_line(
     lines: &mut BTreeMap<u16, Packets>,
     number: u16,
+    first: u32,
     last: &mut u16,
     dispatched: &mut VecDeque<Dispatched>,
 )
     requires there { IsSome (tree.get nat_cmp lines.old number) }
     requires room { deque_len dispatched.old + map.len (line_in lines.old.entries number) ≤ deque_capacity dispatched.old }
-    ensures items { dispatched.new.items ≡ dispatched.old.items ++ fresh last.old (map.entries (line_in lines.old.entries number)) }
+    ensures items { dispatched.new.items ≡ dispatched.old.items ++ fresh first (map.entries (line_in lines.old.entries number)) }
     ensures last { last.new ≡ last_fresh last.old (map.entries (line_in lines.old.entries number)) }
     ensures rest { lines.new.entries ≡ tree.insert_entry nat_cmp lines.old.entries number (still_ahead (line_in lines.old.entries number) last.new) }
     ensures room { deque_len dispatched.new + map.len (still_ahead (line_in lines.old.entries number) last.new) ≤ deque_len dispatched.old + map.len (line_in lines.old.entries number) }
@@ -176,7 +177,7 @@ fn dispatch_line(
     ensures ordered { tree.IsOrdered nat_cmp lines.new }
 {
     if let Some(line) = lines.get_mut(&number) {
-        line.dispatch(last, dispatched);
+        line.dispatch(first, last, dispatched);
     }
 }
 
@@ -193,12 +194,13 @@ fn take_out(lines: &mut BTreeMap<u16, Packets>, number: u16)
 fn flush_line(
     lines: &mut BTreeMap<u16, Packets>,
     number: u16,
+    first: u32,
     last: &mut u16,
     dispatched: &mut VecDeque<Dispatched>,
 ) -> Size
     requires there { IsSome (tree.get nat_cmp lines.old number) }
     requires room { deque_len dispatched.old + map.len (line_in lines.old.entries number) ≤ deque_capacity dispatched.old }
-    ensures items { dispatched.new.items ≡ dispatched.old.items ++ fresh last.old (map.entries (line_in lines.old.entries number)) }
+    ensures items { dispatched.new.items ≡ dispatched.old.items ++ fresh first (map.entries (line_in lines.old.entries number)) }
     ensures last { last.new ≡ last_fresh last.old (map.entries (line_in lines.old.entries number)) }
     ensures rest { KeepsLines lines.old.entries → Settles lines.old.entries lines.new.entries number (still_ahead (line_in lines.old.entries number) last.new) }
     ensures packets { result.packets ≡ map.len (still_ahead (line_in lines.old.entries number) last.new) }
@@ -206,7 +208,7 @@ fn flush_line(
     ensures room { deque_len dispatched.new + result.packets ≤ deque_len dispatched.old + map.len (line_in lines.old.entries number) }
     ensures capacity { deque_capacity dispatched.new ≡ deque_capacity dispatched.old }
 {
-    dispatch_line(lines, number, last, dispatched);
+    dispatch_line(lines, number, first, last, dispatched);
     let left = size_at(lines, number);
     if left.packets == 0 {
         take_out(lines, number);
@@ -300,21 +302,28 @@ impl Waiting {
     }
 
     /// How many packets `flush` would hand out.
-    pub fn fresh_count(&self, number: u16, last: u16) -> u32
-        ensures { result ≡ length (fresh last (map.entries (line_at self.now number))) }
+    pub fn fresh_count(&self, number: u16, first: u32) -> u32
+        ensures count { result ≡ length (fresh first (map.entries (line_at self.now number))) }
+        ensures few { result ≤ 65536 }
     {
         match self.lines.get(&number) {
-            Some(line) => line.fresh_count(last),
+            Some(line) => line.fresh_count(first),
             None => 0,
         }
     }
 
-    /// Dispatches the line of a number: its whole packets with unreliable numbers above `last` are handed out, by rising
-    /// numbers, and `last` moves up to the last of them. The packets up to there have fallen behind and go (ENet 1.3), incomplete
-    /// ones too (our profile); those above it stay. It takes no memory.
-    pub fn flush(&mut self, number: u16, last: &mut u16, dispatched: &mut VecDeque<Dispatched>)
+    /// Dispatches the line of a number: its whole packets with unreliable numbers from `first` on are handed out, by rising
+    /// numbers, and `last` moves up to the last whole one. The packets up to there have fallen behind and go (ENet 1.3),
+    /// incomplete ones too (our profile); those above it stay. It takes no memory.
+    pub fn flush(
+        &mut self,
+        number: u16,
+        first: u32,
+        last: &mut u16,
+        dispatched: &mut VecDeque<Dispatched>,
+    )
         requires room { deque_len dispatched.old + packets_in self.old ≤ deque_capacity dispatched.old }
-        ensures items { dispatched.new.items ≡ dispatched.old.items ++ fresh last.old (map.entries (line_at self.old number)) }
+        ensures items { dispatched.new.items ≡ dispatched.old.items ++ fresh first (map.entries (line_at self.old number)) }
         ensures last { last.new ≡ last_fresh last.old (map.entries (line_at self.old number)) }
         ensures rest { self.new ≡ with_line self.old number (still_ahead (line_at self.old number) last.new) }
         ensures room { deque_len dispatched.new + packets_in self.new ≤ deque_len dispatched.old + packets_in self.old }
@@ -324,7 +333,7 @@ impl Waiting {
             return;
         }
         let was = size_at(&self.lines, number);
-        let left = flush_line(&mut self.lines, number, last, dispatched);
+        let left = flush_line(&mut self.lines, number, first, last, dispatched);
         self.packets = self.packets - was.packets + left.packets;
         self.bytes = self.bytes - was.bytes + left.bytes;
     }

@@ -1,5 +1,5 @@
 -- How much can be held and wait.
-use Rattle.std.proofs.Common.{◌≡◌, ℕ, zero, suc, ◌+◌, ◌-◌, ◌*◌, ◌^◌, ◌%◌, ◌<◌, ◌≤◌, ◌||◌, Bool, true, false, cond, List, [], ◌∷◌, length, map, sum_by, refl, sym, ap, subst, ◌∙◌, inl, inr, ◌⊎◌, arith, Option, Some, None, Result, Ok, Err}
+use Rattle.std.proofs.Common.{◌≡◌, ◌≢◌, ℕ, zero, suc, ◌+◌, ◌-◌, ◌*◌, ◌^◌, ◌%◌, ◌<◌, ◌≤◌, ◌||◌, Bool, true, false, cond, List, [], ◌∷◌, length, map, sum_by, refl, sym, ap, subst, ◌∙◌, inl, inr, ◌⊎◌, arith, Option, Some, None, Result, Ok, Err}
 use Rattle.std.proofs.lemmas.List.Sums.{sum_by-cons}
 use Rattle.std.proofs.Math.Nat.{mul-le-mul_right}
 use Rattle.std.specs.Ordering.{nat_cmp, eq_by_cmp}
@@ -14,7 +14,7 @@ use Rattle.enet_packets.specs.Packets.{bytes_of, packets_in, bytes_in}
 use Rattle.enet_receiver.specs.Receiver.{Receiver, held_bytes}
 use Rattle.enet_receiver.specs.Kept.{IsLine, Keeps}
 use Rattle.enet_receiver.proofs.Lists.{Has}
-use Rattle.enet_receiver.proofs.Maps.{get_removed, get_inserted}
+use Rattle.enet_receiver.proofs.Maps.{get_removed, get_inserted, get-insert_other}
 use Rattle.enet_receiver.proofs.Entries.{get_entry}
 use Rattle.enet_receiver.proofs.LineLemmas.{Line}
 
@@ -73,6 +73,16 @@ sum-le {X = X} f b (e ∷ es) h =
     subst (λ n. n ≤ suc (length es) * b) (sym (sum_by-cons f e.1 (map (λ (x : ℕ × X). x.1) es)))
     (sum_step (f e.1) b (length es) (sum_by f (map (λ (x : ℕ × X). x.1) es)) (h e (inl refl)) (sum-le f b es (λ x k. h x (inr k))))
 
+-- and where two are missing
+len-lt_two : {X : Type 0} (n k j : ℕ) (m : FinMap nat_cmp X) (x : X) → ((q : ℕ) (x : X) → get m q ≡ Some x → q < n) → k < n → j < n → j ≢ k → get m k ≡ None → get m j ≡ None → len m + 1 < n
+len-lt_two n k j m x below low low_too apart none none_too =
+    let all = len-lt n j (insert m k x) x (λ q y there. elim (get_inserted m k q x y there) [
+      | inl same ↦ omega arith
+      | inr other ↦ below q y other.1
+    ]) low_too (get-insert_other m k j x apart ∙ none_too) in
+    let grown : len (insert m k x) ≡ len m + 1 = one_more_key (contains_key m k) (len (insert m k x)) (len m) (ap is_some none) (len-insert nat_cmp_total m k x) in
+    omega arith
+
 -- a sum over a map's values
 pub sum_values-le : {X : Type 0} (f : X → ℕ) (b : ℕ) (m : FinMap nat_cmp X) → ((q : ℕ) (x : X) → get m q ≡ Some x → f x ≤ b) → sum_by f (values m) ≤ len m * b
 sum_values-le f b m h =
@@ -80,7 +90,7 @@ sum_values-le f b m h =
     let all = sum-le f b (entries m) (λ e k. h e.0 e.1 (get_entry m e k)) in
     subst (λ x. sum_by f (values m) ≤ x * b) (sym n) all
 
--- what is held, and the lines that wait, are less than all numbers
+-- what is held, and the lines that wait, are less than all numbers: nothing is held for the front, or stands far past it
 front_is_free : {X : Type 0} (front : ℕ) (m : FinMap nat_cmp X) (o : Option X) → front < 65536 → ((x : X) → o ≡ Some x → 1 ≤ ahead front front) → o ≡ None
 front_is_free front m None low h = refl
 front_is_free front m (Some x) low h = absurd (let e = h x refl in omega arith)
@@ -89,18 +99,21 @@ past_is_free : {X : Type 0} (front : ℕ) (o : Option X) → front < 65536 → (
 past_is_free front None low h = refl
 past_is_free front (Some x) low h = absurd (let e = h x refl in omega arith)
 
-below_more : (n : ℕ) → (n < 1) ⊎ (1 ≤ n)
-below_more n = grind arith
+past_apart : (front : ℕ) → front < 65536 → (front + 30000) % 65536 ≢ front
+past_apart front low e = omega arith
 
-pub held_fit : (most : ℕ) (r : Receiver) → Keeps most r → len r.held < 65536
+pub held_fit : (most : ℕ) (r : Receiver) → Keeps most r → len r.held ≤ 65534
 held_fit most r k =
     elim (empty_or_not (len r.held)) [
       | inl none ↦ omega arith
       | inr more ↦
           let q = has_key (entries r.held) (subst (λ x. 0 < x) (len-entries r.held) more) in
           let v = some_there (get r.held q.0) (contains_key-keys r.held q.0 ∙ q.1) in
-          len-lt 65536 r.front r.held v.0 (λ q x there. (k.held q x there).wire) k.wire
+          let past : ℕ = (r.front + 30000) % 65536 in
+          let fewer = len-lt_two 65536 r.front ((r.front + 30000) % 65536) r.held v.0 (λ q x there. (k.held q x there).wire) k.wire (omega arith) (past_apart r.front k.wire)
           (front_is_free r.front r.held (get r.held r.front) k.wire (λ x there. (k.held r.front x there).near))
+          (past_is_free r.front (get r.held past) k.wire (λ x there. (k.held past x there).far)) in
+          omega arith
     ]
 
 pub lines_fit : (most : ℕ) (r : Receiver) → Keeps most r → len r.waiting < 65536

@@ -8,7 +8,7 @@ use Rattle.enet_fragment.specs.Making.{count_of}
 use Rattle.enet_packets.specs.declared.coming.Coming.{Coming}
 use Rattle.enet_packets.specs.declared.coming.Dispatched.{Dispatched}
 use Rattle.enet_packets.specs.Packets.{Lines, line_at, fresh, still_ahead, handed_out}
-use Rattle.enet_receiver.specs.Receiver.{Receiver, without, with_passed, with_dispatched, next_whole, released_with, released, flushed, flushed_last, front_line}
+use Rattle.enet_receiver.specs.Receiver.{Receiver, without, with_passed, with_dispatched, next_whole, released_with, released, flushed_from, flushed, flushed_last, front_line}
 use Rattle.enet_receiver.specs.Walk.{pieces_of, fresh_at, walk_with, walk, walked, chain_or_line}
 use Rattle.enet_receiver.proofs.Without.{get-without_wire_outside}
 use Rattle.enet_receiver.proofs.LineLemmas.{Line, line_at-other, line_at-same}
@@ -137,11 +137,11 @@ course_count (suc n) base held lines s d near on =
 
 -- nothing that waits for the front is due
 abbrev pub Settled : Receiver → Type 0
-Settled r = fresh r.unreliable (entries (front_line r)) ≡ []
+Settled r = fresh (r.unreliable + 1) (entries (front_line r)) ≡ []
 
-pub settled-flushed : (r : Receiver) → Settled (flushed r)
-settled-flushed r =
-    ap (λ (l : Line). fresh (flushed_last r) (entries l)) (line_at-same r.waiting r.front (still_ahead (front_line r) (flushed_last r)))
+pub settled-flushed : (first : ℕ) (r : Receiver) → Settled (flushed_from first r)
+settled-flushed first r =
+    ap (λ (l : Line). fresh (flushed_last r + 1) (entries l)) (line_at-same r.waiting r.front (still_ahead (front_line r) (flushed_last r)))
     ∙ fresh_again r.unreliable (front_line r)
 
 chain_is : (w l : ℕ) → 1 ≤ w → chain_or_line w l ≡ w
@@ -177,14 +177,14 @@ all_count n s low near =
     → length (flushed (released wire (suc n) s)).dispatched ≡ length s.dispatched + walked (suc n) None s.held s.waiting s.front s.unreliable) [
       | None ↦ λ e.
           ap (λ (x : Receiver). length (flushed x).dispatched) (released-none wire (suc n) s e)
-          ∙ length-append s.dispatched (fresh s.unreliable (entries (front_line s)))
-          ∙ ap (λ k. length s.dispatched + k) (sym (add-zero (length (fresh s.unreliable (entries (front_line s))))))
-          ∙ ap (λ k. length s.dispatched + chain_or_line k (fresh_at None s.waiting s.front s.unreliable)) (sym (walk_none n s e))
+          ∙ length-append s.dispatched (fresh (s.unreliable + 1) (entries (front_line s)))
+          ∙ ap (λ k. length s.dispatched + k) (sym (add-zero (length (fresh (s.unreliable + 1) (entries (front_line s))))))
+          ∙ ap (λ k. length s.dispatched + chain_or_line k (fresh_at None s.waiting s.front (s.unreliable + 1))) (sym (walk_none n s e))
       | Some c ↦ λ e.
           let turns : Receiver = released wire (suc n) s in
           let settled : Settled (released wire (suc n) s) = subst Settled (sym (released-some wire n s c e))
-          (released-keeps wire Settled (λ r x _ _. settled-flushed (with_passed wire r x)) n (with_dispatched wire s c) (settled-flushed (with_passed wire s c))) in
-          nothing_more turns.dispatched (fresh turns.unreliable (entries (front_line turns))) settled
+          (released-keeps wire Settled (λ r x _ _. settled-flushed 0 (with_passed wire r x)) n (with_dispatched wire s c) (settled-flushed 0 (with_passed wire s c))) in
+          nothing_more turns.dispatched (fresh (turns.unreliable + 1) (entries (front_line turns))) settled
           ∙ course_count (suc n) s.front s.held s.waiting s 0 near (starts s low)
-          ∙ ap (λ k. length s.dispatched + k) (sym (chain_is (walk (suc n) None s.held s.waiting s.front) (fresh_at None s.waiting s.front s.unreliable) (walk_some n s c e)))
+          ∙ ap (λ k. length s.dispatched + k) (sym (chain_is (walk (suc n) None s.held s.waiting s.front) (fresh_at None s.waiting s.front (s.unreliable + 1)) (walk_some n s c e)))
     ] refl

@@ -1,5 +1,5 @@
 -- How many packets a command dispatches, told by what is held and waits before it.
-use Rattle.std.proofs.Common.{◌≡◌, ◌≢◌, ℕ, zero, suc, ◌+◌, ◌-◌, ◌%◌, ◌<◌, ◌≤◌, eqb, ltb, Bool, true, false, cond, not, ◌&&◌, List, [], ◌∷◌, length, refl, sym, ap, subst, ◌∙◌, inl, inr, arith, Option, Some, None, is_some, add-zero, get_or}
+use Rattle.std.proofs.Common.{◌≡◌, ◌≢◌, ℕ, zero, suc, ◌+◌, ◌-◌, ◌%◌, ◌<◌, ◌≤◌, eqb, leb, Bool, true, false, cond, not, ◌&&◌, List, [], ◌∷◌, length, refl, sym, ap, subst, ◌∙◌, inl, inr, arith, Option, Some, None, is_some, add-zero, get_or}
 use Rattle.std.specs.List.{list_all}
 use Rattle.std.specs.FinMap.{get, insert, len, entries}
 use Rattle.std.proofs.lemmas.Bool.Decides.{nat_tests}
@@ -106,14 +106,14 @@ held_unreliable : (o : Option Completed) (r : Receiver) (c : DataCommand) (place
 held_unreliable None r c place q k is = refl
 held_unreliable (Some p) r c place q k is = ap (λ b. b && eqb p.place q) (k.1 ∙ is)
 
-fresh_elsewhere : (o : Option Completed) (r : Receiver) (c : DataCommand) (place q last : ℕ) → Completes o r c place → q ≢ place → is_fresh o q last ≡ false
-fresh_elsewhere None r c place q last k apart = refl
-fresh_elsewhere (Some p) r c place q last k apart =
-    ap (λ b. not p.reliable && (b && ltb last p.count)) (let at : p.place ≡ place = k.2 in apart_test p.place q (λ e. apart (sym e ∙ at))) ∙ and_false (not p.reliable)
+fresh_elsewhere : (o : Option Completed) (r : Receiver) (c : DataCommand) (place q first : ℕ) → Completes o r c place → q ≢ place → is_fresh o q first ≡ false
+fresh_elsewhere None r c place q first k apart = refl
+fresh_elsewhere (Some p) r c place q first k apart =
+    ap (λ b. not p.reliable && (b && leb first p.count)) (let at : p.place ≡ place = k.2 in apart_test p.place q (λ e. apart (sym e ∙ at))) ∙ and_false (not p.reliable)
 
-fresh_reliable : (o : Option Completed) (r : Receiver) (c : DataCommand) (place q last : ℕ) → Completes o r c place → c.reliable ≡ true → is_fresh o q last ≡ false
-fresh_reliable None r c place q last k is = refl
-fresh_reliable (Some p) r c place q last k is = ap (λ b. not b && (eqb p.place q && ltb last p.count)) (k.1 ∙ is)
+fresh_reliable : (o : Option Completed) (r : Receiver) (c : DataCommand) (place q first : ℕ) → Completes o r c place → c.reliable ≡ true → is_fresh o q first ≡ false
+fresh_reliable None r c place q first k is = refl
+fresh_reliable (Some p) r c place q first k is = ap (λ b. not b && (eqb p.place q && leb first p.count)) (k.1 ∙ is)
 
 -- at its own place
 held_here : (o : Option Completed) (r : Receiver) (c : DataCommand) (place : ℕ) (was : Option ℕ) → Completes o r c place → c.reliable ≡ true → was ≡ None
@@ -125,19 +125,19 @@ held_here (Some p) r c place was k is none =
     ∙ ap (λ n. Some n) k.4
     ∙ sym (whole_pieces true (grown_at r c place) k.0)
 
-fresh_here : (o : Option Completed) (r : Receiver) (c : DataCommand) (place last : ℕ) → Completes o r c place → c.reliable ≡ false
-    → is_fresh o place last ≡ (is_whole (grown_at r c place).making && ltb last c.count)
-fresh_here None r c place last k is = sym (ap (λ b. b && ltb last c.count) k)
-fresh_here (Some p) r c place last k is =
-    ap (λ b. not b && (eqb p.place place && ltb last p.count)) (k.1 ∙ is)
-    ∙ ap (λ b. b && ltb last p.count) (same_test p.place place k.2)
-    ∙ ap (ltb last) k.3
-    ∙ sym (ap (λ b. b && ltb last c.count) k.0)
+fresh_here : (o : Option Completed) (r : Receiver) (c : DataCommand) (place first : ℕ) → Completes o r c place → c.reliable ≡ false
+    → is_fresh o place first ≡ (is_whole (grown_at r c place).making && leb first c.count)
+fresh_here None r c place first k is = sym (ap (λ b. b && leb first c.count) k)
+fresh_here (Some p) r c place first k is =
+    ap (λ b. not b && (eqb p.place place && leb first p.count)) (k.1 ∙ is)
+    ∙ ap (λ b. b && leb first p.count) (same_test p.place place k.2)
+    ∙ ap (leb first) k.3
+    ∙ sym (ap (λ b. b && leb first c.count) k.0)
 
 -- the walk over what is held and waits before is that over what is held and waits then
 pub record SeesAs (o : Option Completed) (r s : Receiver) : Type 0 where
   pub pieces : (q : ℕ) → pieces_at o r.held q ≡ pieces_at None s.held q
-  pub line : (q last : ℕ) → fresh_at o r.waiting q last ≡ fresh_at None s.waiting q last
+  pub line : (q first : ℕ) → fresh_at o r.waiting q first ≡ fresh_at None s.waiting q first
 
 pub sees_as : (o : Option Completed) (most : ℕ) (r : Receiver) (c : DataCommand) (place : ℕ) → Admitted most r c place → Completes o r c place → SeesAs o r (with_stored r c place)
 sees_as o most r c place a k =
@@ -157,7 +157,7 @@ sees_as o most r c place a k =
               | inr apart ↦ ap (λ b. cond b (pieces_or o None) (pieces_of (next_whole (get r.held q)))) (held_elsewhere o r c place q k apart)
                   ∙ ap (λ x. pieces_of (next_whole x)) (sym (get-insert_other r.held place q g apart))
             ];
-            line = λ q last. ap (λ b. length (fresh last (entries (line_at r.waiting q))) + one_if b) (fresh_reliable o r c place q last k t);
+            line = λ q first. ap (λ b. length (fresh first (entries (line_at r.waiting q))) + one_if b) (fresh_reliable o r c place q first k t);
           }
       | false ↦ λ t.
           let at : came_at r c place ≡ get (line_at r.waiting place) c.count = ap (λ b. cond b (get r.held place) (get (line_at r.waiting place) c.count)) t in
@@ -165,14 +165,14 @@ sees_as o most r c place a k =
           let grown : Line = insert (line_at r.waiting place) c.count g in
           record {
             pieces = λ q. ap (λ b. cond b (pieces_or o None) (pieces_of (next_whole (get r.held q)))) (held_unreliable o r c place q k t);
-            line = λ q last. elim (two_numbers q place) [
-              | inl same ↦ subst (λ n. fresh_at o r.waiting n last ≡ fresh_at None (with_line r.waiting place (insert (line_at r.waiting place) c.count g)) n last) (sym same)
-                  (ap (λ b. length (fresh last (entries (line_at r.waiting place))) + one_if b) (fresh_here o r c place last k t)
-                  ∙ sym (fresh-insert last c.count g (line_at r.waiting place) none)
-                  ∙ sym (add-zero (length (fresh last (entries (insert (line_at r.waiting place) c.count g)))))
-                  ∙ ap (λ (l : Line). length (fresh last (entries l)) + 0) (sym (line_at-same r.waiting place grown)))
-              | inr apart ↦ ap (λ b. length (fresh last (entries (line_at r.waiting q))) + one_if b) (fresh_elsewhere o r c place q last k apart)
-                  ∙ ap (λ (l : Line). length (fresh last (entries l)) + 0) (sym (line_at-other r.waiting place grown q apart))
+            line = λ q first. elim (two_numbers q place) [
+              | inl same ↦ subst (λ n. fresh_at o r.waiting n first ≡ fresh_at None (with_line r.waiting place (insert (line_at r.waiting place) c.count g)) n first) (sym same)
+                  (ap (λ b. length (fresh first (entries (line_at r.waiting place))) + one_if b) (fresh_here o r c place first k t)
+                  ∙ sym (fresh-insert first c.count g (line_at r.waiting place) none)
+                  ∙ sym (add-zero (length (fresh first (entries (insert (line_at r.waiting place) c.count g)))))
+                  ∙ ap (λ (l : Line). length (fresh first (entries l)) + 0) (sym (line_at-same r.waiting place grown)))
+              | inr apart ↦ ap (λ b. length (fresh first (entries (line_at r.waiting q))) + one_if b) (fresh_elsewhere o r c place q first k apart)
+                  ∙ ap (λ (l : Line). length (fresh first (entries l)) + 0) (sym (line_at-other r.waiting place grown q apart))
             ];
           }
     ] refl
@@ -190,8 +190,8 @@ same_walk (suc n) o r s sees front =
 
 pub same_walked : (n : ℕ) (o : Option Completed) (r s : Receiver) (front unreliable : ℕ) → SeesAs o r s → walked n o r.held r.waiting front unreliable ≡ walked n None s.held s.waiting front unreliable
 same_walked n o r s front unreliable sees =
-    ap (λ w. chain_or_line w (fresh_at o r.waiting front unreliable)) (same_walk n o r s sees front)
-    ∙ ap (chain_or_line (walk n None s.held s.waiting front)) (sees.line front unreliable)
+    ap (λ w. chain_or_line w (fresh_at o r.waiting front (unreliable + 1))) (same_walk n o r s sees front)
+    ∙ ap (chain_or_line (walk n None s.held s.waiting front)) (sees.line front (unreliable + 1))
 
 -- what is held stands near the front
 all_near : (most : ℕ) (r : Receiver) → Keeps most r → AllNear r.front r.held
@@ -202,7 +202,7 @@ all_near most r k = record {
 }
 
 -- any number of turns above those that are needed
-pub counted : (n most : ℕ) (s : Receiver) → Keeps most s → 65535 ≤ suc n → length (all_released wire s).dispatched ≡ length s.dispatched + walked (suc n) None s.held s.waiting s.front s.unreliable
+pub counted : (n most : ℕ) (s : Receiver) → Keeps most s → 65534 ≤ suc n → length (all_released wire s).dispatched ≡ length s.dispatched + walked (suc n) None s.held s.waiting s.front s.unreliable
 counted n most s k enough =
     let few = held_fit most s k in
     ap (λ (x : Receiver). length (flushed x).dispatched) (released-enough wire (len s.held) (suc n) s wire_begins (pieces_of_kept most s k) (omega arith) (omega arith))
@@ -213,7 +213,7 @@ minus a b c e = omega arith
 
 -- how many packets a command dispatches that is taken in
 pub dispatches-is : (n most : ℕ) (o : Option Completed) (r : Receiver) (c : DataCommand) (full : Bool) (place : ℕ) → Keeps most r → IsInside r.front place → c.count < 65536 → Admitted most r c place → Completes o r c place
-    → outcome wire most r c full ≡ Held → 65535 ≤ suc n → walked (suc n) o r.held r.waiting r.front r.unreliable ≡ dispatch_count wire most r c full
+    → outcome wire most r c full ≡ Held → 65534 ≤ suc n → walked (suc n) o r.held r.waiting r.front r.unreliable ≡ dispatch_count wire most r c full
 dispatches-is n most o r c full place k inside count a made held enough =
     let s : Receiver = with_stored r c place in
     let after_it : received wire most r c full ≡ all_released wire (with_stored r c place) =

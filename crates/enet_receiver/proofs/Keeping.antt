@@ -1,13 +1,13 @@
 -- All that is held or waits stays inside the window.
 use Rattle.std.proofs.Common.{◌≡◌, ℕ, ◌+◌, ◌%◌, ◌^◌, ◌<◌, ◌≤◌, sym, ap, ◌∙◌, inl, inr, ◌⊎◌, arith, Some, None, List}
 use Rattle.std.specs.Ordering.{nat_cmp}
-use Rattle.std.specs.FinMap.{FinMap, get, empty, get-empty}
+use Rattle.std.specs.FinMap.{FinMap, get, len, empty, get-empty}
 use Rattle.enet_seq.specs.Numbering.{wire}
 use Rattle.enet_seq.specs.Windows.{ahead, after}
 use Rattle.enet_fragment.specs.Making.{count_of}
 use Rattle.enet_packets.specs.declared.coming.Coming.{Coming}
 use Rattle.enet_packets.specs.Packets.{line_at, still_ahead}
-use Rattle.enet_receiver.specs.Receiver.{Receiver, without, with_passed, with_dispatched, all_released, flushed, flushed_last, front_line, cleared}
+use Rattle.enet_receiver.specs.Receiver.{Receiver, without, with_passed, with_dispatched, released, all_released, flushed_from, flushed_last, front_line, cleared}
 use Rattle.enet_packets.specs.declared.coming.Dispatched.{Dispatched}
 use Rattle.enet_receiver.specs.Parts.{receiver_of}
 use Rattle.enet_receiver.specs.Kept.{IsWaiting, Keeps}
@@ -75,8 +75,8 @@ packets_at most r q k c kept e =
     let found = in_line (get r.waiting q) k c e in
     (kept.waiting q found.0 found.1).packets k c found.2
 
-pub Keeps-flushed : (most : ℕ) (r : Receiver) → Keeps most r → Keeps most (flushed r)
-Keeps-flushed most r k = record {
+pub Keeps-flushed : (first most : ℕ) (r : Receiver) → Keeps most r → Keeps most (flushed_from first r)
+Keeps-flushed first most r k = record {
   packet = k.packet;
   wire = k.wire;
   held = k.held;
@@ -91,10 +91,10 @@ Keeps-flushed most r k = record {
 }
 
 pub Keeps-dispatched : (most : ℕ) (r : Receiver) (c : Coming) → Keeps most r → Keeps most (with_dispatched wire r c)
-Keeps-dispatched most r c k = Keeps-flushed most (with_passed wire r c) (Keeps-passed most r c k)
+Keeps-dispatched most r c k = Keeps-flushed 0 most (with_passed wire r c) (Keeps-passed most r c k)
 
 pub Keeps-all_released : (most : ℕ) (r : Receiver) → Keeps most r → Keeps most (all_released wire r)
-Keeps-all_released most r k = Keeps-flushed most _ (released-keeps wire (Keeps most) (λ s c e h. Keeps-dispatched most s c h) _ r k)
+Keeps-all_released most r k = let s : Receiver = released wire (len r.held) r in Keeps-flushed (s.unreliable + 1) most s (released-keeps wire (Keeps most) (λ s c e h. Keeps-dispatched most s c h) _ r k)
 
 pub Keeps-new : (most : ℕ) (out : List Dispatched) → most < 2 ^ 32 → Keeps most (receiver_of 0 0 empty empty out)
 Keeps-new most out small = record {

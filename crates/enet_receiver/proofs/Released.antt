@@ -1,5 +1,5 @@
 -- How whole packets are dispatched: in as many turns as packets are held, whatever was dispatched before.
-use Rattle.std.proofs.Common.{◌≡◌, ℕ, zero, suc, ◌<◌, ◌≤◌, Bool, true, false, cond, List, [], ◌∷◌, refl, sym, ap, subst, ◌∙◌, arith, Option, Some, None, append_assoc}
+use Rattle.std.proofs.Common.{◌≡◌, ℕ, zero, suc, ◌+◌, ◌<◌, ◌≤◌, Bool, true, false, cond, List, [], ◌∷◌, refl, sym, ap, subst, ◌∙◌, arith, Option, Some, None, append_assoc}
 use Rattle.std.specs.Ordering.{nat_cmp}
 use Rattle.std.specs.FinMap.{FinMap, get, len, empty_of_len, get-empty, entries}
 use Rattle.enet_seq.specs.Numbering.{Numbering, wire, unbounded}
@@ -9,7 +9,7 @@ use Rattle.enet_fragment.specs.declared.data.DataCommand.{DataCommand}
 use Rattle.enet_packets.specs.declared.coming.Coming.{Coming}
 use Rattle.enet_packets.specs.declared.coming.Dispatched.{Dispatched}
 use Rattle.enet_packets.specs.Packets.{handed_out, fresh}
-use Rattle.enet_receiver.specs.Receiver.{Receiver, with_passed, with_dispatched, next_whole, released_with, released, all_released, flushed, front_line}
+use Rattle.enet_receiver.specs.Receiver.{Receiver, with_passed, with_dispatched, next_whole, released_with, released, all_released, flushed_from, flushed, front_line}
 use Rattle.enet_receiver.specs.Reception.{outcome, received_with, place_read, came_at, with_added, with_more, earlier_or_new, added_at}
 use Rattle.enet_receiver.specs.declared.took.Took.{Took}
 use Rattle.enet_receiver.specs.declared.took.Took.TheVariants.{Held, Again, Outside, Bad, Waiting, Memory}
@@ -111,14 +111,14 @@ nothing_due g (suc n) r begins h a =
 pub nothing_is_due : (g : Numbering) (r : Receiver) → Begins g → HavePieces r → NothingIsDue g r
 nothing_is_due g r begins h = nothing_due g (len r.held) r begins h (omega arith)
 
-flushed-earlier : (xs : List Dispatched) (r : Receiver) → flushed (with_earlier xs r) ≡ with_earlier xs (flushed r)
-flushed-earlier xs r = ap (λ out. record (flushed r) { dispatched = out }) (append_assoc xs r.dispatched (fresh r.unreliable (entries (front_line r))))
+flushed-earlier : (first : ℕ) (xs : List Dispatched) (r : Receiver) → flushed_from first (with_earlier xs r) ≡ with_earlier xs (flushed_from first r)
+flushed-earlier first xs r = ap (λ out. record (flushed_from first r) { dispatched = out }) (append_assoc xs r.dispatched (fresh first (entries (front_line r))))
 
 dispatched-earlier : (g : Numbering) (xs : List Dispatched) (r : Receiver) (c : Coming) → with_dispatched g (with_earlier xs r) c ≡ with_earlier xs (with_dispatched g r c)
 dispatched-earlier g xs r c =
     let s : Receiver = with_passed g r c in
-    ap (λ (out : List Dispatched). flushed (record s { dispatched = out })) (append_assoc xs r.dispatched (handed_out c ∷ []))
-    ∙ flushed-earlier xs s
+    ap (λ (out : List Dispatched). flushed_from 0 (record s { dispatched = out })) (append_assoc xs r.dispatched (handed_out c ∷ []))
+    ∙ flushed-earlier 0 xs s
 
 released-earlier : (g : Numbering) (xs : List Dispatched) (n : ℕ) (r : Receiver) → released g n (with_earlier xs r) ≡ with_earlier xs (released g n r)
 unfolding released
@@ -130,7 +130,9 @@ released-earlier g xs (suc n) r =
     ]
 
 pub all_released-earlier : (g : Numbering) (xs : List Dispatched) (r : Receiver) → all_released g (with_earlier xs r) ≡ with_earlier xs (all_released g r)
-all_released-earlier g xs r = ap flushed (released-earlier g xs (len r.held) r) ∙ flushed-earlier xs (released g (len r.held) r)
+all_released-earlier g xs r =
+    let s : Receiver = released g (len r.held) r in
+    ap flushed (released-earlier g xs (len r.held) r) ∙ flushed-earlier (s.unreliable + 1) xs s
 
 added-earlier : (g : Numbering) (r : Receiver) (c : DataCommand) (xs : List Dispatched) (o : Option ℕ) → added_at g (with_earlier xs r) c o ≡ with_earlier xs (added_at g r c o)
 added-earlier g r c xs None = refl

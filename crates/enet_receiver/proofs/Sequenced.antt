@@ -1,6 +1,6 @@
 -- No packet that comes in sequence has the flags of an unsequenced one.
 use Rattle.std.proofs.Common.{◌≡◌, ℕ, Bool, true, false, cond, ◌==◌, ◌&&◌, List, [], ◌∷◌, ◌++◌, refl, sym, ap, subst, ◌∙◌, inl, inr, Option, Some, None}
-use Rattle.std.specs.Prelude.{unwrap_or, nat_lt}
+use Rattle.std.specs.Prelude.{◌+◌, unwrap_or, nat_lt, nat_le}
 use Rattle.std.specs.Ordering.{nat_cmp}
 use Rattle.std.specs.Option.{is_some}
 use Rattle.std.specs.FinMap.{get, insert, empty, get-empty, entries, len}
@@ -14,7 +14,7 @@ use Rattle.enet_packets.specs.Packets.{line_at, with_line, fresh, handed_out, st
 use Rattle.enet_receiver.specs.declared.took.Took.{Took}
 use Rattle.enet_receiver.specs.declared.took.Took.TheVariants.{Held, Again, Outside, Bad, Waiting, Memory}
 use Rattle.enet_receiver.specs.Sequenced.{IsSequenced, AreSequenced, HasSequenced}
-use Rattle.enet_receiver.specs.Receiver.{Receiver, nothing_received, cleared, front_line, flushed, flushed_last, without, with_passed, next_whole, released, all_released}
+use Rattle.enet_receiver.specs.Receiver.{Receiver, nothing_received, cleared, front_line, flushed_from, flushed_last, without, with_passed, next_whole, released, all_released}
 use Rattle.enet_receiver.specs.Reception.{outcome, received, received_with, place_read, came_at, flags_of, earlier_or_new, with_more, with_added, added_at}
 use Rattle.enet_receiver.proofs.Lists.{Has}
 use Rattle.enet_receiver.proofs.Entries.{get_entry, get_retained}
@@ -27,12 +27,11 @@ pub sequenced-append : (xs ys : List Dispatched) → AreSequenced xs → AreSequ
 sequenced-append [] ys a b = b
 sequenced-append (x ∷ xs) ys a b = (a.0, sequenced-append xs ys a.1 b)
 
-sequenced-fresh : (last : ℕ) (es : List (ℕ × Coming)) → ((e : ℕ × Coming) → Has es e → IsSequenced e.1) → AreSequenced (fresh last es)
-sequenced-fresh last [] h = tt
-sequenced-fresh last (e ∷ es) h =
-    let put = sequenced-fresh e.0 es (λ x k. h x (inr k)) in
-    let skip = sequenced-fresh last es (λ x k. h x (inr k)) in
-    elim (is_whole e.1.making && nat_lt last e.0) as (λ b. AreSequenced (cond b (handed_out e.1 ∷ fresh e.0 es) (fresh last es))) [ true ↦ (h e (inl refl), put) | false ↦ skip ]
+sequenced-fresh : (first : ℕ) (es : List (ℕ × Coming)) → ((e : ℕ × Coming) → Has es e → IsSequenced e.1) → AreSequenced (fresh first es)
+sequenced-fresh first [] h = tt
+sequenced-fresh first (e ∷ es) h =
+    let rest = sequenced-fresh first es (λ x k. h x (inr k)) in
+    elim (is_whole e.1.making && nat_le first e.0) as (λ b. AreSequenced (cond b (handed_out e.1 ∷ fresh first es) (fresh first es))) [ true ↦ (h e (inl refl), rest) | false ↦ rest ]
 
 pub sequenced-nothing : HasSequenced nothing_received
 sequenced-nothing = record {
@@ -47,17 +46,17 @@ sequenced-nothing = record {
 pub sequenced-cleared : (r : Receiver) → AreSequenced r.dispatched → HasSequenced (cleared r)
 sequenced-cleared r out = record { held = sequenced-nothing.held; waiting = sequenced-nothing.waiting; dispatched = out }
 
-sequenced-flushed : (r : Receiver) → HasSequenced r → HasSequenced (flushed r)
-sequenced-flushed r k = record {
+sequenced-flushed : (first : ℕ) (r : Receiver) → HasSequenced r → HasSequenced (flushed_from first r)
+sequenced-flushed first r k = record {
   held = k.held;
   waiting = λ n j c e. elim (two_numbers n r.front) [
     | inl same ↦ (let f : get (still_ahead (front_line r) (flushed_last r)) j ≡ Some c =
-        ap (λ (l : Line). get l j) (sym (line_at-same r.waiting r.front (still_ahead (front_line r) (flushed_last r)))) ∙ ap (λ i. get (line_at (flushed r).waiting i) j) (sym same) ∙ e in
+        ap (λ (l : Line). get l j) (sym (line_at-same r.waiting r.front (still_ahead (front_line r) (flushed_last r)))) ∙ ap (λ i. get (line_at (flushed_from first r).waiting i) j) (sym same) ∙ e in
         k.waiting r.front j c (get_retained (front_line r) (nat_lt (flushed_last r)) j c f))
     | inr apart ↦ k.waiting n j c (ap (λ (l : Line). get l j) (sym (line_at-other r.waiting r.front (still_ahead (front_line r) (flushed_last r)) n apart)) ∙ e)
   ];
-  dispatched = sequenced-append r.dispatched (fresh r.unreliable (entries (front_line r))) k.dispatched
-      (sequenced-fresh r.unreliable (entries (front_line r)) (λ e h. k.waiting r.front e.0 e.1 (get_entry (front_line r) e h)));
+  dispatched = sequenced-append r.dispatched (fresh first (entries (front_line r))) k.dispatched
+      (sequenced-fresh first (entries (front_line r)) (λ e h. k.waiting r.front e.0 e.1 (get_entry (front_line r) e h)));
 }
 
 sequenced-passed : (g : Numbering) (r : Receiver) (c : Coming) → IsSequenced c → HasSequenced r → HasSequenced (with_passed g r c)
@@ -74,8 +73,8 @@ whole-there None c e = absurd (cc)
 whole-there (Some d) c e = elim (is_whole d.making) as (λ b. cond b (Some d) None ≡ Some c → Some d ≡ Some c) [ true ↦ λ f. f | false ↦ λ f. absurd (cc) ] e
 
 sequenced-released : (g : Numbering) (r : Receiver) → HasSequenced r → HasSequenced (all_released g r)
-sequenced-released g r k = sequenced-flushed (released g (len r.held) r)
-    (released-keeps g HasSequenced (λ s c e h. sequenced-flushed (with_passed g s c) (sequenced-passed g s c (h.held (g.after s.front 1) c (whole-there (get s.held (g.after s.front 1)) c e)) h)) (len r.held) r k)
+sequenced-released g r k = let last : Receiver = released g (len r.held) r in sequenced-flushed (last.unreliable + 1) last
+    (released-keeps g HasSequenced (λ s c e h. sequenced-flushed 0 (with_passed g s c) (sequenced-passed g s c (h.held (g.after s.front 1) c (whole-there (get s.held (g.after s.front 1)) c e)) h)) (len r.held) r k)
 
 -- a command of a new packet has none of those flags
 new-flags : (c : DataCommand) → (flags_of c == 2) ≡ false

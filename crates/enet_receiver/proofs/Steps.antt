@@ -1,12 +1,12 @@
 -- The walk over the packets just past the front, turn by turn.
-use Rattle.std.proofs.Common.{◌≡◌, ℕ, zero, suc, ◌+◌, ◌≤◌, Bool, true, false, cond, length, refl, ap, ◌∙◌, arith, Option, Some, None}
+use Rattle.std.proofs.Common.{◌≡◌, ℕ, zero, suc, ◌+◌, refl, ap, ◌∙◌, arith, Option, Some, None}
 use Rattle.std.specs.Ordering.{nat_cmp}
-use Rattle.std.specs.FinMap.{FinMap, entries}
+use Rattle.std.specs.FinMap.{FinMap}
 use Rattle.enet_seq.specs.Windows.{after}
 use Rattle.enet_packets.specs.declared.coming.Coming.{Coming}
-use Rattle.enet_packets.specs.Packets.{Lines, line_at, fresh}
+use Rattle.enet_packets.specs.Packets.{Lines}
 use Rattle.enet_receiver.specs.declared.foreseeing.Completed.{Completed}
-use Rattle.enet_receiver.specs.Walk.{pieces_at, is_fresh, fresh_at, walk_with, walk}
+use Rattle.enet_receiver.specs.Walk.{pieces_at, fresh_at, walk_with, walk}
 
 pub walk-on : (k n : ℕ) (o : Option Completed) (held : FinMap nat_cmp Coming) (lines : Lines) (front pieces : ℕ) → k ≡ n + 1 → pieces_at o held (after front 1) ≡ Some pieces
     → walk k o held lines front ≡ 1 + fresh_at o lines (after front pieces) 0 + walk n o held lines (after front pieces)
@@ -26,10 +26,3 @@ pub walk-end : (k : ℕ) (o : Option Completed) (held : FinMap nat_cmp Coming) (
 unfolding walk
 walk-end zero o held lines front e = refl
 walk-end (suc k) o held lines front e = absurd (omega arith)
-
-one_if_few : (b : Bool) (n : ℕ) → n ≤ 65535 → n + cond b 1 0 ≤ 65536
-one_if_few true n h = omega arith
-one_if_few false n h = omega arith
-
-pub fresh_at_few : (o : Option Completed) (lines : Lines) (number last : ℕ) → length (fresh last (entries (line_at lines number))) ≤ 65535 → fresh_at o lines number last ≤ 65536
-fresh_at_few o lines number last h = one_if_few (is_fresh o number last) (length (fresh last (entries (line_at lines number)))) h

@@ -1,12 +1,12 @@
 -- What a command leaves that is taken in.
-use Rattle.std.proofs.Common.{◌≡◌, ℕ, zero, suc, ◌≤◌, ◌<◌, Bool, List, length, sym, ap, subst, ◌∙◌, arith, Option, Some}
+use Rattle.std.proofs.Common.{◌≡◌, ℕ, zero, suc, ◌<◌, Bool, List, sym, ap, subst, ◌∙◌, arith, Option, Some}
 use Rattle.std.specs.Ordering.{nat_cmp}
-use Rattle.std.specs.FinMap.{FinMap, entries}
+use Rattle.std.specs.FinMap.{FinMap}
 use Rattle.enet_seq.specs.Numbering.{wire}
 use Rattle.enet_fragment.specs.declared.data.DataCommand.{DataCommand}
 use Rattle.enet_packets.specs.declared.coming.Coming.{Coming}
 use Rattle.enet_packets.specs.declared.coming.Dispatched.{Dispatched}
-use Rattle.enet_packets.specs.Packets.{Lines, line_at, fresh}
+use Rattle.enet_packets.specs.Packets.{Lines}
 use Rattle.enet_receiver.specs.declared.foreseeing.Completed.{Completed}
 use Rattle.enet_receiver.specs.declared.took.Took.TheVariants.{Held}
 use Rattle.enet_receiver.specs.Receiver.{Receiver, all_released}
@@ -15,9 +15,7 @@ use Rattle.enet_receiver.specs.Parts.{receiver_of, holding, with_stored}
 use Rattle.enet_receiver.specs.Kept.{Keeps}
 use Rattle.enet_receiver.specs.Admitted.{Admitted, IsInside}
 use Rattle.enet_receiver.specs.Walk.{walked, Completes}
-use Rattle.enet_receiver.proofs.Keeping.{packets_at}
 use Rattle.enet_receiver.proofs.Admission.{Keeps-stored}
-use Rattle.enet_receiver.proofs.Fresh.{fresh_fits}
 use Rattle.enet_receiver.proofs.Foreseen.{dispatches-is}
 
 -- the receiver once the piece is added
@@ -29,11 +27,7 @@ stored_is front unreliable held waiting out c place held_then waiting_then e = �
 pub taken_is : (most : ℕ) (r : Receiver) (c : DataCommand) (full : Bool) (place : ℕ) → outcome wire most r c full ≡ Held → place_read wire r c ≡ Some place → received wire most r c full ≡ all_released wire (with_stored r c place)
 taken_is most r c full place held read = ap (λ t. received_with t wire r c) held ∙ ap (added_at wire r c) read
 
--- what is dispatched of a line is at most so much
-pub fresh_few : (most : ℕ) (r : Receiver) → Keeps most r → (number last : ℕ) → last < 65536 → length (fresh last (entries (line_at r.waiting number))) ≤ 65535
-fresh_few most r k number last low = fresh_fits last (line_at r.waiting number) low (λ q c e. (packets_at most r number q c k e).wire)
-
-pub dispatches-at : (turns most : ℕ) (o : Option Completed) (r : Receiver) (c : DataCommand) (full : Bool) (place : ℕ) → turns ≡ 65535 → Keeps most r → IsInside r.front place → c.count < 65536 → Admitted most r c place → Completes o r c place
+pub dispatches-at : (turns most : ℕ) (o : Option Completed) (r : Receiver) (c : DataCommand) (full : Bool) (place : ℕ) → turns ≡ 65534 → Keeps most r → IsInside r.front place → c.count < 65536 → Admitted most r c place → Completes o r c place
     → outcome wire most r c full ≡ Held → walked turns o r.held r.waiting r.front r.unreliable ≡ dispatch_count wire most r c full
 dispatches-at zero most o r c full place e k inside count a made held = absurd (omega arith)
 dispatches-at (suc n) most o r c full place e k inside count a made held = dispatches-is n most o r c full place k inside count a made held (omega arith)

@@ -10,7 +10,7 @@ use Rattle.enet_fragment.specs.Making.{count_of}
 use Rattle.enet_packets.specs.declared.coming.Coming.{Coming}
 use Rattle.enet_packets.specs.declared.coming.Dispatched.{Dispatched}
 use Rattle.enet_packets.specs.Packets.{Lines, line_at, with_line, fresh, last_fresh, still_ahead, handed_out}
-use Rattle.enet_receiver.specs.Receiver.{Receiver, without, next_whole, with_passed, with_dispatched, flushed}
+use Rattle.enet_receiver.specs.Receiver.{Receiver, without, next_whole, with_passed, with_dispatched, flushed_from, flushed}
 use Rattle.enet_receiver.specs.Parts.{receiver_of}
 use Rattle.enet_receiver.proofs.Without.{len-without, without-first}
 use Rattle.enet_receiver.proofs.Released.{whole_is, wire_begins, nothing_held}
@@ -60,13 +60,13 @@ turn_is r c front last held passed flushed_lines pushed out e1 e2 e3 e4 e5 e6 e7
     let before : receiver_of front 0 held passed pushed ≡ with_passed wire r c = λ i. receiver_of (e1 i) 0 (e2 i) (e3 i) (e4 i) in
     let lines : flushed_lines ≡ with_line passed front (still_ahead (line_at passed front) (last_fresh 0 (entries (line_at passed front)))) =
     e7 ∙ ap (λ u. with_line passed front (still_ahead (line_at passed front) u)) e6 in
-    let flush : receiver_of front last held flushed_lines out ≡ flushed (receiver_of front 0 held passed pushed) = λ i. receiver_of front (e6 i) held (lines i) (e5 i) in
-    flush ∙ ap flushed before
+    let flush : receiver_of front last held flushed_lines out ≡ flushed_from 0 (receiver_of front 0 held passed pushed) = λ i. receiver_of front (e6 i) held (lines i) (e5 i) in
+    flush ∙ ap (flushed_from 0) before
 
 -- the receiver at the end
 pub end_is : (r : Receiver) (last : ℕ) (held : FinMap nat_cmp Coming) (lines : Lines) (out : List Dispatched)
     → held ≡ r.held
-    → out ≡ r.dispatched ++ fresh r.unreliable (entries (line_at r.waiting r.front))
+    → out ≡ r.dispatched ++ fresh (r.unreliable + 1) (entries (line_at r.waiting r.front))
     → last ≡ last_fresh r.unreliable (entries (line_at r.waiting r.front))
     → lines ≡ with_line r.waiting r.front (still_ahead (line_at r.waiting r.front) last)
     → receiver_of r.front last held lines out ≡ flushed r

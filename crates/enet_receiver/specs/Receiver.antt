@@ -27,13 +27,17 @@ front_line r = line_at r.waiting r.front
 abbrev pub flushed_last : Receiver → ℕ
 flushed_last r = last_fresh r.unreliable (entries (front_line r))
 
--- the whole unreliable packets of the front are dispatched, and those that have fallen behind go
-abbrev pub flushed : Receiver → Receiver
-flushed r = record r {
+-- the whole unreliable packets of the front from this number on are dispatched, and those that have fallen behind go
+abbrev pub flushed_from : ℕ → Receiver → Receiver
+flushed_from first r = record r {
   unreliable = flushed_last r;
   waiting = with_line r.waiting r.front (still_ahead (front_line r) (flushed_last r));
-  dispatched = r.dispatched ++ fresh r.unreliable (entries (front_line r));
+  dispatched = r.dispatched ++ fresh first (entries (front_line r));
 }
+
+-- those past the last one that was dispatched
+abbrev pub flushed : Receiver → Receiver
+flushed r = flushed_from (r.unreliable + 1) r
 
 -- what stands at so many numbers, from one on, goes
 unfoldable pub without : {X : Type 0} → Numbering → FinMap nat_cmp X → ℕ → ℕ → FinMap nat_cmp X
@@ -50,9 +54,9 @@ with_passed g r c = record {
   dispatched = r.dispatched ++ handed_out c ∷ [];
 }
 
--- the packet just past the front is dispatched, and then the unreliable ones that waited for it
+-- the packet just past the front is dispatched, and then the whole unreliable ones that waited for it, number 0 among them
 abbrev pub with_dispatched : Numbering → Receiver → Coming → Receiver
-with_dispatched g r c = flushed (with_passed g r c)
+with_dispatched g r c = flushed_from 0 (with_passed g r c)
 
 -- the packet just past the front, where it is whole
 abbrev pub next_whole : Option Coming → Option Coming

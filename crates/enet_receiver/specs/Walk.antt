@@ -1,5 +1,5 @@
 -- How many packets are dispatched once a packet is made whole, told by what is held and waits before.
-use Rattle.std.specs.Prelude.{◌≡◌, ℕ, zero, suc, ◌+◌, Bool, true, false, ◌==◌, ◌&&◌, not, nat_lt, if◌then◌else◌, length, Option, Some, None}
+use Rattle.std.specs.Prelude.{◌≡◌, ℕ, zero, suc, ◌+◌, Bool, true, false, ◌==◌, ◌&&◌, not, nat_le, if◌then◌else◌, length, Option, Some, None}
 use Rattle.std.specs.Ordering.{nat_cmp}
 use Rattle.std.specs.FinMap.{FinMap, get, entries}
 use Rattle.enet_seq.specs.Windows.{after}
@@ -30,14 +30,14 @@ pieces_or (Some p) pieces = Some p.pieces
 abbrev pub pieces_at : Option Completed → FinMap nat_cmp Coming → ℕ → Option ℕ
 pieces_at completed held number = if is_held_at completed number then pieces_or completed None else pieces_of (next_whole (get held number))
 
--- whether the packet that is made whole goes with this number, and has not fallen behind
+-- whether the packet that is made whole goes with this number, and is not before the first that is dispatched
 abbrev pub is_fresh : Option Completed → ℕ → ℕ → Bool
-is_fresh None number last = false
-is_fresh (Some p) number last = not p.reliable && (p.place == number && nat_lt last p.count)
+is_fresh None number first = false
+is_fresh (Some p) number first = not p.reliable && (p.place == number && nat_le first p.count)
 
--- how many unreliable packets go with a number after the last one
+-- how many unreliable packets go with a number, from the first unreliable number on
 abbrev pub fresh_at : Option Completed → Lines → ℕ → ℕ → ℕ
-fresh_at completed waiting number last = length (fresh last (entries (line_at waiting number))) + (if is_fresh completed number last then 1 else 0)
+fresh_at completed waiting number first = length (fresh first (entries (line_at waiting number))) + (if is_fresh completed number first then 1 else 0)
 
 abbrev pub walk_with : (ℕ → ℕ) → Option Completed → Lines → ℕ → Option ℕ → ℕ
 walk_with rest completed waiting front None = 0
@@ -55,7 +55,7 @@ chain_or_line (suc chain) line = suc chain
 -- all that is dispatched
 abbrev pub walked : ℕ → Option Completed → FinMap nat_cmp Coming → Lines → ℕ → ℕ → ℕ
 walked turns completed held waiting front unreliable =
-    chain_or_line (walk turns completed held waiting front) (fresh_at completed waiting front unreliable)
+    chain_or_line (walk turns completed held waiting front) (fresh_at completed waiting front (unreliable + 1))
 
 -- the packet that a command makes whole, if it does
 abbrev pub Completes : Option Completed → Receiver → DataCommand → ℕ → Type 0

@@ -1,15 +1,13 @@
 //! How many packets a command would dispatch.
 
-ghost use Rattle.std.specs.Prelude.{◌≡◌, ℕ, ◌≤◌, ◌<◌, length};
-ghost use Rattle.std.specs.FinMap.{entries};
-ghost use Rattle.enet_packets.specs.Packets.{line_at, fresh};
+ghost use Rattle.std.specs.Prelude.{◌≡◌, ◌≤◌};
 ghost use Rattle.enet_receiver.specs.Walk.{pieces_at, is_fresh, fresh_at, walk, walked};
 
 use enet_packets::{Packets, Waiting};
 use enet_seq::after;
 
 /// How many packets are held at most, and so in how many turns they are dispatched.
-const MOST_TURNS: u32 = 65_535;
+const MOST_TURNS: u32 = 65_534;
 
 /// The packet that a command would make whole.
 #[derive(Clone, Copy)]
@@ -42,27 +40,28 @@ fn pieces_at(completed: Option<Completed>, held: &Packets, number: u16) -> Optio
     }
 }
 
-/// Whether the packet that is made whole goes with this number, and has not fallen behind.
-fn is_fresh(completed: Option<Completed>, number: u16, last: u16) -> bool
-    ensures { result ≡ is_fresh completed number last }
+/// Whether the packet that is made whole goes with this number, and is not before the first that is dispatched.
+fn is_fresh(completed: Option<Completed>, number: u16, first: u32) -> bool
+    ensures { result ≡ is_fresh completed number first }
 {
     match completed {
         None => false,
-        Some(packet) => !packet.reliable && packet.place == number && last < packet.count,
+        Some(packet) => {
+            !packet.reliable && packet.place == number && first <= u32::from(packet.count)
+        }
     }
 }
 
-/// How many unreliable packets go with this number after the last one.
-fn fresh_at(completed: Option<Completed>, waiting: &Waiting, number: u16, last: u16) -> u32
-    requires { length (fresh last (entries (line_at waiting.now number))) ≤ 65535 }
-    ensures { result ≡ fresh_at completed waiting.now number last }
+/// How many unreliable packets go with this number, from the first unreliable number on.
+fn fresh_at(completed: Option<Completed>, waiting: &Waiting, number: u16, first: u32) -> u32
+    ensures count { result ≡ fresh_at completed waiting.now number first }
+    ensures few { result ≤ 65537 }
 {
-    waiting.fresh_count(number, last) + u32::from(is_fresh(completed, number, last))
+    waiting.fresh_count(number, first) + u32::from(is_fresh(completed, number, first))
 }
 
 /// How many packets the whole ones just past the front are, with the unreliable ones that go with them.
 fn chain_count(completed: Option<Completed>, held: &Packets, waiting: &Waiting, front: u16) -> u32
-    requires { (number : ℕ) → length (fresh 0 (entries (line_at waiting.now number))) ≤ 65535 }
     ensures { result ≡ walk MOST_TURNS completed held.now waiting.now front }
 {
     let mut count = 0;
@@ -85,13 +84,12 @@ pub(crate) fn dispatches(
     front: u16,
     unreliable: u16,
 ) -> u32
-    requires { (number last : ℕ) → last < 65536 → length (fresh last (entries (line_at waiting.now number))) ≤ 65535 }
     ensures { result ≡ walked MOST_TURNS completed held.now waiting.now front unreliable }
 {
     let chain = chain_count(completed, held, waiting, front);
     if chain > 0 {
         chain
     } else {
-        fresh_at(completed, waiting, front, unreliable)
+        fresh_at(completed, waiting, front, u32::from(unreliable) + 1)
     }
 }

@@ -46,8 +46,8 @@ fn pass(front: u16, held: &mut Packets, waiting: &mut Waiting, count: u32) -> u1
     last
 }
 
-/// Dispatches the whole packets just past the front, each with the unreliable ones that waited for it, and at last the
-/// unreliable ones of the front.
+/// Dispatches the whole packets just past the front, each with the unreliable ones that waited for it, and at last those of
+/// the front past the last unreliable number.
 pub(crate) fn release(
     front: &mut u16,
     unreliable: &mut u16,
@@ -64,7 +64,8 @@ pub(crate) fn release(
         *front = pass(*front, held, waiting, coming.making.count());
         *unreliable = 0;
         dispatched.push_back_reserved(coming.handed_out());
-        waiting.flush(*front, unreliable, dispatched);
+        waiting.flush(*front, 0, unreliable, dispatched);
     }
-    waiting.flush(*front, unreliable, dispatched);
+    let first = u32::from(*unreliable) + 1;
+    waiting.flush(*front, first, unreliable, dispatched);
 }

@@ -2,7 +2,7 @@ use Rattle.std.proofs.Common.{◌≡◌, ℕ, ◌+◌, ◌-◌, ◌%◌, ◌<◌
 use Rattle.enet_seq.specs.Windows.{after}
 use Rattle.enet_receiver.specs.Walk.{walk, pieces_at, fresh_at}
 use Rattle.enet_receiver.specs.declared.foreseeing.TheConstants.{MOST_TURNS}
-use Rattle.enet_receiver.proofs.Steps.{walk-on, walk-off, walk-end, fresh_at_few}
+use Rattle.enet_receiver.proofs.Steps.{walk-on, walk-off, walk-end}
 use Rattle.enet_receiver.proofs.foreseeing.chain_count.Goals as goal
 
 one_left : (total n : ℕ) → n < total → total - n ≡ (total - (n + 1)) + 1
@@ -36,12 +36,12 @@ loop-turn-preserved c =
     ap (pieces_at c.args.completed c.args.held.now) (sym c.after.ensures) ∙ sym c.in-Some.ensures in
     let next_is : c.after-last.result ≡ after c.loop-turn.last c.in-Some.pieces = read_off c.after-last.result last c.in-Some.pieces c.after-last.ensures in
     let fresh_is : fresh_at c.args.completed c.args.waiting.now (after c.loop-turn.last c.in-Some.pieces) 0 ≡ c.fresh_at.result =
-    ap (λ k. fresh_at c.args.completed c.args.waiting.now k 0) (sym next_is) ∙ sym c.fresh_at.ensures in
+    ap (λ k. fresh_at c.args.completed c.args.waiting.now k 0) (sym next_is) ∙ sym c.fresh_at.ensures.count in
     let rest_is : walk (MOST_TURNS - (c.loop-turn._turn + 1)) c.args.completed c.args.held.now c.args.waiting.now (after c.loop-turn.last c.in-Some.pieces) ≡ walk (MOST_TURNS - (c.loop-turn._turn + 1)) c.args.completed c.args.held.now c.args.waiting.now c.after-last.result =
     ap (walk (MOST_TURNS - (c.loop-turn._turn + 1)) c.args.completed c.args.held.now c.args.waiting.now) (sym next_is) in
     let step : walk (MOST_TURNS - c.loop-turn._turn) c.args.completed c.args.held.now c.args.waiting.now c.loop-turn.last ≡ 1 + c.fresh_at.result + walk (MOST_TURNS - (c.loop-turn._turn + 1)) c.args.completed c.args.held.now c.args.waiting.now c.after-last.result =
     walk-on (MOST_TURNS - n) (MOST_TURNS - (n + 1)) o held lines last c.in-Some.pieces (one_left MOST_TURNS n c.loop-turn-test.true) there ∙ (λ i. 1 + fresh_is i + rest_is i) in
-    let few : c.fresh_at.result ≤ 65536 = (let k = fresh_at_few o lines c.after-last.result 0 (c.requires c.after-last.result) in let e = c.fresh_at.ensures in omega arith) in
+    let few = c.fresh_at.ensures.few in
     record {
       same = turn_sum (walk (MOST_TURNS - n) o held lines last) c.fresh_at.result (walk (MOST_TURNS - (n + 1)) o held lines c.after-last.result) c.loop-turn.count step ∙ c.loop-turn.invariant.same;
       few = (let was = c.loop-turn.invariant.few in omega arith);

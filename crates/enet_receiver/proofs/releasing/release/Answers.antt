@@ -1,9 +1,10 @@
-use Rattle.std.proofs.Common.{◌≡◌, ◌<◌, [], ◌∷◌, ◌++◌, sym, ap, ◌∙◌, arith, Some, None}
-use Rattle.std.specs.FinMap.{get, len}
+use Rattle.std.proofs.Common.{◌≡◌, ◌+◌, ◌<◌, [], ◌∷◌, ◌++◌, sym, ap, ◌∙◌, arith, Some, None}
+use Rattle.std.specs.FinMap.{get, len, entries}
 use Rattle.enet_seq.specs.Numbering.{wire}
 use Rattle.enet_seq.specs.Windows.{after}
 use Rattle.enet_fragment.specs.Making.{count_of}
 use Rattle.enet_packets.specs.declared.coming.Dispatched.{Dispatched}
+use Rattle.enet_packets.specs.Packets.{line_at, fresh}
 use Rattle.enet_receiver.specs.Receiver.{Receiver, without, next_whole, all_released}
 use Rattle.enet_receiver.specs.Parts.{receiver_of}
 use Rattle.enet_receiver.proofs.Released.{all_released-some, all_released-none, wire_begins, HavePieces-dispatched}
@@ -60,6 +61,8 @@ returns c =
     let none : next_whole (get c.loop-coming.held (after c.loop-coming.front 1)) ≡ None =
     ap (λ k. next_whole (get c.loop-coming.held k)) (sym c.after.ensures) ∙ sym c.in_default.ensures.value in
     end_is r c.flush-2.new.last c.take_whole.new.held c.flush-2.new.self c.flush-2.new.dispatched.items
-    c.in_default.ensures.none c.flush-2.ensures.items c.flush-2.ensures.last c.flush-2.ensures.rest
+    c.in_default.ensures.none
+    (c.flush-2.ensures.items ∙ ap (λ n. c.loop-coming.dispatched.items ++ fresh (n + 1) (entries (line_at c.loop-coming.waiting c.loop-coming.front))) c.from-first.ensures)
+    c.flush-2.ensures.last c.flush-2.ensures.rest
     ∙ sym (all_released-none wire r none)
     ∙ c.loop-coming.invariant.same

@@ -1,14 +1,15 @@
-use Rattle.std.proofs.Common.{◌≡◌, ℕ, ◌+◌, ◌-◌, ◌++◌, ◌∷◌, length, refl, sym, ap, subst, ◌∙◌, arith}
+use Rattle.std.proofs.Common.{◌≡◌, ℕ, ◌+◌, ◌-◌, ◌++◌, List, ◌∷◌, length, refl, sym, ap, subst, ◌∙◌, arith}
 use Rattle.std.specs.Prelude.{nat_lt}
 use Rattle.std.specs.Ordering.{nat_cmp}
 use Rattle.std.specs.FinMap.{FinMap, entries, len, from_entries, retain_keys}
 use Rattle.std.specs.FinMap.Entries.{where_key}
 use Rattle.std.proofs.lemmas.List.{append-nil}
 use Rattle.enet_packets.specs.declared.coming.Coming.{Coming}
-use Rattle.enet_packets.specs.Kept.{KeepsPackets, total_of}
+use Rattle.enet_packets.specs.declared.coming.Dispatched.{Dispatched}
+use Rattle.enet_packets.specs.Kept.{AreWholeUpTo, KeepsPackets, total_of}
 use Rattle.enet_packets.specs.Packets.{fresh, last_fresh}
 use Rattle.enet_packets.proofs.Maps.{entries-sorted, len-sorted, retained}
-use Rattle.enet_packets.proofs.PacketLemmas.{Entries, keeps-pop, last_step, items_step, goes, past_last, past_stay}
+use Rattle.enet_packets.proofs.PacketLemmas.{Entries, keeps-pop, left_after, none_fresh, whole_to_last, items_step, goes, past_stay}
 use Rattle.enet_packets.proofs.packets.Packets.dispatch.Goals as goal
 
 abbrev Map : Type 0
@@ -19,10 +20,11 @@ loop-number-init c =
     let es = c.self.inside.packets.entries in
     let all : entries c.args.self.now ≡ es = ap (λ (m : Map). entries m) (sym c.self.view_is) ∙ entries-sorted es c.self.invariant.sorted in
     let n : len c.args.self.now ≡ length es = ap (λ (m : Map). len m) (sym c.self.view_is) ∙ len-sorted es c.self.invariant.sorted in
+    let until_is : last_fresh c.args.last.now es ≡ c.last_fresh-until.result = ap (last_fresh c.args.last.now) (sym all) ∙ sym c.last_fresh-until.ensures in
     let room = c.requires.room in
     record {
       keeps = c.self.invariant;
-      last = ap (last_fresh c.args.last.now) (sym all) ∙ sym c.last_fresh-until.ensures;
+      whole = subst (λ (most : ℕ). AreWholeUpTo most c.self.inside.packets.entries) until_is (whole_to_last c.args.last.now es);
       items = refl;
       stays = refl;
       room = omega arith;
@@ -36,7 +38,7 @@ loop-number-preserved c =
     let fs = c.pop_up_to.new.packets.entries in
     let e : ℕ × Coming = (c.in-Some.number, c.in-Some.coming) in
     let out = c.loop-number.dispatched.items in
-    let last = c.loop-number.last in
+    let first = c.args.first in
     let bytes = c.loop-number.self-inside.bytes in
     let front : es ≡ e ∷ fs = c.in-Some.ensures.some in
     let total : c.from.result ≡ total_of e.1 = c.from.ensures ∙ c.total.ensures in
@@ -47,10 +49,10 @@ loop-number-preserved c =
     let same = c.hand_out.ensures.capacity in
     record {
       keeps = subst (λ n. KeepsPackets fs (bytes - n) c.loop-number.self-inside.last_whole) (sym total) (keeps-pop e fs bytes c.loop-number.self-inside.last_whole (subst (λ (xs : Entries). KeepsPackets xs bytes c.loop-number.self-inside.last_whole) front c.loop-number.invariant.keeps));
-      last = ap (λ n. last_fresh n fs) c.hand_out.ensures.last ∙ sym (last_step last e fs) ∙ ap (last_fresh last) (sym front) ∙ c.loop-number.invariant.last;
+      whole = (left_after c.last_fresh-until.result es e fs front c.loop-number.invariant.keeps.sorted c.loop-number.invariant.whole).1;
       items =
-          (λ i. c.hand_out.ensures.items i ++ fresh (c.hand_out.ensures.last i) fs)
-          ∙ sym (items_step out last e fs) ∙ ap (λ (xs : Entries). out ++ fresh last xs) (sym front) ∙ c.loop-number.invariant.items;
+          ap (λ (ds : List Dispatched). ds ++ fresh first fs) c.hand_out.ensures.items
+          ∙ sym (items_step out first e fs) ∙ ap (λ (xs : Entries). out ++ fresh first xs) (sym front) ∙ c.loop-number.invariant.items;
       stays =
           sym (goes c.last_fresh-until.result e fs c.in-Some.ensures.low)
           ∙ ap (λ (xs : Entries). where_key nat_cmp (nat_lt c.last_fresh-until.result) xs) (sym front) ∙ c.loop-number.invariant.stays;
@@ -63,15 +65,10 @@ pub returns-clause-items : goal.returns-clause-items
 returns-clause-items c =
     let es = c.self.inside.packets.entries in
     let out = c.loop-number.dispatched.items in
-    let ends = past_last c.last_fresh-until.result c.loop-number.last c.loop-number.self-inside.packets.entries c.in_default.ensures.past c.loop-number.invariant.last in
+    let ends = none_fresh c.last_fresh-until.result 0 c.args.first c.loop-number.self-inside.packets.entries c.loop-number.invariant.whole c.in_default.ensures.past in
     rw (← c.self.view_is)
     (sym (append-nil out) ∙ ap (λ xs. out ++ xs) (sym ends.1) ∙ c.loop-number.invariant.items
-    ∙ ap (λ (xs : Entries). c.args.dispatched.now.items ++ fresh c.args.last.now xs) (sym (entries-sorted es c.self.invariant.sorted)))
-
-pub returns-clause-last : goal.returns-clause-last
-returns-clause-last c =
-    let ends = past_last c.last_fresh-until.result c.loop-number.last c.loop-number.self-inside.packets.entries c.in_default.ensures.past c.loop-number.invariant.last in
-    ends.0 ∙ c.last_fresh-until.ensures
+    ∙ ap (λ (xs : Entries). c.args.dispatched.now.items ++ fresh c.args.first xs) (sym (entries-sorted es c.self.invariant.sorted)))
 
 pub returns-clause-rest : goal.returns-clause-rest
 returns-clause-rest c =

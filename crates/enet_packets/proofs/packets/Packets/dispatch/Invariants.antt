@@ -4,15 +4,15 @@ use Rattle.std.specs.Ordering.{nat_cmp}
 use Rattle.std.specs.BTreeMap.{btree_map_len}
 use Rattle.std.specs.FinMap.Entries.{where_key}
 use Rattle.std.specs.VecDeque.{deque_len, deque_capacity}
-use Rattle.enet_packets.specs.Kept.{KeepsPackets}
-use Rattle.enet_packets.specs.Packets.{fresh, last_fresh}
+use Rattle.enet_packets.specs.Kept.{AreWholeUpTo, KeepsPackets}
+use Rattle.enet_packets.specs.Packets.{fresh}
 use Rattle.enet_packets.proofs.packets.Packets.dispatch.Given as goal
 
 abbrev pub invariant-loop-number : goal.invariant-loop-number
 invariant-loop-number l = record {
   keeps : KeepsPackets l.self-inside.packets.entries l.self-inside.bytes l.self-inside.last_whole;
-  last : last_fresh l.last l.self-inside.packets.entries ≡ l.until;
-  items : l.dispatched.items ++ fresh l.last l.self-inside.packets.entries ≡ l.initial.dispatched.items ++ fresh l.initial.last l.initial.self-inside.packets.entries;
+  whole : AreWholeUpTo l.until l.self-inside.packets.entries;
+  items : l.dispatched.items ++ fresh l.first l.self-inside.packets.entries ≡ l.initial.dispatched.items ++ fresh l.first l.initial.self-inside.packets.entries;
   stays : where_key nat_cmp (nat_lt l.until) l.self-inside.packets.entries ≡ where_key nat_cmp (nat_lt l.until) l.initial.self-inside.packets.entries;
   room : deque_len l.dispatched + btree_map_len l.self-inside.packets ≤ deque_len l.initial.dispatched + btree_map_len l.initial.self-inside.packets;
   within : deque_len l.dispatched + btree_map_len l.self-inside.packets ≤ deque_capacity l.dispatched;

@@ -1,4 +1,4 @@
-use Rattle.std.proofs.Common.{◌≡◌, ℕ, ◌+◌, List, cond, length, sym, ap, subst, ◌∙◌, arith, rules, zero-add}
+use Rattle.std.proofs.Common.{◌≡◌, ℕ, ◌+◌, ◌≤◌, List, cond, length, sym, ap, subst, ◌∙◌, arith, rules, zero-add}
 use Rattle.std.specs.Ordering.{nat_cmp}
 use Rattle.std.specs.FinMap.{FinMap, entries}
 use Rattle.enet_packets.specs.declared.coming.Coming.{Coming}
@@ -17,16 +17,16 @@ loop-number-init c =
     record {
       so_far =
           zero-add _
-          ∙ ap (λ (es : Entries). length (fresh c.args.last es)) (start ∙ sym (entries-sorted c.self.inside.packets.entries c.self.invariant.sorted) ∙ ap (λ (m : FinMap nat_cmp Coming). entries m) c.self.view_is);
+          ∙ ap (λ (es : Entries). length (fresh c.args.first es)) (start ∙ sym (entries-sorted c.self.inside.packets.entries c.self.invariant.sorted) ∙ ap (λ (m : FinMap nat_cmp Coming). entries m) c.self.view_is);
       sorted = subst (λ (xs : Entries). IsStrictlySortedBy nat_cmp (keys_of xs)) (sym start) c.self.invariant.sorted;
       whole = subst (λ (xs : Entries). AreWholeUpTo c.self.inside.last_whole xs) (sym start) c.self.invariant.whole;
     }
 
-pub returns-then-number-self : goal.returns-then-number-self
-returns-then-number-self c =
+pub returns-then-number-self-clause-count : goal.returns-then-number-self-clause-count
+returns-then-number-self-clause-count c =
     let l = c.loop-number in
-    let none = none_fresh_after c.self.inside.last_whole l.newest l.number-iterator (c.in-Some.number.now, c.in-Some.coming.now) c.next.new.self c.in-Some.ensures.steps l.invariant.sorted l.invariant.whole c.if-number-self.true in
-    let nothing : length (fresh l.newest l.number-iterator) ≡ 0 = ap (λ (ds : List Dispatched). length ds) none.1 in
+    let none = none_fresh_after c.self.inside.last_whole 0 c.args.first l.number-iterator (c.in-Some.number.now, c.in-Some.coming.now) c.next.new.self c.in-Some.ensures.steps l.invariant.sorted l.invariant.whole c.if-number-self.true in
+    let nothing : length (fresh c.args.first l.number-iterator) ≡ 0 = ap (λ (ds : List Dispatched). length ds) none.1 in
     let so_far = l.invariant.so_far in
     omega arith
 
@@ -35,9 +35,9 @@ loop-number-preserved-then-is_fresh c =
     let l = c.loop-number in
     let e : ℕ × Coming = (c.in-Some.number.now, c.in-Some.coming.now) in
     let left = left_after c.self.inside.last_whole l.number-iterator e c.next.new.self c.in-Some.ensures.steps l.invariant.sorted l.invariant.whole in
-    let step : length (fresh l.newest l.number-iterator) ≡ 1 + length (fresh e.0 c.next.new.self) =
-    ap (λ (es : Entries). length (fresh l.newest es)) c.in-Some.ensures.steps ∙ count_step l.newest e c.next.new.self
-    ∙ ap (λ b. cond b 1 0 + length (fresh (cond b e.0 l.newest) c.next.new.self)) (sym c.is_fresh.ensures ∙ c.if-is_fresh.true) in
+    let step : length (fresh c.args.first l.number-iterator) ≡ 1 + length (fresh c.args.first c.next.new.self) =
+    ap (λ (es : Entries). length (fresh c.args.first es)) c.in-Some.ensures.steps ∙ count_step c.args.first e c.next.new.self
+    ∙ ap (λ b. cond b 1 0 + length (fresh c.args.first c.next.new.self)) (sym c.is_fresh.ensures ∙ c.if-is_fresh.true) in
     let so_far = l.invariant.so_far in
     record { so_far = omega arith; sorted = left.0; whole = left.1 }
 
@@ -46,17 +46,34 @@ loop-number-preserved c =
     let l = c.loop-number in
     let e : ℕ × Coming = (c.in-Some.number.now, c.in-Some.coming.now) in
     let left = left_after c.self.inside.last_whole l.number-iterator e c.next.new.self c.in-Some.ensures.steps l.invariant.sorted l.invariant.whole in
-    let step : length (fresh l.newest l.number-iterator) ≡ 0 + length (fresh l.newest c.next.new.self) =
-    ap (λ (es : Entries). length (fresh l.newest es)) c.in-Some.ensures.steps ∙ count_step l.newest e c.next.new.self
-    ∙ ap (λ b. cond b 1 0 + length (fresh (cond b e.0 l.newest) c.next.new.self)) (sym c.is_fresh.ensures ∙ c.if-is_fresh.false) in
+    let step : length (fresh c.args.first l.number-iterator) ≡ 0 + length (fresh c.args.first c.next.new.self) =
+    ap (λ (es : Entries). length (fresh c.args.first es)) c.in-Some.ensures.steps ∙ count_step c.args.first e c.next.new.self
+    ∙ ap (λ b. cond b 1 0 + length (fresh c.args.first c.next.new.self)) (sym c.is_fresh.ensures ∙ c.if-is_fresh.false) in
     let so_far = l.invariant.so_far in
     record { so_far = omega arith; sorted = left.0; whole = left.1 }
 
+-- what is counted is at most what there is
+count_few : (self map : FinMap nat_cmp Coming) (es rest : Entries) (first count : ℕ) → map ≡ self → entries map ≡ es → length es ≤ 65536
+    → count + length (fresh first rest) ≡ length (fresh first (entries self)) → count + length (fresh first rest) ≤ 65536
+count_few self map es rest first count same all few so_far =
+    let as_many : length (entries self) ≡ length es = ap (λ (m : FinMap nat_cmp Coming). length (entries m)) (sym same) ∙ ap (λ (xs : Entries). length xs) all in
+    let most = length-fresh first (entries self) in
+    omega arith
+
 pub overflow_add-count : goal.overflow_add-count
 overflow_add-count c =
-    let few = length_bounded c.self.inside.packets.entries c.self.invariant.sorted c.self.invariant.numbers in
-    let all : length (entries c.args.self.now) ≡ length c.self.inside.packets.entries =
-    ap (λ (m : FinMap nat_cmp Coming). length (entries m)) (sym c.self.view_is) ∙ ap (λ (es : Entries). length es) (entries-sorted c.self.inside.packets.entries c.self.invariant.sorted) in
-    let most = length-fresh c.args.last (entries c.args.self.now) in
-    let so_far = c.loop-number.invariant.so_far in
+    let es = c.self.inside.packets.entries in
+    let few = count_few c.args.self.now _ es c.loop-number.number-iterator c.args.first c.loop-number.count c.self.view_is (entries-sorted es c.self.invariant.sorted) (length_bounded es c.self.invariant.sorted c.self.invariant.numbers) c.loop-number.invariant.so_far in
+    omega arith
+
+pub returns-then-number-self-clause-few : goal.returns-then-number-self-clause-few
+returns-then-number-self-clause-few c =
+    let es = c.self.inside.packets.entries in
+    let few = count_few c.args.self.now _ es c.loop-number.number-iterator c.args.first c.loop-number.count c.self.view_is (entries-sorted es c.self.invariant.sorted) (length_bounded es c.self.invariant.sorted c.self.invariant.numbers) c.loop-number.invariant.so_far in
+    omega arith
+
+pub returns-clause-few : goal.returns-clause-few
+returns-clause-few c =
+    let es = c.self.inside.packets.entries in
+    let few = count_few c.args.self.now _ es c.loop-number.number-iterator c.args.first c.loop-number.count c.self.view_is (entries-sorted es c.self.invariant.sorted) (length_bounded es c.self.invariant.sorted c.self.invariant.numbers) c.loop-number.invariant.so_far in
     omega arith

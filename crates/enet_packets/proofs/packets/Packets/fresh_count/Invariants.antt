@@ -9,7 +9,7 @@ use Rattle.enet_packets.proofs.packets.Packets.fresh_count.Given as goal
 
 abbrev pub invariant-loop-number : goal.invariant-loop-number
 invariant-loop-number l = record {
-  so_far : l.count + length (fresh l.newest l.number-iterator) ≡ length (fresh l.last (entries l.self));
+  so_far : l.count + length (fresh l.first l.number-iterator) ≡ length (fresh l.first (entries l.self));
   sorted : IsStrictlySortedBy nat_cmp (keys_of l.number-iterator);
   whole : AreWholeUpTo l.self-inside.last_whole l.number-iterator;
 }

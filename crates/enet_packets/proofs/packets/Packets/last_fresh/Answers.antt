@@ -22,17 +22,17 @@ loop-number-init c =
 pub returns-then-number-self : goal.returns-then-number-self
 returns-then-number-self c =
     let l = c.loop-number in
-    let none = none_fresh_after c.self.inside.last_whole l.newest l.number-iterator (c.in-Some.number.now, c.in-Some.coming.now) c.next.new.self c.in-Some.ensures.steps l.invariant.sorted l.invariant.whole c.if-number-self.true in
+    let none = none_fresh_after c.self.inside.last_whole l.newest 0 l.number-iterator (c.in-Some.number.now, c.in-Some.coming.now) c.next.new.self c.in-Some.ensures.steps l.invariant.sorted l.invariant.whole c.if-number-self.true in
     sym none.0 ∙ l.invariant.so_far
 
-pub loop-number-preserved-then-is_fresh : goal.loop-number-preserved-then-is_fresh
-loop-number-preserved-then-is_fresh c =
+pub loop-number-preserved-then-is_newer : goal.loop-number-preserved-then-is_newer
+loop-number-preserved-then-is_newer c =
     let l = c.loop-number in
     let e : ℕ × Coming = (c.in-Some.number.now, c.in-Some.coming.now) in
     let left = left_after c.self.inside.last_whole l.number-iterator e c.next.new.self c.in-Some.ensures.steps l.invariant.sorted l.invariant.whole in
     record {
       so_far =
-          ap (λ b. last_fresh (cond b e.0 l.newest) c.next.new.self) (sym c.if-is_fresh.true ∙ c.is_fresh.ensures)
+          ap (λ b. last_fresh (cond b e.0 l.newest) c.next.new.self) (sym c.if-is_newer.true ∙ c.is_newer.ensures)
           ∙ sym (last_step l.newest e c.next.new.self) ∙ ap (last_fresh l.newest) (sym c.in-Some.ensures.steps) ∙ l.invariant.so_far;
       sorted = left.0;
       whole = left.1;
@@ -45,7 +45,7 @@ loop-number-preserved c =
     let left = left_after c.self.inside.last_whole l.number-iterator e c.next.new.self c.in-Some.ensures.steps l.invariant.sorted l.invariant.whole in
     record {
       so_far =
-          ap (λ b. last_fresh (cond b e.0 l.newest) c.next.new.self) (sym c.if-is_fresh.false ∙ c.is_fresh.ensures)
+          ap (λ b. last_fresh (cond b e.0 l.newest) c.next.new.self) (sym c.if-is_newer.false ∙ c.is_newer.ensures)
           ∙ sym (last_step l.newest e c.next.new.self) ∙ ap (last_fresh l.newest) (sym c.in-Some.ensures.steps) ∙ l.invariant.so_far;
       sorted = left.0;
       whole = left.1;

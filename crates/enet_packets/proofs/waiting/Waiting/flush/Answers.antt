@@ -17,8 +17,8 @@ returns-then-not-contains_key-clause-items c =
     let at : line_at c.args.self.now c.args.number ≡ empty =
     ap (λ (m : Lines). line_at m c.args.number) (sym c.self.view_is) ∙ line-is es c.args.number ∙ line_absent es c.args.number absent in
     sym (append-nil c.args.dispatched.now.items)
-    ∙ ap (λ xs. c.args.dispatched.now.items ++ xs) (sym (fresh_nothing c.args.last.now))
-    ∙ ap (λ (m : Line). c.args.dispatched.now.items ++ fresh c.args.last.now (entries m)) (sym at)
+    ∙ ap (λ xs. c.args.dispatched.now.items ++ xs) (sym (fresh_nothing c.args.first))
+    ∙ ap (λ (m : Line). c.args.dispatched.now.items ++ fresh c.args.first (entries m)) (sym at)
 
 pub returns-then-not-contains_key-clause-last : goal.returns-then-not-contains_key-clause-last
 returns-then-not-contains_key-clause-last c =
@@ -89,7 +89,7 @@ pub returns-clause-items : goal.returns-clause-items
 returns-clause-items c =
     let at : line_at c.args.self.now c.args.number ≡ line_in c.self.inside.lines.entries c.args.number =
     ap (λ (m : Lines). line_at m c.args.number) (sym c.self.view_is) ∙ line-is c.self.inside.lines.entries c.args.number in
-    c.flush_line-left.ensures.items ∙ ap (λ (m : Line). c.args.dispatched.now.items ++ fresh c.args.last.now (entries m)) (sym at)
+    c.flush_line-left.ensures.items ∙ ap (λ (m : Line). c.args.dispatched.now.items ++ fresh c.args.first (entries m)) (sym at)
 
 pub returns-clause-last : goal.returns-clause-last
 returns-clause-last c =

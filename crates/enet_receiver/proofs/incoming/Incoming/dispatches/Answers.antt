@@ -5,13 +5,8 @@ use Rattle.enet_receiver.specs.Admitted.{Admitted, IsInside}
 use Rattle.enet_receiver.specs.Parts.{receiver_of}
 use Rattle.enet_receiver.specs.Walk.{Completes}
 use Rattle.enet_receiver.specs.declared.foreseeing.TheConstants.{MOST_TURNS}
-use Rattle.enet_receiver.proofs.Taken.{fresh_few, dispatches-at}
+use Rattle.enet_receiver.proofs.Taken.{dispatches-at}
 use Rattle.enet_receiver.proofs.incoming.Incoming.dispatches.Goals as goal
-
-pub dispatches-requires : goal.dispatches-requires
-dispatches-requires c =
-    let s = c.self.inside in
-    λ number last low. fresh_few s.max_packet (receiver_of s.front s.unreliable s.held s.waiting s.dispatched.items) c.self.invariant number last low
 
 pub returns : goal.returns
 returns c = rw (← c.self.view_is) (
