@@ -2,7 +2,7 @@
 
 use crate::told::Told;
 use anyhow::{Result, bail};
-use enet_host::HostCore;
+use enet_host::{HostCore, Totals};
 use enet_types::{Addr, Config, Event};
 use std::alloc::Global;
 
@@ -28,6 +28,15 @@ const ANSWER: [u8; 10] = [0, 0, 0x01, 3, 0, 1, 0, 1, 0, 0];
 /// At most so many events or datagrams come of one datagram.
 const MOST: u32 = 100_000;
 
+/// How much went through a host once its three peers are connected: three offers of 52 bytes and three acknowledgements of 10
+/// came, and three answers of 48 bytes went.
+const AT_FIRST: Totals = Totals {
+    datagrams_in: 6,
+    bytes_in: 186,
+    datagrams_out: 3,
+    bytes_out: 144,
+};
+
 /// A host with three connected peers, of which slot 0's takes in what it should not.
 #[derive(Drop)]
 pub(crate) struct Ground {
@@ -35,6 +44,8 @@ pub(crate) struct Ground {
     host: HostCore,
     second: Told,
     third: Told,
+    /// What must have gone through the host.
+    totals: Totals,
     /// How many datagrams were taken in.
     taken: u64,
 }
@@ -83,7 +94,7 @@ impl Ground {
         let host = open(alloc)?;
         let second = Told::of(&host, 1);
         let third = Told::of(&host, 2);
-        if !second.is_connected() || !third.is_connected() {
+        if !second.is_fresh(address(1)) || !third.is_fresh(address(2)) {
             bail!("the peers are not connected");
         }
         Ok(Ground {
@@ -91,23 +102,41 @@ impl Ground {
             host,
             second,
             third,
+            totals: AT_FIRST,
             taken: 0,
         })
     }
 
-    /// A datagram comes from the address of slot 0's peer. An error where another peer has changed. The host is opened anew
-    /// where slot 0's peer is not connected any more, or the free slot was given out.
+    /// A datagram comes from the address of slot 0's peer. An error where another peer has changed, or the host's totals
+    /// aren't what came and went. The host is opened anew where slot 0's peer is not connected any more, or the free slot was
+    /// given out.
     pub(crate) fn take(&mut self, datagram: &[u8]) -> Result<()> {
         self.taken = self.taken.saturating_add(1);
         self.host.receive(address(0), datagram);
+        self.count_in(datagram.len());
         self.empty()?;
         if Told::of(&self.host, 1) != self.second || Told::of(&self.host, 2) != self.third {
             bail!("a peer of another slot changed by datagram {}", self.taken);
+        }
+        if self.host.totals() != self.totals {
+            bail!("the totals are wrong after datagram {}", self.taken);
         }
         if !Told::of(&self.host, 0).is_connected() || !Told::of(&self.host, FREE_SLOT).is_nobody() {
             self.go_on()?;
         }
         Ok(())
+    }
+
+    /// A datagram of so many bytes came.
+    fn count_in(&mut self, len: usize) {
+        self.totals.datagrams_in = self.totals.datagrams_in.saturating_add(1);
+        self.totals.bytes_in = self.totals.bytes_in.saturating_add(len as u64);
+    }
+
+    /// A datagram of so many bytes went.
+    fn count_out(&mut self, len: usize) {
+        self.totals.datagrams_out = self.totals.datagrams_out.saturating_add(1);
+        self.totals.bytes_out = self.totals.bytes_out.saturating_add(len as u64);
     }
 
     /// Takes all events and puts out all that waits, and takes what that makes: an acknowledged DISCONNECT ends a peer. An
@@ -135,9 +164,10 @@ impl Ground {
     fn put_out(&mut self) -> Result<()> {
         let mut buf = [0; 4_096];
         for _ in 0..MOST {
-            let Some((peer, _, _)) = self.host.service(&mut buf) else {
+            let Some((peer, _, len)) = self.host.service(&mut buf) else {
                 break;
             };
+            self.count_out(len);
             self.is_own(peer.slot)?;
         }
         Ok(())
@@ -158,6 +188,10 @@ impl Ground {
             self.goes_on(slot)?;
         }
         self.host = open(self.alloc)?;
+        self.totals = AT_FIRST;
+        if self.host.totals() != self.totals {
+            bail!("the totals of a new host are wrong");
+        }
         Ok(())
     }
 

@@ -1,7 +1,8 @@
 //! `check_foreign [DRAWN]`: a host with connected peers takes in datagrams that nobody should send: each front and each change
 //! of one bit of 60 captured datagrams of the reference library, and so many drawn ones (1,000,000 where no number is given),
 //! half of them captured ones with a few bytes changed or cut off. The draws begin at seed 1, so each run is the same. After
-//! each the peers of the other slots must tell what they told before, and nothing may come of theirs; from time to time one of
+//! each the peers of the other slots must tell what they told before (state, terms, address, round trip, bytes in transit,
+//! throttle), nothing may come of theirs, and the host's totals must be what came and went; from time to time one of
 //! them goes on where it was. It prints how many datagrams were taken in; where a peer of another slot has changed it ends
 //! with status 1 and the number of that datagram.
 #![tactic(auto)]
