@@ -34,7 +34,7 @@ fn carrying(fields: usize, at: usize) -> Row
     }
 }
 
-/// The command of this number. 0 and 13 to 15 are no command.
+/// What the table says of this number; None where it is no command: 0 and 13 to 15.
 pub(crate) fn row_of(kind: u8) -> Option<Row>
     ensures known { IfSome result (λ row. Tells kind row) }
     ensures unknown { IfNone result (is_kind kind ≡ false) }
