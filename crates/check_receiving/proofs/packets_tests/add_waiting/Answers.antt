@@ -2,7 +2,7 @@ use Rattle.std.proofs.Common.{sym, ◌∙◌}
 use Rattle.std.specs.FinMap.{get}
 use Rattle.enet_packets.specs.Packets.{line_at}
 use Rattle.enet_packets.proofs.LineLemmas.{fits_there}
-use Rattle.enet_packets.proofs.tests.add_waiting.Goals as goal
+use Rattle.check_receiving.proofs.packets_tests.add_waiting.Goals as goal
 
 pub add-requires-clause-there : goal.add-requires-clause-there
 add-requires-clause-there c =

@@ -1,7 +1,7 @@
 use Rattle.std.proofs.Common.{sym, ◌∙◌}
 use Rattle.std.specs.FinMap.{get}
 use Rattle.enet_packets.proofs.LineLemmas.{fits_there}
-use Rattle.enet_packets.proofs.tests.add.Goals as goal
+use Rattle.check_receiving.proofs.packets_tests.add.Goals as goal
 
 pub add-requires-clause-there : goal.add-requires-clause-there
 add-requires-clause-there c =
