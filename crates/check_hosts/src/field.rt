@@ -4,7 +4,7 @@ use crate::bytes_text::{push_bytes, read_bytes};
 use crate::fault::{Fault, UNREADABLE};
 use crate::seen::{HOSTS, SeenHost};
 use crate::setting::read_config;
-use crate::telling::{push_done, push_event, push_received, push_terms};
+use crate::telling::{push_done, push_event, push_received, push_terms, push_told, push_totals};
 use crate::words::{Words, address_of, letter_of};
 use bytes::Bytes;
 use enet_host::HostCore;
@@ -70,7 +70,8 @@ impl Field {
     /// - `take A`: the next event, or `none`; `body A`: the bytes that it would hand out, or `none`
     /// - `tick A MS`, `bandwidth A IN OUT`, `throttle A P INTERVAL UP DOWN`, `ping A P MS`, `timeout A P LIMIT LEAST MOST`,
     ///   and `ask`, `now` or `later A P INFO`: `ok`
-    /// - `state A P` and `terms A P`: what they are, or `none`
+    /// - `state A P` and `terms A P`: what they are, or `none`; `told A P`: round trip, its variance, bytes in transit and
+    ///   throttle, or `none`; `totals A`: datagrams and bytes in and out
     ///
     /// A refusal's answer is its number and name.
     pub(crate) fn run(&mut self, command: &str, text: &mut String) -> Result<(), Fault> {
@@ -88,7 +89,8 @@ impl Field {
             "tick" => self.tick(&mut words, text),
             "ask" | "now" | "later" => self.leave(command, &mut words, text),
             "bandwidth" | "throttle" | "ping" | "timeout" => self.set(command, &mut words, text),
-            "body" | "state" | "terms" => self.tell(command, &mut words, text),
+            "body" | "totals" => self.tell(command, &mut words, text),
+            "state" | "terms" | "told" => self.tell_peer(command, &mut words, text),
             _ => Err(UNREADABLE),
         }
     }
@@ -281,6 +283,7 @@ impl Field {
         push_done(text, outcome)
     }
 
+    /// What a host tells of itself.
     fn tell(
         &mut self,
         command: &str,
@@ -288,22 +291,36 @@ impl Field {
         text: &mut String,
     ) -> Result<(), Fault> {
         let host = self.host(words)?;
-        if command.starts_with("body") {
-            match host.next_body() {
-                Some(body) => push_bytes(text, body.as_slice())?,
-                None => text.push_str("none")?,
-            }
+        if command.starts_with("totals") {
+            push_totals(text, host.totals())?;
             return Ok(());
         }
+        match host.next_body() {
+            Some(body) => push_bytes(text, body.as_slice())?,
+            None => text.push_str("none")?,
+        }
+        Ok(())
+    }
+
+    /// What a host tells of a peer.
+    fn tell_peer(
+        &mut self,
+        command: &str,
+        words: &mut Words<'_>,
+        text: &mut String,
+    ) -> Result<(), Fault> {
+        let host = self.host(words)?;
         let peer = words.peer()?;
         if command.starts_with("state") {
             match host.state(peer) {
                 Some(state) => write!(text, "{state:?}")?,
                 None => text.push_str("none")?,
             }
-            return Ok(());
+        } else if command.starts_with("terms") {
+            push_terms(text, host.terms(peer))?;
+        } else {
+            push_told(text, host, peer)?;
         }
-        push_terms(text, host.terms(peer))?;
         Ok(())
     }
 }

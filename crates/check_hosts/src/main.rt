@@ -1,7 +1,7 @@
 //! `check_hosts` runs scripts over hosts of ours and compares each answer with the one that the script wants. Five scripts
-//! stand in the program, each other one is a file NAME.hosts; the files lie where the program runs. The wanted answers were worked out by hand from the rules, and those
-//! of the captured scripts come from what the reference library's users saw and from a model of the rules that shares no code
-//! with this program.
+//! stand in the program, each other one is a file NAME.hosts; the files lie where the program runs. The wanted answers were worked
+//! out by hand from the rules. Those of the captured scripts, which are whole captured files, come from the captured datagrams,
+//! from what the reference library's users saw, and from a model of the rules that shares no code with this program.
 //!
 //! A line is `COMMAND = ANSWER`, or begins with `#`, or is blank. The commands are those of `Field::run`. For each script the
 //! program prints how many steps went as wanted, or the first line that differs, and ends there with status 1.
@@ -33,7 +33,7 @@ use std::process::ExitCode;
 use std::rt::Files;
 
 /// The scripts in files.
-const SCRIPTS: [&str; 17] = [
+const SCRIPTS: [&str; 22] = [
     "configurations-refused",
     "stops-of-a-datagram",
     "fronts-of-an-offer",
@@ -45,12 +45,17 @@ const SCRIPTS: [&str; 17] = [
     "same-connect-id",
     "repeated-offer",
     "crossing-connects",
+    "captured-bandwidth",
     "captured-channels",
+    "captured-connecting",
     "captured-data",
     "captured-ends",
     "captured-idle",
+    "captured-mtu",
     "captured-reconnect",
+    "captured-settings",
     "captured-strangers",
+    "captured-timeout",
 ];
 
 fn main(rt: HostRuntime) -> ExitCode {

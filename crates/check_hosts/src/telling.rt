@@ -3,6 +3,7 @@
 use crate::bytes_text::push_bytes;
 use crate::fault::Fault;
 use enet_connect::Terms;
+use enet_host::{HostCore, Totals};
 use enet_types::{Event, Packet, PeerRef, Received, Refusal};
 use std::alloc::AllocError;
 
@@ -72,4 +73,38 @@ pub(crate) fn push_terms(text: &mut String, terms: Option<Terms>) -> Result<(), 
     let down = terms.deceleration;
     let id = terms.connect_id;
     write!(text, " throttle {interval} {up} {down} id {id:08x}")
+}
+
+/// How a peer's acknowledgements come, or `none`.
+pub(crate) fn push_told(
+    text: &mut String,
+    host: &HostCore,
+    peer: PeerRef,
+) -> Result<(), AllocError> {
+    let (Some(trip), Some(transit), Some(throttle)) = (
+        host.round_trip(peer),
+        host.in_transit(peer),
+        host.throttle(peer),
+    ) else {
+        return text.push_str("none");
+    };
+    let mean = trip.mean;
+    let variance = trip.variance;
+    write!(
+        text,
+        "round {mean} {variance} transit {transit} throttle {throttle}"
+    )
+}
+
+pub(crate) fn push_totals(text: &mut String, totals: Totals) -> Result<(), AllocError> {
+    let Totals {
+        datagrams_in,
+        bytes_in,
+        datagrams_out,
+        bytes_out,
+    } = totals;
+    write!(
+        text,
+        "in {datagrams_in} {bytes_in} out {datagrams_out} {bytes_out}"
+    )
 }
