@@ -49,6 +49,8 @@ pub struct MioWire {
     drained: bool,
     // A send would have blocked since the last wait.
     blocked: bool,
+    // An error of its destination lost a datagram since the last wait, with which a turn ends its sending.
+    lost: bool,
     // Datagrams sent since the last wait, and datagrams in and out since the last sleep.
     sent: u32,
     done: u32,
@@ -80,6 +82,7 @@ impl MioWire {
             failures: 0,
             drained: true,
             blocked: false,
+            lost: false,
             sent: 0,
             done: 0,
         })
@@ -108,7 +111,8 @@ impl MioWire {
     fn is_wanted(&mut self) -> bool
         ensures { failures_of self.new ≡ failures_of self.old }
     {
-        let more = !self.drained || self.sent >= MOST_SENDS;
+        let more = !self.drained || self.lost || self.sent >= MOST_SENDS;
+        self.lost = false;
         self.sent = 0;
         if more || self.bell.hear() {
             return true;
@@ -203,8 +207,10 @@ fn plain_addr(addr: SocketAddr) -> Option<Addr> {
 // What became of a datagram that was to be sent.
 #[derive(Clone, Copy)]
 enum Sending {
-    // It left, or an error of its destination or of its length lost it.
+    // It left.
     Over,
+    // An error of its destination or of its length lost it.
+    Lost,
     // There is no room at the moment.
     Blocked,
     // The socket is of no use.
@@ -217,7 +223,7 @@ const NO_BUFFERS: i32 = 105;
 
 fn outcome_of(why: &io::Error) -> Sending {
     match why.raw_os_error() {
-        Some(TOO_LONG) => return Sending::Over,
+        Some(TOO_LONG) => return Sending::Lost,
         Some(NO_BUFFERS) => return Sending::Blocked,
         _ => {}
     }
@@ -231,7 +237,7 @@ fn outcome_of(why: &io::Error) -> Sending {
         | ErrorKind::ConnectionRefused
         | ErrorKind::HostUnreachable
         | ErrorKind::NetworkUnreachable
-        | ErrorKind::NetworkDown => Sending::Over,
+        | ErrorKind::NetworkDown => Sending::Lost,
         _ => Sending::Failed,
     }
 }
@@ -267,8 +273,8 @@ impl Wire for MioWire {
         }
     }
 
-    /// An error of the destination or of the datagram loses that datagram and ends nothing: it counts as taken, like one that
-    /// the network loses.
+    /// False, too, where an error of the destination or of the datagram's length lost the datagram: that is no fault. The next
+    /// wait doesn't sleep then, since there may be more to send to others.
     fn send(&mut self, to: Addr, bytes: &[u8]) -> Result<bool, Refusal> {
         if self.failures == u64::MAX {
             return Ok(false);
@@ -281,6 +287,10 @@ impl Wire for MioWire {
         match outcome {
             Sending::Blocked => {
                 self.blocked = true;
+                Ok(false)
+            }
+            Sending::Lost => {
+                self.lost = true;
                 Ok(false)
             }
             Sending::Over => {

@@ -12,7 +12,7 @@ pub enum Told {
     NothingCame,
     /// `send` took a datagram.
     Went { to: Addr, bytes: Bytes },
-    /// `send` would have blocked.
+    /// `send` didn't take a datagram: it would have blocked, or the destination can't be reached.
     Blocked { to: Addr, bytes: Bytes },
     /// `wait` gave these milliseconds.
     Waited { ms: u32 },

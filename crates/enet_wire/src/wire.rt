@@ -28,7 +28,8 @@ pub trait Wire {
         ensures faults { faults self.new ≡ faults_after (faults self.old) result }
         ensures spent { faults self.old ≡ last_fault → result ≡ Ok None };
 
-    /// Hands a datagram over for this address. False where that would block: the datagram isn't sent.
+    /// Hands a datagram over for this address. False where that would block, or where its destination can't be reached: the
+    /// datagram isn't sent.
     fn send(&mut self, to: Addr, bytes: &[u8]) -> Result<bool, Refusal>
         ensures told { told self.new ≡ also (told self.old) (unless_spent (faults self.old) (went to bytes.now result)) }
         ensures fault { IfErr result (λ why. why ≡ Refusal.WireFault) }

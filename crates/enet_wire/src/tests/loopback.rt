@@ -55,10 +55,10 @@ fn datagrams_through_the_socket(rt: HostRuntime) -> Result<(), Fail> {
 }
 
 #[test]
-fn a_bad_destination_ends_nothing(rt: HostRuntime) -> Result<(), Fail> {
+fn a_bad_destination_loses_the_datagram(rt: HostRuntime) -> Result<(), Fail> {
     let mut wire = bound(&rt)?;
     for (ip, port) in [(HERE, 0), (0xffff_ffff, 47001), (0xc000_0201, 47001)] {
-        assert_eq!(rt; wire.send(Addr { ip, port }, b"x"), Ok(true));
+        assert_eq!(rt; wire.send(Addr { ip, port }, b"x"), Ok(false));
     }
     assert_eq!(rt; wire.failures(), 0);
     Ok(())
