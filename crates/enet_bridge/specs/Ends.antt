@@ -7,16 +7,16 @@ use Rattle.enet_submit.specs.declared.order.Order.{Order}
 use Rattle.enet_submit.specs.declared.order.Submission.{Submission}
 use Rattle.enet_submit.specs.declared.queue.SubmitQueue.{SubmitQueue}
 use Rattle.enet_submit.specs.declared.token.Drain.{Drain}
-use Rattle.enet_submit.specs.Words.{taken, IsNextOfSeat, DrainSees}
+use Rattle.enet_submit.specs.Words.{taken, IsNextOfSeat, DrainSees, BeganHistory}
 use Rattle.enet_events.specs.Words.{Queue, PosterState, IsNotPosted, next}
 
 -- orders without the numbers that their seat gave them
 abbrev pub orders : List Submission → List Order
 orders submissions = map (λ x. x.order) submissions
 
--- a drain gave the next order of a seat, or found its queue empty at a moment of the call
+-- a drain gave the next order of a seat, and what it took so begins a history; or it found its queue empty at a moment of the call
 abbrev pub DrainGives : SubmitQueue → Drain → Option Submission → Drain → Type 0
-DrainGives queue old (Some x) new = (taken new ≡ taken old ++ x ∷ []) × IsNextOfSeat queue old x
+DrainGives queue old (Some x) new = (taken new ≡ taken old ++ x ∷ []) × IsNextOfSeat queue old x × BeganHistory queue new
 DrainGives queue old None new = (taken new ≡ taken old) × Held 0 (DrainSees queue old)
 
 -- a poster posted an event, or handed it back: the queue was full at a moment of the call, or the numbers are used up

@@ -1,3 +1,6 @@
 pub mod Counts
+pub mod Hosting
 pub mod Phases
+pub mod Queues
+pub mod Run
 pub mod Turn

@@ -1,5 +1,5 @@
 //! What a turn does with a host.
-ghost use Rattle.std.specs.Prelude.{◌≡◌, ℕ, ◌≤◌, List, Option, IfSome, take};
+ghost use Rattle.std.specs.Prelude.{◌≡◌, ℕ, ◌<◌, ◌≤◌, List, Option, IfSome, take};
 ghost use Rattle.std.specs.Option.{option_map};
 
 use enet_submit::Order;
@@ -28,6 +28,9 @@ pub trait Core {
     /// The next event is told.
     ghost tells: { Self → Option Telling → Self → Type 0 };
 
+    /// How many events it has that it hasn't told.
+    ghost untold: { Self → ℕ };
+
     fn tick(&mut self, ms: u32)
         ensures { ticks self.old ms self.new };
 
@@ -43,5 +46,6 @@ pub trait Core {
         ensures len { IfSome result (λ d. d.1 ≤ 4096) };
 
     fn tell(&mut self) -> Option<Event>
-        ensures { tells self.old result self.new };
+        ensures told { tells self.old result self.new }
+        ensures fewer { IfSome result (λ event. untold self.new < untold self.old) };
 }

@@ -50,10 +50,7 @@ pub fn tell_all<H: Core, K: Sink, R: Wait>(
     ensures { (puts : List (Told × Bool)) × Chain (λ s x t. K.puts s x.0 x.1 t) sink.old puts sink.new × Tells H.tells host.old waiting.old puts host.new waiting.new × (result ≡ stopped (taken_in puts)) }
 {
     let mut events = 0u32;
-    for _turn in rt.forever() {
-        if waiting.is_some() {
-            return events;
-        }
+    while waiting.is_none() {
         match host.tell() {
             Some(event) => {
                 let taken = offer(rt, sink, waiting, event);

@@ -1,4 +1,5 @@
-use Rattle.std.proofs.Common.{rules, ◌≡◌, List, [], ◌∷◌, ◌++◌, Bool, ◌∙◌, sym, arith}
+use Rattle.std.proofs.Common.{rules, ◌≡◌, List, [], ◌∷◌, ◌++◌, Bool, None, arith}
+use Rattle.std.specs.Prelude.{IsSome}
 use Rattle.enet_types.specs.declared.event.Event.{Event}
 use Rattle.enet_turn.specs.Counts.{count_of}
 use Rattle.enet_turn.proofs.Options.{some_is, none_is}
@@ -6,29 +7,27 @@ use Rattle.enet_turn.proofs.PhaseSteps.{tells_on, tells_end, tells_none, chain_s
 use Rattle.enet_turn.proofs.Tellings.{taken_more}
 use Rattle.enet_turn.proofs.telling.tell_all.Goals as goal
 
-pub returns-then-is_some : goal.returns-then-is_some
-returns-then-is_some g c =
-    let inv = c.loop-turn.invariant in
-    let waits = some_is c.loop-turn.waiting (sym c.is_some.ensures ∙ c.if-is_some.true) in
-    (inv.2, inv.3, tells_end g.H.Core.tells c.args.host.now c.loop-turn.host c.args.waiting.now c.loop-turn.waiting inv.2 inv.5 waits, inv.4)
+pub returns : goal.returns
+returns g c =
+    let inv = c.loop-host.invariant in
+    let waits : IsSome c.loop-host.waiting = search (rules, some_is) in
+    (inv.0, inv.1, tells_end g.H.Core.tells c.args.host.now c.loop-host.host c.args.waiting.now c.loop-host.waiting inv.0 inv.3 waits, inv.2)
 
-pub returns-in-None-tell : goal.returns-in-None-tell
-returns-in-None-tell g c =
-    let inv = c.loop-turn.invariant in
-    let none = none_is c.loop-turn.waiting (sym c.is_some.ensures ∙ c.if-is_some.false) in
-    (inv.2, inv.3, tells_none g.H.Core.tells c.args.host.now c.loop-turn.host c.tell.new.self c.args.waiting.now c.loop-turn.waiting inv.2 none inv.5 c.in-None-tell.ensures, inv.4)
+pub returns-in-None : goal.returns-in-None
+returns-in-None g c =
+    let inv = c.loop-host.invariant in
+    let none : c.loop-host.waiting ≡ None = search (rules, none_is) in
+    (inv.0, inv.1, tells_none g.H.Core.tells c.args.host.now c.loop-host.host c.tell.new.self c.args.waiting.now c.loop-host.waiting inv.0 none inv.3 c.in-None.ensures.told, inv.2)
 
-pub loop-turn-preserved : goal.loop-turn-preserved
-loop-turn-preserved g c =
-    let inv = c.loop-turn.invariant in
-    let none = none_is c.loop-turn.waiting (sym c.is_some.ensures ∙ c.if-is_some.false) in
-    let puts : List (Event × Bool) = inv.2 in
+pub loop-host-preserved : goal.loop-host-preserved
+loop-host-preserved g c =
+    let inv = c.loop-host.invariant in
+    let none : c.loop-host.waiting ≡ None = search (rules, none_is) in
+    let puts : List (Event × Bool) = inv.0 in
     let taken : Bool = c.offer-taken.ensures.0 in
     let counted : c.offer-taken.result ≡ count_of taken = c.offer-taken.ensures.3 in (
-      search rules,
-      search rules,
-      puts ++ (c.in-Some-tell.event, taken) ∷ [],
-      chain_step _ _ _ _ _ _ inv.3 c.offer-taken.ensures.1,
-      omega (arith, taken_more puts ((c.in-Some-tell.event, taken) ∷ []), inv.4, counted),
-      tells_on g.H.Core.tells _ _ _ _ _ _ puts c.in-Some-tell.event taken none c.offer-taken.ensures.2 inv.5 c.in-Some-tell.ensures,
+      puts ++ (c.in-Some.event, taken) ∷ [],
+      chain_step _ _ _ _ _ _ inv.1 c.offer-taken.ensures.1,
+      omega (arith, taken_more puts ((c.in-Some.event, taken) ∷ []), inv.2, counted),
+      tells_on g.H.Core.tells _ _ _ _ _ _ puts c.in-Some.event taken none c.offer-taken.ensures.2 inv.3 c.in-Some.ensures.told,
     )

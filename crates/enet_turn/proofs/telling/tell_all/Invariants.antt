@@ -5,10 +5,11 @@ use Rattle.enet_turn.specs.Counts.{taken_in, stopped}
 use Rattle.enet_turn.proofs.PhaseSteps.{TellsOn}
 use Rattle.enet_turn.proofs.telling.tell_all.Given as goal
 
-abbrev pub invariant-loop-turn : goal.invariant-loop-turn
-invariant-loop-turn g l =
-    (goal.iterator-loop-turn g).can_next l._turn-iterator
-    × (goal.iterator-loop-turn g).is_finite l._turn-iterator
-    × (puts : List (Event × Bool)) × Chain (λ s x t. g.K.Sink.puts s x.0 x.1 t) l.initial.sink puts l.sink
+abbrev pub invariant-loop-host : goal.invariant-loop-host
+invariant-loop-host g l =
+    (puts : List (Event × Bool)) × Chain (λ s x t. g.K.Sink.puts s x.0 x.1 t) l.initial.sink puts l.sink
     × (l.events ≡ stopped (taken_in puts))
     × TellsOn g.H.Core.tells l.initial.host l.initial.waiting puts l.host l.waiting
+
+abbrev pub decreases-loop-host : goal.decreases-loop-host
+decreases-loop-host g l = g.H.Core.untold l.host
