@@ -9,7 +9,7 @@ use Rattle.enet_submit.specs.declared.order.Submission.{Submission}
 use Rattle.enet_submit.specs.declared.queue.SubmitQueue.{SubmitQueue}
 use Rattle.enet_submit.specs.declared.token.Drain.{Drain}
 use Rattle.enet_submit.specs.History.{of, CountsFrom, IsHistory}
-use Rattle.enet_submit.specs.Words.{taken, seats_of, BeganHistory}
+use Rattle.enet_submit.specs.Words.{taken, seats_of}
 use Rattle.enet_events.specs.Words.{Queue, PosterState, next}
 use Rattle.enet_bridge.specs.Ends.{DrainGives, PosterPuts}
 use Rattle.enet_bridge.specs.declared.source.QueueSource.{QueueSource}

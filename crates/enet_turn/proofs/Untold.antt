@@ -1,5 +1,5 @@
 -- Each event that a host tells leaves fewer.
-use Rattle.std.proofs.Common.{◌≡◌, ℕ, ◌+◌, ◌<◌, ◌≤◌, List, [], ◌∷◌, Option, Some, None, length, get_or, slice_set, sum_by, refl, sym, ap, subst, ◌∙◌, arith}
+use Rattle.std.proofs.Common.{◌≡◌, ℕ, ◌<◌, ◌≤◌, List, [], ◌∷◌, Option, Some, None, length, get_or, slice_set, sum_by, refl, sym, ap, subst, arith}
 use Rattle.std.specs.Prelude.{IfSome}
 use Rattle.std.proofs.lemmas.List.Sums.{sum_by-set}
 use Rattle.std.proofs.lemmas.Option.{slice_get_within, get_or_from_slice_get}
@@ -9,7 +9,7 @@ use Rattle.enet_peer.specs.declared.parts.PeerState.{PeerState}
 use Rattle.enet_peer.specs.declared.parts.PeerState.TheVariants.{Free, Connecting, Answering, Connected, DisconnectLater, Disconnecting, AckDisconnect, Ended, Parting}
 use Rattle.enet_peer.specs.declared.parts.PeerEvent.TheVariants as told
 use Rattle.enet_peer.specs.Peering.{Peering}
-use Rattle.enet_peer.specs.Calls.{Taken, last_event, packet_event, event_after, next_event}
+use Rattle.enet_peer.specs.Calls.{Taken, last_event, packet_event, event_after}
 use Rattle.enet_host.specs.Host.{Host, SlotState, with_peer, with_peer_in}
 use Rattle.enet_host.specs.Calls.{Takes, TakesOne}
 use Rattle.enet_turn.specs.Hosting.{greetings, endings, untold_by, untold_in, untold}

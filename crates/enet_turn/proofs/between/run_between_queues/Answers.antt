@@ -1,4 +1,4 @@
-use Rattle.std.proofs.Common.{◌≡◌, List, ap, Bor}
+use Rattle.std.proofs.Common.{List, ap, Bor}
 use Rattle.enet_submit.specs.declared.queue.SubmitQueue.{SubmitQueue}
 use Rattle.enet_turn.specs.Run.{Round, all_gave, all_puts}
 use Rattle.enet_turn.proofs.Queues.{drains_on, posts_on}

@@ -1,4 +1,4 @@
-use Rattle.std.proofs.Common.{◌≡◌, Option, Some, None, Ok, Err, refl, sym, subst}
+use Rattle.std.proofs.Common.{Some, None, Ok, Err, refl, sym, subst}
 use Rattle.enet_submit.specs.declared.order.Order.{Order}
 use Rattle.enet_turn.specs.Hosting.{Obeys}
 use Rattle.enet_turn.proofs.hosting.HostCoreCore.obey.Goals as goal
