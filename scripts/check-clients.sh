@@ -1,0 +1,79 @@
+#!/usr/bin/env bash
+# Clients of the reference library talk through a relay, in the scenarios of clients/client.c: first straight, then by way of
+# clients/proxy.c, which drops, repeats and reorders datagrams. Each scenario has a relay of its own, and all run side by side:
+# `check-clients.sh [PROGRAM]`. PROGRAM is the built `enet_relay`, by default the one that `rt ci`, or `rt run` in crates/enet_relay,
+# leaves; `reference` stands for the relay of clients/server.c, which tells whether the clients themselves are right. Prints what
+# failed, and as last line 'N passed, M failed'; the status is 1 where one failed. It ends within 4 minutes.
+cd "$(dirname "$0")/.." || exit 1
+. scripts/clients.sh
+program=${1:-crates/enet_relay/out/enet_relay}
+passed=0
+failed=0
+
+fail() {
+    echo "FAILED $1: $2"
+    failed=$((failed + 1))
+}
+
+# The scenario $2 with $3 clients and a relay of $4 slots, on ports $5 and $6. $1 is its name here, which says whether it is lossy; its
+# number seeds the proxy. What goes wrong goes to the file of that name; nothing is written to it where all is well.
+scenario() (
+    words=()
+    [ "$program" = reference ] && words+=(reference)
+    (relay "$program" "$5" "$4" "$room") > /dev/null 2> "$room/$1.relay" &
+    relay=$!
+    proxy=
+    to=$5
+    if [[ $1 == *lossy ]]; then
+        words+=(lossy)
+        to=$6
+        "$room/proxy" "$6" "$5" "$7" 2> "$room/$1.proxy" &
+        proxy=$!
+    fi
+    trap 'kill $relay $proxy 2> /dev/null' EXIT
+    timeout 220 "$room/client" "$to" "$2" "$3" "${words[@]}" 2> "$room/$1.client" ||
+        echo "status $?: $(head -c 2000 "$room/$1.client")" > "$room/$1"
+    kill -0 "$relay" 2> /dev/null || echo "the relay ended: $(head -c 400 "$room/$1.relay")" >> "$room/$1"
+    [ -z "$proxy" ] || kill -0 "$proxy" || echo "the proxy ended: $(<"$room/$1.proxy")" >> "$room/$1"
+)
+
+# Each scenario: its name, the clients, the slots.
+all() {
+    local number=0 name clients slots way
+    for way in straight lossy; do
+        while read -r name clients slots; do
+            number=$((number + 1))
+            free_port
+            local first=$port
+            free_port
+            names+=("$name-$clients-$way")
+            scenario "$name-$clients-$way" "$name" "$clients" "$slots" "$first" "$port" "$number" &
+        done << 'END'
+talk 1 8
+talk 2 8
+talk 8 8
+large 2 2
+again 2 4
+idle 2 2
+vanish 3 2
+full 5 4
+END
+    done
+    wait
+}
+
+room=$(mktemp -d) || exit 1
+trap 'rm -rf "$room"' EXIT
+names=()
+if [ "$program" != reference ] && [ ! -x "$program" ]; then
+    fail "$program" "it isn't there: run 'rt ci', or 'rt run' in crates/enet_relay"
+elif ! build_clients "$room"; then
+    fail clients "the C programs can't be built"
+else
+    all
+    for name in "${names[@]}"; do
+        if [ -e "$room/$name" ]; then fail "$name" "$(<"$room/$name")"; else passed=$((passed + 1)); fi
+    done
+fi
+echo "$passed passed, $failed failed"
+[ "$failed" -eq 0 ]

@@ -1,0 +1,38 @@
+# What the scripts that run the programs of clients/ share; they source it at the top of the repository.
+
+# Builds the programs into the directory $1, after installing a C compiler and the reference library where they are missing (as root,
+# from Debian's packages). What went wrong is on standard error.
+build_clients() {
+    local missing=()
+    [ -r /usr/include/enet/enet.h ] || missing+=(libenet-dev)
+    command -v cc > /dev/null || missing+=(gcc libc6-dev)
+    if [ ${#missing[@]} -gt 0 ]; then
+        { apt-get install -y "${missing[@]}" || { apt-get update && apt-get install -y "${missing[@]}"; }; } > "$1/install" 2>&1 ||
+            { cat "$1/install" >&2; return 1; }
+    fi
+    local source
+    for source in client server proxy load hostile; do
+        cc -std=gnu11 -O2 -Wall -Wextra -pthread -o "$1/$source" "clients/$source.c" -lenet || return 1
+    done
+}
+
+# The next free UDP port, into `port`. The range lies below the ports that sockets get which ask for none.
+port=$((20000 + RANDOM % 8000))
+free_port() {
+    local taken
+    taken=$(awk 'FNR > 1 { sub(/.*:/, "", $2); print $2 }' /proc/net/udp /proc/net/udp6 2> /dev/null)
+    port=$((port + 1))
+    while grep -q "^$(printf '%04X' "$port")$" <<< "$taken"; do
+        port=$((port + 1))
+    done
+}
+
+# Becomes a relay on port $2 of 127.0.0.1 with $3 slots and 3 channels: that of server.c in the directory $4 where $1 is `reference`,
+# else the program $1.
+relay() {
+    if [ "$1" = reference ]; then
+        exec "$4/server" "$2" "$3" 3
+    else
+        exec "$1" serve --port "$2" --peers "$3" --channels 3 --forever
+    fi
+}
