@@ -167,6 +167,23 @@ static void arrived(int id, enet_uint8 channel, const ENetPacket *packet)
                 channel, packet->flags);
 }
 
+// Tells how far everything came, and gives up.
+static _Noreturn void give_up_after(const char *what)
+{
+    for (int id = 0; id < count; id++)
+        if (clients[id].state != OUT)
+            fprintf(stderr, "client %d after %.1f seconds: state %d, round trip %u, throttle %u, %u bytes in transit\n", id, now() - begun,
+                    clients[id].state, clients[id].peer->roundTripTime, clients[id].peer->packetThrottle,
+                    clients[id].peer->reliableDataInTransit);
+    for (int id = 0; id < count; id++)
+        for (int other = 0; other < count; other++)
+            if (clients[id].state == IN && other != id)
+                fprintf(stderr, "client %d has %u of %u reliable packets of client %d, %u unreliable, %u unsequenced, %u in pieces\n", id,
+                        clients[id].from[other].next[RELIABLE], clients[other].sent[RELIABLE], other, clients[id].from[other].came[PLAIN],
+                        clients[id].from[other].came[UNSEQUENCED], clients[id].from[other].came[PIECES]);
+    give_up("%s", what);
+}
+
 // A connection begins: what was sent before it doesn't come to this client, and it and the others have to hear one another again.
 static void came_in(int id)
 {
@@ -192,8 +209,10 @@ static void service(int id)
     while ((status = enet_host_service(client->host, &event, 0)) > 0) {
         if (event.type == ENET_EVENT_TYPE_CONNECT)
             came_in(id);
-        if (event.type == ENET_EVENT_TYPE_DISCONNECT && (client->state != LEAVING || event.data != 0))
-            give_up("client %d: lost its connection, data %u", id, event.data);
+        if (event.type == ENET_EVENT_TYPE_DISCONNECT && (client->state != LEAVING || event.data != 0)) {
+            fprintf(stderr, "client %d: lost its connection, data %u\n", id, event.data);
+            give_up_after("a connection ended");
+        }
         if (event.type == ENET_EVENT_TYPE_DISCONNECT)
             client->state = OUT;
         if (event.type == ENET_EVENT_TYPE_RECEIVE) {
@@ -225,23 +244,11 @@ static void pass_for(double seconds)
         pass(20);
 }
 
-// What is missing, told where a scenario comes too late.
-static _Noreturn void late(const char *what)
-{
-    for (int id = 0; id < count; id++)
-        for (int other = 0; other < count; other++)
-            if (clients[id].state == IN && other != id)
-                fprintf(stderr, "client %d has %u of %u reliable packets of client %d, %u unreliable, %u unsequenced, %u in pieces\n", id,
-                        clients[id].from[other].next[RELIABLE], clients[other].sent[RELIABLE], other, clients[id].from[other].came[PLAIN],
-                        clients[id].from[other].came[UNSEQUENCED], clients[id].from[other].came[PIECES]);
-    give_up("too late: %s", what);
-}
-
 static void until(int (*holds)(void), const char *what)
 {
     while (!holds()) {
         if (now() > begun + LIMIT)
-            late(what);
+            give_up_after(what);
         pass(5);
     }
 }
@@ -319,7 +326,7 @@ static void join(void)
 {
     while (!all_heard()) {
         if (now() > begun + LIMIT)
-            late("all connected, and each in the relay's table");
+            give_up_after("too late: all connected, and each in the relay's table");
         each_submits(HELLO);
         pass_for(0.05);
     }
@@ -333,7 +340,7 @@ static void chat(int packets)
         if (i % 8 == 7)
             pass(1);
     }
-    until(settled, "reliable packets");
+    until(settled, "too late: reliable packets");
 }
 
 // Any two clients got the packets of the others in one order.
@@ -372,14 +379,14 @@ static void loose(void)
 {
     for (int round = 0; round < 20 || !enough_loose(); round++) {
         if (now() > begun + LIMIT || round == NUMBERS)
-            late("20 unreliable packets of each kind");
+            give_up_after("too late: 20 unreliable packets of each kind");
         for (Kind kind = LIFTED; kind <= PIECES; kind++)
             each_submits(kind);
         if (round % 8 == 0)
             each_submits(RELIABLE);
         pass_for(0.005 * count);
     }
-    until(settled, "reliable packets among unreliable ones");
+    until(settled, "too late: reliable packets among unreliable ones");
 }
 
 // A connection's end. What is submitted before `LATER` comes still. Where the way loses datagrams, the relay's answer may be lost
@@ -398,10 +405,10 @@ static void leave(int id, End end)
         enet_peer_disconnect(client->peer, 9);
     if (end == AT_ONCE)
         enet_peer_disconnect_now(client->peer, 9);
-    until(settled, "packets submitted before an end");
+    until(settled, "too late: packets submitted before an end");
     if (lossy && end == LATER)
         enet_peer_timeout(client->peer, 0, 3000, 3000);
-    until(nobody_leaves, "a connection's end");
+    until(nobody_leaves, "too late: a connection's end");
 }
 
 // All leave, one by one, and those that stay talk on. Nothing comes twice afterwards.
@@ -478,7 +485,7 @@ static void vanish(void)
     clients[1].state = OUT;
     chat(10);
     ask(2);
-    until(nobody_asks, "the slot of a client that vanished");
+    until(nobody_asks, "too late: the slot of a client that vanished");
     if (now() < vanished + 4)
         give_up("a slot was given out before its client could time out");
     join();

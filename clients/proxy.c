@@ -1,6 +1,7 @@
 // proxy PORT SERVER SEED: stands between clients and a server, all on 127.0.0.1, until it is stopped. What comes to PORT goes to
 // port SERVER, from a socket of its own for each client, and what comes back there goes to that client. Of all datagrams, both ways,
-// 8 % are dropped, 5 % go twice, and 10 % are held back for 1 to 8 ms while others pass, as drawn from SEED.
+// 8 % are dropped, 5 % go twice, and 10 % are held back for 1 to 8 ms while others pass, as drawn from SEED. No command is dropped more
+// than twice and no acknowledgement of it either, since a connection ends where one command goes six times in vain.
 #include <arpa/inet.h>
 #include <poll.h>
 #include <sys/socket.h>
@@ -8,7 +9,7 @@
 
 #include "common.h"
 
-enum { CLIENTS = 64, WAITING = 4096, LONGEST = 4096 };
+enum { CLIENTS = 64, WAITING = 4096, LONGEST = 4096, MARKS = 1 << 20 };
 
 // A datagram that is held back: it goes out of `socket`, to `to` where that has a port, at the time `due`.
 typedef struct Held {
@@ -25,6 +26,7 @@ static int known = 1;
 static Held *held[WAITING];
 static int waiting;
 static uint64_t seed;
+static uint8_t dropped[MARKS]; // how often a command was dropped; some share a mark
 
 static struct sockaddr_in local(long port)
 {
@@ -64,13 +66,48 @@ static void put(const Held *datagram)
     sendto(datagram->socket, datagram->bytes, (size_t)datagram->length, 0, to, to == NULL ? 0 : sizeof datagram->to);
 }
 
+// The length of the command at the front of `left` bytes; 0 where there is none.
+static size_t command_length(const uint8_t *at, size_t left)
+{
+    static const uint8_t sizes[16] = { 0, 8, 48, 44, 8, 4, 6, 8, 24, 8, 12, 16, 24 };
+    static const uint8_t payload_lengths[16] = { [6] = 4, [7] = 6, [8] = 6, [9] = 6, [12] = 6 };
+    size_t size = left == 0 ? 0 : sizes[at[0] & 15];
+    if (size == 0 || size > left)
+        return 0;
+    const uint8_t *payload = at + payload_lengths[at[0] & 15];
+    return payload == at ? size : size + (size_t)(payload[0] << 8 | payload[1]);
+}
+
+// Counts the reliable commands and acknowledgements of a datagram that were dropped at least `most` times, and adds `more` to how often
+// each was dropped.
+static int count_dropped(const Held *datagram, uint8_t most, uint8_t more)
+{
+    const uint8_t *bytes = datagram->bytes;
+    size_t length = (size_t)datagram->length, size;
+    int found = 0;
+    for (size_t at = length > 0 && bytes[0] >> 7 ? 4 : 2; at < length && (size = command_length(bytes + at, length - at)) > 0; at += size) {
+        const uint8_t *command = bytes + at;
+        uint64_t way = (uint64_t)datagram->socket ^ datagram->to.sin_port, header = (uint64_t)(bytes[0] << 8 | bytes[1]) & 0x3fff;
+        uint64_t key = way << 48 ^ header << 32 ^ (uint64_t)(command[0] & 15) << 24 ^ (uint64_t)command[1] << 16 ^
+                       (uint64_t)(command[2] << 8 | command[3]);
+        uint8_t *mark = &dropped[draw(&key) % MARKS];
+        if (command[0] >> 7 == 0 && (command[0] & 15) != 1)
+            continue;
+        found += *mark >= most;
+        *mark = (uint8_t)(*mark + more);
+    }
+    return found;
+}
+
 // Drops the datagram, sends it once or twice, or holds it back.
 static void pass_on(Held *datagram)
 {
     uint64_t chance = draw(&seed) % 100;
-    if (chance < 8)
+    if (chance < 8 && count_dropped(datagram, 2, 0) == 0) {
+        count_dropped(datagram, 2, 1);
         return;
-    if (chance < 13)
+    }
+    if (chance >= 8 && chance < 13)
         put(datagram);
     if (chance >= 90 && waiting < WAITING) {
         Held *copy = malloc(sizeof *copy);
