@@ -332,15 +332,14 @@ static void join(void)
     }
 }
 
-// Each client submits so many reliable packets, and all come.
+// Each client submits so many reliable packets, 16 at once, so that a slow relay has no more to do than that; and all come.
 static void chat(int packets)
 {
     for (int i = 0; i < packets; i++) {
         each_submits(RELIABLE);
-        if (i % 8 == 7)
-            pass(1);
+        if (i % 16 == 15 || i == packets - 1)
+            until(settled, "too late: reliable packets");
     }
-    until(settled, "too late: reliable packets");
 }
 
 // Any two clients got the packets of the others in one order.
@@ -374,7 +373,8 @@ static int enough_loose(void)
     return 1;
 }
 
-// Packets that may be lost, of every kind, until each client got 20 of each kind of each other one.
+// Packets that may be lost, of every kind, until each client got 20 of each kind of each other one; after each round of them a
+// reliable one, for which all wait.
 static void loose(void)
 {
     for (int round = 0; round < 20 || !enough_loose(); round++) {
@@ -382,11 +382,8 @@ static void loose(void)
             give_up_after("too late: 20 unreliable packets of each kind");
         for (Kind kind = LIFTED; kind <= PIECES; kind++)
             each_submits(kind);
-        if (round % 8 == 0)
-            each_submits(RELIABLE);
-        pass_for(0.005 * count);
+        chat(1);
     }
-    until(settled, "too late: reliable packets among unreliable ones");
 }
 
 // A connection's end. What is submitted before `LATER` comes still. Where the way loses datagrams, the relay's answer may be lost
