@@ -63,7 +63,7 @@ END
 }
 
 room=$(mktemp -d) || exit 1
-trap 'rm -rf "$room"' EXIT
+trap 'kill $(jobs -p) 2> /dev/null; rm -rf "$room"' EXIT
 names=()
 if [ "$program" != reference ] && [ ! -x "$program" ]; then
     fail "$program" "it isn't there: run 'rt ci', or 'rt run' in crates/enet_relay"
