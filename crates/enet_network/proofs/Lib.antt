@@ -1,0 +1,14 @@
+pub mod Marked
+pub mod Counting
+pub mod PutOut
+pub mod Keeping
+pub mod Peers
+pub mod Quiet
+pub mod Submitting
+pub mod Serving
+pub mod Delivering
+pub mod OneThing
+pub mod Beginnings
+pub mod Growing
+pub mod Worlds
+pub mod Runs

@@ -1,0 +1,116 @@
+-- Calls by which an end's peer alone changes: time that passes, disconnects, settings, and what is refused.
+use Rattle.std.proofs.Common.{◌≡◌, ◌≤◌, ℕ, Bool, true, false, cond, ◌==◌, ◌&&◌, List, [], ◌∷◌, length, refl, sym, ap, subst, ◌∙◌, Option, Some, None, Result, Ok, Err, is_ok, slice_get}
+use Rattle.enet_types.specs.declared.refusal.Refusal.{Refusal}
+use Rattle.enet_peer.specs.Peering.{Peering}
+use Rattle.enet_connection.specs.Connection.{End}
+use Rattle.enet_connection.specs.Steps.{Event, Happens, with_peer}
+use Rattle.enet_connection.specs.Steps as event
+use Rattle.enet_host.specs.Host.{Host, SlotState, greatest}
+use Rattle.enet_isolation.specs.Calls.{Call, Acts}
+use Rattle.enet_isolation.specs.Calls as call
+use Rattle.enet_isolation.specs.Deeds.{Deed, Alone, AllAlone, Submit, Emit, Come, Tick, Take, Disconnect, Set}
+use Rattle.enet_isolation.specs.Falling.{Fell, deeds_if}
+use Rattle.enet_network.specs.Log.{Logged}
+use Rattle.enet_network.specs.Network.{HostEnd, Site}
+use Rattle.enet_network.specs.Shown.{ShowsPeer, Shows, RunsAt, Went}
+use Rattle.enet_network.proofs.Peers.{Moved, is_gone, goes, moved}
+
+-- a host's log has nothing new of a connection
+abbrev pub KeepsLog : Site → Site → ℕ → Type 0
+KeepsLog old new x = (k : ℕ) (d : Logged) → slice_get new.log k ≡ Some d → d.connection ≡ x → slice_get old.log k ≡ Some d
+
+pub same-log : (old new : Site) (x : ℕ) → new.log ≡ old.log → KeepsLog old new x
+same-log old new x same k d h of = subst (λ (l : List Logged). slice_get l k ≡ Some d) same h
+
+-- an end with another peer
+pub shows-with : (old new : Site) (e : HostEnd) (own : End) (q : Peering) → KeepsLog old new e.connection → Shows old e own → ShowsPeer new.host e.name q → Shows new e (with_peer own q)
+shows-with old new e own q same k shows = record {
+  peer = q;
+  has = refl;
+  shows = shows;
+  long = k.long;
+  numbers = k.numbers;
+  log = λ n d h of. k.log n d (same n d h of) of;
+  greatest = k.greatest;
+  submitted = k.submitted;
+  taken = k.taken;
+  events = k.events;
+}
+
+pub same-peer : (own : End) (p : Peering) → own.peer ≡ Some p → own ≡ with_peer own p
+same-peer own p is = ap (λ (o : Option Peering). record own { peer = o }) is
+
+-- nothing happens to an end whose peer is as it was
+pub goes-still : (old new : Site) (e : HostEnd) (own far : End) (k : Shows old e own) → KeepsLog old new e.connection → ShowsPeer new.host e.name k.peer → Went own far new e
+goes-still old new e own far k same shows = record {
+  new = with_peer own k.peer;
+  events = [];
+  runs = same-peer own k.peer k.has;
+  shows = shows-with old new e own k.peer same k shows;
+}
+
+-- deeds that change the peer alone
+is_quiet : Deed → Bool
+is_quiet (Tick now) = true
+is_quiet (Disconnect way info) = true
+is_quiet (Set setting) = true
+is_quiet _ = false
+
+abbrev AreQuiet : List Deed → Type 0
+AreQuiet [] = Unit {0}
+AreQuiet (d ∷ ds) = (is_quiet d ≡ true) × AreQuiet ds
+
+quiet-one : (d : Deed) (own far : End) (p q : Peering) → is_quiet d ≡ true → own.peer ≡ Some p → Alone d p q → (e : Event) × Happens own far e (with_peer own q)
+unfolding is_quiet
+quiet-one (Tick now) own far p q quiet is alone = (event.Tick now, (p, is, ap (with_peer own) alone))
+quiet-one (Disconnect way info) own far p q quiet is alone = (event.Disconnect way info, (p, q, is, alone, refl))
+quiet-one (Set setting) own far p q quiet is alone = (event.Set setting, (p, is, alone.0, ap (with_peer own) alone.1))
+quiet-one d own far p q quiet is alone = absurd (cc)
+
+quiet-all : (ds : List Deed) (own far : End) (p q : Peering) → AreQuiet ds → own.peer ≡ Some p → AllAlone ds p q → (es : List Event) × RunsAt es own far (with_peer own q)
+quiet-all [] own far p q quiet is alone = ([], same-peer own p is ∙ ap (with_peer own) alone)
+quiet-all (d ∷ ds) own far p q quiet is alone =
+    let one = quiet-one d own far p alone.0 quiet.0 is alone.1 in
+    let rest = quiet-all ds (with_peer own alone.0) far alone.0 q quiet.1 refl alone.2 in
+    (one.0 ∷ rest.0, (with_peer own alone.0, one.1, rest.1))
+
+-- calls of which nothing else falls to any slot
+abbrev pub is_quiet_call : Call → Bool
+is_quiet_call (call.Submit name channel q (Ok done)) = false
+is_quiet_call (call.Receive from bytes answer) = false
+is_quiet_call (call.Service answer buf) = false
+is_quiet_call (call.NextEvent (Some event)) = false
+is_quiet_call _ = true
+
+quiet-if : (b : Bool) (d : Deed) → is_quiet d ≡ true → AreQuiet (deeds_if b d)
+quiet-if true d h = (h, tt)
+quiet-if false d h = tt
+
+quiet-is : (ds es : List Deed) → ds ≡ es → AreQuiet es → AreQuiet ds
+quiet-is ds es e h = subst AreQuiet (sym e) h
+
+fell-quiet : (c : Call) (h : Host) (i : ℕ) (s : SlotState) (p : Peering) (ds : List Deed) → is_quiet_call c ≡ true → Fell h i s p c ds → AreQuiet ds
+unfolding is_quiet
+fell-quiet (call.Connect address channels info word answer) h i s p ds quiet fell = quiet-is ds _ fell tt
+fell-quiet (call.Submit name channel q (Ok done)) h i s p ds quiet fell = absurd (cc)
+fell-quiet (call.Submit name channel q (Err e)) h i s p ds quiet fell = quiet-is ds _ fell tt
+fell-quiet (call.Receive from bytes answer) h i s p ds quiet fell = absurd (cc)
+fell-quiet (call.Service answer buf) h i s p ds quiet fell = absurd (cc)
+fell-quiet (call.Tick ms) h i s p ds quiet fell = quiet-is ds _ fell (refl, quiet-if _ _ refl)
+fell-quiet (call.Disconnect mode name info answer) h i s p ds quiet fell = quiet-is ds _ fell (quiet-if _ _ refl)
+fell-quiet (call.SetBandwidth incoming outgoing answer) h i s p ds quiet fell = quiet-is ds _ fell (quiet-if _ _ refl)
+fell-quiet (call.ConfigureThrottle name interval acceleration deceleration answer) h i s p ds quiet fell = quiet-is ds _ fell (quiet-if _ _ refl)
+fell-quiet (call.SetPingInterval name ms answer) h i s p ds quiet fell = quiet-is ds _ fell (quiet-if _ _ refl)
+fell-quiet (call.SetTimeout name limit minimum maximum answer) h i s p ds quiet fell = quiet-is ds _ fell (quiet-if _ _ refl)
+fell-quiet (call.NextEvent None) h i s p ds quiet fell = quiet-is ds _ fell tt
+fell-quiet (call.NextEvent (Some event)) h i s p ds quiet fell = absurd (cc)
+
+-- such a call is a number of events of each end
+pub goes-quiet : (c : Call) (old new : Site) (e : HostEnd) (own far : End) → is_quiet_call c ≡ true → old.host.config.generations ≤ greatest → Acts c old.host new.host → KeepsLog old new e.connection → Shows old e own → Went own far new e
+goes-quiet c old new e own far quiet low acts same k = by (moved c old.host new.host e.name k.peer low acts k.shows)
+  where
+    by : Moved c old.host new.host e.name k.peer → Went own far new e
+    by (is_gone shows never) = goes-still old new e own far k same shows
+    by (goes x ds q fell alone shows) =
+        let run = quiet-all ds own far k.peer q (fell-quiet c old.host e.name.slot x.slot k.peer ds quiet fell) k.has alone in
+        record { new = with_peer own q; events = run.0; runs = run.1; shows = shows-with old new e own q same k shows }

@@ -1,0 +1,110 @@
+-- Every run of a world of two hosts by which no connection begins twice at one of them.
+use Rattle.std.proofs.Common.{◌≡◌, ◌≢◌, ◌<◌, ◌≤◌, ℕ, zero, suc, ◌+◌, ◌⊎◌, inl, inr, ◌&&◌, Bool, true, false, List, [], ◌∷◌, refl, sym, ap, subst, ◌∙◌, arith, Ok, Err}
+use Rattle.std.proofs.lemmas.Bool.Decides.{nat_tests}
+use Rattle.enet_types.specs.declared.config.Config.{Config}
+use Rattle.enet_types.specs.Config.{is_in_range}
+use Rattle.enet_link.specs.Steps.{Has}
+use Rattle.enet_connection.specs.Connection.{End}
+use Rattle.enet_connection.specs.Law.{IsLawful}
+use Rattle.enet_connection.specs.Steps.{no_end, asking_pair}
+use Rattle.enet_connection.proofs.Laws.{lawful, asking-kept}
+use Rattle.enet_host.specs.Host.{limits_of, greatest}
+use Rattle.enet_isolation.specs.Calls as call
+use Rattle.enet_network.specs.declared.event.Side.{Side}
+use Rattle.enet_network.specs.declared.event.Side.TheVariants.{A, B}
+use Rattle.enet_network.specs.Law.{BeginsOnce, RunsOnce, KeptEither, LawfulEither, Pair, IsPaired, EachRun}
+use Rattle.enet_network.specs.Network.{HostEnd, Site, fresh_end}
+use Rattle.enet_network.specs.Steps.{Happening, Calls, Hears, Happens, count_after}
+use Rattle.enet_network.specs.World.{World, site_of, other, HappensAt, open_world}
+use Rattle.enet_network.proofs.Beginnings.{asked}
+use Rattle.enet_network.proofs.Worlds.{IsHost, swapped, pair-goes, host-goes, nothing-of, count-grows}
+
+-- which connections stand from the start is told by j
+record Sound (j : ℕ → Bool) (w : World) : Type 0 where
+  a : IsHost w.a w.count
+  b : IsHost w.b w.count
+  pairs : (x : ℕ) → x < w.count → Pair (j x) w.a w.b x
+  later : (x : ℕ) → w.count ≤ x → j x ≡ false
+
+wider : (s : Site) (n m : ℕ) → n ≤ m → IsHost s n → IsHost s m
+wider s n m low k = record { few = k.few; apart = k.apart; below = λ e h. (let b : e.connection < n = k.below e h in omega arith); logged = k.logged; named = k.named }
+
+-- a connection that a user asks for
+new-pair : (next : ℕ) (other old new : Site) (what : Happening) (x : ℕ) → Happens next other what old new → IsHost old next → IsHost other next → next ≤ x → x < count_after next what → Pair false new other x
+new-pair next other old new (Calls (call.Connect address channels info word (Ok name))) x happens k ko least most =
+    let y = asked next other old new address channels info word name happens (nothing-of old next next k (λ e h of. let low : e.connection < next = k.below e h in let same : e.connection ≡ next = of in omega arith)) in
+    subst (Pair false new other) (let few : x < next + 1 = most in let same : next ≡ x = omega arith in same) (record {
+      one = (asking_pair old.host.clock y.0 (limits_of old.host.config)).one;
+      two = no_end;
+      here = inl (fresh_end next name, y.2, refl, y.3);
+      there = inr ((λ e h of. let low : e.connection < next = ko.below e h in let same : e.connection ≡ next = of in omega arith), refl);
+      kept = inl (asking-kept old.host.clock y.0 (limits_of old.host.config));
+    })
+new-pair next other old new (Calls c) x happens k ko least most = absurd (let few : x < next = most in omega arith)
+new-pair next other old new (Hears i answer) x happens k ko least most = absurd (let few : x < next = most in omega arith)
+
+less-or-not : (a b : ℕ) → (a < b) ⊎ (b ≤ a)
+less-or-not a b = grind arith
+
+-- one side goes on
+goes : (j : ℕ → Bool) (next : ℕ) (other old new : Site) (what : Happening) → Happens next other what old new → IsHost old next → IsHost other next → ((x : ℕ) → x < next → Pair (j x) old other x) → ((x : ℕ) → next ≤ x → j x ≡ false)
+    → (x : ℕ) → x < count_after next what → Pair (j x) new other x
+goes j next other old new what happens k ko pairs later x low = elim (less-or-not x next) [
+  | inl before ↦ pair-goes (j x) next other old new what x happens k ko before (pairs x before)
+  | inr after ↦ subst (λ (t : Bool). Pair t new other x) (sym (later x after)) (new-pair next other old new what x happens k ko after low)
+]
+
+sound-goes : (j : ℕ → Bool) (side : Side) (what : Happening) (w v : World) → HappensAt side what w v → BeginsOnce (site_of w (other side)) (site_of w side) (site_of v side) what → Sound j w → Sound j v
+sound-goes j A what w v h once k =
+    let count : count_after w.count what ≡ v.count = sym h.count in
+    let up : w.count ≤ v.count = (let g : w.count ≤ count_after w.count what = count-grows w.count what in let c : v.count ≡ count_after w.count what = h.count in omega arith) in
+    record {
+      a = subst (IsHost v.a) count (host-goes j w.count w.b w.a v.a what h.here k.a k.b once k.pairs);
+      b = subst (λ (s : Site). IsHost s v.count) (sym h.there) (wider w.b w.count v.count up k.b);
+      pairs = λ x low. subst (λ (s : Site). Pair (j x) v.a s x) (sym h.there) (goes j w.count w.b w.a v.a what h.here k.a k.b k.pairs k.later x (let c : v.count ≡ count_after w.count what = h.count in omega arith));
+      later = λ x least. k.later x (let u : w.count ≤ v.count = up in omega arith);
+    }
+sound-goes j B what w v h once k =
+    let count : count_after w.count what ≡ v.count = sym h.count in
+    let back : (x : ℕ) → x < w.count → Pair (j x) w.b w.a x = (λ x low. swapped (j x) w.a w.b x (k.pairs x low)) in
+    let up : w.count ≤ v.count = (let g : w.count ≤ count_after w.count what = count-grows w.count what in let c : v.count ≡ count_after w.count what = h.count in omega arith) in
+    record {
+      a = subst (λ (s : Site). IsHost s v.count) (sym h.there) (wider w.a w.count v.count up k.a);
+      b = subst (IsHost v.b) count (host-goes j w.count w.a w.b v.b what h.here k.b k.a once back);
+      pairs = λ x low. subst (λ (s : Site). Pair (j x) s v.b x) (sym h.there) (swapped (j x) v.b w.a x (goes j w.count w.a w.b v.b what h.here k.b k.a back k.later x (let c : v.count ≡ count_after w.count what = h.count in omega arith)));
+      later = λ x least. k.later x (let u : w.count ≤ v.count = up in omega arith);
+    }
+
+sound-runs : (j : ℕ → Bool) (es : List (Side × Happening)) (w v : World) → RunsOnce es w v → Sound j w → Sound j v
+sound-runs j [] w v r k = subst (Sound j) r k
+sound-runs j (e ∷ es) w v r k = sound-runs j es r.0 v r.3 (sound-goes j e.0 e.1 w r.0 r.1 r.2 k)
+
+-- at first
+
+few-of : (c : Config) → is_in_range c ≡ true → c.generations ≤ greatest
+few-of c h = grind (arith, nat_tests)
+
+both : (a b : Bool) → (a && b) ≡ true → (a ≡ true) × (b ≡ true)
+both true true h = (refl, refl)
+both true false h = absurd (cc)
+both false b h = absurd (cc)
+
+open-sound : (a b : Config) → (is_in_range a && is_in_range b) ≡ true → Sound (λ x. false) (open_world a b)
+open-sound a b h =
+    let r = both (is_in_range a) (is_in_range b) h in
+    record {
+      a = record { few = few-of a r.0; apart = λ e i. absurd i; below = λ e i. absurd i; logged = λ d i. absurd i; named = λ d i. absurd i };
+      b = record { few = few-of b r.1; apart = λ e i. absurd i; below = λ e i. absurd i; logged = λ d i. absurd i; named = λ d i. absurd i };
+      pairs = λ x low. absurd (let z : x < 0 = low in omega arith);
+      later = λ x least. refl;
+    }
+
+lawful-either : (j : Bool) (one two : End) → KeptEither j one two → LawfulEither j one two
+lawful-either j one two (inl k) = inl (lawful j (record { one = one; two = two }) k)
+lawful-either j one two (inr k) = inr (lawful j (record { one = two; two = one }) k)
+
+pub each-run : EachRun
+each-run a b h es w r x low =
+    let s = sound-runs (λ x. false) es (open_world a b) w r (open-sound a b h) in
+    let p = s.pairs x low in
+    record { one = p.one; two = p.two; here = p.here; there = p.there; lawful = lawful-either false p.one p.two p.kept }

@@ -1,0 +1,104 @@
+-- What happens at a host is, for each of its connections, a number of events of the law of one connection.
+use Rattle.std.specs.Prelude.{◌≡◌, ◌≢◌, ◌<◌, ◌≤◌, ◌⊎◌, ◌&&◌, Bool, true, false, ℕ, List, [], ◌∷◌, Some, Ok, slice_get}
+use Rattle.enet_types.specs.declared.address.Addr.{Addr}
+use Rattle.enet_types.specs.declared.config.Config.{Config}
+use Rattle.enet_types.specs.Config.{is_in_range}
+use Rattle.enet_types.specs.declared.event.PeerRef.{PeerRef}
+use Rattle.enet_types.specs.declared.event.Received.{Received}
+use Rattle.enet_codec.specs.declared.command.Offer.{Offer}
+use Rattle.enet_codec.specs.declared.header.Header.{Header}
+use Rattle.enet_datagram.specs.Heading.{IsRead}
+use Rattle.enet_link.specs.Steps.{Has}
+use Rattle.enet_connection.specs.Connection.{End}
+use Rattle.enet_connection.specs.Kept.{Kept}
+use Rattle.enet_connection.specs.Law.{IsLawful}
+use Rattle.enet_connection.specs.Steps.{Event, Happens as HappensLaw, no_end, asking_pair}
+use Rattle.enet_host.specs.Host.{limits_of, greatest}
+use Rattle.enet_isolation.specs.Calls as call
+use Rattle.enet_network.specs.declared.event.Side.{Side}
+use Rattle.enet_network.specs.Log.{Logged}
+use Rattle.enet_network.specs.Network.{HostEnd, Site, fresh_end}
+use Rattle.enet_network.specs.Shown.{Shows, ShowsFar, Went, IsApart}
+use Rattle.enet_network.specs.Steps.{Happening, Calls, Hears, Happens, begun}
+use Rattle.enet_network.specs.World.{World, site_of, other, HappensAt, open_world}
+
+-- of each datagram of a log it is kept which peer id its header names
+abbrev pub AreNamed : List Logged → Type 0
+AreNamed log = (d : Logged) → Has log d → (h : Header) (commands : List ℕ) → IsRead d.text h commands → d.peer ≡ h.peer
+
+-- an end goes on at its host: it is there afterwards, of the same connection, and by events of the law comes to what the host shows then
+pub record GoesOn (own far : End) (new : Site) (e : HostEnd) : Type 0 where
+  pub after : HostEnd
+  pub there : Has new.ends after
+  pub connection : after.connection ≡ e.connection
+  pub name : after.name ≡ e.name
+  pub went : Went own far new after
+
+-- one thing that happens at a host: each end of a connection there that is shown goes on, where the other host shows the connection's other end.
+-- No host has more than 2 ^ 32 - 1 generations
+abbrev pub OneThing : Type 0
+OneThing = (next : ℕ) (other old new : Site) (what : Happening) → Happens next other what old new → old.host.config.generations ≤ greatest → AreNamed other.log
+    → (e : HostEnd) → Has old.ends e → IsApart old.ends e → (own far : End) → Shows old e own → ShowsFar other e.connection far → GoesOn own far new e
+
+-- nothing of connection x was put out by a host
+abbrev pub HasNothingOf : ℕ → Site → Type 0
+HasNothingOf x s = (d : Logged) → Has s.log d → d.connection ≢ x
+
+-- a client asks: its end begins as the first of a pair of the law
+abbrev pub Asked : Type 0
+Asked = (next : ℕ) (other old new : Site) (address : Addr) (channels info word : ℕ) (name : PeerRef) → Happens next other (Calls (call.Connect address channels info word (Ok name))) old new → HasNothingOf next old
+    → (offer : Offer) × (offer.connect_id ≡ word) × Has new.ends (fresh_end next name) × Shows new (fresh_end next name) (asking_pair old.host.clock offer (limits_of old.host.config)).one
+
+-- a datagram that is brought to a host where an end begins is a CONNECT that the other end put out: the end is one that answers it
+pub record Begins (far : End) (new : Site) (f : HostEnd) : Type 0 where
+  pub event : Event
+  pub own : End
+  pub answers : HappensLaw no_end far event own
+  pub shows : Shows new f own
+
+abbrev pub Answered : Type 0
+Answered = (next k : ℕ) (answer : Received) (d : Logged) (other old new : Site) → Happens next other (Hears k answer) old new → slice_get other.log k ≡ Some d → HasNothingOf d.connection old
+    → (f : HostEnd) → Has (begun d.connection old.host new.host) f → (far : End) → ShowsFar other d.connection far → Begins far new f
+
+-- a host shows an end of connection x, or has none of it
+abbrev pub ShowsAt : Site → ℕ → End → Type 0
+ShowsAt s x own = ((e : HostEnd) × Has s.ends e × (e.connection ≡ x) × Shows s e own) ⊎ (((e : HostEnd) → Has s.ends e → e.connection ≢ x) × (own ≡ no_end))
+
+-- two ends of one connection, either of which may have asked
+abbrev pub KeptEither : Bool → End → End → Type 0
+KeptEither joined a b = Kept joined (record { one = a; two = b }) ⊎ Kept joined (record { one = b; two = a })
+
+abbrev pub LawfulEither : Bool → End → End → Type 0
+LawfulEither joined a b = IsLawful joined (record { one = a; two = b }) ⊎ IsLawful joined (record { one = b; two = a })
+
+-- two hosts show the ends of connection x, which stands from the start or not, and which keep what every connection keeps
+pub record Pair (joined : Bool) (a b : Site) (x : ℕ) : Type 0 where
+  pub one : End
+  pub two : End
+  pub here : ShowsAt a x one
+  pub there : ShowsAt b x two
+  pub kept : KeptEither joined one two
+
+-- two hosts show the ends of connection x, of which the law of one connection holds
+pub record IsPaired (joined : Bool) (a b : Site) (x : ℕ) : Type 0 where
+  pub one : End
+  pub two : End
+  pub here : ShowsAt a x one
+  pub there : ShowsAt b x two
+  pub lawful : LawfulEither joined one two
+
+-- no connection begins at a host that has an end of it
+abbrev pub BeginsOnce : Site → Site → Site → Happening → Type 0
+BeginsOnce other old new (Calls c) = Unit {0}
+BeginsOnce other old new (Hears k answer) =
+    (d : Logged) → slice_get other.log k ≡ Some d → (e : HostEnd) → Has old.ends e → e.connection ≡ d.connection → begun d.connection old.host new.host ≡ []
+
+-- things that happen, one after another, by which no connection begins twice at a host
+abbrev pub RunsOnce : List (Side × Happening) → World → World → Type 0
+RunsOnce [] old new = old ≡ new
+RunsOnce (e ∷ es) old new =
+    (between : World) × HappensAt e.0 e.1 old between × BeginsOnce (site_of old (other e.0)) (site_of old e.0) (site_of between e.0) e.1 × RunsOnce es between new
+
+-- of every such run of two hosts that begin with free slots, the law of one connection holds of each connection so far
+abbrev pub EachRun : Type 0
+EachRun = (a b : Config) → (is_in_range a && is_in_range b) ≡ true → (es : List (Side × Happening)) (w : World) → RunsOnce es (open_world a b) w → (x : ℕ) → x < w.count → IsPaired false w.a w.b x

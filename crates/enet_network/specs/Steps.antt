@@ -1,0 +1,118 @@
+-- What happens at a host of a network: one host call, with what it adds to what is kept. The other hosts are as they were.
+use Rattle.std.specs.Prelude.{◌≡◌, ℕ, ◌+◌, List, [], ◌∷◌, ◌++◌, take, Option, Some, None, Result, Ok, Err, slice_get}
+use Rattle.enet_types.specs.declared.address.Addr.{Addr}
+use Rattle.enet_types.specs.declared.event.Event.{Event}
+use Rattle.enet_types.specs.declared.event.Event.TheVariants as events
+use Rattle.enet_types.specs.declared.event.PeerRef.{PeerRef}
+use Rattle.enet_types.specs.declared.event.Received.{Received}
+use Rattle.enet_types.specs.declared.packet.Packet.{Packet}
+use Rattle.enet_codec.specs.declared.header.Header.{Header}
+use Rattle.enet_peer.specs.Peering.{Peering}
+use Rattle.enet_datagram.specs.Heading.{IsRead}
+use Rattle.enet_link.specs.Steps.{Has}
+use Rattle.enet_connection.specs.Law.{mtu_in}
+use Rattle.enet_host.specs.Host.{Host, SlotState, named, name_of}
+use Rattle.enet_host.specs.Opening.{available}
+use Rattle.enet_isolation.specs.Calls.{Call, Acts}
+use Rattle.enet_isolation.specs.Calls as call
+use Rattle.enet_network.specs.declared.mark.Mark.{Mark}
+use Rattle.enet_network.specs.Log.{Logged, Kept, with_kept, with_submission, with_taken}
+use Rattle.enet_network.specs.Marks.{Counts}
+use Rattle.enet_network.specs.Network.{HostEnd, Site, fresh_end, with_end, numbers_of, delivery_refusal}
+
+pub data Happening : Type 0 where
+  Calls : (call : Call) → Happening  -- its user or its service calls it
+  Hears : (k : ℕ) (answer : Received) → Happening  -- the network brings it datagram k of the other host, to which it answers this
+
+-- the user of an end submitted a packet, which goes by this mtu
+abbrev pub with_packet : ℕ → Packet → HostEnd → HostEnd
+with_packet mtu q e = record e { mtu = mtu; channels = with_kept e.channels q.channel (with_submission q) }
+
+-- the user of an end took an event, which may be a packet
+abbrev pub kept_by : Event → List Kept → List Kept
+kept_by (events.Receive name q) channels = with_kept channels q.channel (with_taken q)
+kept_by _ channels = channels
+
+abbrev pub with_event : Event → HostEnd → HostEnd
+with_event event e = record e { channels = kept_by event e.channels; events = e.events ++ event ∷ [] }
+
+-- it is an event of the end that it names
+abbrev pub after_event : Event → List HostEnd → List HostEnd
+after_event (events.Connect name info) ends = with_end (with_event (events.Connect name info)) name ends
+after_event (events.Receive name q) ends = with_end (with_event (events.Receive name q)) name ends
+after_event (events.Disconnect name info) ends = with_end (with_event (events.Disconnect name info)) name ends
+after_event (events.Refused seat number why) ends = ends
+
+-- the ends at a host after a call; an accepted Connect has the number of the next connection
+abbrev pub ends_after : ℕ → Site → Call → List HostEnd
+ends_after next s (call.Connect address channels info word (Ok name)) = s.ends ++ fresh_end next name ∷ []
+ends_after next s (call.Submit name channel q (Ok done)) =
+    with_end (with_packet (mtu_in (named s.host.slots name)) (record { channel = channel; flags = q.flags; body = q.body })) name s.ends
+ends_after next s (call.NextEvent (Some event)) = after_event event s.ends
+ends_after next s c = s.ends
+
+-- a call that puts nothing out
+abbrev pub Called : ℕ → Call → Site → Site → Type 0
+Called next c old new = Acts c old.host new.host × (new ≡ record old { host = new.host; ends = ends_after next old c })
+
+-- a call of service that gave a datagram: it is logged last, as one of the connection whose peer it names, and its commands are counted;
+-- `far` has the greatest numbers that the other end of a connection sent
+pub record Logs (far : ℕ → List ℕ) (gave : PeerRef × Addr × ℕ) (buf : List ℕ) (old new : Site) : Type 0 where
+  pub own : HostEnd
+  pub there : Has old.ends own
+  pub name : own.name ≡ gave.0
+  pub header : Header
+  pub commands : List ℕ
+  pub read : IsRead (take gave.2 buf) header commands
+  pub greatest : List ℕ
+  pub marks : List Mark
+  pub counts : Counts (take gave.2 buf) own.greatest greatest (far own.connection) marks
+  pub rest : new ≡ record old {
+    host = new.host;
+    log = old.log ++ (record { connection = own.connection; to = gave.1; peer = header.peer; text = take gave.2 buf; marks = marks }) ∷ [];
+    ends = with_end (λ (e : HostEnd). record e { greatest = greatest }) gave.0 old.ends;
+  }
+
+-- the end that begins where a host gave the slot i, which was free, to a peer
+abbrev pub end_in : ℕ → ℕ → SlotState → Option Peering → List HostEnd
+end_in x i s None = []
+end_in x i s (Some p) = fresh_end x (name_of i s) ∷ []
+
+abbrev pub end_at : ℕ → ℕ → Option SlotState → List HostEnd
+end_at x i None = []
+end_at x i (Some s) = end_in x i s s.peer
+
+abbrev pub begun_in : ℕ → Option ℕ → Host → List HostEnd
+begun_in x None new = []
+begun_in x (Some i) new = end_at x i (slice_get new.slots i)
+
+-- the end of connection x that begins where a CONNECT was answered: in the slot that was the next to be given out
+abbrev pub begun : ℕ → Host → Host → List HostEnd
+begun x old new = begun_in x (available old.config old.slots) new
+
+-- a datagram of a host at this address comes
+abbrev pub Brought : Addr → Logged → Received → Site → Site → Type 0
+Brought from d answer old new =
+    Acts (call.Receive from d.text answer) old.host new.host × (new ≡ record old { host = new.host; ends = old.ends ++ begun d.connection old.host new.host })
+
+-- a datagram is brought that was put out and is refused for no reason
+abbrev pub BringsOne : Site → Option Logged → Received → Site → Site → Type 0
+BringsOne from None answer old new = ⊥
+BringsOne from (Some d) answer old new = (delivery_refusal from old (Some d) ≡ None) × Brought from.address d answer old new
+
+-- one thing at a host with one other, `next` being the number of connections so far
+abbrev pub Calling : ℕ → Site → Call → Site → Site → Type 0
+Calling next other (call.Connect address channels info word answer) old new =
+    (address ≡ other.address) × Called next (call.Connect address channels info word answer) old new
+Calling next other (call.Receive from bytes answer) old new = ⊥
+Calling next other (call.Service (Some gave) buf) old new = Acts (call.Service (Some gave) buf) old.host new.host × Logs (numbers_of other) gave buf old new
+Calling next other c old new = Called next c old new
+
+abbrev pub Happens : ℕ → Site → Happening → Site → Site → Type 0
+Happens next other (Calls c) old new = Calling next other c old new
+Happens next other (Hears k answer) old new = BringsOne other (slice_get other.log k) answer old new
+
+-- the number of connections after it
+abbrev pub count_after : ℕ → Happening → ℕ
+count_after next (Calls (call.Connect address channels info word (Ok name))) = next + 1
+count_after next _ = next

@@ -1,0 +1,38 @@
+//! Hosts with a network between them: the definitions that say what happens there, and laws. No code but the types of events.
+//!
+//! specs/Network has what is kept of a host: all that it put out, each datagram with its connection and with the marks of its
+//! commands, and its ends of connections, each with the name of its peer, how far its numbers have come, what its user
+//! submitted and took. It has when a datagram is of an earlier connection or late. specs/Steps has what one host call adds to
+//! all that, specs/World the events of a world of two hosts with the refusals that each meets. None of these but specs/World
+//! counts the hosts.
+//!
+//! Proved: `each_thing_is_events`, of these definitions; no code meets them yet.
+//! Open: the law of a whole run of a world.
+#![tactic(auto)]
+
+ghost use Rattle.enet_network.specs.Law.{OneThing, Asked, Answered};
+
+mod event;
+mod mark;
+
+pub use event::{Answer, Side, WorldEvent};
+pub use mark::{Mark, MarkKind};
+
+/// What happens at a host is, for each of its connections, a number of events of the law of one connection.
+///
+/// `goes_on`: each call of a host, and each datagram that the network brings it and that is neither of an earlier connection
+/// nor late. An end that the host shows (its peer, its datagrams with their marks, how far its numbers have come, what its
+/// user submitted and took, its events) is there afterwards, and is where the law's events at that end lead, while the
+/// other host shows the other end. So nothing but these events happens to a connection, whatever other connections the
+/// host has; slots that are given out again included, since a datagram of another connection than that of the slot which it
+/// addresses is refused.
+///
+/// `asked`: where a Connect is accepted, an end begins that is the first of the law's asking pair, with this connect id.
+///
+/// `answered`: where the network brings a datagram of a connection of which the host has no end, and an end begins, that is
+/// the law's answer to a CONNECT which the other end put out.
+pub fn each_thing_is_events()
+    ensures goes_on { OneThing }
+    ensures asked { Asked }
+    ensures answered { Answered }
+{}
