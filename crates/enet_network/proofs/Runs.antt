@@ -1,22 +1,28 @@
 -- Every run of a world of two hosts by which no connection begins twice at one of them.
-use Rattle.std.proofs.Common.{◌≡◌, ◌≢◌, ◌<◌, ◌≤◌, ℕ, zero, suc, ◌+◌, ◌⊎◌, inl, inr, ◌&&◌, Bool, true, false, List, [], ◌∷◌, refl, sym, ap, subst, ◌∙◌, arith, Ok, Err}
+use Rattle.std.proofs.Common.{◌≡◌, ◌<◌, ◌≤◌, ℕ, zero, suc, ◌+◌, ◌⊎◌, inl, inr, ◌&&◌, ◌==◌, Bool, true, false, min, List, [], ◌∷◌, ◌++◌, replicate, refl, sym, ap, subst, ◌∙◌, arith, Some, None, Ok, slice_get}
 use Rattle.std.proofs.lemmas.Bool.Decides.{nat_tests}
 use Rattle.enet_types.specs.declared.config.Config.{Config}
 use Rattle.enet_types.specs.Config.{is_in_range}
-use Rattle.enet_link.specs.Steps.{Has}
+use Rattle.enet_peer.specs.declared.parts.PeerState.TheVariants as state
+use Rattle.enet_peer.specs.Peering.{joined}
 use Rattle.enet_connection.specs.Connection.{End}
-use Rattle.enet_connection.specs.Law.{IsLawful}
-use Rattle.enet_connection.specs.Steps.{no_end, asking_pair}
-use Rattle.enet_connection.proofs.Laws.{lawful, asking-kept}
+use Rattle.enet_connection.specs.Steps.{with_peer, no_end, asking_pair}
+use Rattle.enet_connection.proofs.Laws.{lawful, asking-kept, joined-kept}
+use Rattle.enet_connection.proofs.Runs.{reached-none}
 use Rattle.enet_host.specs.Host.{limits_of, greatest}
+use Rattle.enet_host.specs.Opening.{unused_slot, joined_terms, given}
 use Rattle.enet_isolation.specs.Calls as call
+use Rattle.enet_isolation.proofs.Lists.{get-set}
 use Rattle.enet_network.specs.declared.event.Side.{Side}
 use Rattle.enet_network.specs.declared.event.Side.TheVariants.{A, B}
-use Rattle.enet_network.specs.Law.{BeginsOnce, RunsOnce, KeptEither, LawfulEither, Pair, IsPaired, EachRun}
+use Rattle.enet_network.specs.Law.{BeginsOnce, RunsOnce, KeptEither, LawfulEither, Pair, EachRun, EachJoinedRun}
+use Rattle.enet_network.specs.Log.{Kept as KeptOf, fresh_kept, fresh_channels, joined_greatest, kept_at, greatest_at}
 use Rattle.enet_network.specs.Network.{HostEnd, Site, fresh_end}
+use Rattle.enet_network.specs.Shown.{Shows}
 use Rattle.enet_network.specs.Steps.{Happening, Calls, Hears, Happens, count_after}
-use Rattle.enet_network.specs.World.{World, site_of, other, HappensAt, open_world}
+use Rattle.enet_network.specs.World.{World, site_of, other, address_of, HappensAt, open_world, joined_config, joined_end, joined_site, joined_world}
 use Rattle.enet_network.proofs.Beginnings.{asked}
+use Rattle.enet_network.proofs.Peers.{shows-held}
 use Rattle.enet_network.proofs.Worlds.{IsHost, swapped, pair-goes, host-goes, nothing-of, count-grows}
 
 -- which connections stand from the start is told by j
@@ -99,6 +105,107 @@ open-sound a b h =
       later = λ x least. refl;
     }
 
+-- connection 0 from the start
+
+first-slot : (n : ℕ) → 0 < n → slice_get (replicate n unused_slot) 0 ≡ Some unused_slot
+first-slot zero low = absurd (omega arith)
+first-slot (suc n) low = refl
+
+first-number : (n i last : ℕ) → i < n → greatest_at (replicate n 0 ++ last ∷ []) i ≡ 0
+first-number zero i last h = absurd (omega arith)
+first-number (suc n) zero last h = refl
+first-number (suc n) (suc i) last h = first-number n i last (omega arith)
+
+first-kept : (n i : ℕ) → kept_at (replicate n fresh_kept) i ≡ fresh_kept
+first-kept zero i = refl
+first-kept (suc n) zero = refl
+first-kept (suc n) (suc i) = first-kept n i
+
+joined-shows : (side : Side) (c : Config) → 0 < c.peers → Shows (joined_site side c) joined_end (with_peer no_end (joined c.clock (joined_terms c) (limits_of c)))
+unfolding fresh_channels joined_greatest
+joined-shows side c some = record {
+  peer = joined c.clock (joined_terms c) (limits_of c);
+  has = refl;
+  shows = shows-held (joined_site side c).host joined_end.name (joined c.clock (joined_terms c) (limits_of c)) (λ e. absurd (let y : state.Connected ≡ state.Free = e in cc)) (record {
+    slot = given unused_slot (address_of (other side)) (joined c.clock (joined_terms c) (limits_of c));
+    there = get-set (replicate c.peers unused_slot) 0 unused_slot (given unused_slot (address_of (other side)) (joined c.clock (joined_terms c) (limits_of c))) (first-slot c.peers some);
+    same = refl;
+    peer = refl;
+  });
+  long = refl;
+  numbers = refl;
+  log = λ k d h of. absurd (let e : None ≡ Some d = h in cc);
+  greatest = λ channel low. first-number 255 channel 1 low ∙ sym (reached-none channel 0);
+  submitted = λ channel low. ap (λ (k : KeptOf). k.submitted) (first-kept 256 channel);
+  taken = λ channel low. ap (λ (k : KeptOf). k.taken) (first-kept 256 channel);
+  events = refl;
+}
+
+joined-host : (side : Side) (c : Config) → c.generations ≤ greatest → IsHost (joined_site side c) 1
+joined-host side c few = record {
+  few = few;
+  apart = λ e h f i same. only e f h i;
+  below = λ e h. first e h;
+  logged = λ d i. absurd i;
+  named = λ d i. absurd i;
+}
+  where
+    only : (e f : HostEnd) → (joined_end ≡ e) ⊎ ⊥ → (joined_end ≡ f) ⊎ ⊥ → f ≡ e
+    only e f (inl a) (inl b) = sym b ∙ a
+    only e f (inl a) (inr b) = absurd b
+    only e f (inr a) b = absurd a
+
+    first : (e : HostEnd) → (joined_end ≡ e) ⊎ ⊥ → e.connection < 1
+    first e (inl a) = (let z : e.connection ≡ 0 = ap (λ (x : HostEnd). x.connection) (sym a) in omega arith)
+    first e (inr a) = absurd a
+
+in-range : (c : Config) → is_in_range c ≡ true → (576 ≤ c.mtu) × (c.channels ≤ 255) × (0 < c.peers)
+in-range c h = (grind (arith, nat_tests), grind (arith, nat_tests), grind (arith, nat_tests))
+
+joined-sound : (a b : Config) → (is_in_range a && is_in_range b) ≡ true → Sound (λ x. x == 0) (joined_world a b)
+joined-sound a b h = record {
+  a = joined-host A (joined_config a b) (few-of a r.0);
+  b = joined-host B (joined_config b a) (few-of b r.1);
+  pairs = λ x low. at x low;
+  later = λ x least. (let l : 1 ≤ x = least in let t : (x == 0) ≡ false = grind (arith, nat_tests) in t);
+}
+  where
+    r : (is_in_range a ≡ true) × (is_in_range b ≡ true)
+    r = both (is_in_range a) (is_in_range b) h
+
+    ra : (576 ≤ a.mtu) × (a.channels ≤ 255) × (0 < a.peers)
+    ra = in-range a r.0
+
+    rb : (576 ≤ b.mtu) × (b.channels ≤ 255) × (0 < b.peers)
+    rb = in-range b r.1
+
+    first : Pair true (joined_world a b).a (joined_world a b).b 0
+    first = record {
+      one = with_peer no_end (joined a.clock (joined_terms (joined_config a b)) (limits_of (joined_config a b)));
+      two = with_peer no_end (joined b.clock (joined_terms (joined_config b a)) (limits_of (joined_config b a)));
+      here = inl (joined_end, inl refl, refl, joined-shows A (joined_config a b) ra.2);
+      there = inl (joined_end, inl refl, refl, joined-shows B (joined_config b a) rb.2);
+      kept = inl (joined-kept a.clock b.clock (joined_terms (joined_config a b)) (joined_terms (joined_config b a)) (limits_of (joined_config a b)) (limits_of (joined_config b a)) big-a big-b few-a few-b);
+    }
+      where
+        big-a : 28 < min a.mtu b.mtu
+        big-a = let x : 576 ≤ a.mtu = ra.0 in let y : 576 ≤ b.mtu = rb.0 in omega arith
+
+        big-b : 28 < min b.mtu a.mtu
+        big-b = let x : 576 ≤ a.mtu = ra.0 in let y : 576 ≤ b.mtu = rb.0 in omega arith
+
+        few-a : min a.channels b.channels ≤ 255
+        few-a = let x : a.channels ≤ 255 = ra.1 in omega arith
+
+        few-b : min b.channels a.channels ≤ 255
+        few-b = let x : b.channels ≤ 255 = rb.1 in omega arith
+
+    at : (x : ℕ) → x < 1 → Pair (x == 0) (joined_world a b).a (joined_world a b).b x
+    at x low =
+        let e : 0 ≡ x = (let l : x < 1 = low in omega arith) in
+        let t : true ≡ (x == 0) = sym (let z : 0 ≡ x = e in let t : (x == 0) ≡ true = grind (arith, nat_tests) in t) in
+        subst (λ (b' : Bool). Pair b' (joined_world a b).a (joined_world a b).b x) t (subst (λ (n : ℕ). Pair true (joined_world a b).a (joined_world a b).b n) e first)
+
 lawful-either : (j : Bool) (one two : End) → KeptEither j one two → LawfulEither j one two
 lawful-either j one two (inl k) = inl (lawful j (record { one = one; two = two }) k)
 lawful-either j one two (inr k) = inr (lawful j (record { one = two; two = one }) k)
@@ -108,3 +215,9 @@ each-run a b h es w r x low =
     let s = sound-runs (λ x. false) es (open_world a b) w r (open-sound a b h) in
     let p = s.pairs x low in
     record { one = p.one; two = p.two; here = p.here; there = p.there; lawful = lawful-either false p.one p.two p.kept }
+
+pub each-joined : EachJoinedRun
+each-joined a b h es w r x low =
+    let s = sound-runs (λ y. y == 0) es (joined_world a b) w r (joined-sound a b h) in
+    let p = s.pairs x low in
+    record { one = p.one; two = p.two; here = p.here; there = p.there; lawful = lawful-either (x == 0) p.one p.two p.kept }

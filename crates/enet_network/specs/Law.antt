@@ -1,5 +1,5 @@
 -- What happens at a host is, for each of its connections, a number of events of the law of one connection.
-use Rattle.std.specs.Prelude.{◌≡◌, ◌≢◌, ◌<◌, ◌≤◌, ◌⊎◌, ◌&&◌, Bool, true, false, ℕ, List, [], ◌∷◌, Some, Ok, slice_get}
+use Rattle.std.specs.Prelude.{◌≡◌, ◌≢◌, ◌<◌, ◌≤◌, ◌⊎◌, ◌&&◌, ◌==◌, Bool, true, false, ℕ, List, [], ◌∷◌, Some, Ok, slice_get}
 use Rattle.enet_types.specs.declared.address.Addr.{Addr}
 use Rattle.enet_types.specs.declared.config.Config.{Config}
 use Rattle.enet_types.specs.Config.{is_in_range}
@@ -20,7 +20,7 @@ use Rattle.enet_network.specs.Log.{Logged}
 use Rattle.enet_network.specs.Network.{HostEnd, Site, fresh_end}
 use Rattle.enet_network.specs.Shown.{Shows, ShowsFar, Went, IsApart}
 use Rattle.enet_network.specs.Steps.{Happening, Calls, Hears, Happens, begun}
-use Rattle.enet_network.specs.World.{World, site_of, other, HappensAt, open_world}
+use Rattle.enet_network.specs.World.{World, site_of, other, HappensAt, open_world, joined_world}
 
 -- of each datagram of a log it is kept which peer id its header names
 abbrev pub AreNamed : List Logged → Type 0
@@ -102,3 +102,7 @@ RunsOnce (e ∷ es) old new =
 -- of every such run of two hosts that begin with free slots, the law of one connection holds of each connection so far
 abbrev pub EachRun : Type 0
 EachRun = (a b : Config) → (is_in_range a && is_in_range b) ≡ true → (es : List (Side × Happening)) (w : World) → RunsOnce es (open_world a b) w → (x : ℕ) → x < w.count → IsPaired false w.a w.b x
+
+-- the same of two hosts that have connection 0 from the start
+abbrev pub EachJoinedRun : Type 0
+EachJoinedRun = (a b : Config) → (is_in_range a && is_in_range b) ≡ true → (es : List (Side × Happening)) (w : World) → RunsOnce es (joined_world a b) w → (x : ℕ) → x < w.count → IsPaired (x == 0) w.a w.b x

@@ -6,11 +6,11 @@
 //! all that, specs/World the events of a world of two hosts with the refusals that each meets. None of these but specs/World
 //! counts the hosts.
 //!
-//! Proved: `each_thing_is_events`, of these definitions; no code meets them yet.
-//! Open: the law of a whole run of a world.
+//! Proved: `each_thing_is_events` and `one_world`, of these definitions; no code meets them yet.
+//! Open: that no connection begins twice at a host, which `one_world` assumes.
 #![tactic(auto)]
 
-ghost use Rattle.enet_network.specs.Law.{OneThing, Asked, Answered};
+ghost use Rattle.enet_network.specs.Law.{OneThing, Asked, Answered, EachRun, EachJoinedRun};
 
 mod event;
 mod mark;
@@ -35,4 +35,17 @@ pub fn each_thing_is_events()
     ensures goes_on { OneThing }
     ensures asked { Asked }
     ensures answered { Answered }
+{}
+
+/// A world of two hosts, over every list of calls of either and of datagrams that the network brings, none of them of an
+/// earlier connection or late, by which no connection begins at a host that has an end of it.
+///
+/// `opened`: where all slots are free at first, both hosts show of each connection two ends of which the law of one connection
+/// holds: what the user of one took of a channel follows what the user of the other submitted on it, and each user's events
+/// are one life. Connections may stand one after another, at once, and in slots that are used again.
+///
+/// `joined`: so it is where both hosts have connection 0 from the start.
+pub fn one_world()
+    ensures opened { EachRun }
+    ensures joined { EachJoinedRun }
 {}
