@@ -6,3 +6,4 @@ pub mod Turning
 pub mod Asking
 pub mod Serving
 pub mod Telling
+pub mod Holding

@@ -1,5 +1,5 @@
 -- A host as its callers see it: slots, a clock, and where the turns of `service` and `next_event` begin. Times are in milliseconds.
-use Rattle.std.specs.Prelude.{◌≡◌, ℕ, ◌+◌, ◌==◌, ◌&&◌, Bool, min, if◌then◌else◌, Option, Some, None, List, slice_get}
+use Rattle.std.specs.Prelude.{◌≡◌, ◌≢◌, ℕ, ◌+◌, ◌≤◌, ◌==◌, ◌&&◌, Bool, min, if◌then◌else◌, Option, Some, None, List, slice_get}
 use Rattle.enet_types.specs.declared.address.Addr.{Addr}
 use Rattle.enet_types.specs.declared.config.Config.{Config}
 use Rattle.enet_types.specs.declared.event.PeerRef.{PeerRef}
@@ -48,6 +48,15 @@ with_peer_in _ s p = record s { peer = Some p }
 -- what a call that left the peer so leaves of its slot: one whose peer is free is free
 abbrev pub with_peer : SlotState → Peering → SlotState
 with_peer s p = with_peer_in p.state s p
+
+-- so no slot holds a peer that is free
+abbrev pub HoldsNoFree : List SlotState → Type 0
+HoldsNoFree slots = (i : ℕ) (s : SlotState) (p : Peering) → slice_get slots i ≡ Some s → s.peer ≡ Some p → p.state ≢ state.Free
+
+-- what every host keeps
+pub record Keeps (h : Host) : Type 0 where
+  pub generations : h.config.generations ≤ greatest
+  pub held : HoldsNoFree h.slots
 
 -- a change of the peer that a slot holds, if it holds one
 abbrev pub with_changed : (Peering → Peering) → SlotState → Option Peering → SlotState

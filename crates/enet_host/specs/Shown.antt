@@ -10,7 +10,7 @@ use Rattle.enet_host.specs.declared.slot.Slot.{Slot}
 use Rattle.enet_types.specs.declared.address.Addr.{Addr}
 use Rattle.enet_types.specs.declared.event.PeerRef.{PeerRef}
 use Rattle.enet_types.specs.declared.event.Event.{Event}
-use Rattle.enet_host.specs.Host.{SlotState, name_of}
+use Rattle.enet_host.specs.Host.{SlotState, HoldsNoFree, name_of, greatest}
 use Rattle.enet_host.specs.Serving.{Gives, Passes}
 use Rattle.enet_host.specs.Calls.{tells, peer_body, GivesEvent, pinging, waiting}
 
@@ -40,11 +40,13 @@ abbrev pub HasRoom : Slot → Type 0
 HasRoom s = peer_has_room s.peer
 
 -- what the fields of a host keep
-pub record KeepsHost (peers service_from event_from : ℕ) (slots : List Slot) : Type 0 where
+pub record KeepsHost (peers generations service_from event_from : ℕ) (slots : List Slot) : Type 0 where
   pub count : length slots ≡ peers
   pub many : peers ≤ 4095
   pub service : service_from < peers
   pub event : event_from < peers
+  pub few : generations ≤ greatest
+  pub held : HoldsNoFree (all_shown slots)
 
 -- slot i gives a datagram
 pub record SlotGives (now : ℕ) (old : List SlotState) (i : ℕ) (name : PeerRef) (address : Addr) (len : ℕ) (buf : List ℕ) (new : List SlotState) : Type 0 where

@@ -3,7 +3,7 @@
 ghost use Rattle.std.specs.Prelude.{◌≡◌, ◌<◌, ◌≤◌, length, IsTrue, IfSome, IfOk, IfErr, OnOk, OnErr};
 ghost use Rattle.std.specs.Option.{option_copied};
 ghost use Rattle.enet_types.specs.Config.{is_in_range};
-ghost use Rattle.enet_host.specs.Host.{KeepsRest};
+ghost use Rattle.enet_host.specs.Host.{Keeps, KeepsRest};
 ghost use Rattle.enet_host.specs.Opening.{opened, joined, Opens, Connects};
 ghost use Rattle.enet_host.specs.Receiving.{Receives};
 ghost use Rattle.enet_host.specs.Serving.{Serves};
@@ -67,7 +67,7 @@ impl Model for HostCore {
       slots = all_shown h.slots.items;
     } };
 
-    ghost invariant = { λ h. KeepsHost h.start.config.peers h.service_from h.event_from h.slots.items };
+    ghost invariant = { λ h. KeepsHost h.start.config.peers h.start.config.generations h.service_from h.event_from h.slots.items };
 }
 
 impl HostCore {
@@ -91,6 +91,14 @@ impl HostCore {
             totals: Totals::none(),
             slots: unused_slots(alloc, config.peers)?,
         })
+    }
+
+    /// A law, which does nothing: what every host keeps. A slot has at most 4,294,967,295 generations, and none holds a peer
+    /// that is free, since each call gives such a slot up.
+    pub fn keeps(&self)
+        ensures { Keeps self.now }
+    {
+        let _ = &self.slots;
     }
 
     /// A host that is connected from the start: slot 0, in generation 0, to slot 0 of a host at this address, with the

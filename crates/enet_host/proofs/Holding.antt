@@ -1,0 +1,242 @@
+-- No call leaves a slot that holds a free peer.
+use Rattle.std.proofs.Common.{◌≡◌, ◌≢◌, ℕ, zero, suc, ◌<◌, ◌≤◌, Bool, true, false, cond, nat_lt, Option, Some, None, Result, Ok, Err, List, [], ◌∷◌, length, map, replicate, slice_set, get_or, arith, refl, sym, ap, subst, ◌∙◌}
+use Rattle.std.proofs.lemmas.Bool.Decides.{nat_tests}
+use Rattle.std.proofs.lemmas.List.{length-replicate}
+use Rattle.std.proofs.lemmas.Option.{slice_get_within, slice_get-get_or}
+use Rattle.std.specs.List.{slice_get, count_by}
+use Rattle.enet_types.specs.declared.address.Addr.{Addr}
+use Rattle.enet_types.specs.declared.config.Config.{Config}
+use Rattle.enet_types.specs.Config.{is_in_range}
+use Rattle.enet_types.specs.declared.event.Event.{Event}
+use Rattle.enet_types.specs.declared.event.PeerRef.{PeerRef}
+use Rattle.enet_types.specs.declared.event.Received.{Received}
+use Rattle.enet_types.specs.declared.refusal.Refusal.{Refusal}
+use Rattle.enet_codec.specs.declared.command.Offer.{Offer}
+use Rattle.enet_sender.specs.Carriage.{Packet}
+use Rattle.enet_peer.specs.declared.parts.PeerState.{PeerState}
+use Rattle.enet_peer.specs.declared.parts.PeerState.TheVariants as state
+use Rattle.enet_peer.specs.Peering.{Peering}
+use Rattle.enet_peer.specs.Peering as peers
+use Rattle.enet_peer.specs.Calls.{is_connected, with_throttle_limit}
+use Rattle.enet_peer.specs.Calls as calls
+use Rattle.enet_host.specs.declared.slot.Slot.{Slot}
+use Rattle.enet_host.specs.Shown.{shown, all_shown, KeepsHost, SlotGivesEvent}
+use Rattle.enet_host.proofs.Slots.{set-shown, length-shown}
+use Rattle.enet_host.specs.Host.{greatest, Host, SlotState, HoldsNoFree, with_peer, with_peer_in, with_changed, changed, with_generation, limits_of}
+use Rattle.enet_host.specs.Opening.{unused_slot, joined, joined_terms, given, offer_from, server_from, asking, answering, Connects, no_channel, no_slot, no_memory, asks}
+use Rattle.enet_host.specs.Receiving as receiving
+use Rattle.enet_host.specs.Receiving.{Offers, Arrives}
+use Rattle.enet_host.specs.Serving.{Gives, passes_by, InTurn, GivesInTurn, AllPass}
+use Rattle.enet_host.specs.Turns.{turn_of}
+use Rattle.enet_host.specs.Ticking.{clock_after, is_standing, limit_for, with_limit, shared, with_time, is_due, ticked}
+use Rattle.enet_host.specs.Calls.{kept, on_peer_in, put_back, on_slot, on_named, Submits, Does, DoesWithMemory, GivesEvent}
+
+-- a slot doesn't hold a free peer
+abbrev pub IsHeld : SlotState → Type 0
+IsHeld s = (p : Peering) → s.peer ≡ Some p → p.state ≢ state.Free
+
+empty-held : (s : SlotState) → s.peer ≡ None → IsHeld s
+empty-held s e p f = let x : ◌≡◌ {A = Option Peering} None (Some p) = sym e ∙ f in absurd (cc)
+
+one-held : (s : SlotState) (q : Peering) → s.peer ≡ Some q → q.state ≢ state.Free → IsHeld s
+one-held s q e live p f = let x : ◌≡◌ {A = Option Peering} (Some q) (Some p) = sym e ∙ f in let same : q ≡ p = cc in subst (λ (y : Peering). y.state ≢ state.Free) same live
+
+held-in : (st : PeerState) (s : SlotState) (q : Peering) → q.state ≡ st → IsHeld (with_peer_in st s q)
+held-in state.Free s q e = empty-held (with_peer_in state.Free s q) refl
+held-in st s q e = one-held (with_peer_in st s q) q refl (λ f. let x : st ≡ state.Free = sym e ∙ f in absurd (cc))
+
+pub peer-held : (s : SlotState) (q : Peering) → IsHeld (with_peer s q)
+peer-held s q = held-in q.state s q refl
+
+-- one slot is as it was given, the others are as they were
+set-held : (slots : List SlotState) (i : ℕ) (t : SlotState) → HoldsNoFree slots → IsHeld t → HoldsNoFree (slice_set slots i t)
+set-held [] i t old one j s p there held = old j s p there held
+set-held (x ∷ slots) zero t old one zero s p there held = let same : t ≡ s = cc in one p (ap (λ (y : SlotState). y.peer) same ∙ held)
+set-held (x ∷ slots) zero t old one (suc j) s p there held = old (suc j) s p there held
+set-held (x ∷ slots) (suc i) t old one zero s p there held = old zero s p there held
+set-held (x ∷ slots) (suc i) t old one (suc j) s p there held = set-held slots i t (λ k y q a b. old (suc k) y q a b) one j s p there held
+
+-- the same change on each slot
+pub map-held : (f : SlotState → SlotState) (slots : List SlotState) → ((s : SlotState) → IsHeld s → IsHeld (f s)) → HoldsNoFree slots → HoldsNoFree (map f slots)
+map-held f [] each old i s p there held = absurd (cc)
+map-held f (x ∷ slots) each old zero s p there held = let same : f x ≡ s = cc in each x (λ q e. old zero x q refl e) p (ap (λ (y : SlotState). y.peer) same ∙ held)
+map-held f (x ∷ slots) each old (suc i) s p there held = map-held f slots each (λ k y q a b. old (suc k) y q a b) i s p there held
+
+changed-in : (change : Peering → Peering) (s : SlotState) (o : Option Peering) → s.peer ≡ o → IsHeld (with_changed change s o)
+changed-in change s None e = empty-held s e
+changed-in change s (Some p) e = peer-held s (change p)
+
+pub changed-held : (change : Peering → Peering) (slots : List SlotState) → HoldsNoFree slots → HoldsNoFree (map (changed change) slots)
+changed-held change slots old = map-held (changed change) slots (λ s h. changed-in change s s.peer refl) old
+
+limited-if : (b : Bool) (p t q : Peering) → t.state ≡ p.state → p.state ≢ state.Free → ◌≡◌ {A = Option Peering} (Some (cond b t p)) (Some q) → q.state ≢ state.Free
+limited-if true p t q kept live e = let same : t ≡ q = cc in subst (λ (y : Peering). y.state ≢ state.Free) same (subst (λ (st : PeerState). st ≢ state.Free) (sym kept) live)
+limited-if false p t q kept live e = let same : p ≡ q = cc in subst (λ (y : Peering). y.state ≢ state.Free) same live
+
+limited-in : (outgoing standing emitted : ℕ) (o : Option Peering) (q : Peering) → ((p : Peering) → o ≡ Some p → p.state ≢ state.Free) → with_limit outgoing standing emitted o ≡ Some q → q.state ≢ state.Free
+limited-in outgoing standing emitted None q old e = absurd (cc)
+limited-in outgoing standing emitted (Some p) q old e = limited-if (is_connected p.state) p (with_throttle_limit p (limit_for outgoing standing emitted p)) q refl (old p refl) e
+
+pub shared-held : (outgoing standing : ℕ) (slots : List SlotState) → HoldsNoFree slots → HoldsNoFree (map (shared outgoing standing) slots)
+shared-held outgoing standing slots old = map-held (shared outgoing standing) slots (λ s h q e. limited-in outgoing standing s.emitted s.peer q h e) old
+
+-- slots that were never given
+pub unused-held : (n : ℕ) → HoldsNoFree (replicate n unused_slot)
+unused-held zero i s p there held = absurd (cc)
+unused-held (suc n) zero s p there held = let same : unused_slot ≡ s = cc in empty-held unused_slot refl p (ap (λ (y : SlotState). y.peer) same ∙ held)
+unused-held (suc n) (suc i) s p there held = unused-held n i s p there held
+
+-- a call on a name
+put-held : (slots new : List SlotState) (i : ℕ) (s : SlotState) (r : Result Peering Refusal) → HoldsNoFree slots → put_back slots i (kept s r) ≡ Ok new → HoldsNoFree new
+put-held slots new i s (Ok q) old e = subst HoldsNoFree (let same : slice_set slots i (with_peer s q) ≡ new = cc in same) (set-held slots i (with_peer s q) old (peer-held s q))
+put-held slots new i s (Err why) old e = absurd (cc)
+
+on-peer-held : (slots new : List SlotState) (i : ℕ) (s : SlotState) (call : Peering → Result Peering Refusal) (o : Option Peering) → HoldsNoFree slots → put_back slots i (on_peer_in s call o) ≡ Ok new → HoldsNoFree new
+on-peer-held slots new i s call None old e = absurd (cc)
+on-peer-held slots new i s call (Some p) old e = put-held slots new i s (call p) old e
+
+on-slot-held : (slots new : List SlotState) (i : ℕ) (call : Peering → Result Peering Refusal) (o : Option SlotState) → HoldsNoFree slots → on_slot slots i call o ≡ Ok new → HoldsNoFree new
+on-slot-held slots new i call None old e = absurd (cc)
+on-slot-held slots new i call (Some s) old e = on-peer-held slots new i s call s.peer old e
+
+named-held : (slots new : List SlotState) (name : PeerRef) (call : Peering → Result Peering Refusal) → HoldsNoFree slots → on_named slots name call ≡ Ok new → HoldsNoFree new
+named-held slots new name call old e = on-slot-held slots new name.slot call (with_generation name.generation (slice_get slots name.slot)) old e
+
+pub does-held : {T : Type 0} (slots new : List SlotState) (name : PeerRef) (call : Peering → Result Peering Refusal) (r : Result T Refusal) → HoldsNoFree slots → Does r (on_named slots name call) slots new → HoldsNoFree new
+does-held slots new name call (Ok done) old d = named-held slots new name call old d
+does-held slots new name call (Err why) old d = subst HoldsNoFree (sym d.1) old
+
+pub does-with-memory-held : {T : Type 0} (slots new : List SlotState) (name : PeerRef) (call : Peering → Result Peering Refusal) (r : Result T Refusal) → HoldsNoFree slots → DoesWithMemory r (on_named slots name call) slots new → HoldsNoFree new
+does-with-memory-held slots new name call (Ok done) old d = named-held slots new name call old d
+does-with-memory-held slots new name call (Err why) old d = subst HoldsNoFree (sym d.1) old
+
+pub submits-held : {T : Type 0} (slots new : List SlotState) (name : PeerRef) (q : Packet) (call : Peering → Result Peering Refusal) (r : Result T (Refusal × List ℕ)) → HoldsNoFree slots
+    → Submits r q (on_named slots name call) slots new → HoldsNoFree new
+submits-held slots new name q call (Ok done) old d = named-held slots new name call old d
+submits-held slots new name q call (Err e) old d = subst HoldsNoFree (sym d.2) old
+
+-- a connection begins
+given-held : (s : SlotState) (address : Addr) (q : Peering) → q.state ≢ state.Free → IsHeld (given s address q)
+given-held s address q live = one-held (given s address q) q refl live
+
+pub connects-held : (c : Config) (now : ℕ) (slots new : List SlotState) (address : Addr) (channels info word : ℕ) (r : Result PeerRef Refusal) → HoldsNoFree slots → Connects c now slots address channels info word r new → HoldsNoFree new
+connects-held c now slots new address channels info word r old (no_channel none) = old
+connects-held c now slots new address channels info word r old (no_slot some none) = old
+connects-held c now slots new address channels info word r old (no_memory i some at) = old
+connects-held c now slots new address channels info word r old (asks i s some at there) =
+    set-held slots i (asking c now i s address channels info word) old (given-held s address (peers.connecting now (offer_from c i s channels info word) (limits_of c)) (λ e. absurd (cc)))
+
+offers-held : (c : Config) (now : ℕ) (slots new : List SlotState) (from : Addr) (o : Offer) (answer : Received) → HoldsNoFree slots → Offers c now slots from o answer new → HoldsNoFree new
+offers-held c now slots new from o answer old (receiving.refused why is) = old
+offers-held c now slots new from o answer old (receiving.repeated is known) = old
+offers-held c now slots new from o answer old (receiving.no_slot is known none) = old
+offers-held c now slots new from o answer old (receiving.no_memory i is known at) = old
+offers-held c now slots new from o answer old (receiving.answers i s is known at there) =
+    set-held slots i (answering c now i s from o) old (given-held s from (peers.answering now o (server_from c i s) (limits_of c)) (λ e. absurd (cc)))
+
+-- a datagram comes
+pub arrives-held : (c : Config) (now : ℕ) (slots new : List SlotState) (from : Addr) (bytes : List ℕ) (answer : Received) → HoldsNoFree slots → Arrives c now slots from bytes answer new → HoldsNoFree new
+arrives-held c now slots new from bytes answer old (receiving.unreadable why is) = old
+arrives-held c now slots new from bytes answer old (receiving.no_offer header commands read stranger none) = old
+arrives-held c now slots new from bytes answer old (receiving.offered header commands o a after read stranger offer offers) = offers-held c now slots new from o answer old offers
+arrives-held c now slots new from bytes answer old (receiving.turned_away header commands why read known refused) = old
+arrives-held c now slots new from bytes answer old (receiving.heard header commands s t a read known taken there hears) =
+    set-held slots header.peer t old (subst IsHeld (sym hears.left) (peer-held s hears.after))
+
+-- slots are asked for a datagram
+gives-held : (now len : ℕ) (buf : List ℕ) (s t : SlotState) → Gives now len buf s t → IsHeld t
+gives-held now len buf s t g = subst IsHeld (sym g.left) (peer-held _ g.after)
+
+passes-held : (now : ℕ) (s t : SlotState) (o : Option Peering) → IsHeld s → passes_by now s t o → IsHeld t
+passes-held now s t None old e = subst IsHeld (sym e) old
+passes-held now s t (Some p) old n = subst IsHeld (sym n.left) (peer-held s n.after)
+
+-- two slots have the same place in turn only if they are the same
+turns-apart : (n from i j : ℕ) → i < n → j < n → turn_of n from i ≡ turn_of n from j → i ≡ j
+turns-apart n from i j a b e = grind (arith, nat_tests)
+
+turned-held : (now from count gave len : ℕ) (buf : List ℕ) (i : ℕ) (s t : SlotState) → i < count → gave < count → IsHeld s → InTurn now from count gave len buf i s t → IsHeld t
+turned-held now from count gave len buf i s t within given old x = by (nat_lt (turn i) (turn gave)) (nat_lt (turn gave) (turn i)) refl refl
+  where
+    turn : ℕ → ℕ
+    turn j = turn_of count from j
+
+    by : (a b : Bool) → nat_lt (turn i) (turn gave) ≡ a → nat_lt (turn gave) (turn i) ≡ b → IsHeld t
+    by true b e f = passes-held now s t s.peer old (x.before (grind (arith, nat_tests)))
+    by false true e f = subst IsHeld (sym (x.after (grind (arith, nat_tests)))) old
+    by false false e f = gives-held now len buf s t (x.here (turns-apart count from i gave within given (grind (arith, nat_tests))))
+
+pub served-held : (now from : ℕ) (old new : List SlotState) (name : PeerRef) (address : Addr) (len : ℕ) (buf : List ℕ) → HoldsNoFree old → GivesInTurn now from old name address len buf new → HoldsNoFree new
+served-held now from old new name address len buf held x i t p there =
+    let within : i < length new = slice_get_within new i t there in
+    let same : length new ≡ length old = x.count in
+    let low : i < length old = omega arith in
+    let was : slice_get old i ≡ Some (get_or old i t) = slice_get-get_or old i t low in
+    turned-held now from (length old) name.slot len buf i (get_or old i t) t low (slice_get_within old name.slot x.slot x.there) (λ q e. held i (get_or old i t) q was e) (x.slots i (get_or old i t) t was there) p
+
+pub passed-held : (now : ℕ) (old new : List SlotState) → HoldsNoFree old → AllPass now old new → HoldsNoFree new
+passed-held now old new held x i t p there =
+    let within : i < length new = slice_get_within new i t there in
+    let same : length new ≡ length old = x.count in
+    let low : i < length old = omega arith in
+    let was : slice_get old i ≡ Some (get_or old i t) = slice_get-get_or old i t low in
+    passes-held now (get_or old i t) t (get_or old i t).peer (λ q e. held i (get_or old i t) q was e) (x.slots i (get_or old i t) t was there) p
+
+-- an event is taken
+pub event-held : (slots : List SlotState) (i : ℕ) (event : Event) (s t : SlotState) → HoldsNoFree slots → GivesEvent i event s t → HoldsNoFree (slice_set slots i t)
+event-held slots i event s t old g = set-held slots i t old (subst IsHeld (sym g.left) (peer-held s g.taken.after))
+
+-- a host that is connected from the start
+pub joined-held : (c : Config) (address : Addr) → HoldsNoFree (joined c address).slots
+joined-held c address =
+    let q : Peering = peers.joined c.clock (joined_terms c) (limits_of c) in
+    set-held (replicate c.peers unused_slot) 0 (given unused_slot address q) (unused-held c.peers) (given-held unused_slot address q (λ e. absurd (cc)))
+
+-- time goes on
+held-if : (due : Bool) (xs ys : List SlotState) → HoldsNoFree xs → HoldsNoFree ys → HoldsNoFree (cond due xs ys)
+held-if true xs ys a b = a
+held-if false xs ys a b = b
+
+pub ticked-held : (h : Host) (ms : ℕ) → HoldsNoFree h.slots → HoldsNoFree (ticked h ms).slots
+ticked-held h ms old =
+    let now : ℕ = clock_after h.clock ms in
+    let timed : Host = with_time h now in
+    let outgoing : ℕ = timed.config.outgoing in
+    let standing : ℕ = count_by is_standing timed.slots in
+    let held : HoldsNoFree timed.slots = changed-held (λ (p : Peering). calls.ticked p now) h.slots old in
+    held-if (is_due timed) (map (shared outgoing standing) timed.slots) timed.slots (shared-held outgoing standing timed.slots held) held
+
+-- a slot is given
+pub given-there : (xs : List Slot) (i : ℕ) (y : Slot) (s : SlotState) (address : Addr) (q : Peering) → HoldsNoFree (all_shown xs) → shown y ≡ given s address q → q.state ≢ state.Free → HoldsNoFree (all_shown (slice_set xs i y))
+given-there xs i y s address q old e live =
+    subst HoldsNoFree (sym (set-shown xs i y)) (set-held (all_shown xs) i (shown y) old (subst IsHeld (sym e) (given-held s address q live)))
+
+pub gave-held : (slots new : List SlotState) (i : ℕ) (event : Event) → HoldsNoFree slots → SlotGivesEvent slots i event new → HoldsNoFree new
+gave-held slots new i event old x = subst HoldsNoFree (sym x.after) (event-held slots i event x.slot x.left old x.gives)
+
+pub changed-after : (change : Peering → Peering) (slots new : List SlotState) → new ≡ map (changed change) slots → HoldsNoFree slots → HoldsNoFree new
+changed-after change slots new e old = subst HoldsNoFree (sym e) (changed-held change slots old)
+
+pub shared-after : (outgoing standing : ℕ) (slots new : List SlotState) → new ≡ map (shared outgoing standing) slots → HoldsNoFree slots → HoldsNoFree new
+shared-after outgoing standing slots new e old = subst HoldsNoFree (sym e) (shared-held outgoing standing slots old)
+
+-- what a host keeps once its slots and turns have changed
+pub keeps-after : (peers generations from event first next : ℕ) (xs ys : List Slot) → KeepsHost peers generations from event xs → length ys ≡ length xs → first < peers → next < peers → HoldsNoFree (all_shown ys)
+    → KeepsHost peers generations first next ys
+keeps-after peers generations from event first next xs ys k e a b held = record { count = e ∙ k.count; many = k.many; service = a; event = b; few = k.few; held = held }
+
+-- what it keeps at first
+in-range : (c : Config) → is_in_range c ≡ true → (0 < c.peers) × (c.peers ≤ 4095) × (c.generations ≤ greatest)
+in-range c h = (grind (arith, nat_tests), grind (arith, nat_tests), grind (arith, nat_tests))
+
+pub keeps-opened : (c : Config) (r : Bool) (xs : List Slot) → r ≡ is_in_range c → r ≡ true → all_shown xs ≡ replicate c.peers unused_slot → KeepsHost c.peers c.generations 0 0 xs
+keeps-opened c r xs is go e =
+    let h : (0 < c.peers) × (c.peers ≤ 4095) × (c.generations ≤ greatest) = in-range c (sym is ∙ go) in
+    record {
+      count = sym (length-shown xs) ∙ ap length e ∙ length-replicate c.peers unused_slot;
+      many = h.1;
+      service = h.0;
+      event = h.0;
+      few = h.2;
+      held = subst HoldsNoFree (sym e) (unused-held c.peers);
+    }

@@ -1,0 +1,11 @@
+use Rattle.enet_types.specs.declared.event.DisconnectMode.TheVariants as mode
+use Rattle.enet_host.specs.Calls.{leaving}
+use Rattle.enet_host.specs.Shown.{all_shown}
+use Rattle.enet_host.proofs.Holding.{keeps-after, does-held}
+use Rattle.enet_host.proofs.host.HostCore.disconnect.Goals as goal
+
+pub invariant_of-self : goal.invariant_of-self
+invariant_of-self c =
+    keeps-after c.self.inside.start.config.peers c.self.inside.start.config.generations c.self.inside.service_from c.self.inside.event_from c.self.inside.service_from c.self.inside.event_from c.self.inside.slots.items c.disconnect.new.slots.items c.self.invariant
+    c.disconnect.ensures.count c.self.invariant.service c.self.invariant.event
+    (does-held (all_shown c.self.inside.slots.items) (all_shown c.disconnect.new.slots.items) c.args.peer (leaving mode.Ask c.args.info) c.disconnect.result c.self.invariant.held c.disconnect.ensures.does)

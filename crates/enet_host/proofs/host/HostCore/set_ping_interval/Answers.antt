@@ -1,0 +1,10 @@
+use Rattle.enet_host.specs.Calls.{pinging}
+use Rattle.enet_host.specs.Shown.{all_shown}
+use Rattle.enet_host.proofs.Holding.{keeps-after, does-held}
+use Rattle.enet_host.proofs.host.HostCore.set_ping_interval.Goals as goal
+
+pub invariant_of-self : goal.invariant_of-self
+invariant_of-self c =
+    keeps-after c.self.inside.start.config.peers c.self.inside.start.config.generations c.self.inside.service_from c.self.inside.event_from c.self.inside.service_from c.self.inside.event_from c.self.inside.slots.items c.set.new.slots.items c.self.invariant
+    c.set.ensures.count c.self.invariant.service c.self.invariant.event
+    (does-held (all_shown c.self.inside.slots.items) (all_shown c.set.new.slots.items) c.args.peer (pinging c.args.ms) c.set.result c.self.invariant.held c.set.ensures.does)
