@@ -5,31 +5,19 @@ ghost use Rattle.std.specs.VecDeque.{deque_len, deque_capacity};
 ghost use Rattle.enet_codec.specs.Message.{view};
 ghost use Rattle.enet_types.specs.declared.packet.Packet.{Packet};
 ghost use Rattle.enet_fragment.specs.DataCommand.{data_of};
-ghost use Rattle.enet_receiver.specs.Foresight.{outcome_for, after_command, foreseen, Receives};
+ghost use Rattle.enet_receiver.specs.declared.took.Took.TheVariants.{Held};
+ghost use Rattle.enet_receiver.specs.Foresight.{outcome_for, after_command, foreseen};
 ghost use Rattle.enet_inbox.specs.Arrivals.{packet_of, emptied};
 ghost use Rattle.enet_inbox.specs.Kept.{IsShort, bytes_in};
 
 use bytes::Bytes;
 use enet_codec::{Command, Packet};
-use enet_receiver::{Incoming, Took};
+use enet_receiver::Incoming;
 use std::alloc::Global;
 use std::collections::VecDeque;
 
 /// A received packet's flags where it was unsequenced.
 const UNSEQUENCED: u8 = 2;
-
-/// Takes a sequenced data command in by the call that its receiver has for it. What is none is `Bad`.
-fn receive(receiver: &mut Incoming, command: &Command<'_>, full: bool) -> Took
-    ensures { Receives (data_of (view command.now)) full result receiver.old receiver.new }
-{
-    match command {
-        Command::SendReliable { .. } => receiver.reliable(command, full),
-        Command::SendUnreliable { .. } => receiver.unreliable(command, full),
-        Command::SendFragment { .. } => receiver.fragment(command, full),
-        Command::SendUnreliableFragment { .. } => receiver.unreliable_fragment(command, full),
-        _ => Took::Bad,
-    }
-}
 
 /// Hands over all that a receiver dispatched, and answers how many bytes it has.
 fn hand_over(receiver: &mut Incoming, untaken: &mut VecDeque<Packet>) -> u128
@@ -57,7 +45,7 @@ pub(crate) fn take_in(
     full: bool,
     dispatches: u32,
 ) -> Option<u128>
-    requires held { outcome_for receiver.old (data_of (view command.now)) full ≡ Took.Held }
+    requires held { outcome_for receiver.old (data_of (view command.now)) full ≡ Held }
     requires dispatches { dispatches ≡ (foreseen receiver.old (data_of (view command.now)) full).dispatches }
     requires none_left { receiver.old.receiver.dispatched ≡ [] }
     requires short { All IsShort untaken.old.items }
@@ -72,7 +60,7 @@ pub(crate) fn take_in(
     if untaken.reserve(dispatches as usize).is_err() {
         return None;
     }
-    if receive(receiver, command, full) != Took::Held {
+    if !receiver.take_in(command) {
         return None;
     }
     Some(hand_over(receiver, untaken))

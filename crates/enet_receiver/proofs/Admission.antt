@@ -68,6 +68,13 @@ piece_sound most c t =
     let two = and_parts (is_sound (place_in_packet c)) (leb (piece_of c).total most) one.0 in
     (two.0, (let e : leb (piece_of c).total most ≡ true = two.1 in grind (arith, nat_tests)))
 
+pub short_piece : (most : ℕ) (c : DataCommand) → is_piece most c ≡ true → length c.body ≤ most
+short_piece most c t =
+    let sound = piece_sound most c t in
+    let ends : (piece_of c).offset + length c.body ≤ (piece_of c).total = (Sound-from_test (place_in_packet c) sound.0).ends in
+    let total : (piece_of c).total ≤ most = sound.1 in
+    omega arith
+
 -- a number that is looked at is read as itself
 pub read_back : (front n : ℕ) → front < 65536 → n < 65536 → after front (ahead (front % 65536) n) ≡ n
 read_back front n a b = omega arith

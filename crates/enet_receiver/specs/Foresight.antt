@@ -50,6 +50,10 @@ abbrev pub after_command : ReceivingEnd → Option DataCommand → Bool → Rece
 after_command e None full = e
 after_command e (Some c) full = record e { receiver = received wire e.max_packet e.receiver c full }
 
+-- a command that would be held with ample memory, where so many bytes wait
+abbrev pub WouldBeHeld : ReceivingEnd → Option DataCommand → Type 0
+WouldBeHeld e o = (full : Bool) × (outcome_for e o full ≡ Held)
+
 -- what a call did that takes a command in: it answers the outcome, and only what is held changes the receiver. Memory may be
 -- wanted only where the command would be held
 pub record Receives (o : Option DataCommand) (full : Bool) (result : Took) (old new : ReceivingEnd) : Type 0 where

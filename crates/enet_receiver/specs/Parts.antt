@@ -7,7 +7,8 @@ use Rattle.enet_packets.specs.declared.coming.Coming.{Coming}
 use Rattle.enet_packets.specs.declared.coming.Dispatched.{Dispatched}
 use Rattle.enet_packets.specs.Packets.{Lines}
 use Rattle.enet_fragment.specs.declared.data.DataCommand.{DataCommand}
-use Rattle.enet_receiver.specs.Receiver.{Receiver}
+use Rattle.enet_receiver.specs.Receiver.{Receiver, all_released}
+use Rattle.enet_seq.specs.Numbering.{wire}
 use Rattle.enet_seq.specs.Windows.{acknowledges}
 use Rattle.enet_receiver.specs.declared.took.Took.{Took}
 use Rattle.enet_receiver.specs.declared.took.Foresight.{Foresight}
@@ -29,6 +30,10 @@ grown_at r c place = with_more (earlier_or_new (came_at r c place) c) c
 -- its piece is added
 abbrev pub with_stored : Receiver → DataCommand → ℕ → Receiver
 with_stored r c place = with_added r c place (grown_at r c place)
+
+-- the piece is added, and what is then due is dispatched
+abbrev pub with_kept : ReceivingEnd → DataCommand → ℕ → ReceivingEnd
+with_kept e c place = record e { receiver = all_released wire (with_stored e.receiver c place) }
 
 -- the receiver before this packet was taken, as one that was dispatched
 abbrev pub with_first : ReceivingEnd → Packet → ReceivingEnd

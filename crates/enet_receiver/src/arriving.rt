@@ -4,7 +4,7 @@ ghost use Rattle.std.specs.Prelude.{◌≡◌, ◌+◌, ◌<◌, ◌^◌, ◌%�
 ghost use Rattle.std.specs.Option.{option_copied, option_map};
 ghost use Rattle.enet_codec.specs.Message.{view};
 ghost use Rattle.enet_fragment.specs.DataCommand.{data_of, piece_of, place_in_packet};
-ghost use Rattle.enet_receiver.specs.Arriving.{data_command};
+ghost use Rattle.enet_receiver.specs.Arriving.{data_command, own_place};
 ghost use Rattle.enet_receiver.specs.Reception.{is_piece, agrees_with, came, flags_of};
 
 use enet_codec::{Command, Fragment};
@@ -93,6 +93,17 @@ impl<'a> Arriving<'a> {
         match self.fragment {
             Some(fragment) => fragment.start,
             None => self.number,
+        }
+    }
+
+    /// The number under which its packet is held, or for which it waits, where that is inside the window.
+    pub fn own_place(self) -> u16
+        ensures { result ≡ own_place (data_command self.entry) }
+    {
+        if self.reliable {
+            self.start()
+        } else {
+            self.number
         }
     }
 

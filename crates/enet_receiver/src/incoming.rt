@@ -1,6 +1,6 @@
 //! One channel's receiver.
 
-ghost use Rattle.std.specs.Prelude.{◌≡◌, ◌≢◌, ◌<◌, ◌^◌, ◌+◌, ◌∷◌, [], Bool, Ok, Some, None, IfOk, IfSome, IfErr, IsTrue, MatchOption, length};
+ghost use Rattle.std.specs.Prelude.{◌≡◌, ◌≢◌, ◌<◌, ◌^◌, ◌+◌, ◌∷◌, [], Bool, false, Ok, Some, None, IfOk, IfSome, IfErr, IsTrue, MatchOption, length};
 ghost use Rattle.std.specs.Option.{option_copied};
 ghost use Rattle.enet_codec.specs.Message.{view};
 ghost use Rattle.enet_seq.specs.Numbering.{wire};
@@ -8,11 +8,11 @@ ghost use Rattle.enet_fragment.specs.DataCommand.{data_of};
 ghost use Rattle.enet_fragment.specs.Whole.{is_whole};
 ghost use Rattle.enet_receiver.specs.Arriving.{data_command};
 ghost use Rattle.enet_receiver.specs.Admitted.{Admitted, IsInside};
-ghost use Rattle.enet_receiver.specs.Parts.{with_first, grown_at, answered_with};
+ghost use Rattle.enet_receiver.specs.Parts.{with_first, with_kept, grown_at, answered_with};
 ghost use Rattle.enet_receiver.specs.Walk.{Completes};
 ghost use Rattle.enet_receiver.specs.Receiver.{held_bytes, cleared};
 ghost use Rattle.enet_receiver.specs.Reception.{outcome, outcome_of, place_read, came_at, is_behind, is_handled, dispatch_count};
-ghost use Rattle.enet_receiver.specs.Foresight.{new_end, data_if, is_reliable, is_unreliable, is_fragment, is_unreliable_fragment, Receives, foreseen};
+ghost use Rattle.enet_receiver.specs.Foresight.{new_end, data_if, is_reliable, is_unreliable, is_fragment, is_unreliable_fragment, outcome_for, after_command, WouldBeHeld, Receives, foreseen};
 
 use crate::arriving::Arriving;
 use crate::foreseeing::{Completed, dispatches};
@@ -113,7 +113,7 @@ impl Incoming {
             fragment: None,
             payload,
         };
-        self.take_in(arriving, full)
+        self.receive(arriving, full)
     }
 
     /// Takes a SEND_UNRELIABLE in, as `reliable` does a SEND_RELIABLE. It is `Again` too where its unreliable number is not
@@ -136,7 +136,7 @@ impl Incoming {
             fragment: None,
             payload,
         };
-        self.take_in(arriving, full)
+        self.receive(arriving, full)
     }
 
     /// Takes a SEND_FRAGMENT in, as `reliable` does a SEND_RELIABLE. It is `Bad` too where it can't be a piece of a packet, or
@@ -160,7 +160,7 @@ impl Incoming {
             fragment: Some(*fragment),
             payload,
         };
-        self.take_in(arriving, full)
+        self.receive(arriving, full)
     }
 
     /// Takes a SEND_UNRELIABLE_FRAGMENT in, as `unreliable` does a SEND_UNRELIABLE. It is `Bad` too where it can't be a piece
@@ -183,7 +183,7 @@ impl Incoming {
             fragment: Some(*fragment),
             payload,
         };
-        self.take_in(arriving, full)
+        self.receive(arriving, full)
     }
 
     /// What the call for this command would do with ample memory: its outcome, whether the command is acknowledged, and how
@@ -209,6 +209,21 @@ impl Incoming {
             }
             Err(took) => self.answer(took, arriving.number, 0),
         }
+    }
+
+    /// Takes a command in of which `foresee` told that it would be held, without looking at that again. False, with nothing
+    /// changed, where memory is refused.
+    pub fn take_in(&mut self, command: &Command<'_>) -> bool
+        requires { WouldBeHeld self.old (data_of (view command.now)) }
+        ensures taken { IsTrue result → ((full : Bool) → outcome_for self.old (data_of (view command.now)) full ≡ Took.Held
+            → self.new ≡ after_command self.old (data_of (view command.now)) full) }
+        ensures unchanged { result ≡ false → self.new ≡ self.old }
+    {
+        let _held = &self.held;
+        let Some(arriving) = Arriving::of(command) else {
+            return false;
+        };
+        self.keep(arriving, arriving.own_place())
     }
 
     /// The bytes of the packets that are held or wait until those before them have come, each counted whole from its first
@@ -241,15 +256,32 @@ impl Incoming {
     }
 
     /// Takes a command in.
-    fn take_in(&mut self, arriving: Arriving<'_>, full: bool) -> Took
+    fn receive(&mut self, arriving: Arriving<'_>, full: bool) -> Took
         ensures { Receives (Some (data_command arriving.entry)) full result self.old self.new }
     {
-        let place = match self.admit(arriving, full) {
-            Ok(place) => place,
-            Err(took) => return took,
-        };
+        match self.admit(arriving, full) {
+            Ok(place) => {
+                if self.keep(arriving, place) {
+                    Took::Held
+                } else {
+                    Took::Memory
+                }
+            }
+            Err(took) => took,
+        }
+    }
+
+    /// Keeps a command that is taken in, and dispatches what that completes. False, with nothing changed, where memory is
+    /// refused.
+    fn keep(&mut self, arriving: Arriving<'_>, place: u16) -> bool
+        requires short { length arriving.payload.now < 2 ^ 32 }
+        requires admitted { Admitted self.old.max_packet self.old.receiver (data_command arriving) place }
+        requires inside { IsInside self.old.receiver.front place }
+        ensures kept { IsTrue result → self.new ≡ with_kept self.old (data_command arriving.entry) place }
+        ensures unchanged { result ≡ false → self.new ≡ self.old }
+    {
         if !make_room(&self.held, &self.waiting, &mut self.dispatched) {
-            return Took::Memory;
+            return false;
         }
         if !store(
             self.alloc,
@@ -258,7 +290,7 @@ impl Incoming {
             place,
             arriving,
         ) {
-            return Took::Memory;
+            return false;
         }
         release(
             &mut self.front,
@@ -267,7 +299,7 @@ impl Incoming {
             &mut self.waiting,
             &mut self.dispatched,
         );
-        Took::Held
+        true
     }
 
     /// What is foreseen of a command of this outcome.

@@ -4,8 +4,8 @@
 //! Proved, each exactly by the definitions of specs/Receiver and specs/Reception: `Incoming`'s four receptions (`reliable`,
 //! `unreliable`, `fragment`, `unreliable_fragment`: the first outcome that applies, `took`, and the receiver after it,
 //! `held`; every other outcome changes nothing, `unchanged`; Memory comes only where the command would be held, `memory`),
-//! `foresee` (outcome, whether the window lets it be acknowledged, how many packets it dispatches), `held`, `pop`, `clear`,
-//! `open`. Laws: as many turns as packets are held are enough to dispatch all that is due (`turns_suffice`), and what was
+//! `foresee` (outcome, whether the window lets it be acknowledged, how many packets it dispatches), `take_in` (what was
+//! foreseen to be held is, and is not looked at again), `held`, `pop`, `clear`, `open`. Laws: as many turns as packets are held are enough to dispatch all that is due (`turns_suffice`), and what was
 //! dispatched before makes no difference (`earlier_dispatches_do_not_matter`); what comes in sequence never has the flags 2
 //! of an unsequenced packet (`sequenced_has_other_flags`).
 //! Only tested, in `check_receiving`: that calls succeed with ample memory, and the worked scripts of one channel.

@@ -1,53 +1,40 @@
-use Rattle.std.proofs.Common.{arith, subst, sym}
+use Rattle.std.proofs.Common.{◌≡◌, ◌<◌, ◌^◌, Some, Option, ap, subst, ◌∙◌, arith}
+use Rattle.enet_fragment.specs.declared.data.DataCommand.{DataCommand}
+use Rattle.enet_receiver.specs.declared.took.Took.TheVariants.{Held}
 use Rattle.enet_receiver.specs.Arriving.{data_command}
-use Rattle.enet_receiver.specs.Foresight.{ReceivingEnd}
-use Rattle.enet_receiver.specs.Admitted.{Admitted, IsInside}
-use Rattle.enet_receiver.specs.Kept.{Keeps}
-use Rattle.enet_receiver.specs.Parts.{receiver_of}
-use Rattle.enet_receiver.proofs.Keeping.{pieces_of_kept, Keeps-all_released}
-use Rattle.enet_receiver.proofs.Admission.{admitted}
-use Rattle.enet_receiver.proofs.Bounds.{packets_fit}
-use Rattle.enet_receiver.proofs.Taken.{kept_then}
+use Rattle.enet_receiver.specs.Foresight.{ReceivingEnd, outcome_for, after_command}
+use Rattle.enet_receiver.proofs.Taken.{IsOwn, own_command, kept_is}
 use Rattle.enet_receiver.proofs.incoming.Incoming.take_in.Goals as goal
 
-pub make_room-requires : goal.make_room-requires
-make_room-requires c =
-    let s = c.self.inside in
-    packets_fit s.max_packet (receiver_of s.front s.unreliable s.held s.waiting s.dispatched.items) c.self.invariant
+pub keep-requires-clause-short : goal.keep-requires-clause-short
+keep-requires-clause-short c =
+    let d = data_command c.in-Some.arriving in
+    let own : IsOwn c.args.self.now d c.own_place.result = own_command c.args.self.now d (c.requires.0) c.own_place.result
+    (subst (λ (e : ReceivingEnd). e.receiver.front < 65536) c.self.view_is c.self.invariant.wire) (omega arith) c.own_place.ensures
+    (ap (λ (o : Option DataCommand). outcome_for c.args.self.now o c.requires.0) c.in-Some.ensures ∙ c.requires.1) in
+    let short = own.short in
+    let most : c.args.self.now.max_packet < 2 ^ 32 = subst (λ (e : ReceivingEnd). e.max_packet < 2 ^ 32) c.self.view_is c.self.invariant.packet in
+    omega arith
 
-pub store-requires-clause-agrees : goal.store-requires-clause-agrees
-store-requires-clause-agrees c =
-    let e = c.args.self.now in
-    (subst (λ (e : ReceivingEnd). Admitted e.max_packet e.receiver (data_command c.args.arriving) c.in-Ok.place) (sym c.self.view_is)
-    (admitted e.max_packet e.receiver (data_command c.args.arriving) c.args.full c.in-Ok.place c.in-Ok.ensures.held.0 c.in-Ok.ensures.held.1)).agrees
+pub keep-requires-clause-admitted : goal.keep-requires-clause-admitted
+keep-requires-clause-admitted c =
+    let d = data_command c.in-Some.arriving in
+    (own_command c.args.self.now d c.requires.0 c.own_place.result
+    (subst (λ (e : ReceivingEnd). e.receiver.front < 65536) c.self.view_is c.self.invariant.wire) (omega arith) c.own_place.ensures
+    (ap (λ (o : Option DataCommand). outcome_for c.args.self.now o c.requires.0) c.in-Some.ensures ∙ c.requires.1)).admitted
 
-pub store-requires-clause-missing : goal.store-requires-clause-missing
-store-requires-clause-missing c =
-    let e = c.args.self.now in
-    (subst (λ (e : ReceivingEnd). Admitted e.max_packet e.receiver (data_command c.args.arriving) c.in-Ok.place) (sym c.self.view_is)
-    (admitted e.max_packet e.receiver (data_command c.args.arriving) c.args.full c.in-Ok.place c.in-Ok.ensures.held.0 c.in-Ok.ensures.held.1)).missing
+pub keep-requires-clause-inside : goal.keep-requires-clause-inside
+keep-requires-clause-inside c =
+    let d = data_command c.in-Some.arriving in
+    (own_command c.args.self.now d c.requires.0 c.own_place.result
+    (subst (λ (e : ReceivingEnd). e.receiver.front < 65536) c.self.view_is c.self.invariant.wire) (omega arith) c.own_place.ensures
+    (ap (λ (o : Option DataCommand). outcome_for c.args.self.now o c.requires.0) c.in-Some.ensures ∙ c.requires.1)).inside
 
-pub release-requires-clause-pieces : goal.release-requires-clause-pieces
-release-requires-clause-pieces c =
-    let s = c.self.inside in
-    let e = c.args.self.now in
-    pieces_of_kept s.max_packet (receiver_of s.front s.unreliable c.store.new.held c.store.new.waiting c.make_room.new.dispatched.items)
-    (kept_then s.max_packet s.front s.unreliable s.held s.waiting s.dispatched.items c.make_room.new.dispatched.items (data_command c.args.arriving) c.in-Ok.place c.store.new.held c.store.new.waiting
-    c.self.invariant
-    (subst (λ (e : ReceivingEnd). Admitted e.max_packet e.receiver (data_command c.args.arriving) c.in-Ok.place) (sym c.self.view_is)
-    (admitted e.max_packet e.receiver (data_command c.args.arriving) c.args.full c.in-Ok.place c.in-Ok.ensures.held.0 c.in-Ok.ensures.held.1))
-    (subst (λ (e : ReceivingEnd). IsInside e.receiver.front c.in-Ok.place) (sym c.self.view_is) c.in-Ok.ensures.inside)
-    (omega arith) c.make_room.ensures.items (c.store.ensures.stored c.if-not-store.false))
-
-pub invariant_of-self-2 : goal.invariant_of-self-2
-invariant_of-self-2 c =
-    let s = c.self.inside in
-    let e = c.args.self.now in
-    subst (Keeps c.self.inside.max_packet) (sym c.release.ensures)
-    (Keeps-all_released s.max_packet (receiver_of s.front s.unreliable c.store.new.held c.store.new.waiting c.make_room.new.dispatched.items)
-    (kept_then s.max_packet s.front s.unreliable s.held s.waiting s.dispatched.items c.make_room.new.dispatched.items (data_command c.args.arriving) c.in-Ok.place c.store.new.held c.store.new.waiting
-    c.self.invariant
-    (subst (λ (e : ReceivingEnd). Admitted e.max_packet e.receiver (data_command c.args.arriving) c.in-Ok.place) (sym c.self.view_is)
-    (admitted e.max_packet e.receiver (data_command c.args.arriving) c.args.full c.in-Ok.place c.in-Ok.ensures.held.0 c.in-Ok.ensures.held.1))
-    (subst (λ (e : ReceivingEnd). IsInside e.receiver.front c.in-Ok.place) (sym c.self.view_is) c.in-Ok.ensures.inside)
-    (omega arith) c.make_room.ensures.items (c.store.ensures.stored c.if-not-store.false)))
+pub returns-clause-taken : goal.returns-clause-taken
+returns-clause-taken c = λ taken full held.
+    let d = data_command c.in-Some.arriving in
+    let held_d : outcome_for c.args.self.now (Some (data_command c.in-Some.arriving)) full ≡ Held = ap (λ (o : Option DataCommand). outcome_for c.args.self.now o full) c.in-Some.ensures ∙ held in
+    let own : IsOwn c.args.self.now (data_command c.in-Some.arriving) c.own_place.result = own_command c.args.self.now d full c.own_place.result
+    (subst (λ (e : ReceivingEnd). e.receiver.front < 65536) c.self.view_is c.self.invariant.wire) (omega arith) c.own_place.ensures held_d in
+    c.keep.ensures.kept taken ∙ kept_is c.args.self.now d full c.own_place.result held_d own
+    ∙ ap (λ (o : Option DataCommand). after_command c.args.self.now o full) c.in-Some.ensures
