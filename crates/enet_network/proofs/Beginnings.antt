@@ -1,5 +1,5 @@
 -- How an end begins: its user asks, or its host answers a CONNECT.
-use Rattle.std.proofs.Common.{◌≡◌, ◌≢◌, ◌<◌, ℕ, zero, suc, ◌⊎◌, inl, inr, Bool, true, false, cond, not, nat_le, List, [], ◌∷◌, ◌++◌, length, replicate, refl, sym, ap, subst, ◌∙◌, arith, append-nil, Option, Some, None, Result, Ok, Err, slice_get, slice_set}
+use Rattle.std.proofs.Common.{◌≡◌, ◌≢◌, ℕ, zero, suc, inl, inr, Bool, true, false, cond, not, nat_le, List, [], ◌∷◌, ◌++◌, replicate, refl, sym, ap, subst, ◌∙◌, append-nil, Option, Some, None, Result, Ok, slice_get, slice_set}
 use Rattle.std.specs.Prelude.{IsTrue}
 use Rattle.std.proofs.lemmas.List.Quantifiers.{position-Some}
 use Rattle.enet_types.specs.declared.address.Addr.{Addr}
@@ -7,24 +7,21 @@ use Rattle.enet_types.specs.declared.config.Config.{Config}
 use Rattle.enet_types.specs.declared.event.PeerRef.{PeerRef}
 use Rattle.enet_types.specs.declared.event.Received.{Received}
 use Rattle.enet_types.specs.declared.refusal.Refusal.{Refusal}
-use Rattle.enet_types.specs.declared.stop.Stop.{Stop}
 use Rattle.enet_types.specs.declared.stop.Stop.TheVariants as stop
-use Rattle.enet_codec.specs.declared.command.Head.{Head}
 use Rattle.enet_codec.specs.declared.command.Offer.{Offer}
 use Rattle.enet_codec.specs.declared.header.Header.{Header}
-use Rattle.enet_codec.specs.Message.{Message, Body, connect, Spells}
+use Rattle.enet_codec.specs.Message.{Message, connect}
 use Rattle.enet_codec.specs.Datagram.{SpellsAll}
 use Rattle.enet_codec.proofs.Laws.{one_spelling}
 use Rattle.enet_codec.proofs.Datagrams.{some-bytes}
 use Rattle.enet_connect.specs.declared.server.Server.{Server}
 use Rattle.enet_connect.specs.Terms.{is_channel_count}
 use Rattle.enet_datagram.specs.Heading.{IsRead, IsOffer}
-use Rattle.enet_peer.specs.declared.parts.PeerState.{PeerState}
 use Rattle.enet_peer.specs.declared.parts.PeerState.TheVariants as state
 use Rattle.enet_peer.specs.Peering.{Peering, connecting, answering as answering_peer}
 use Rattle.enet_link.specs.Steps.{Has}
 use Rattle.enet_connection.specs.Connection.{Put, End, messages_of}
-use Rattle.enet_connection.specs.Steps.{Answer, with_peer, no_end, asking_pair}
+use Rattle.enet_connection.specs.Steps.{Answer, with_peer, no_end}
 use Rattle.enet_connection.proofs.Runs.{reached-none}
 use Rattle.enet_host.specs.Host.{Host, SlotState, name_of, limits_of}
 use Rattle.enet_host.specs.Opening.{unused_slot, is_available, available, offer_from, server_from, asking, answering, Connects, no_channel, no_slot, no_memory, asks}
@@ -35,9 +32,9 @@ use Rattle.enet_isolation.proofs.Names.{IsThere}
 use Rattle.enet_isolation.proofs.Receiving.{is_open}
 use Rattle.enet_network.specs.Law.{HasNothingOf, Asked, Begins, Answered}
 use Rattle.enet_network.specs.Log.{Logged, Kept, fresh_kept, fresh_channels, fresh_greatest, kept_at, greatest_at}
-use Rattle.enet_network.specs.Network.{HostEnd, Site, fresh_end, delivery_refusal}
+use Rattle.enet_network.specs.Network.{HostEnd, Site, fresh_end}
 use Rattle.enet_network.specs.Shown.{IsLogged, Shows, ShowsFar}
-use Rattle.enet_network.specs.Steps.{BringsOne, Brought, end_in, end_at, begun_in, begun}
+use Rattle.enet_network.specs.Steps.{BringsOne, Brought, end_in, end_at, begun_in}
 use Rattle.enet_network.proofs.Marked.{behind}
 use Rattle.enet_network.proofs.Peers.{shows-held}
 use Rattle.enet_network.proofs.Submitting.{same-some}

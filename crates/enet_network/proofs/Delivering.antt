@@ -12,18 +12,17 @@ use Rattle.enet_codec.specs.declared.header.Header.{Header}
 use Rattle.enet_codec.specs.Message.{Body, acknowledge, send_reliable, send_unreliable, send_fragment, send_unreliable_fragment}
 use Rattle.enet_fragment.specs.declared.data.DataCommand.{DataCommand}
 use Rattle.enet_fragment.specs.DataCommand.{data_of, read_of}
-use Rattle.enet_peer.specs.declared.parts.PeerState.{PeerState}
 use Rattle.enet_peer.specs.declared.parts.PeerState.TheVariants as state
 use Rattle.enet_peer.specs.Peering.{Peering}
 use Rattle.enet_peer.specs.Arrivals.{Outcome, Stops, obeyed, wants_memory}
 use Rattle.enet_datagram.specs.Handling.{HandlesEach, one_more}
-use Rattle.enet_datagram.specs.Heading.{IsRead, IsOffer}
+use Rattle.enet_datagram.specs.Heading.{IsRead}
 use Rattle.enet_datagram.proofs.Each.{handles-each}
 use Rattle.enet_link.specs.Link as link
 use Rattle.enet_link.specs.Steps.{Has}
 use Rattle.enet_connection.specs.Connection.{Put, End, messages_of, sent_on}
 use Rattle.enet_connection.specs.Steps.{Event, Come, InTime, with_peer}
-use Rattle.enet_host.specs.Host.{Host, SlotState, slot_named, is_same_address, with_peer as slot_with_peer, greatest}
+use Rattle.enet_host.specs.Host.{SlotState, is_same_address, with_peer as slot_with_peer, greatest}
 use Rattle.enet_host.specs.Calls.{address_in, address_of, address_named}
 use Rattle.enet_host.specs.Receiving.{no_peer, is_deaf, fits_session, refused_by_peer, refused_by_slot, refused_by, Hears, Offers, Arrives}
 use Rattle.enet_host.specs.Receiving as receiving
@@ -43,7 +42,6 @@ use Rattle.enet_network.specs.Shown.{ShowsPeer, IsLogged, Shows, ShowsFar, RunsA
 use Rattle.enet_network.proofs.Marked.{behind}
 use Rattle.enet_network.proofs.Peers.{there-or, shows-held, shows-gone, shows-after}
 use Rattle.enet_network.proofs.Quiet.{KeepsLog, same-peer, goes-still, shows-with}
-use Rattle.enet_network.proofs.Serving.{same-header}
 use Rattle.enet_network.proofs.Submitting.{same-some}
 
 -- what isn't late

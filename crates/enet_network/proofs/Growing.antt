@@ -1,5 +1,5 @@
 -- Which ends a host has after something happened.
-use Rattle.std.proofs.Common.{◌≡◌, ◌≢◌, ◌<◌, ◌≤◌, ℕ, zero, suc, ◌⊎◌, inl, inr, Bool, true, false, cond, List, [], ◌∷◌, ◌++◌, map, refl, sym, ap, subst, ◌∙◌, arith, append-nil, Option, Some, None, Result, Ok, Err, slice_get}
+use Rattle.std.proofs.Common.{◌≡◌, ℕ, ◌⊎◌, inl, inr, Bool, true, false, cond, List, [], ◌∷◌, ◌++◌, map, refl, sym, ap, subst, ◌∙◌, append-nil, Option, Some, None, Ok, Err, slice_get}
 use Rattle.enet_types.specs.declared.event.Event.{Event as Told}
 use Rattle.enet_types.specs.declared.event.PeerRef.{PeerRef}
 use Rattle.enet_types.specs.declared.event.Received.{Received}
@@ -13,7 +13,7 @@ use Rattle.enet_isolation.specs.Calls.{Call}
 use Rattle.enet_isolation.specs.Calls as call
 use Rattle.enet_network.specs.Log.{Logged}
 use Rattle.enet_network.specs.Network.{HostEnd, Site, fresh_end, is_same_name, with_end, numbers_of}
-use Rattle.enet_network.specs.Steps.{Happening, Calls, Hears, Happens, Called, Logs, BringsOne, Brought, ends_after, after_event, with_packet, with_event, end_in, end_at, begun_in, begun}
+use Rattle.enet_network.specs.Steps.{Happening, Calls, Hears, Happens, Called, Logs, BringsOne, ends_after, after_event, with_packet, with_event, end_in, end_at, begun_in, begun}
 use Rattle.enet_network.proofs.OneThing.{event-ends}
 
 -- the ends that begin

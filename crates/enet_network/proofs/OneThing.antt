@@ -1,7 +1,6 @@
 -- Each thing that happens at a host, end by end.
-use Rattle.std.proofs.Common.{◌≡◌, ◌≤◌, ℕ, zero, suc, ◌⊎◌, inl, inr, Bool, true, false, cond, List, [], ◌∷◌, ◌++◌, map, refl, sym, ap, subst, ◌∙◌, Option, Some, None, Result, Ok, Err, slice_get}
+use Rattle.std.proofs.Common.{◌≡◌, ◌≤◌, ℕ, zero, suc, ◌⊎◌, inl, inr, Bool, true, false, cond, List, [], ◌∷◌, ◌++◌, refl, sym, ap, subst, ◌∙◌, Option, Some, None, Ok, Err, slice_get}
 use Rattle.enet_types.specs.declared.event.Event.{Event as Told}
-use Rattle.enet_types.specs.declared.event.Event.TheVariants as events
 use Rattle.enet_types.specs.declared.event.PeerRef.{PeerRef}
 use Rattle.enet_types.specs.declared.event.Received.{Received}
 use Rattle.enet_peer.specs.declared.parts.PeerEvent.{PeerEvent}
@@ -9,17 +8,16 @@ use Rattle.enet_peer.specs.declared.parts.PeerEvent.TheVariants as told
 use Rattle.enet_link.specs.Steps.{Has}
 use Rattle.enet_connection.specs.Connection.{End}
 use Rattle.enet_connection.specs.Law.{mtu_in}
-use Rattle.enet_host.specs.Host.{Host, named, name_of, greatest}
+use Rattle.enet_host.specs.Host.{named, name_of, greatest}
 use Rattle.enet_host.specs.Calls.{event_of}
 use Rattle.enet_isolation.specs.Calls.{Call, Acts}
 use Rattle.enet_isolation.specs.Calls as call
 use Rattle.enet_network.specs.Log.{Logged}
 use Rattle.enet_network.specs.Law.{AreNamed, GoesOn, OneThing}
-use Rattle.enet_network.specs.Network.{HostEnd, Site, is_same_name, with_end, numbers_of, is_earlier, is_late, delivery_refusal}
+use Rattle.enet_network.specs.Network.{HostEnd, Site, is_same_name, with_end, numbers_of, is_earlier, is_late}
 use Rattle.enet_network.specs.Shown.{Shows, ShowsFar, Went, IsApart}
-use Rattle.enet_network.specs.Steps.{Happening, Calls, Hears, Happens, Calling, Called, Logs, BringsOne, Brought, ends_after, after_event, with_packet, with_event, begun}
-use Rattle.enet_network.specs.Steps as steps
-use Rattle.enet_network.proofs.Quiet.{KeepsLog, same-log, is_quiet_call, goes-quiet}
+use Rattle.enet_network.specs.Steps.{Calls, Hears, Calling, Called, Logs, BringsOne, Brought, ends_after, after_event, with_packet, with_event, begun}
+use Rattle.enet_network.proofs.Quiet.{same-log, is_quiet_call, goes-quiet}
 use Rattle.enet_network.proofs.Submitting.{goes-submitted, goes-taken}
 use Rattle.enet_network.proofs.Serving.{goes-passed, goes-served}
 use Rattle.enet_network.proofs.Delivering.{goes-brought}

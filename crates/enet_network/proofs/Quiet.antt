@@ -1,6 +1,5 @@
 -- Calls by which an end's peer alone changes: time that passes, disconnects, settings, and what is refused.
-use Rattle.std.proofs.Common.{◌≡◌, ◌≤◌, ℕ, Bool, true, false, cond, ◌==◌, ◌&&◌, List, [], ◌∷◌, length, refl, sym, ap, subst, ◌∙◌, Option, Some, None, Result, Ok, Err, is_ok, slice_get}
-use Rattle.enet_types.specs.declared.refusal.Refusal.{Refusal}
+use Rattle.std.proofs.Common.{◌≡◌, ◌≤◌, ℕ, Bool, true, false, List, [], ◌∷◌, refl, sym, ap, subst, ◌∙◌, Option, Some, None, Ok, Err, slice_get}
 use Rattle.enet_peer.specs.Peering.{Peering}
 use Rattle.enet_connection.specs.Connection.{End}
 use Rattle.enet_connection.specs.Steps.{Event, Happens, with_peer}
@@ -8,7 +7,7 @@ use Rattle.enet_connection.specs.Steps as event
 use Rattle.enet_host.specs.Host.{Host, SlotState, greatest}
 use Rattle.enet_isolation.specs.Calls.{Call, Acts}
 use Rattle.enet_isolation.specs.Calls as call
-use Rattle.enet_isolation.specs.Deeds.{Deed, Alone, AllAlone, Submit, Emit, Come, Tick, Take, Disconnect, Set}
+use Rattle.enet_isolation.specs.Deeds.{Deed, Alone, AllAlone, Tick, Disconnect, Set}
 use Rattle.enet_isolation.specs.Falling.{Fell, deeds_if}
 use Rattle.enet_network.specs.Log.{Logged}
 use Rattle.enet_network.specs.Network.{HostEnd, Site}

@@ -1,5 +1,5 @@
 -- A call of service: each end that is asked puts a datagram out or has none.
-use Rattle.std.proofs.Common.{◌≡◌, ◌≢◌, ◌≤◌, ◌<◌, ℕ, zero, suc, ◌⊎◌, inl, inr, Bool, true, false, cond, List, [], ◌∷◌, ◌++◌, length, map, take, refl, sym, ap, subst, ◌∙◌, arith, Option, Some, None, slice_get}
+use Rattle.std.proofs.Common.{◌≡◌, ◌≢◌, ◌≤◌, ◌<◌, ℕ, zero, suc, ◌⊎◌, inl, inr, true, false, cond, List, [], ◌∷◌, ◌++◌, length, map, take, refl, sym, ap, subst, ◌∙◌, arith, Option, Some, None, slice_get}
 use Rattle.std.proofs.lemmas.List.{map-append}
 use Rattle.std.proofs.lemmas.Bool.Decides.{nat_tests}
 use Rattle.std.proofs.lemmas.Option.{slice_get_within}
@@ -24,12 +24,12 @@ use Rattle.enet_connection.specs.Connection as connection
 use Rattle.enet_connection.specs.Steps.{Emit, with_emission}
 use Rattle.enet_connection.proofs.Emits.{Has-from_map}
 use Rattle.enet_connection.proofs.Runs.{reached-append, reached-none}
-use Rattle.enet_host.specs.Host.{Host, SlotState, with_peer, name_of, greatest}
+use Rattle.enet_host.specs.Host.{SlotState, with_peer, greatest}
 use Rattle.enet_host.specs.Turns.{turn_of}
 use Rattle.enet_host.specs.Serving.{Gives, HasNothing, passes_by, Passes, InTurn, AllPass}
 use Rattle.enet_isolation.specs.Calls.{Call, Acts}
 use Rattle.enet_isolation.specs.Calls as call
-use Rattle.enet_isolation.proofs.Lists.{get-within, same-or}
+use Rattle.enet_isolation.proofs.Lists.{get-within}
 use Rattle.enet_isolation.proofs.Names.{IsThere, IsSpent, same-generations, spent-step, spent-nobody, there-named}
 use Rattle.enet_isolation.proofs.Slots.{emitted-apart}
 use Rattle.enet_network.specs.declared.mark.Mark.{Mark}
@@ -44,7 +44,7 @@ use Rattle.enet_network.proofs.Marked.{marks_of, marked-datagram, Has-marks}
 use Rattle.enet_network.proofs.Counting.{counted-long, counts-all}
 use Rattle.enet_network.proofs.PutOut.{plain-filled}
 use Rattle.enet_network.proofs.Peers.{there-or, shows-held, shows-gone, shows-after}
-use Rattle.enet_network.proofs.Quiet.{KeepsLog, same-log, goes-still}
+use Rattle.enet_network.proofs.Quiet.{KeepsLog, goes-still}
 use Rattle.enet_network.proofs.Submitting.{same-name, same-some, not-there, other-slot, stays-as, changes-as}
 
 -- lists

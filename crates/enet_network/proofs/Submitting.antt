@@ -1,5 +1,5 @@
 -- A packet that is submitted, and an event that is taken.
-use Rattle.std.proofs.Common.{◌≡◌, ◌≢◌, ◌≤◌, ◌<◌, ℕ, ◌⊎◌, inl, inr, Bool, true, false, cond, ◌==◌, ◌&&◌, List, [], ◌∷◌, ◌++◌, length, map, refl, sym, ap, subst, ◌∙◌, arith, append-nil, Option, Some, None, Result, Ok, Err, slice_get}
+use Rattle.std.proofs.Common.{◌≡◌, ◌≢◌, ◌≤◌, ◌<◌, ℕ, ◌⊎◌, inl, inr, Bool, true, false, cond, ◌==◌, List, [], ◌∷◌, ◌++◌, length, refl, sym, ap, subst, ◌∙◌, arith, append-nil, Option, Some, Ok, slice_get}
 use Rattle.std.proofs.lemmas.Bool.Decides.{nat_tests}
 use Rattle.std.proofs.lemmas.List.{map-append}
 use Rattle.enet_types.specs.declared.event.Event.{Event as Told}
@@ -13,7 +13,7 @@ use Rattle.enet_connection.specs.Connection.{End, packets_of}
 use Rattle.enet_connection.specs.Steps.{with_peer, with_submission}
 use Rattle.enet_connection.specs.Steps as event
 use Rattle.enet_connection.proofs.Moves.{packets-push}
-use Rattle.enet_host.specs.Host.{Host, SlotState, name_of, greatest}
+use Rattle.enet_host.specs.Host.{SlotState, name_of, greatest}
 use Rattle.enet_host.specs.Calls.{submission, event_of, TakesOne}
 use Rattle.enet_isolation.specs.Calls.{Call, Acts}
 use Rattle.enet_isolation.specs.Calls as call

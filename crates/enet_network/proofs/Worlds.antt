@@ -1,5 +1,5 @@
 -- What holds of both hosts of a world, whatever happens.
-use Rattle.std.proofs.Common.{◌≡◌, ◌≢◌, ◌<◌, ◌≤◌, ℕ, zero, suc, ◌+◌, ◌⊎◌, inl, inr, Bool, true, false, cond, ◌==◌, List, [], ◌∷◌, ◌++◌, map, take, refl, sym, ap, subst, ◌∙◌, arith, Option, Some, None, Result, Ok, Err, slice_get}
+use Rattle.std.proofs.Common.{◌≡◌, ◌≢◌, ◌<◌, ◌≤◌, ℕ, zero, suc, ◌+◌, ◌⊎◌, inl, inr, Bool, false, cond, ◌==◌, List, [], ◌∷◌, ◌++◌, take, refl, sym, ap, subst, ◌∙◌, arith, Option, Some, None, Result, Ok, slice_get}
 use Rattle.std.proofs.lemmas.Bool.Decides.{nat_tests}
 use Rattle.enet_types.specs.declared.event.PeerRef.{PeerRef}
 use Rattle.enet_types.specs.declared.event.Received.{Received}
@@ -11,14 +11,13 @@ use Rattle.enet_datagram.specs.Heading.{IsRead}
 use Rattle.enet_peer.specs.declared.parts.PeerState.TheVariants as state
 use Rattle.enet_peer.specs.Peering.{Peering}
 use Rattle.enet_link.specs.Steps.{Has}
-use Rattle.enet_connection.specs.Connection.{End, Connection, sent_on}
+use Rattle.enet_connection.specs.Connection.{End, sent_on}
 use Rattle.enet_connection.specs.Kept.{Kept as KeptBetween}
 use Rattle.enet_connection.specs.Steps.{One, Two, Event, no_end}
-use Rattle.enet_connection.specs.Steps as law
 use Rattle.enet_connection.proofs.Laws.{kept-at as kept-event}
 use Rattle.enet_connection.proofs.Runs.{reached-none}
 use Rattle.enet_host.specs.Host.{Host, SlotState, name_of, greatest}
-use Rattle.enet_host.specs.Opening.{available, Connects, no_channel, no_slot, no_memory, asks}
+use Rattle.enet_host.specs.Opening.{Connects, no_channel, no_slot, no_memory, asks}
 use Rattle.enet_isolation.specs.Calls.{Call, Acts}
 use Rattle.enet_isolation.specs.Calls as call
 use Rattle.enet_isolation.proofs.Lists.{same-or}
@@ -30,7 +29,7 @@ use Rattle.enet_network.specs.Law.{AreNamed, HasNothingOf, GoesOn, Begins, Shows
 use Rattle.enet_network.specs.Log.{Logged, greatest_at}
 use Rattle.enet_network.specs.Network.{HostEnd, Site, fresh_end, end_of, numbers_in, numbers_of}
 use Rattle.enet_network.specs.Shown.{ShowsPeer, Shows, ShowsFar, RunsAt, IsApart}
-use Rattle.enet_network.specs.Steps.{Happening, Calls, Hears, Happens, Called, Logs, BringsOne, Brought, begun, count_after}
+use Rattle.enet_network.specs.Steps.{Happening, Calls, Hears, Happens, Logs, BringsOne, begun, count_after}
 use Rattle.enet_network.proofs.Beginnings.{answered, free-there}
 use Rattle.enet_network.proofs.Delivering.{end-there}
 use Rattle.enet_network.proofs.Growing.{more_of, more_in, Grows, grows, from-before, stays-there, begins-there, begun-is}

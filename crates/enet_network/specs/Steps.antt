@@ -1,5 +1,5 @@
 -- What happens at a host of a network: one host call, with what it adds to what is kept. The other hosts are as they were.
-use Rattle.std.specs.Prelude.{◌≡◌, ℕ, ◌+◌, List, [], ◌∷◌, ◌++◌, take, Option, Some, None, Result, Ok, Err, slice_get}
+use Rattle.std.specs.Prelude.{◌≡◌, ℕ, ◌+◌, List, [], ◌∷◌, ◌++◌, take, Option, Some, None, Ok, slice_get}
 use Rattle.enet_types.specs.declared.address.Addr.{Addr}
 use Rattle.enet_types.specs.declared.event.Event.{Event}
 use Rattle.enet_types.specs.declared.event.Event.TheVariants as events

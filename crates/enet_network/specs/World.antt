@@ -1,10 +1,8 @@
 -- A world of two hosts, and its events one by one.
-use Rattle.std.specs.Prelude.{◌≡◌, ℕ, min, ◌⊎◌, List, [], ◌∷◌, length, Option, Some, None, Result, Ok, Err, slice_get}
+use Rattle.std.specs.Prelude.{◌≡◌, ℕ, min, List, [], ◌∷◌, length, Option, Some, None, Result, Ok, Err, slice_get}
 use Rattle.enet_types.specs.declared.address.Addr.{Addr}
 use Rattle.enet_types.specs.declared.config.Config.{Config}
 use Rattle.enet_types.specs.declared.event.PeerRef.{PeerRef}
-use Rattle.enet_types.specs.declared.event.Event.{Event}
-use Rattle.enet_types.specs.declared.packet.Packet.{Packet}
 use Rattle.enet_types.specs.declared.refusal.Refusal.{Refusal}
 use Rattle.enet_types.specs.declared.refusal.Refusal.TheVariants.{Memory}
 use Rattle.enet_host.specs.Opening as host
@@ -16,7 +14,7 @@ use Rattle.enet_network.specs.declared.event.Side.{Side}
 use Rattle.enet_network.specs.declared.event.Side.TheVariants.{A, B}
 use Rattle.enet_network.specs.declared.event.WorldEvent.{WorldEvent}
 use Rattle.enet_network.specs.declared.event.WorldEvent.TheVariants as happen
-use Rattle.enet_network.specs.Log.{Logged, fresh_channels, joined_greatest}
+use Rattle.enet_network.specs.Log.{fresh_channels, joined_greatest}
 use Rattle.enet_network.specs.Network.{HostEnd, Site, delivery_refusal}
 use Rattle.enet_network.specs.Steps.{Happening, Calls, Hears, Happens, count_after}
 
