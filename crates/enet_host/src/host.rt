@@ -93,8 +93,7 @@ impl HostCore {
         })
     }
 
-    /// A law, which does nothing: what every host keeps. A slot has at most 4,294,967,295 generations, and none holds a peer
-    /// that is free, since each call gives such a slot up.
+    /// A law: a slot has at most 4,294,967,295 generations, and none holds a peer that is free.
     pub fn keeps(&self)
         ensures { Keeps self.now }
     {

@@ -36,9 +36,8 @@ impl HostCore {
     }
 
     /// Disconnects with a word for the other end's user: all that is held, queued or unacknowledged is dropped, and a reliable
-    /// DISCONNECT goes; the event comes once it is acknowledged or has timed out, with the word 0, since this end asked. Where
-    /// the peer still connects, its slot is free at once; where it still answers, one unsequenced DISCONNECT goes. E2; E3 where
-    /// its connection ends already: then nothing has changed.
+    /// DISCONNECT goes; the event, with 0 where this end asked, comes once it is acknowledged. A slot that still connects is
+    /// free at once; one that still answers sends one unsequenced DISCONNECT. E2; E3 where it ends already: nothing changes.
     pub fn disconnect(&mut self, peer: PeerRef, info: u32) -> Result<(), Refusal>
         ensures disconnects { Does result (on_named self.old.slots peer (leaving Ask info)) self.old.slots self.new.slots }
         ensures rest { KeepsRest self.old self.new }
