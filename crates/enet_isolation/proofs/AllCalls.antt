@@ -1,5 +1,5 @@
 -- Lists of calls, one call after another.
-use Rattle.std.proofs.Common.{◌≡◌, ◌≢◌, ◌≤◌, ◌⊎◌, inl, inr, List, [], ◌∷◌, ◌++◌, refl, sym, ap, subst, ◌∙◌, arith, Option, Some, None}
+use Rattle.std.proofs.Common.{◌≡◌, ◌≢◌, ◌≤◌, ℕ, ◌⊎◌, inl, inr, List, [], ◌∷◌, ◌++◌, refl, sym, ap, subst, ◌∙◌, arith, Option, Some, None}
 use Rattle.std.specs.List.{slice_get}
 use Rattle.enet_types.specs.declared.event.PeerRef.{PeerRef}
 use Rattle.enet_peer.specs.declared.parts.PeerState.{PeerState}
@@ -8,8 +8,8 @@ use Rattle.enet_peer.specs.Peering.{Peering}
 use Rattle.enet_host.specs.Host.{Host, SlotState, slot_named, named, greatest}
 use Rattle.enet_isolation.specs.Calls.{Call, Steps}
 use Rattle.enet_isolation.specs.Deeds.{Deed, AllAlone}
-use Rattle.enet_isolation.specs.Falling.{Fell, fell_in, fell_to, FellAll}
-use Rattle.enet_isolation.specs.Law.{Fares, untouched, goes_on, asks, answers, with_emitted, held_if, IsIsolated, Isolation}
+use Rattle.enet_isolation.specs.Falling.{Fell, fell_in, fell_to, FellAll, counted}
+use Rattle.enet_isolation.specs.Law.{Fares, untouched, goes_on, begins, with_emitted, held_if, IsIsolated, Isolation}
 use Rattle.enet_isolation.proofs.Slots.{held}
 use Rattle.enet_isolation.proofs.OneCall.{one-call}
 use Rattle.enet_isolation.proofs.Names.{free-or, IsThere, named-there, there-slot, there-named, IsSpent, same-generations, past-freed, spent-step, spent-fell, spent-nobody}
@@ -40,11 +40,14 @@ fell-there h name p c ds x f =
 isolated-step : (c : Call) (cs : List Call) (old new : Host) (steps : Steps (c ∷ cs) old new) (name : PeerRef) (p : Peering) → old.config.generations ≤ greatest → p.state ≢ state.Free → (x : IsThere old.slots name p)
     → (t : SlotState) → slice_get steps.0.slots name.slot ≡ Some t → Fares c old name.slot x.slot t
     → ((q : Peering) → q.state ≢ state.Free → IsThere steps.0.slots name q → IsIsolated cs steps.0 new steps.2 name q) → IsIsolated (c ∷ cs) old new steps name p
-isolated-step c cs old new steps name p low live x t there (untouched n none e) later =
+isolated-step c cs old new steps name p low live x t there (untouched none not' e) later =
     let r : IsIsolated cs steps.0 new steps.2 name p = later p live (record { slot = t; there = there; same = ap (λ (s : SlotState). s.generation) e ∙ x.same; peer = ap (λ (s : SlotState). s.peer) e ∙ x.peer }) in
     record { deeds = r.deeds; fell = ([], r.deeds, refl, fell-there old name p c [] x (none p x.peer), r.fell); after = r.after; alone = r.alone; is = r.is }
-isolated-step c cs old new steps name p low live x t there (goes_on p2 q ds n has fell alone e) later = by (free-or q.state)
+isolated-step c cs old new steps name p low live x t there (goes_on p2 q ds has fell alone e) later = by (free-or q.state)
   where
+    n : ℕ
+    n = counted c old name.slot x.slot
+
     same : p2 ≡ p
     same = let y : ◌≡◌ {A = Option Peering} (Some p2) (Some p) = sym has ∙ x.peer in cc
 
@@ -64,8 +67,7 @@ isolated-step c cs old new steps name p low live x t there (goes_on p2 q ds n ha
         let f : t ≡ with_emitted (record x.slot { peer = Some q }) n = e ∙ ap (λ (s : SlotState). with_emitted s n) (held x.slot q stays) in
         let r : IsIsolated cs steps.0 new steps.2 name q = later q stays (record { slot = t; there = there; same = ap (λ (s : SlotState). s.generation) f ∙ x.same; peer = ap (λ (s : SlotState). s.peer) f }) in
         record { deeds = ds ++ r.deeds; fell = (ds, r.deeds, refl, fell2, r.fell); after = r.after; alone = alone-append ds r.deeds p q r.after alone2 r.alone; is = r.is }
-isolated-step c cs old new steps name p low live x t there (asks address channels info word none left is e) later = absurd (let y : ◌≡◌ {A = Option Peering} None (Some p) = sym none ∙ x.peer in cc)
-isolated-step c cs old new steps name p low live x t there (answers from bytes commands header o none left is read offer e) later = absurd (let y : ◌≡◌ {A = Option Peering} None (Some p) = sym none ∙ x.peer in cc)
+isolated-step c cs old new steps name p low live x t there (begins none left b) later = absurd (let y : ◌≡◌ {A = Option Peering} None (Some p) = sym none ∙ x.peer in cc)
 
 isolated : (cs : List Call) (old new : Host) (steps : Steps cs old new) (name : PeerRef) (p : Peering) → old.config.generations ≤ greatest → p.state ≢ state.Free → IsThere old.slots name p → IsIsolated cs old new steps name p
 isolated [] old new steps name p low live x =
@@ -76,4 +78,6 @@ isolated (c ∷ cs) old new steps name p low live x =
     (λ q stays z. isolated cs steps.0 new steps.2 name q (let g : steps.0.config.generations ≡ old.config.generations = same-generations c old steps.0 steps.1 in omega arith) stays z)
 
 pub isolation : Isolation
-isolation cs old new steps name p low h live = isolated cs old new steps name p low live (named-there old.slots name p h)
+isolation h keeps cs new steps name p is =
+    let x : IsThere h.slots name p = named-there h.slots name p is in
+    isolated cs h new steps name p keeps.generations (keeps.held name.slot x.slot p x.there x.peer) x

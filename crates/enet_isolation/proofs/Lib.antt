@@ -9,3 +9,4 @@ pub mod OneCall
 pub mod Names
 pub mod AllCalls
 pub mod Matching
+pub mod Keeping

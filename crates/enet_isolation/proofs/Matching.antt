@@ -13,7 +13,7 @@ some p q e = ap (λ (x : Peering). Some x) (sym e)
 
 pub matches : Matches
 matches own other (deed.Submit q) old new put e alone brings = ((old, e, alone.0, refl), some new _ alone.1)
-matches own other (deed.Emit now) old new put e alone brings = ((old, e, refl), some new _ alone)
+matches own other (deed.Emit now given) old new put e alone brings = ((old, e, refl), some new _ alone.1)
 matches own other (deed.Come now sent m) old new put e alone brings =
     ((old, e, brings.1, ap (λ (x : Peering). with_peer own x) (alone.1 ∙ ap (λ (x : Message). (obeyed old now sent x).after) (sym brings.0))), refl)
 matches own other (deed.Tick now) old new put e alone brings = ((old, e, ap (λ (x : Peering). with_peer own x) alone), refl)

@@ -9,8 +9,8 @@ use Rattle.enet_peer.specs.Peering.{Peering}
 use Rattle.enet_host.specs.Host.{Host, SlotState, with_peer, vacated, with_generation, slot_named, peer_in, named, greatest}
 use Rattle.enet_isolation.specs.Calls.{Call, Acts}
 use Rattle.enet_isolation.specs.Calls as call
-use Rattle.enet_isolation.specs.Falling.{fell_in, fell_to}
-use Rattle.enet_isolation.specs.Law.{Fares, untouched, goes_on, asks, answers, with_emitted}
+use Rattle.enet_isolation.specs.Falling.{fell_in, fell_to, Begins, asks, answers, counted}
+use Rattle.enet_isolation.specs.Law.{Fares, untouched, goes_on, begins, with_emitted}
 use Rattle.enet_isolation.proofs.Slots.{held, freed-in}
 use Rattle.enet_isolation.proofs.OneCall.{one-call}
 
@@ -91,23 +91,29 @@ past-freed new name s t q n low reached free e = by (nat_lt s.generation greates
         let few : new.config.generations ≤ greatest = low in
         inr (omega arith, ap (λ (x : SlotState). x.peer) same)
 
+-- a slot that is given keeps its generation
+begun-generation : (c : Call) (h : Host) (i : ℕ) (s t : SlotState) → Begins c h i s t → t.generation ≡ s.generation
+begun-generation c h i s t (asks address channels info word is some at) = refl
+begun-generation c h i s t (answers from bytes commands header o is read stranger offer taken new at) = refl
+
 -- a spent name stays so
 spent-in : (c : Call) (old new : Host) (name : PeerRef) (s t : SlotState) → new.config.generations ≡ old.config.generations → old.config.generations ≤ greatest → Fares c old name.slot s t → IsSpentIn old name s → IsSpentIn new name t
-spent-in c old new name s t same low (untouched n none e) (inl past) = inl (let g : t.generation ≡ s.generation = ap (λ (x : SlotState). x.generation) e in omega arith)
-spent-in c old new name s t same low (untouched n none e) (inr over) =
+spent-in c old new name s t same low (untouched none not' e) (inl past) = inl (let g : t.generation ≡ s.generation = ap (λ (x : SlotState). x.generation) e in omega arith)
+spent-in c old new name s t same low (untouched none not' e) (inr over) =
     let g : t.generation ≡ s.generation = ap (λ (x : SlotState). x.generation) e in
     let least : old.config.generations ≤ s.generation = over.0 in
     inr (omega arith, ap (λ (x : SlotState). x.peer) e ∙ over.1)
-spent-in c old new name s t same low (goes_on p q ds n has fell alone e) (inl past) = by (free-or q.state)
+spent-in c old new name s t same low (goes_on p q ds has fell alone e) (inl past) = by (free-or q.state)
   where
+    n : ℕ
+    n = counted c old name.slot s
+
     by : (q.state ≡ state.Free) ⊎ (q.state ≢ state.Free) → IsSpentIn new name t
     by (inl free) = past-freed new name s t q n (let a : new.config.generations ≡ old.config.generations = same in let b : old.config.generations ≤ greatest = low in omega arith) (let a : name.generation < s.generation = past in omega arith) free e
     by (inr live) = inl (let g : t.generation ≡ s.generation = ap (λ (x : SlotState). x.generation) (e ∙ ap (λ (x : SlotState). with_emitted x n) (held s q live)) in let a : name.generation < s.generation = past in omega arith)
-spent-in c old new name s t same low (goes_on p q ds n has fell alone e) (inr over) = absurd (none-some s.peer p over.1 has)
-spent-in c old new name s t same low (asks address channels info word none left is e) (inl past) = inl (let g : t.generation ≡ s.generation = ap (λ (x : SlotState). x.generation) e in omega arith)
-spent-in c old new name s t same low (asks address channels info word none left is e) (inr over) = absurd (let least : old.config.generations ≤ s.generation = over.0 in let a : s.generation < old.config.generations = left in omega arith)
-spent-in c old new name s t same low (answers from bytes commands header o none left is read offer e) (inl past) = inl (let g : t.generation ≡ s.generation = ap (λ (x : SlotState). x.generation) e in omega arith)
-spent-in c old new name s t same low (answers from bytes commands header o none left is read offer e) (inr over) = absurd (let least : old.config.generations ≤ s.generation = over.0 in let a : s.generation < old.config.generations = left in omega arith)
+spent-in c old new name s t same low (goes_on p q ds has fell alone e) (inr over) = absurd (none-some s.peer p over.1 has)
+spent-in c old new name s t same low (begins none left b) (inl past) = inl (let g : t.generation ≡ s.generation = begun-generation c old name.slot s t b in omega arith)
+spent-in c old new name s t same low (begins none left b) (inr over) = absurd (let least : old.config.generations ≤ s.generation = over.0 in let a : s.generation < old.config.generations = left in omega arith)
 
 pub spent-step : (c : Call) (old new : Host) (name : PeerRef) → old.config.generations ≤ greatest → Acts c old new → IsSpent old name → IsSpent new name
 spent-step c old new name low acts x =

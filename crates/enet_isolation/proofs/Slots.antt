@@ -1,5 +1,5 @@
 -- What a slot is once a call left its peer so.
-use Rattle.std.proofs.Common.{◌≡◌, ◌≢◌, ℕ, refl, ap, Some}
+use Rattle.std.proofs.Common.{◌≡◌, ◌≢◌, ℕ, refl, sym, ap, ◌∙◌, Some}
 use Rattle.enet_peer.specs.declared.parts.PeerState.{PeerState}
 use Rattle.enet_peer.specs.declared.parts.PeerState.TheVariants as state
 use Rattle.enet_peer.specs.Peering.{Peering}
@@ -24,3 +24,11 @@ held s q n = held-in q.state s q n
 
 pub freed-in : (s : SlotState) (q : Peering) → q.state ≡ state.Free → with_peer s q ≡ vacated s q
 freed-in s q e = ap (λ (st : PeerState). with_peer_in st s q) e
+
+-- a slot whose count stays
+emitted-kept-in : (st : PeerState) (s : SlotState) (q : Peering) → with_peer_in st s q ≡ with_emitted (with_peer_in st s q) s.emitted
+emitted-kept-in state.Free s q = refl
+emitted-kept-in st s q = refl
+
+pub counted-same : (s : SlotState) (q : Peering) (n : ℕ) → n ≡ s.emitted → with_peer s q ≡ with_emitted (with_peer s q) n
+counted-same s q n e = emitted-kept-in q.state s q ∙ ap (λ (k : ℕ). with_emitted (with_peer s q) k) (sym e)

@@ -12,26 +12,30 @@ use Rattle.enet_connection.specs.Steps as setting
 use Rattle.enet_isolation.specs.Calls.{Call}
 use Rattle.enet_isolation.specs.Calls as call
 use Rattle.enet_isolation.specs.Deeds.{Deed, Alone, AllAlone, Tick, Set}
-use Rattle.enet_isolation.specs.Falling.{Fell, deeds_if, share_of}
+use Rattle.enet_isolation.specs.Falling.{Fell, counted, deeds_if, share_of}
 use Rattle.enet_isolation.specs.Law.{Fares, untouched, goes_on, with_emitted}
 use Rattle.enet_isolation.proofs.Lists.{get-map}
-use Rattle.enet_isolation.proofs.Slots.{held, freed-in}
-use Rattle.enet_isolation.proofs.Single.{Each}
+use Rattle.enet_isolation.proofs.Slots.{held, freed-in, counted-same}
+use Rattle.enet_isolation.proofs.Single.{Each, may_begin, begins-not}
 
 -- a change of every peer
-pub each-changed : (c : Call) (h : Host) (f : Peering → Peering) (d : Deed) → ((p : Peering) → Alone d p (f p)) → ((i : ℕ) (s : SlotState) (p : Peering) → Fell h i s p c (d ∷ [])) → Each c h (map (changed f) h.slots)
-each-changed c h f d alone fell i s e = (changed f s, get-map (changed f) h.slots i s e, by s.peer refl)
+pub each-changed : (c : Call) (h : Host) (f : Peering → Peering) (d : Deed) → ((p : Peering) → Alone d p (f p)) → ((i : ℕ) (s : SlotState) (p : Peering) → Fell h i s p c (d ∷ [])) → ((i : ℕ) (s : SlotState) → counted c h i s ≡ s.emitted)
+    → may_begin c ≡ false → Each c h (map (changed f) h.slots)
+each-changed c h f d alone fell quiet later i s e = (changed f s, get-map (changed f) h.slots i s e, by s.peer refl)
   where
     by : (o : Option Peering) → s.peer ≡ o → Fares c h i s (changed f s)
-    by None g = untouched s.emitted (λ p k. absurd (let x : ◌≡◌ {A = Option Peering} None (Some p) = sym g ∙ k in cc)) (ap (λ (o : Option Peering). with_changed f s o) g)
-    by (Some p) g = goes_on p (f p) (d ∷ []) (with_peer s (f p)).emitted g (fell i s p) (f p, alone p, refl) (ap (λ (o : Option Peering). with_changed f s o) g)
+    by None g =
+        untouched (λ p k. absurd (let x : ◌≡◌ {A = Option Peering} None (Some p) = sym g ∙ k in cc)) (begins-not c h i later s)
+        (ap (λ (o : Option Peering). with_changed f s o) g ∙ ap (λ (n : ℕ). with_emitted s n) (sym (quiet i s)))
+    by (Some p) g =
+        goes_on p (f p) (d ∷ []) g (fell i s p) (f p, alone p, refl)
+        (ap (λ (o : Option Peering). with_changed f s o) g ∙ counted-same s (f p) (counted c h i s) (quiet i s))
 
 -- the sharing out of bandwidth at a slot whose peer a tick left so
 pub record Shares (outgoing standing : ℕ) (due : Bool) (s : SlotState) (p : Peering) : Type 0 where
   pub after : Peering
-  pub emitted : ℕ
   pub alone : AllAlone (deeds_if (due && is_connected p.state) (Set (setting.ThrottleLimit (limit_for outgoing standing s.emitted p)))) p after
-  pub left : cond due (shared outgoing standing (with_peer s p)) (with_peer s p) ≡ with_emitted (with_peer s after) emitted
+  pub left : cond due (shared outgoing standing (with_peer s p)) (with_peer s p) ≡ with_emitted (with_peer s after) (cond due 0 s.emitted)
 
 -- its deeds, where the peer is or isn't connected
 alone-if : (b : Bool) (d : Deed) (p q : Peering) → (b ≡ false → p ≡ q) → (b ≡ true → Alone d p q) → AllAlone (deeds_if b d) p q
@@ -47,7 +51,6 @@ shares-live outgoing standing s p true e n =
     let q : Peering = with_throttle_limit p (limit_for outgoing standing s.emitted p) in
     record {
       after = q;
-      emitted = 0;
       alone = alone-if (true && is_connected p.state) (Set (setting.ThrottleLimit (limit_for outgoing standing s.emitted p))) p q (λ f. absurd (let x : true ≡ false = sym e ∙ f in cc)) (λ t. (tt, refl));
       left =
           ap (λ (x : SlotState). shared outgoing standing x) (held s p n)
@@ -57,7 +60,6 @@ shares-live outgoing standing s p true e n =
 shares-live outgoing standing s p false e n =
     record {
       after = p;
-      emitted = 0;
       alone = alone-if (true && is_connected p.state) (Set (setting.ThrottleLimit (limit_for outgoing standing s.emitted p))) p p (λ f. refl) (λ t. absurd (let x : false ≡ true = sym e ∙ t in cc));
       left =
           ap (λ (x : SlotState). shared outgoing standing x) (held s p n)
@@ -69,7 +71,6 @@ shares-free : (outgoing standing : ℕ) (s : SlotState) (p : Peering) → p.stat
 shares-free outgoing standing s p e =
     record {
       after = p;
-      emitted = 0;
       alone = alone-if (true && is_connected p.state) (Set (setting.ThrottleLimit (limit_for outgoing standing s.emitted p))) p p (λ f. refl)
           (λ t. absurd (let x : false ≡ true = sym (ap is_connected e) ∙ t in cc));
       left = ap (λ (x : SlotState). shared outgoing standing x) (freed-in s p e) ∙ ap (λ (x : SlotState). with_emitted x 0) (sym (freed-in s p e));
@@ -81,7 +82,7 @@ shares-in outgoing standing s p st e = shares-live outgoing standing s p (is_con
 
 shares : (outgoing standing : ℕ) (due : Bool) (s : SlotState) (p : Peering) → Shares outgoing standing due s p
 shares outgoing standing true s p = shares-in outgoing standing s p p.state refl
-shares outgoing standing false s p = record { after = p; emitted = (with_peer s p).emitted; alone = refl; left = refl }
+shares outgoing standing false s p = record { after = p; alone = refl; left = counted-same s p s.emitted refl }
 
 -- the slots after a tick
 slots-if : (due : Bool) (f : SlotState → SlotState) (xs : List SlotState) (i : ℕ) (x : SlotState) → slice_get xs i ≡ Some x → slice_get (cond due (map f xs) xs) i ≡ Some (cond due (f x) x)
@@ -115,9 +116,9 @@ each-ticked h ms i s e = (t s, slots-if (is_due timed) (shared outgoing standing
 
     by : (o : Option Peering) → s.peer ≡ o → Fares (call.Tick ms) h i s (t s)
     by None g =
-        untouched (cond (is_due timed) 0 s.emitted) (λ p k. absurd (let x : ◌≡◌ {A = Option Peering} None (Some p) = sym g ∙ k in cc))
+        untouched (λ p k. absurd (let x : ◌≡◌ {A = Option Peering} None (Some p) = sym g ∙ k in cc)) (begins-not (call.Tick ms) h i refl s)
         (ap (λ (o : Option Peering). cond (is_due timed) (shared outgoing standing (with_changed tick s o)) (with_changed tick s o)) g ∙ none-if (is_due timed) g)
     by (Some p) g =
         let x : Shares outgoing standing (is_due timed) s (tick p) = shares outgoing standing (is_due timed) s (tick p) in
-        goes_on p x.after (Tick now ∷ share_of timed s.emitted (tick p)) x.emitted g refl (tick p, refl, x.alone)
+        goes_on p x.after (Tick now ∷ share_of timed s.emitted (tick p)) g refl (tick p, refl, x.alone)
         (ap (λ (o : Option Peering). cond (is_due timed) (shared outgoing standing (with_changed tick s o)) (with_changed tick s o)) g ∙ x.left)

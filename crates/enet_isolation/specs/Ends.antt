@@ -10,7 +10,7 @@ use Rattle.enet_isolation.specs.Deeds.{Deed, Alone}
 -- the event; a command that comes is one of the other end's log
 abbrev pub event_of : Deed → Put → Event
 event_of (deed.Submit q) put = event.Submit q
-event_of (deed.Emit now) put = event.Emit now
+event_of (deed.Emit now given) put = event.Emit now
 event_of (deed.Come now sent m) put = event.Come put now sent
 event_of (deed.Tick now) put = event.Tick now
 event_of (deed.Take e) put = event.Take
@@ -25,7 +25,7 @@ Brings own other d put = Unit {0}
 -- the end whose peer was `old`, after a deed that leaves the peer `new`
 abbrev pub end_after : End → End → Deed → Peering → Peering → End
 end_after own other (deed.Submit q) old new = with_submission own old q
-end_after own other (deed.Emit now) old new = with_emission own other old now
+end_after own other (deed.Emit now given) old new = with_emission own other old now
 end_after own other (deed.Take e) old new = record own { peer = Some new; events = own.events ++ e ∷ [] }
 end_after own other d old new = with_peer own new
 

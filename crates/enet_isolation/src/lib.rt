@@ -4,17 +4,22 @@
 #![tactic(auto)]
 
 ghost use Rattle.enet_isolation.specs.Ends.{Matches};
-ghost use Rattle.enet_isolation.specs.Law.{OneCall, Isolation};
+ghost use Rattle.enet_isolation.specs.Law.{OneCall, EachKeeps, Isolation, AreIsolated};
+
+use enet_host::HostCore;
 
 /// What calls of a host make of one of its connections.
 ///
-/// `one_call`: each call does to each slot one of four things. Nothing falls to it, and it stays as it was. Or its peer does
-/// alone what fell to it (commands that came, submissions, disconnects, emissions, those that gave nothing too, takes, ticks,
-/// settings, throttle limits), and where that leaves the peer free, so is the slot, with the next generation and the
-/// connection's sessions. Or it was free with a generation left and a connection begins in it, for which the user asks or a
-/// CONNECT.
+/// `one_call`: each call does to each slot one of three things. Nothing falls to it, no connection begins in it, and it stays as it
+/// was. Or its peer does alone what fell to it (commands that came, submissions, disconnects, emissions with the very datagram that
+/// they gave, those that gave nothing too, takes, ticks, settings, throttle limits), and where that leaves the peer free, so is the
+/// slot, with the next generation and the connection's sessions. Or a connection begins in it, for which the user asks or a CONNECT:
+/// it is the lowest slot that is free and has a generation left, and the CONNECT's connection isn't there yet. Each time it is
+/// said, too, how many bytes the slot counts for its next share of bandwidth.
 ///
-/// `calls`: over every list of calls the peer of a connection is where one peer alone would be after the deeds that fell to its
+/// `keeps`: from its opening on a host holds no peer that is free, whatever is called.
+///
+/// `calls`: so over every list of calls the peer of a connection is where one peer alone would be after the deeds that fell to its
 /// slot, in order; what was refused, for want of memory too, is none of them. Once the connection is over nobody has its name
 /// again.
 ///
@@ -23,9 +28,19 @@ ghost use Rattle.enet_isolation.specs.Law.{OneCall, Isolation};
 ///
 /// What connections share stands in the definition of what falls to a slot: the clock, the turn order of slots, through the
 /// number of connected peers the throttle limit, and where they begin, the free slots with their generations and sessions, and
-/// the test of a CONNECT's address and connect id. How many bytes a slot counts for its next share of bandwidth is left open.
+/// the test of a CONNECT's address and connect id. How many commands of a datagram reached a peer is known by the number that were
+/// handled, which stops at 4,294,967,295: so many commands would need a datagram of more than 16 GiB.
 pub fn isolation()
     ensures one_call { OneCall }
+    ensures keeps { EachKeeps }
     ensures calls { Isolation }
     ensures events { Matches }
 {}
+
+/// The law of a host that there is, with no premise: whatever is called on it, the peer of each of its names is where one peer
+/// alone would be. It does nothing.
+pub fn isolation_of(host: &HostCore)
+    ensures { AreIsolated host.now }
+{
+    host.keeps();
+}

@@ -1,10 +1,14 @@
 use Rattle.enet_isolation.proofs.OneCall.{one-call}
+use Rattle.enet_isolation.proofs.Keeping.{each-keeps}
 use Rattle.enet_isolation.proofs.AllCalls as all
 use Rattle.enet_isolation.proofs.Matching.{matches}
 use Rattle.enet_isolation.proofs.isolation.Goals as goal
 
 pub returns-clause-one_call : goal.returns-clause-one_call
 returns-clause-one_call c = one-call
+
+pub returns-clause-keeps : goal.returns-clause-keeps
+returns-clause-keeps c = each-keeps
 
 pub returns-clause-calls : goal.returns-clause-calls
 returns-clause-calls c = all.isolation
