@@ -4,6 +4,7 @@ pub mod Controls
 pub mod Emissions
 pub mod Filled
 pub mod Fillings
+pub mod Idle
 pub mod Oldest
 pub mod Senders
 pub mod Spelled

@@ -1,7 +1,10 @@
 -- What the fields of an outbox keep.
-use Rattle.std.specs.Prelude.{◌≡◌, ℕ, ◌≤◌, List, length, sum_by, Option, Some, None, slice_set}
+use Rattle.std.specs.Prelude.{◌≡◌, ℕ, ◌≤◌, Bool, true, IsTrue, List, length, sum_by, Option, Some, None, slice_set}
+use Rattle.std.specs.List.{list_all}
+use Rattle.enet_control.specs.Controlling.{is_idle}
 use Rattle.enet_sender.specs.Sender.{bytes_in_transit, acknowledged}
 use Rattle.enet_sender.specs.Due.{SendingEnd}
+use Rattle.enet_outbox.specs.Outbox.{Outbox, has_no_packet, has_no_reliable}
 
 -- the payload bytes of what these senders have sent and not acknowledged
 abbrev pub transit_over : List SendingEnd → ℕ
@@ -11,6 +14,18 @@ transit_over senders = sum_by (λ (s : SendingEnd). bytes_in_transit s.sender) s
 pub record KeepsOutbox (transit : ℕ) (senders : List SendingEnd) : Type 0 where
   pub few : length senders ≤ 255
   pub counted : transit ≡ transit_over senders
+
+-- what was seen to be idle has nothing queued or unacknowledged on any channel
+abbrev pub KeepsIdle : Bool → List SendingEnd → Type 0
+KeepsIdle idle senders = IsTrue idle → (list_all has_no_packet senders ≡ true) × (list_all has_no_reliable senders ≡ true)
+
+-- an outbox with nothing to send at all
+pub record HasNothing (o : Outbox) : Type 0 where
+  pub acknowledgements : length o.acknowledgements ≡ 0
+  pub control : is_idle o.control ≡ true
+  pub unsequenced : length o.unsequenced ≡ 0
+  pub packets : list_all has_no_packet o.senders ≡ true
+  pub reliable : list_all has_no_reliable o.senders ≡ true
 
 -- an acknowledgement of a channel's command comes
 abbrev pub with_accepted : List SendingEnd → ℕ → ℕ → Option SendingEnd → List SendingEnd

@@ -3,7 +3,10 @@
 ghost use Rattle.std.specs.Prelude.{◌≡◌, ◌+◌, ◌/◌, ◌%◌, ◌≤◌, ◌<◌, ◌⊎◌, ◌↔◌, ◌&&◌, ◌==◌, not, nat_lt, length, IsTrue, OnOk, OnErr, IfOk, IfErr, IsErrAnd};
 ghost use Rattle.enet_throttle.specs.Throttle.{with_interval, limited};
 ghost use Rattle.enet_sender.specs.Carriage.{fragment_limit};
+ghost use Rattle.std.specs.List.{list_any};
 ghost use Rattle.enet_fragment.specs.Cutting.{piece_length, piece_count};
+ghost use Rattle.enet_sender.specs.Due.{SendingEnd};
+ghost use Rattle.enet_sender.specs.Sender as sender;
 ghost use Rattle.enet_outbox.specs.Outbox.{acknowledged, after_lateness, cleared, empty_outbox, is_done, is_quiet, lateness, marked, matched_by, narrowed, sampled, submitted, transit_of, with_acknowledgement, with_control, with_unsequenced};
 
 use crate::{Acknowledgement, Matched, Unsequenced, lists};
@@ -36,6 +39,8 @@ pub struct Outbox {
     pub(crate) last: Option<u8>,
     /// The payload bytes of what is sent and not acknowledged.
     pub(crate) transit: u32,
+    /// Whether the channels were seen to have nothing queued or unacknowledged, and nothing was submitted on one since.
+    pub(crate) idle: bool,
 }
 
 impl Model for Outbox {
@@ -45,7 +50,7 @@ impl Model for Outbox {
 
     ghost use Rattle.std.specs.Prelude.{◌-◌};
     ghost use Rattle.std.specs.VecDeque.{deque_len, deque_capacity};
-    ghost use Rattle.enet_outbox.specs.Kept.{KeepsOutbox};
+    ghost use Rattle.enet_outbox.specs.Kept.{KeepsOutbox, KeepsIdle};
 
     ghost view = { λ o. record {
       outbox = record {
@@ -61,7 +66,7 @@ impl Model for Outbox {
       control_room = o.control.room;
     } };
 
-    ghost invariant = { λ o. KeepsOutbox o.transit o.senders.items };
+    ghost invariant = { λ o. KeepsOutbox o.transit o.senders.items × KeepsIdle o.idle o.senders.items };
 }
 
 impl Outbox {
@@ -88,6 +93,7 @@ impl Outbox {
             throttle,
             last: None,
             transit: 0,
+            idle: false,
         })
     }
 
@@ -122,6 +128,7 @@ impl Outbox {
         ensures control_room { self.new.control_room ≡ self.old.control_room }
     {
         if !is_unsequenced(flags, body.len(), mtu) {
+            self.idle = false;
             return lists::submit_on(&mut self.senders, channel, flags, body, mtu);
         }
         self.submit_unsequenced(channel, body)
@@ -212,6 +219,7 @@ impl Outbox {
         ensures control_room { self.old.control_room ≤ self.new.control_room }
     {
         if channel != CONTROL_CHANNEL {
+            self.idle = false;
             return lists::accept(&mut self.senders, &mut self.transit, channel, number);
         }
         match self.control.acknowledge(number) {
@@ -269,14 +277,28 @@ impl Outbox {
     fn lateness(&self, now: u32, patience: &Patience) -> Expiry
         ensures { result ≡ lateness self.now.outbox now patience.now }
     {
-        if self.control.ends(now, patience) || lists::any_ends(&self.senders, now, patience) {
+        if self.control.ends(now, patience) || self.any_ends(now, patience) {
             return Expiry::End;
         }
-        if self.control.is_late(now) || lists::any_late(&self.senders, now) {
+        if self.control.is_late(now) || self.any_late(now) {
             Expiry::Resend
         } else {
             Expiry::No
         }
+    }
+
+    /// Whether the peer has timed out over a sent command of a channel.
+    fn any_ends(&self, now: u32, patience: &Patience) -> bool
+        ensures { result ≡ list_any (λ (s : SendingEnd). list_any (sender.ends now patience.now) s.sender.sent) self.now.outbox.senders }
+    {
+        !self.idle && lists::any_ends(&self.senders, now, patience)
+    }
+
+    /// Whether a sent command of a channel is late.
+    fn any_late(&self, now: u32) -> bool
+        ensures { result ≡ list_any (λ (s : SendingEnd). list_any (sender.is_late now) s.sender.sent) self.now.outbox.senders }
+    {
+        !self.idle && lists::any_late(&self.senders, now)
     }
 
     /// Marks all that is late as due to go again.
@@ -286,6 +308,7 @@ impl Outbox {
         ensures control_room { self.new.control_room ≡ self.old.control_room }
     {
         self.control.mark(now);
+        self.idle = false;
         lists::mark(&mut self.senders, now);
     }
 
@@ -295,7 +318,7 @@ impl Outbox {
         ensures quiet { result ≡ is_quiet self.now.outbox }
         ensures room { IsTrue result → 1 ≤ self.now.control_room }
     {
-        self.control.is_idle() && lists::have_no_reliable(&self.senders)
+        self.control.is_idle() && (self.idle || lists::have_no_reliable(&self.senders))
     }
 
     /// Whether no reliable command is queued or unacknowledged, and no packet is queued. Then there is room for one command
@@ -332,6 +355,7 @@ impl Outbox {
         self.acknowledgements.clear();
         self.control.clear();
         self.unsequenced.clear();
+        self.idle = false;
         lists::clear(&mut self.senders);
         self.transit = 0;
     }
@@ -343,6 +367,7 @@ impl Outbox {
         ensures acknowledgement_room { self.new.acknowledgement_room ≡ self.old.acknowledgement_room }
         ensures control_room { self.new.control_room ≡ self.old.control_room }
     {
+        self.idle = false;
         self.senders.truncate(usize::from(channels));
     }
 }

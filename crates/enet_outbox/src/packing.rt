@@ -2,15 +2,16 @@
 //! unsequenced packets, and the channels (our profile). The commands stand in the buffer from 4 on, and the header is
 //! written before them in the end.
 
-ghost use Rattle.std.specs.Prelude.{◌≡◌, true, ◌≤◌, ◌+◌, ◌-◌, ◌<◌, ◌^◌, ◌++◌, length, take, drop, slice_get, slice_range, unwrap_or};
+ghost use Rattle.std.specs.Prelude.{◌≡◌, true, IsTrue, ◌≤◌, ◌+◌, ◌-◌, ◌<◌, ◌^◌, ◌++◌, length, take, drop, slice_get, slice_range, unwrap_or};
 ghost use Rattle.std.specs.Option.{option_map};
 ghost use Rattle.std.specs.VecDeque.{deque_len, deque_capacity};
 ghost use Rattle.enet_codec.specs.Header.{header_text};
 ghost use Rattle.enet_codec.specs.Message.{view, payload_of};
 ghost use Rattle.enet_outbox.specs.Emission.{acknowledgement_of, unsequenced_of, filled, Emits};
+ghost use Rattle.enet_outbox.specs.Kept.{HasNothing};
 ghost use Rattle.enet_outbox.specs.Packing.{header_asking, Leads, taken_in, place_in, asked_for, refuses, TakesIn, PacksAcknowledgements, PacksControls, PacksUnsequenced, PacksChannel, PacksChannels};
 
-use crate::{Acknowledgement, Destination, Outbox, Pace, Unsequenced};
+use crate::{Acknowledgement, Destination, Outbox, Pace, Unsequenced, lists};
 use enet_codec::{Command, Head, Header, write_command, write_header};
 use enet_control::{ControlChannel, Written};
 use enet_sender::{Due, Kind, Outgoing};
@@ -408,6 +409,7 @@ impl Outbox {
             last: self.last,
         };
         let sent = pack_senders(&mut self.senders, &mut flow, first, pace, buf, unsequenced);
+        self.idle = false;
         self.throttle = flow.throttle;
         self.transit = flow.transit;
         self.last = flow.last;
@@ -448,6 +450,30 @@ impl Outbox {
         ensures acknowledgement_room { self.old.acknowledgement_room ≤ self.new.acknowledgement_room }
         ensures control_room { self.old.control_room ≤ self.new.control_room }
     {
-        self.emit_whole(pace, to, &mut buf[..pace.mtu as usize])
+        if self.has_nothing() {
+            return None;
+        }
+        let len = self.emit_whole(pace, to, &mut buf[..pace.mtu as usize]);
+        if len.is_none() {
+            self.look_for_idle();
+        }
+        len
+    }
+
+    /// Whether there is surely nothing to send.
+    fn has_nothing(&self) -> bool
+        ensures { IsTrue result → HasNothing self.now.outbox }
+    {
+        self.idle
+            && self.acknowledgements.is_empty()
+            && self.unsequenced.is_empty()
+            && self.control.is_idle()
+    }
+
+    /// Looks whether the channels have nothing queued or unacknowledged.
+    fn look_for_idle(&mut self)
+        ensures { self.new ≡ self.old }
+    {
+        self.idle = lists::have_no_packet(&self.senders) && lists::have_no_reliable(&self.senders);
     }
 }

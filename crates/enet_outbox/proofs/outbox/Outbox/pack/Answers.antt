@@ -17,9 +17,9 @@ invariant_of-self c =
     (record { progress = c.pack_senders-sent.result; buf = c.pack_senders-sent.new.buf })
     c.pack_acknowledgements-acknowledged.new.acknowledgements.items c.pack_controls-controlled.new.control.commands c.pack_unsequenced-unsequenced.new.unsequenced.items
     c.pack_unsequenced-unsequenced.new.throttle c.pack_unsequenced-unsequenced.new.last c.pack_senders-sent.new.senders.items c.pack_senders-sent.new.flow
-    c.requires.long c.requires.whole c.first_channel-first.ensures.value (sym c.self.invariant.counted)
+    c.requires.long c.requires.whole c.first_channel-first.ensures.value (sym c.self.invariant.0.counted)
     c.pack_acknowledgements-acknowledged.ensures.packs c.pack_controls-controlled.ensures.packs c.pack_unsequenced-unsequenced.ensures c.pack_senders-sent.ensures.packs in
-    record { few = omega (arith, c.pack_senders-sent.ensures.kept, c.self.invariant.few); counted = sym l.1 }
+    (record { few = omega (arith, c.pack_senders-sent.ensures.kept, c.self.invariant.0.few); counted = sym l.1 }, λ idle. absurd (cc))
 
 pub returns-clause-leads : goal.returns-clause-leads
 returns-clause-leads c =
@@ -32,7 +32,7 @@ returns-clause-leads c =
     (record { progress = c.pack_senders-sent.result; buf = c.pack_senders-sent.new.buf })
     c.pack_acknowledgements-acknowledged.new.acknowledgements.items c.pack_controls-controlled.new.control.commands c.pack_unsequenced-unsequenced.new.unsequenced.items
     c.pack_unsequenced-unsequenced.new.throttle c.pack_unsequenced-unsequenced.new.last c.pack_senders-sent.new.senders.items c.pack_senders-sent.new.flow
-    c.requires.long c.requires.whole c.first_channel-first.ensures.value (sym c.self.invariant.counted)
+    c.requires.long c.requires.whole c.first_channel-first.ensures.value (sym c.self.invariant.0.counted)
     c.pack_acknowledgements-acknowledged.ensures.packs c.pack_controls-controlled.ensures.packs c.pack_unsequenced-unsequenced.ensures c.pack_senders-sent.ensures.packs in
     let new : Outbox = left_by o c.pack_acknowledgements-acknowledged.new.acknowledgements.items c.pack_controls-controlled.new.control.commands c.pack_unsequenced-unsequenced.new.unsequenced.items
     c.pack_senders-sent.new.senders.items c.pack_senders-sent.new.flow in

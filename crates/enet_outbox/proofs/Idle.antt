@@ -1,0 +1,110 @@
+-- An outbox with nothing to send puts nothing out, and has nothing that is late.
+use Rattle.std.proofs.Common.{◌≡◌, ℕ, zero, suc, Bool, true, false, ◌||◌, ◌&&◌, not, nat_lt, ◌==◌, List, [], ◌∷◌, length, refl, sym, ap, ◌∙◌, arith, Option, Some, None}
+use Rattle.std.proofs.lemmas.Bool.Decides.{nat_tests}
+use Rattle.std.specs.List.{slice_get, list_all, list_any, position}
+use Rattle.enet_control.specs.Controlling.{Commands}
+use Rattle.enet_control.specs.Controlling as controlling
+use Rattle.enet_control.specs.declared.control.Numbered.{Numbered}
+use Rattle.enet_control.specs.declared.control.SentControl.{SentControl}
+use Rattle.enet_fragment.specs.declared.data.DataCommand.{DataCommand}
+use Rattle.enet_seq.specs.Numbering.{Numbering, wire}
+use Rattle.enet_sender.specs.declared.sent.Sent.{Sent}
+use Rattle.enet_sender.specs.Sender.{Sender, next, next_of, next_queued}
+use Rattle.enet_sender.specs.Due.{SendingEnd}
+use Rattle.enet_outbox.specs.declared.parts.Pace.{Pace}
+use Rattle.enet_outbox.specs.Outbox.{Outbox, has_no_packet, has_no_reliable}
+use Rattle.enet_outbox.specs.Emission.{Filling, filled}
+use Rattle.enet_outbox.specs.Kept.{HasNothing}
+use Rattle.enet_outbox.proofs.Filled.{Keeps, by-filling}
+
+none-left : {X : Type 0} (xs : List X) → length xs ≡ 0 → xs ≡ []
+none-left [] e = refl
+none-left (x ∷ xs) e = absurd (cc)
+
+some-one : {X Y : Type 0} (xs : List X) (x : X) (rest : List X) → length xs ≡ 0 → xs ≡ x ∷ rest → Y
+some-one xs x rest e f = absurd (let y : ◌≡◌ {A = List _} [] (x ∷ rest) = sym (none-left xs e) ∙ f in cc)
+
+some-long : {X : Type 0} (x : X) (xs : List X) → nat_lt 0 (length (x ∷ xs)) ≡ true
+some-long x xs = by (length (x ∷ xs)) refl
+  where
+    by : (n : ℕ) → n ≡ suc (length xs) → nat_lt 0 n ≡ true
+    by n e = grind (arith, nat_tests)
+
+not-none : {X : Type 0} (x : X) (xs : List X) → (length (x ∷ xs) == 0) ≡ false
+not-none x xs = by (length (x ∷ xs)) refl
+  where
+    by : (n : ℕ) → n ≡ suc (length xs) → (n == 0) ≡ false
+    by n e = grind (arith, nat_tests)
+
+none-queued : (xs : List DataCommand) → not (nat_lt 0 (length xs)) ≡ true → xs ≡ []
+none-queued [] e = refl
+none-queued (x ∷ xs) e = absurd (let y : false ≡ true = ap not (sym (some-long x xs)) ∙ e in cc)
+
+none-sent : (b : Bool) (xs : List Sent) → not (b || nat_lt 0 (length xs)) ≡ true → xs ≡ []
+none-sent b [] e = refl
+none-sent true (x ∷ xs) e = absurd (let y : false ≡ true = e in cc)
+none-sent false (x ∷ xs) e = absurd (let y : false ≡ true = ap (λ (b : Bool). not (false || b)) (sym (some-long x xs)) ∙ e in cc)
+
+sent-none : (s : SendingEnd) → has_no_reliable s ≡ true → s.sender.sent ≡ []
+sent-none s e = none-sent _ s.sender.sent e
+
+-- a channel with nothing queued or sent has nothing due
+next-none : (g : Numbering) (now timeout transit most : ℕ) (s : Sender) → s.queued ≡ [] → s.sent ≡ [] → next g now timeout transit most s ≡ None
+next-none g now timeout transit most s e f =
+    ap (λ (xs : List Sent). next_of g now timeout transit most s (position (λ (p : Sent). p.due) xs)) f
+    ∙ ap (λ (xs : List DataCommand). next_queued g now timeout transit most s xs) e
+
+-- what holds of all holds at each place
+all-left : (a b : Bool) → (a && b) ≡ true → a ≡ true
+all-left true b e = refl
+all-left false b e = absurd (cc)
+
+all-right : (a b : Bool) → (a && b) ≡ true → b ≡ true
+all-right true b e = e
+all-right false b e = absurd (cc)
+
+all-at : {X : Type 0} (p : X → Bool) (xs : List X) (i : ℕ) (x : X) → list_all p xs ≡ true → slice_get xs i ≡ Some x → p x ≡ true
+all-at p [] i x e there = absurd (cc)
+all-at p (y ∷ xs) zero x e there = let same : y ≡ x = cc in ap p (sym same) ∙ all-left (p y) (list_all p xs) e
+all-at p (y ∷ xs) (suc i) x e there = all-at p xs i x (all-right (p y) (list_all p xs) e) there
+
+-- no channel's sent commands pass a test
+pub none_passes : (p : Sent → Bool) (senders : List SendingEnd) → list_all has_no_reliable senders ≡ true → list_any (λ (s : SendingEnd). list_any p s.sender.sent) senders ≡ false
+none_passes p [] e = refl
+none_passes p (s ∷ rest) e =
+    ap (λ (xs : List Sent). list_any p xs || list_any (λ (t : SendingEnd). list_any p t.sender.sent) rest) (sent-none s (all-left (has_no_reliable s) (list_all has_no_reliable rest) e))
+    ∙ none_passes p rest (all-right (has_no_reliable s) (list_all has_no_reliable rest) e)
+
+control-none : (now timeout : ℕ) (c : Commands) → controlling.is_idle c ≡ true → controlling.next now timeout c ≡ None
+control-none now timeout c e =
+    ap (λ (xs : List _). controlling.next_of now timeout c (position (λ (p : SentControl). p.due) xs)) (empty c.sent (all-right (length c.queued == 0) (length c.sent == 0) e))
+    ∙ ap (λ (xs : List Numbered). controlling.next_queued now timeout c xs) (empty c.queued (all-left (length c.queued == 0) (length c.sent == 0) e))
+  where
+    empty : {X : Type 0} (xs : List X) → (length xs == 0) ≡ true → xs ≡ []
+    empty [] e = refl
+    empty (x ∷ xs) e = absurd (let y : false ≡ true = sym (not-none x xs) ∙ e in cc)
+
+-- a datagram that stays empty
+abbrev StaysEmpty : Outbox → Filling → Type 0
+StaysEmpty o f = (f.messages ≡ []) × (f.outbox ≡ o)
+
+idle-next : (o : Outbox) (pace : Pace) (s : SendingEnd) (i transit most : ℕ) → HasNothing o → slice_get o.senders i ≡ Some s → next wire pace.now pace.timeout transit most s.sender ≡ None
+idle-next o pace s i transit most h there =
+    next-none wire pace.now pace.timeout transit most s.sender (none-queued s.sender.queued (all-at has_no_packet o.senders i s h.packets there)) (sent-none s (all-at has_no_reliable o.senders i s h.reliable there))
+
+none-some : {X Y : Type 0} (o : Option X) (x : X) → o ≡ None → o ≡ Some x → Y
+none-some o x e f = absurd (let y : ◌≡◌ {A = Option _} None (Some x) = sym e ∙ f in cc)
+
+stays-empty : (pace : Pace) (o : Outbox) → HasNothing o → Keeps pace (StaysEmpty o)
+stays-empty pace o h = record {
+  closes = λ f e. e;
+  acknowledges = λ f a rest at e. some-one o.acknowledgements a rest h.acknowledgements (ap (λ (x : Outbox). x.acknowledgements) (sym e.1) ∙ at);
+  controls = λ f n at e. none-some _ n (ap (λ (x : Outbox). controlling.next pace.now pace.timeout x.control) e.1 ∙ control-none pace.now pace.timeout o.control h.control) at;
+  puts_unsequenced = λ f u rest t at e. some-one o.unsequenced u rest h.unsequenced (ap (λ (x : Outbox). x.unsequenced) (sym e.1) ∙ at);
+  drops_unsequenced = λ f u rest t at e. some-one o.unsequenced u rest h.unsequenced (ap (λ (x : Outbox). x.unsequenced) (sym e.1) ∙ at);
+  puts_data = λ f k s n t there at e. none-some _ n (idle-next o pace s k _ _ h (ap (λ (x : Outbox). slice_get x.senders k) (sym e.1) ∙ there)) at;
+  drops_data = λ f k s n t there at unreliable e. none-some _ n (idle-next o pace s k _ _ h (ap (λ (x : Outbox). slice_get x.senders k) (sym e.1) ∙ there)) at;
+}
+
+pub nothing-goes : (pace : Pace) (o : Outbox) → HasNothing o → ((filled pace o).messages ≡ []) × (o ≡ (filled pace o).outbox)
+nothing-goes pace o h = let e : StaysEmpty o (filled pace o) = by-filling pace o (StaysEmpty o) (stays-empty pace o h) (refl, refl) in (e.0, sym e.1)
