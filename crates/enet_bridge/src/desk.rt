@@ -23,10 +23,12 @@ pub struct Desk<'a> {
 }
 
 impl<'a> Desk<'a> {
+    ghost use Rattle.enet_bridge.specs.Holding.{asked};
+
     /// A desk at which nothing waits. The bell is that of the wire on which the service waits.
     pub fn new(alloc: Global, queue: &'a SubmitQueue, seat: Seat, bell: &'a Bell) -> Desk<'a>
         requires { IsSeatOf queue.now seat }
-        ensures { orders (sent result.seat) ++ result.waiting.items ≡ orders (sent seat) }
+        ensures { asked result ≡ orders (sent seat) }
     {
         Desk {
             queue,
@@ -39,8 +41,8 @@ impl<'a> Desk<'a> {
     /// Adds an order behind those that wait. E1 where there is no memory for it; the order is dropped then, and those that wait
     /// stay.
     pub fn ask(&mut self, order: Order) -> Result<(), Refusal>
-        ensures added { OnOk result (orders (sent self.new.seat) ++ self.new.waiting.items ≡ (orders (sent self.old.seat) ++ self.old.waiting.items) ++ order ∷ []) }
-        ensures same { OnErr result (orders (sent self.new.seat) ++ self.new.waiting.items ≡ orders (sent self.old.seat) ++ self.old.waiting.items) }
+        ensures added { OnOk result (asked self.new ≡ asked self.old ++ order ∷ []) }
+        ensures same { OnErr result (asked self.new ≡ asked self.old) }
         ensures memory { IfErr result (λ why. why ≡ Refusal.Memory) }
     {
         match self.waiting.push_back(order) {
@@ -49,9 +51,22 @@ impl<'a> Desk<'a> {
         }
     }
 
+    /// Adds orders behind those that wait, in their order: all of them, or for want of memory (E1) none.
+    pub fn ask_all(&mut self, orders: VecDeque<Order>) -> Result<(), Refusal>
+        ensures added { OnOk result (asked self.new ≡ asked self.old ++ orders.items) }
+        ensures same { OnErr result (asked self.new ≡ asked self.old) }
+        ensures memory { IfErr result (λ why. why ≡ Refusal.Memory) }
+    {
+        let mut orders = orders;
+        match self.waiting.append(&mut orders) {
+            Ok(()) => Ok(()),
+            Err(_) => Err(Refusal::Memory),
+        }
+    }
+
     /// Submits what waits, oldest first, as far as there is room. What was asked stays the same. It never waits for room.
     pub fn submit<R: Wait>(&mut self, rt: &R) -> Pumped
-        ensures kept { orders (sent self.new.seat) ++ self.new.waiting.items ≡ orders (sent self.old.seat) ++ self.old.waiting.items }
+        ensures kept { asked self.new ≡ asked self.old }
         ensures all { result ≡ Pumped.All → self.new.waiting.items ≡ [] }
     {
         pump(rt, self.queue, &mut self.seat, &mut self.waiting)
@@ -81,5 +96,12 @@ impl<'a> Desk<'a> {
         ensures { IsFinishedOf self.entry.queue.now result }
     {
         self.seat.finish()
+    }
+
+    /// Gives the seat up, for what still waits.
+    pub fn into_waiting(self) -> VecDeque<Order>
+        ensures { asked self.entry ≡ orders (sent self.entry.seat) ++ result.items }
+    {
+        self.waiting
     }
 }

@@ -65,6 +65,8 @@ pub struct Inbox<'a> {
 }
 
 impl<'a> Inbox<'a> {
+    ghost use Rattle.enet_bridge.specs.Holding.{received, FoundNone};
+
     /// An inbox of this queue.
     pub fn new(queue: &'a EventQueue, taker: Taker) -> Inbox<'a>
         requires { taker.queue ≡ queue.now.id }
@@ -75,8 +77,9 @@ impl<'a> Inbox<'a> {
 
     /// The oldest event of the queue, None where it was empty at a moment of the call.
     pub fn take<R: Wait>(&mut self, rt: &R) -> Option<Numbered>
-        ensures taken { IfSome result (λ x. self.new.taker.taken ≡ self.old.taker.taken ++ x ∷ []) }
-        ensures none { IfNone result (self.new.taker.taken ≡ self.old.taker.taken) }
+        ensures taken { IfSome result (λ x. received self.new ≡ received self.old ++ x ∷ []) }
+        ensures none { IfNone result (received self.new ≡ received self.old) }
+        ensures empty { IfNone result (FoundNone self.old) }
     {
         self.queue.take(rt, &mut self.taker)
     }

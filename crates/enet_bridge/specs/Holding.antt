@@ -1,0 +1,22 @@
+-- What a game thread holds.
+use Rattle.std.specs.Prelude.{List, ◌++◌}
+use Rattle.crossbeam_queue.specs.Fifo.{Held}
+use Rattle.enet_submit.specs.declared.order.Order.{Order}
+use Rattle.enet_submit.specs.Words.{sent}
+use Rattle.enet_events.specs.declared.numbered.Numbered.{Numbered}
+use Rattle.enet_events.specs.Words.{TakerFits}
+use Rattle.enet_bridge.specs.declared.desk.Desk.{Desk}
+use Rattle.enet_bridge.specs.declared.inbox.Inbox.{Inbox}
+use Rattle.enet_bridge.specs.Ends.{orders}
+
+-- what a desk was asked: what its seat submitted, and then what waits
+abbrev pub asked : Desk → List Order
+asked desk = orders (sent desk.seat) ++ desk.waiting.items
+
+-- what an inbox took, in order
+abbrev pub received : Inbox → List Numbered
+received inbox = inbox.taker.taken
+
+-- at a moment of the call nothing was held, and what the inbox took is just its part of all that was posted until then
+abbrev pub FoundNone : Inbox → Type 0
+FoundNone inbox = Held 0 (λ held. (posted : List Numbered) × TakerFits inbox.taker posted held)
