@@ -79,7 +79,7 @@ impl<'a> Inbox<'a> {
     pub fn take<R: Wait>(&mut self, rt: &R) -> Option<Numbered>
         ensures taken { IfSome result (λ x. received self.new ≡ received self.old ++ x ∷ []) }
         ensures none { IfNone result (received self.new ≡ received self.old) }
-        ensures empty { IfNone result (FoundNone self.old) }
+        ensures empty { IfNone result (FoundNone self.new) }
     {
         self.queue.take(rt, &mut self.taker)
     }

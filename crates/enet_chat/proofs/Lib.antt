@@ -1,1 +1,2 @@
 pub mod PeersLemmas
+pub mod Relays

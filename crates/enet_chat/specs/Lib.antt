@@ -1,2 +1,3 @@
 pub mod Chat
 pub mod Peers
+pub mod Relaying

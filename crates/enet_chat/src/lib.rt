@@ -1,16 +1,21 @@
-//! The rule of the relay: who is there, and to whom a chat packet goes.
+//! The relay: who is there, to whom a chat packet goes, and the thread that takes events and asks for their orders.
 //!
 //! Proved: the table after an event, and the orders of an event, exactly; that a table has no peer twice, and so that a chat
-//! packet goes once to each other peer of the table and never back to its sender. Only tested: that both calls succeed where
-//! there is memory. Neither: that the bodies of the orders share their bytes, so that no copy is made.
+//! packet goes once to each other peer of the table and never back to its sender. Of the thread that relays (`Relays`): the events
+//! that it took are, in order, those that it expanded and those that wait; what was asked for is, in order, what the expanded ones
+//! give; after every refusal too; and it ends well only where it found no event. Only tested: that the calls succeed where there is
+//! memory, and, by hand, that the thread gets on. Neither: that the bodies of the orders share their bytes, so that no copy is
+//! made, and that a call with Wait returns.
 #![tactic(auto)]
 
 mod laws;
 mod relay;
+mod relaying;
 mod table;
 
 pub use laws::each_other_peer_once;
 pub use relay::relay_step;
+pub use relaying::Relay;
 pub use table::Table;
 
 #[cfg(test)]

@@ -23,7 +23,7 @@ impl Model for Table {
 }
 
 impl Table {
-    ghost use Rattle.std.specs.Prelude.{◌≡◌, [], true, false, OnOk, OnErr, IfErr};
+    ghost use Rattle.std.specs.Prelude.{◌≡◌, [], true, false, length, OnOk, OnErr, IfErr};
     ghost use Rattle.enet_chat.specs.Chat.{noted, IsNewcomer};
 
     /// A table without peers.
@@ -33,6 +33,13 @@ impl Table {
         Table {
             peers: Vec::new(alloc),
         }
+    }
+
+    /// How many peers are connected.
+    pub fn len(&self) -> usize
+        ensures { result ≡ length self.now }
+    {
+        self.peers.len()
     }
 
     /// Takes an event in: a Connect adds its peer as the last, unless it is there already, and a Disconnect takes its peer

@@ -1,0 +1,6 @@
+use Rattle.std.proofs.Common.{refl}
+use Rattle.enet_chat.proofs.Relays.{relays_none}
+use Rattle.enet_chat.proofs.relaying.Relay.submit.Goals as goal
+
+pub returns : goal.returns
+returns g c = relays_none _ _ refl refl refl c.submit-pumped.ensures.kept

@@ -1,0 +1,271 @@
+//! The thread that takes the service's events and asks for what they give.
+ghost use Rattle.std.specs.Prelude.{◌≡◌, ◌++◌, OnOk, OnErr, IfErr};
+ghost use Rattle.enet_bridge.specs.Holding.{asked};
+ghost use Rattle.enet_chat.specs.Chat.{noted, relayed};
+
+use crate::relay::relay_step;
+use crate::table::Table;
+use enet_bridge::{Desk, Inbox, Pumped, TakerBell};
+use enet_submit::Order;
+use enet_types::{Event, Refusal};
+use std::alloc::Global;
+use std::collections::VecDeque;
+use std::sync::Wait;
+use std::sync::atomic::Ordering::SeqCst;
+use std::sync::atomic::{AtomicBool, AtomicUsize};
+use std::thread;
+
+/// A turn of the service takes at most so many orders, so after so many it is told.
+const MOST_ORDERS: usize = 256;
+
+/// With so many events relayed since the last rest it pays to look a few times before the next.
+const BUSY: u32 = 8;
+
+const LOOKS: u32 = 5;
+
+/// The connected peers, the events that were taken and not yet expanded into orders, and the orders that wait for room.
+///
+/// An event is expanded once no order waits. So what is kept while the service takes no orders is events, of which a chat packet
+/// is one, whatever the number of its receivers.
+#[derive(Drop)]
+pub struct Relay<'a> {
+    alloc: Global,
+    table: Table,
+    desk: Desk<'a>,
+    inbox: Inbox<'a>,
+    backlog: VecDeque<Event>,
+    // Orders since the service was last told.
+    untold: usize,
+}
+
+/// What a step of the relay found to do.
+#[derive(Clone, Copy, Debug, PartialEq, Eq)]
+enum Found {
+    /// An event was taken or expanded.
+    Work,
+    /// Orders wait for room, and the service holds no event back.
+    NoRoom,
+    /// No event is there.
+    Nothing,
+}
+
+impl<'a> Relay<'a> {
+    ghost use Rattle.std.specs.Prelude.{◌≡◌, ◌⊎◌, ◌++◌, true, OnOk, IfOk, IfErr};
+    ghost use Rattle.enet_submit.specs.Words.{sent};
+    ghost use Rattle.enet_bridge.specs.Ends.{orders};
+    ghost use Rattle.enet_bridge.specs.Holding.{asked, FoundNone};
+    ghost use Rattle.enet_chat.specs.Relaying.{Relays};
+
+    /// A relay that goes on from these peers and these events.
+    pub fn new(
+        alloc: Global,
+        table: Table,
+        desk: Desk<'a>,
+        inbox: Inbox<'a>,
+        backlog: VecDeque<Event>,
+    ) -> Relay<'a>
+        ensures { (result.table ≡ table) × (result.desk ≡ desk.entry) × (result.inbox ≡ inbox.entry) × (result.backlog ≡ backlog) }
+    {
+        Relay {
+            alloc,
+            table,
+            desk,
+            inbox,
+            backlog,
+            untold: 0,
+        }
+    }
+
+    /// The peers, the events that were not expanded, and the orders that found no room.
+    pub fn into_parts(self) -> (Table, VecDeque<Event>, VecDeque<Order>)
+        ensures peers { result.0 ≡ self.entry.table }
+        ensures backlog { result.1 ≡ self.entry.backlog }
+        ensures orders { asked self.entry.desk ≡ orders (sent self.entry.desk.seat) ++ result.2.items }
+    {
+        (self.table, self.backlog, self.desk.into_waiting())
+    }
+
+    /// Takes events, expands them by the rule of the relay and submits their orders, until the service has ended and no event
+    /// is left. It never waits for room while the service holds an event back. Meanwhile `present` shows how many peers are connected.
+    ///
+    /// E1 for want of memory, E10 where the seat has submitted as many orders as it may; the relay is then as after all that it
+    /// did before.
+    pub fn run<R: Wait>(
+        &mut self,
+        rt: &R,
+        bell: &TakerBell,
+        ended: &AtomicBool,
+        present: &AtomicUsize,
+    ) -> Result<(), Refusal>
+        ensures relays { Relays self.old self.new }
+        ensures none_left { OnOk result (FoundNone self.new.inbox) }
+        ensures why { IfErr result (λ why. (why ≡ Refusal.Memory) ⊎ (why ≡ Refusal.SeatSpent)) }
+    {
+        let mut pace = Pace::new();
+        for _ in rt.forever() {
+            present.store(self.table.len(), SeqCst);
+            if self.round(rt, bell, ended, &mut pace)? {
+                return Ok(());
+            }
+        }
+        unreachable!()
+    }
+
+    // Takes a step, and rests where there is nothing to do. True where the service has ended and no event is left.
+    fn round<R: Wait>(
+        &mut self,
+        rt: &R,
+        bell: &TakerBell,
+        ended: &AtomicBool,
+        pace: &mut Pace,
+    ) -> Result<bool, Refusal>
+        ensures relays { Relays self.old self.new }
+        ensures none { IfOk result (λ over. over ≡ true → FoundNone self.new.inbox) }
+        ensures why { IfErr result (λ why. (why ≡ Refusal.Memory) ⊎ (why ≡ Refusal.SeatSpent)) }
+    {
+        let over = ended.load(SeqCst);
+        match self.step(rt, bell, over)? {
+            Found::Work => {
+                pace.work();
+                Ok(false)
+            }
+            Found::NoRoom => {
+                bell.wait_a_moment(rt);
+                Ok(false)
+            }
+            Found::Nothing if over => Ok(true),
+            Found::Nothing => {
+                self.tell();
+                pace.rest(rt, bell);
+                Ok(false)
+            }
+        }
+    }
+
+    // Submits what waits, and then expands an event or takes one.
+    fn step<R: Wait>(&mut self, rt: &R, bell: &TakerBell, over: bool) -> Result<Found, Refusal>
+        ensures relays { Relays self.old self.new }
+        ensures none { IfOk result (λ found. found ≡ Found.Nothing → FoundNone self.new.inbox) }
+        ensures why { IfErr result (λ why. (why ≡ Refusal.Memory) ⊎ (why ≡ Refusal.SeatSpent)) }
+    {
+        match self.submit(rt) {
+            Pumped::Spent => return Err(Refusal::SeatSpent),
+            Pumped::Full => {
+                if !over && !bell.hears_of_one_held_back() {
+                    return Ok(Found::NoRoom);
+                }
+            }
+            Pumped::All => {
+                if self.expand()? {
+                    return Ok(Found::Work);
+                }
+            }
+        }
+        self.take(rt)
+    }
+
+    // Submits what waits, and tells the service where there is no room or much was submitted.
+    fn submit<R: Wait>(&mut self, rt: &R) -> Pumped
+        ensures { Relays self.old self.new }
+    {
+        let pumped = self.desk.submit(rt);
+        if pumped == Pumped::Full || self.untold >= MOST_ORDERS {
+            self.tell();
+            return pumped;
+        }
+        pumped
+    }
+
+    // Takes an event.
+    fn take<R: Wait>(&mut self, rt: &R) -> Result<Found, Refusal>
+        ensures relays { Relays self.old self.new }
+        ensures none { IfOk result (λ found. found ≡ Found.Nothing → FoundNone self.new.inbox) }
+        ensures why { IfErr result (λ why. why ≡ Refusal.Memory) }
+    {
+        if self.backlog.reserve(1).is_err() {
+            return Err(Refusal::Memory);
+        }
+        match self.inbox.take(rt) {
+            Some(numbered) => {
+                self.backlog.push_back_reserved(numbered.event);
+                Ok(Found::Work)
+            }
+            None => Ok(Found::Nothing),
+        }
+    }
+
+    // Expands the oldest event that was taken and wasn't yet, if there is one.
+    fn expand(&mut self) -> Result<bool, Refusal>
+        ensures relays { Relays self.old self.new }
+        ensures why { IfErr result (λ why. why ≡ Refusal.Memory) }
+    {
+        let Some(event) = self.backlog.pop_front() else {
+            return Ok(false);
+        };
+        match relay_event(self.alloc, &mut self.table, &mut self.desk, &event) {
+            Ok(orders) => {
+                self.untold = self.untold.saturating_add(orders);
+                Ok(true)
+            }
+            Err(why) => {
+                self.backlog.push_front_reserved(event);
+                Err(why)
+            }
+        }
+    }
+
+    // Tells the service that there are orders.
+    fn tell(&mut self)
+        ensures { Relays self.old self.new }
+    {
+        self.untold = 0;
+        self.desk.ring();
+    }
+}
+
+// Asks for the orders of an event, of which it tells the number, and notes the event.
+fn relay_event(
+    alloc: Global,
+    table: &mut Table,
+    desk: &mut Desk<'_>,
+    event: &Event,
+) -> Result<usize, Refusal>
+    ensures peers { OnOk result (table.new ≡ noted table.old event.now) }
+    ensures orders { OnOk result (asked desk.new ≡ asked desk.old ++ relayed (noted table.old event.now) event.now) }
+    ensures same { OnErr result ((table.new ≡ table.old) × (asked desk.new ≡ asked desk.old)) }
+    ensures memory { IfErr result (λ why. why ≡ Refusal.Memory) }
+{
+    let orders = relay_step(alloc, table, event)?;
+    let count = orders.len();
+    desk.ask_all(VecDeque::from_vec(orders))?;
+    table.note(event)?;
+    Ok(count)
+}
+
+/// How the thread rests: after much work it looks a few times before it sleeps.
+#[derive(Drop)]
+struct Pace {
+    done: u32,
+    looks: u32,
+}
+
+impl Pace {
+    fn new() -> Pace {
+        Pace { done: 0, looks: 0 }
+    }
+
+    fn work(&mut self) {
+        self.done = self.done.saturating_add(1);
+        self.looks = 0;
+    }
+
+    fn rest<R: Wait>(&mut self, rt: &R, bell: &TakerBell) {
+        if self.done >= BUSY && self.looks < LOOKS {
+            self.looks += 1;
+            thread::yield_now();
+            return;
+        }
+        *self = Pace::new();
+        bell.wait(rt);
+    }
+}
