@@ -1,0 +1,182 @@
+//! A game thread gets on while the service is inside its wire: no lock stands round host and queues.
+ghost use Rattle.std.specs.Prelude.{IfSome};
+ghost use Rattle.enet_submit.specs.Words.{IsSeatOf, IsDrainOf};
+
+use super::{FAR, PEER, done, joined, packet};
+use crate::{
+    Bell, Desk, Inbox, MioWire, QueueSink, QueueSource, Report, TakerBell, Wire, run_between_queues,
+};
+use bytes::Bytes;
+use enet_events::EventQueue;
+use enet_submit::{Drain, Seat, SubmitQueue};
+use enet_types::{Addr, Refusal};
+use std::alloc::Global;
+use std::sync::Wait;
+use std::sync::atomic::AtomicBool;
+use std::sync::atomic::Ordering::SeqCst;
+use std::test::Fail;
+use std::thread;
+use std::thread::Threads;
+use std::time::Clock;
+
+// So often each side looks for the other's flag, with a yield between.
+const LOOKS: u32 = 20_000_000;
+
+// What the threads tell each other.
+#[derive(Drop)]
+struct Gate {
+    receiving: AtomicBool,
+    submitted: AtomicBool,
+    sending: AtomicBool,
+    taken: AtomicBool,
+}
+
+fn comes(flag: &AtomicBool) -> bool {
+    for _ in 0..LOOKS {
+        if flag.load(SeqCst) {
+            return true;
+        }
+        thread::yield_now();
+    }
+    false
+}
+
+// A wire whose first call of `recv` waits for a submission, and whose second send waits for an event to be taken.
+#[derive(Drop)]
+struct GateWire<'a> {
+    gate: &'a Gate,
+    came: bool,
+    sends: u32,
+    passed: u32,
+    failures: u64,
+}
+
+impl<'a> Wire for GateWire<'a> {
+    ghost use Rattle.std.specs.Prelude.{None};
+
+    ghost told = { λ w. None };
+
+    ghost faults = { λ w. w.failures };
+
+    fn recv(&mut self, buf: &mut [u8; 4096]) -> Result<Option<(Addr, usize)>, Refusal> {
+        if self.came || self.failures == u64::MAX {
+            return Ok(None);
+        }
+        self.came = true;
+        self.gate.receiving.store(true, SeqCst);
+        if comes(&self.gate.submitted) {
+            self.passed = self.passed.saturating_add(1);
+        }
+        buf[..11].copy_from_slice(b"\x80\x00\x00\x00\x86\x00\x00\x01\x00\x01x");
+        Ok(Some((FAR, 11)))
+    }
+
+    fn send(&mut self, _to: Addr, _bytes: &[u8]) -> Result<bool, Refusal> {
+        if self.failures == u64::MAX {
+            return Ok(false);
+        }
+        self.sends = self.sends.saturating_add(1);
+        if self.sends == 2 {
+            self.gate.sending.store(true, SeqCst);
+            if comes(&self.gate.taken) {
+                self.passed = self.passed.saturating_add(1);
+            }
+        }
+        Ok(true)
+    }
+
+    fn wait<R: Wait + Clock>(&mut self, _rt: &R) -> Result<u32, Refusal> {
+        Ok(0)
+    }
+
+    fn failures(&self) -> u64 {
+        self.failures
+    }
+}
+
+// Submits while the service receives, and takes an event while it sends.
+fn play<R: Wait>(rt: &R, gate: &Gate, mut desk: Desk, mut inbox: Inbox) -> bool {
+    if !comes(&gate.receiving) || desk.ask(packet(PEER, Bytes::from_static(b"a"))).is_err() {
+        return false;
+    }
+    let _ = desk.submit(rt);
+    gate.submitted.store(true, SeqCst);
+    if !comes(&gate.sending) || inbox.take(rt).is_none() {
+        return false;
+    }
+    gate.taken.store(true, SeqCst);
+    desk.is_empty()
+}
+
+// A queue of one seat.
+fn one_seat(alloc: Global) -> Option<(SubmitQueue, Seat, Drain)>
+    ensures { IfSome result (λ r. IsSeatOf r.0 r.1 × IsDrainOf r.0 r.2) }
+{
+    let (queue, mut seats, drain) = SubmitQueue::open(alloc, 9, 1, 9).ok()?;
+    let seat = seats.pop()?;
+    Some((queue, seat, drain))
+}
+
+// Two turns of a joined host between the queues: their report, and how often the wire's wait for the game thread was heard.
+fn serve<R: Wait + Clock>(
+    rt: &R,
+    alloc: Global,
+    gate: &Gate,
+    mut source: QueueSource,
+    mut sink: QueueSink,
+) -> Option<(Report, u32)> {
+    let mut wire = GateWire {
+        gate,
+        came: false,
+        sends: 0,
+        passed: 0,
+        failures: 0,
+    };
+    let mut service = joined(alloc).ok()?;
+    let sums = run_between_queues(rt, &mut service, &mut wire, &mut source, &mut sink, 2);
+    Some((sums.ok()?, wire.passed))
+}
+
+// Whether the game thread played through, and what the service did meanwhile.
+fn both<R: Threads + Wait + Clock + Sync>(
+    rt: &R,
+    alloc: Global,
+    bell: &Bell,
+) -> Option<(bool, Option<(Report, u32)>)> {
+    let taker_bell = TakerBell::new();
+    let taker_bell = &taker_bell;
+    let (orders, seat, drain) = one_seat(alloc)?;
+    let orders = &orders;
+    let (events, poster, mut takers) = EventQueue::open(alloc, 9, 1).ok()?;
+    let events = &events;
+    let taker = takers.pop()?;
+    let gate = Gate {
+        receiving: AtomicBool::new(false),
+        submitted: AtomicBool::new(false),
+        sending: AtomicBool::new(false),
+        taken: AtomicBool::new(false),
+    };
+    let gate = &gate;
+    let desk = Desk::new(alloc, orders, seat, bell);
+    let inbox = Inbox::new(events, taker);
+    let source = QueueSource::new(orders, drain, bell);
+    let sink = QueueSink::new(events, poster, taker_bell);
+    let (played, served) = thread::join(
+        rt,
+        move || play(rt, gate, desk, inbox),
+        move || serve(rt, alloc, gate, source, sink),
+    );
+    Some((played, served))
+}
+
+#[test]
+fn gate_submit_during_recv(rt: HostRuntime) -> Result<(), Fail> {
+    let here = Addr {
+        ip: 0x7f00_0001,
+        port: 0,
+    };
+    let bell = MioWire::bind(&rt, here)?.bell()?;
+    let done = done(1, 1, 2, 0, 1);
+    assert_eq!(rt; both(&rt, rt.alloc(), &bell), Some((true, Some((done, 2)))));
+    Ok(())
+}
