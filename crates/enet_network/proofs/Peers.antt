@@ -11,8 +11,8 @@ use Rattle.enet_host.specs.Host.{Host, SlotState, with_generation, named, greate
 use Rattle.enet_host.specs.Calls.{on_slot, on_named}
 use Rattle.enet_isolation.specs.Calls.{Call, Acts}
 use Rattle.enet_isolation.specs.Deeds.{Deed, AllAlone}
-use Rattle.enet_isolation.specs.Falling.{Fell}
-use Rattle.enet_isolation.specs.Law.{Fares, untouched, goes_on, asks, answers, with_emitted, held_if}
+use Rattle.enet_isolation.specs.Falling.{Fell, counted}
+use Rattle.enet_isolation.specs.Law.{Fares, untouched, goes_on, begins, with_emitted, held_if}
 use Rattle.enet_isolation.proofs.Names.{free-or, IsThere, named-there, there-named, IsSpent, same-generations, past-freed, spent-step, spent-nobody}
 use Rattle.enet_isolation.proofs.OneCall.{one-call}
 use Rattle.enet_isolation.proofs.Slots.{held}
@@ -65,18 +65,17 @@ pub data Moved (c : Call) (old new : Host) (name : PeerRef) (p : Peering) : Type
 
 moved-there : (c : Call) (old new : Host) (name : PeerRef) (p : Peering) → old.config.generations ≤ greatest → new.config.generations ≡ old.config.generations → p.state ≢ state.Free → (x : IsThere old.slots name p)
     → (t : SlotState) → slice_get new.slots name.slot ≡ Some t → Fares c old name.slot x.slot t → Moved c old new name p
-moved-there c old new name p low same live x t there (untouched n none e) =
+moved-there c old new name p low same live x t there (untouched none not' e) =
     goes x [] p (none p x.peer) refl (shows-held new name p live (record {
       slot = t;
       there = there;
       same = ap (λ (s : SlotState). s.generation) e ∙ x.same;
       peer = ap (λ (s : SlotState). s.peer) e ∙ x.peer;
     }))
-moved-there c old new name p low same live x t there (goes_on r q ds n has fell alone e) =
+moved-there c old new name p low same live x t there (goes_on r q ds has fell alone e) =
     let is : r ≡ p = (let y : ◌≡◌ {A = Option Peering} (Some r) (Some p) = sym has ∙ x.peer in cc) in
-    goes x ds q (subst (λ (y : Peering). Fell old name.slot x.slot y c ds) is fell) (subst (λ (y : Peering). AllAlone ds y q) is alone) (shows-after c old new name p q x t n low same there e)
-moved-there c old new name p low same live x t there (asks address channels info word none left is e) = absurd (let y : ◌≡◌ {A = Option Peering} None (Some p) = sym none ∙ x.peer in cc)
-moved-there c old new name p low same live x t there (answers from bytes commands header o none left is read offer e) = absurd (let y : ◌≡◌ {A = Option Peering} None (Some p) = sym none ∙ x.peer in cc)
+    goes x ds q (subst (λ (y : Peering). Fell old name.slot x.slot y c ds) is fell) (subst (λ (y : Peering). AllAlone ds y q) is alone) (shows-after c old new name p q x t (counted c old name.slot x.slot) low same there e)
+moved-there c old new name p low same live x t there (begins none left b) = absurd (let y : ◌≡◌ {A = Option Peering} None (Some p) = sym none ∙ x.peer in cc)
 
 some-none : (h : Host) (name : PeerRef) (q : Peering) → named h.slots name ≡ None → IsThere h.slots name q → ⊥
 some-none h name q none x = let y : ◌≡◌ {A = Option Peering} None (Some q) = sym none ∙ there-named h.slots name q x in absurd (cc)

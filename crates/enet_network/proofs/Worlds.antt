@@ -24,6 +24,7 @@ use Rattle.enet_isolation.proofs.Lists.{same-or}
 use Rattle.enet_isolation.proofs.Names.{IsThere, IsSpent, same-generations}
 use Rattle.enet_isolation.proofs.OneCall.{one-call}
 use Rattle.enet_isolation.proofs.Receiving.{is_open}
+use Rattle.enet_isolation.specs.Falling as falling
 use Rattle.enet_isolation.specs.Law as isolation
 use Rattle.enet_network.specs.Law.{AreNamed, HasNothingOf, GoesOn, Begins, ShowsAt, KeptEither, Pair, BeginsOnce}
 use Rattle.enet_network.specs.Log.{Logged, greatest_at}
@@ -256,11 +257,14 @@ fresh-connected h address channels info word name answer slots after was (asks i
     let open' = is_open h.config slots i s free there in
     subst (IsFresh h) same (record { slot = s; there = ap (λ (xs : List SlotState). slice_get xs i) (sym was) ∙ there; vacant = open'.0; left = open'.1; generation = refl })
 
+begun-generation : (c : Call) (h : Host) (i : ℕ) (s t : SlotState) → falling.Begins c h i s t → t.generation ≡ s.generation
+begun-generation c h i s t (falling.asks address channels info word is some at) = refl
+begun-generation c h i s t (falling.answers from bytes commands header o is read stranger offer taken new at) = refl
+
 kept-generation : (c : Call) (h : Host) (i : ℕ) (s t : SlotState) → s.peer ≡ None → isolation.Fares c h i s t → t.generation ≡ s.generation
-kept-generation c h i s t none (isolation.untouched n fell e) = ap (λ (z : SlotState). z.generation) e
-kept-generation c h i s t none (isolation.goes_on p q ds n has fell alone e) = absurd (let y : ◌≡◌ {A = Option Peering} None (Some p) = sym none ∙ has in cc)
-kept-generation c h i s t none (isolation.asks address channels info word vacant left is e) = ap (λ (z : SlotState). z.generation) e
-kept-generation c h i s t none (isolation.answers from bytes commands header o vacant left is read offer e) = ap (λ (z : SlotState). z.generation) e
+kept-generation c h i s t none (isolation.untouched fell not' e) = ap (λ (z : SlotState). z.generation) e
+kept-generation c h i s t none (isolation.goes_on p q ds has fell alone e) = absurd (let y : ◌≡◌ {A = Option Peering} None (Some p) = sym none ∙ has in cc)
+kept-generation c h i s t none (isolation.begins vacant left b) = begun-generation c h i s t b
 
 fresh-begun : (c : Call) (x : ℕ) (old new : Host) (f : HostEnd) → Acts c old new → Has (begun x old new) f → IsFresh old f.name
 fresh-begun c x old new f acts h =
