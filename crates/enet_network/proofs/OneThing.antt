@@ -8,12 +8,12 @@ use Rattle.enet_peer.specs.declared.parts.PeerEvent.TheVariants as told
 use Rattle.enet_link.specs.Steps.{Has}
 use Rattle.enet_connection.specs.Connection.{End}
 use Rattle.enet_connection.specs.Law.{mtu_in}
-use Rattle.enet_host.specs.Host.{named, name_of, greatest}
+use Rattle.enet_host.specs.Host.{Host, Keeps, named, name_of, greatest}
 use Rattle.enet_host.specs.Calls.{event_of}
 use Rattle.enet_isolation.specs.Calls.{Call, Acts}
 use Rattle.enet_isolation.specs.Calls as call
 use Rattle.enet_network.specs.Log.{Logged}
-use Rattle.enet_network.specs.Law.{AreNamed, GoesOn, OneThing}
+use Rattle.enet_network.specs.Law.{AreNamed, GoesOn, OneThing, GoOnAt}
 use Rattle.enet_network.specs.Network.{HostEnd, Site, is_same_name, with_end, numbers_of, is_earlier, is_late}
 use Rattle.enet_network.specs.Shown.{Shows, ShowsFar, Went, IsApart}
 use Rattle.enet_network.specs.Steps.{Calls, Hears, Calling, Called, Logs, BringsOne, Brought, ends_after, after_event, with_packet, with_event, begun}
@@ -121,5 +121,8 @@ bringing k answer other old new (Some d) is x low named' e h apart own far shows
     (goes-brought other k d answer old new e own far low b.0 (same-log old new e.connection (ap (λ (s : Site). s.log) b.1)) is h apart shown (named' d (Has-get other.log k d is)) passed.0 passed.1 shows)
 
 pub one-thing : OneThing
-one-thing next other old new (Calls c) x low named' e h apart own far k shown = calling next other old new c x low e h apart own far k shown
-one-thing next other old new (Hears i answer) x low named' e h apart own far k shown = bringing i answer other old new (slice_get other.log i) refl x low named' e h apart own far k shown
+one-thing old low next other new (Calls c) x named' e h apart own far k shown = calling next other old new c x low e h apart own far k shown
+one-thing old low next other new (Hears i answer) x named' e h apart own far k shown = bringing i answer other old new (slice_get other.log i) refl x low named' e h apart own far k shown
+
+pub go-on-at : (h : Host) → Keeps h → GoOnAt h
+go-on-at h keeps old is = one-thing old (subst (λ (x : Host). x.config.generations ≤ greatest) (sym is) keeps.generations)

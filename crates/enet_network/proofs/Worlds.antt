@@ -150,7 +150,7 @@ pair-goes j next other old new what x happens k ko low p = by p.here
     by : ShowsAt old x p.one → Pair j new other x
     by (inl shown) =
         let far : ShowsFar other shown.0.connection p.two = subst (λ (n : ℕ). ShowsFar other n p.two) (sym shown.2) (far-shown other next x p.two ko p.there) in
-        let goes : GoesOn p.one p.two new shown.0 = one-thing next other old new what happens k.few ko.named shown.0 shown.1 (k.apart shown.0 shown.1) p.one p.two shown.3 far in
+        let goes : GoesOn p.one p.two new shown.0 = one-thing old k.few next other new what happens ko.named shown.0 shown.1 (k.apart shown.0 shown.1) p.one p.two shown.3 far in
         record {
           one = goes.went.new;
           two = p.two;

@@ -13,7 +13,7 @@ use Rattle.enet_connection.specs.Connection.{End}
 use Rattle.enet_connection.specs.Kept.{Kept}
 use Rattle.enet_connection.specs.Law.{IsLawful}
 use Rattle.enet_connection.specs.Steps.{Event, Happens as HappensLaw, no_end, asking_pair}
-use Rattle.enet_host.specs.Host.{limits_of, greatest}
+use Rattle.enet_host.specs.Host.{Host, limits_of, greatest}
 use Rattle.enet_isolation.specs.Calls as call
 use Rattle.enet_network.specs.declared.event.Side.{Side}
 use Rattle.enet_network.specs.Log.{Logged}
@@ -34,11 +34,18 @@ pub record GoesOn (own far : End) (new : Site) (e : HostEnd) : Type 0 where
   pub name : after.name ≡ e.name
   pub went : Went own far new after
 
--- one thing that happens at a host: each end of a connection there that is shown goes on, where the other host shows the connection's other end.
--- No host has more than 2 ^ 32 - 1 generations
-abbrev pub OneThing : Type 0
-OneThing = (next : ℕ) (other old new : Site) (what : Happening) → Happens next other what old new → old.host.config.generations ≤ greatest → AreNamed other.log
+-- by one thing that happens at a host each end of a connection there that is shown goes on, where the other host shows the connection's other end
+abbrev pub GoOn : Site → Type 0
+GoOn old = (next : ℕ) (other new : Site) (what : Happening) → Happens next other what old new → AreNamed other.log
     → (e : HostEnd) → Has old.ends e → IsApart old.ends e → (own far : End) → Shows old e own → ShowsFar other e.connection far → GoesOn own far new e
+
+-- so it is at each host that has no more than 2 ^ 32 - 1 generations
+abbrev pub OneThing : Type 0
+OneThing = (old : Site) → old.host.config.generations ≤ greatest → GoOn old
+
+-- so it is at this host, whatever is kept of it
+abbrev pub GoOnAt : Host → Type 0
+GoOnAt h = (old : Site) → old.host ≡ h → GoOn old
 
 -- nothing of connection x was put out by a host
 abbrev pub HasNothingOf : ℕ → Site → Type 0

@@ -6,11 +6,13 @@
 //! all that, specs/World the events of a world of two hosts with the refusals that each meets. None of these but specs/World
 //! counts the hosts.
 //!
-//! Proved: `each_thing_is_events` and `one_world`, of these definitions; no code meets them yet.
+//! Proved: `each_thing_is_events`, `each_thing_at` and `one_world`, of these definitions; no code meets them yet.
 //! Open: that no connection begins twice at a host, which `one_world` assumes.
 #![tactic(auto)]
 
-ghost use Rattle.enet_network.specs.Law.{OneThing, Asked, Answered, EachRun, EachJoinedRun};
+ghost use Rattle.enet_network.specs.Law.{OneThing, GoOnAt, Asked, Answered, EachRun, EachJoinedRun};
+
+use enet_host::HostCore;
 
 mod event;
 mod mark;
@@ -36,6 +38,14 @@ pub fn each_thing_is_events()
     ensures asked { Asked }
     ensures answered { Answered }
 {}
+
+/// The law of a host that there is: what happens at it is events of each of its connections, as `goes_on` says, with no premise on
+/// its number of generations. It does nothing.
+pub fn each_thing_at(host: &HostCore)
+    ensures { GoOnAt host.now }
+{
+    host.keeps();
+}
 
 /// A world of two hosts, over every list of calls of either and of datagrams that the network brings, none of them of an
 /// earlier connection or late, by which no connection begins at a host that has an end of it.
