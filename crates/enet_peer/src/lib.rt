@@ -15,8 +15,8 @@
 //! queued and nothing is sent and unacknowledged, an acknowledgement waits in AckDisconnect, one unsequenced DISCONNECT in
 //! Parting, nothing in Ended and Free; a sender's channel is its place; no receiver keeps what it dispatched. A DISCONNECT
 //! that can be acknowledged is, by the first command of the datagram that ends the connection (`disconnect_is_answered`).
-//! Only tested, by `check_peer` and `check_captures`: that calls succeed with ample memory, worked trials with their bytes,
-//! and captures.
+//! Only tested, by `check_peer`: that calls succeed with ample memory, and worked trials with their bytes; through hosts, by
+//! `check_hosts`: captures.
 #![tactic(auto)]
 
 mod arrivals;
