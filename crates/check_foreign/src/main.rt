@@ -30,24 +30,40 @@ fn main(rt: HostRuntime) -> Result<()> {
 }
 
 fn run<R: Files + Print + Env + AllocGlobal>(rt: &R, drawn: u32) -> Result<()> {
+    let mut datagrams = datagrams(rt)?;
+    if datagrams.is_empty() {
+        bail!("no datagrams");
+    }
+    let mut ground = Ground::open(rt.alloc())?;
+    take_all(rt, &mut ground, datagrams.as_mut_slice(), drawn)
+}
+
+/// The captured datagrams, a line of hex each.
+fn datagrams<R: Files + AllocGlobal>(rt: &R) -> Result<Vec<Vec<u8>>> {
     let alloc = rt.alloc();
     let text = fs::read_to_string(rt, "datagrams.txt").context("reading datagrams.txt")?;
     let mut datagrams = Vec::new(alloc);
     for line in text.as_str().lines() {
         datagrams.push(hex::decode(alloc, line)?)?;
     }
+    Ok(datagrams)
+}
+
+/// The fronts, the changes and the drawn datagrams come, one after another.
+fn take_all<R: Print>(
+    rt: &R,
+    ground: &mut Ground,
+    datagrams: &mut [Vec<u8>],
+    drawn: u32,
+) -> Result<()> {
     let count = datagrams.len();
-    if count == 0 {
-        bail!("no datagrams");
-    }
-    let mut ground = Ground::open(alloc)?;
-    let fronts = kinds::take_fronts(&mut ground, datagrams.as_slice())?;
+    let fronts = kinds::take_fronts(ground, datagrams)?;
     println!(rt; "{count} datagrams: {fronts} fronts")?;
-    let changes = kinds::take_changes(&mut ground, datagrams.as_mut_slice())?;
+    let changes = kinds::take_changes(ground, datagrams)?;
     println!(rt; "{count} datagrams: {changes} changes of one bit")?;
     let mut draw = Draw::new(1);
     for _ in 0..drawn {
-        draw.next(datagrams.as_slice());
+        draw.next(datagrams);
         ground.take(draw.datagram())?;
     }
     ground.go_on()?;

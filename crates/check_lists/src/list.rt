@@ -68,10 +68,13 @@ fn config(setting: Setting) -> Config {
     }
 }
 
-/// A pair after a list of events, each of which is drawn and happens. A refused event changes nothing; for want of memory
-/// the list ends.
-pub fn happens(alloc: Global, draw: &mut Draw, setting: Setting) -> Result<World> {
-    let mut world = World::joined(alloc, config(setting), config(setting))?;
+/// A joined pair before its list.
+pub fn joined(alloc: Global, setting: Setting) -> Result<World, Refusal> {
+    World::joined(alloc, config(setting), config(setting))
+}
+
+/// A list of events, each of which is drawn and happens. A refused event changes nothing; for want of memory the list ends.
+pub fn happens(alloc: Global, world: &mut World, draw: &mut Draw, setting: Setting) -> Result<()> {
     let mut ways = Ways::none();
     for _ in 0..EVENTS {
         let side = draw.side();
@@ -85,5 +88,5 @@ pub fn happens(alloc: Global, draw: &mut Draw, setting: Setting) -> Result<World
             _ => {}
         }
     }
-    Ok(world)
+    Ok(())
 }

@@ -11,7 +11,8 @@ mod list;
 use anyhow::{Result, bail};
 use check_outcome::verdict;
 use counting::Counts;
-use drawing::Draw;
+use drawing::{Draw, Setting};
+use enet_world::World;
 use std::alloc::Global;
 
 const LISTS: u32 = 1000;
@@ -28,14 +29,33 @@ fn run<R: Print>(rt: &R, alloc: Global) -> Result<()> {
     let mut draw = Draw::new(SEED);
     let mut counts = Counts::none();
     for number in 1..=LISTS {
-        let setting = draw.setting();
-        let world = list::happens(alloc, &mut draw, setting)?;
-        if let Err(fault) = verdict(&world, setting.mtu, setting.channels) {
-            bail!("list {number}: {fault}");
-        }
-        counts.add_world(&world, setting);
+        one_list(alloc, number, &mut draw, &mut counts)?;
     }
     println!(rt; "{LISTS} lists of {} events: all follow", list::EVENTS)?;
     println!(rt; "{counts}")?;
+    Ok(())
+}
+
+/// Draws a setting, and a list on a joined pair in it.
+fn one_list(alloc: Global, number: u32, draw: &mut Draw, counts: &mut Counts) -> Result<()> {
+    let setting = draw.setting();
+    let mut world = list::joined(alloc, setting)?;
+    follow(alloc, &mut world, number, setting, draw, counts)
+}
+
+/// Lets a drawn list happen, judges what came of it, and counts it.
+fn follow(
+    alloc: Global,
+    world: &mut World,
+    number: u32,
+    setting: Setting,
+    draw: &mut Draw,
+    counts: &mut Counts,
+) -> Result<()> {
+    list::happens(alloc, world, draw, setting)?;
+    if let Err(fault) = verdict(world, setting.mtu, setting.channels) {
+        bail!("list {number}: {fault}");
+    }
+    counts.add_world(world, setting);
     Ok(())
 }

@@ -127,13 +127,20 @@ fn begin(alloc: Global, first: &str, answer: &str) -> Result<(World, u32), Fault
 pub(crate) fn run(alloc: Global, script: &str, answers: &str) -> Result<u32, Fault> {
     let (first, steps) = split_line(script);
     let (answer, answers) = split_line(answers);
-    let (mut world, mut refused) = begin(alloc, first, answer)?;
+    let (mut world, refused) = begin(alloc, first, answer)?;
+    let more = run_steps(alloc, &mut world, steps, answers)?;
+    Ok(refused.saturating_add(more))
+}
+
+/// Runs the lines behind the first. How many growths were refused.
+fn run_steps(alloc: Global, world: &mut World, steps: &str, answers: &str) -> Result<u32, Fault> {
     let mut answers = answers.lines();
     let mut number = 1u32;
+    let mut refused = 0u32;
     for text in steps.lines() {
         number = number.saturating_add(1);
         let wanted = answers.next().unwrap_or("");
-        let more = step(alloc, &mut world, number, text, wanted)?;
+        let more = step(alloc, world, number, text, wanted)?;
         refused = refused.saturating_add(more);
     }
     match answers.next() {
@@ -150,31 +157,54 @@ fn event_of(alloc: Global, number: u32, text: &str) -> Result<WorldEvent, Fault>
     }
 }
 
-/// Runs a script, the first line of which makes the pair, as one list of events.
-pub(crate) fn run_at_once(alloc: Global, script: &str, answers: &str) -> Result<u32, Fault> {
-    let (first, steps) = split_line(script);
-    let (answer, answers) = split_line(answers);
-    let (mut world, refused) = begin(alloc, first, answer)?;
-    let mut answers = answers.lines();
+/// The events of the lines behind the first.
+fn events_of(alloc: Global, steps: &str) -> Result<Vec<WorldEvent>, Fault> {
     let mut events = Vec::new(alloc);
     for text in steps.lines() {
         if events.push(event_of(alloc, 0, text)?).is_err() {
             return Err(Fault::OwnMemory);
         }
     }
-    let Ok(told) = world.run(&events) else {
-        return Err(Fault::OwnMemory);
-    };
+    Ok(events)
+}
+
+/// Runs a script, the first line of which makes the pair, as one list of events. How many growths were refused.
+pub(crate) fn run_at_once(alloc: Global, script: &str, answers: &str) -> Result<u32, Fault> {
+    let (first, steps) = split_line(script);
+    let (answer, answers) = split_line(answers);
+    let (mut world, refused) = begin(alloc, first, answer)?;
+    run_list(alloc, &mut world, steps, answers)?;
+    Ok(refused)
+}
+
+/// Runs the lines behind the first as one list.
+fn run_list(alloc: Global, world: &mut World, steps: &str, answers: &str) -> Result<(), Fault> {
+    let events = events_of(alloc, steps)?;
+    match world.run(&events) {
+        Ok(told) => are_told(alloc, world, &events, &told, answers),
+        Err(_) => Err(Fault::OwnMemory),
+    }
+}
+
+/// Whether the answers of these events are as wanted, and as many.
+fn are_told(
+    alloc: Global,
+    world: &World,
+    events: &[WorldEvent],
+    told: &[Result<Answer, Refusal>],
+    answers: &str,
+) -> Result<(), Fault> {
+    let mut answers = answers.lines();
     let mut number = 1u32;
     for (event, answer) in events.iter().zip(told.iter()) {
         number = number.saturating_add(1);
         let wanted = answers.next().unwrap_or("");
-        if !is_told(alloc, &world, side_of(event), answer, wanted)? {
+        if !is_told(alloc, world, side_of(event), answer, wanted)? {
             return Err(Fault::Differs(number));
         }
     }
     match answers.next() {
-        None => Ok(refused),
+        None => Ok(()),
         Some(_) => Err(Fault::Differs(number)),
     }
 }

@@ -125,17 +125,19 @@ fn put_out(peer: &mut Peer, wanted: &[u8]) -> Result<(), Fault> {
 fn bandwidth(alloc: Global) -> Result<u32, Fault> {
     let (mut sender, opening) = open(alloc)?;
     let (mut taker, other_opening) = open(alloc)?;
-    let reserving = reserve(&mut sender)?;
+    let telling = tell_bandwidth(&mut sender, &mut taker)?;
+    Ok(opening.wrapping_add(other_opening).wrapping_add(telling))
+}
+
+fn tell_bandwidth(sender: &mut Peer, taker: &mut Peer) -> Result<u32, Fault>
+    requires connected { IsTrue (is_connected sender.old.peer.state) }
+{
+    let reserving = reserve(sender)?;
     sender.bandwidth(131_072, 0);
-    put_out(&mut sender, &BANDWIDTH)?;
-    let delivering = deliver(&mut taker, &BANDWIDTH)?;
+    put_out(sender, &BANDWIDTH)?;
+    let delivering = deliver(taker, &BANDWIDTH)?;
     if taker.terms().window == 8192 && taker.other_incoming() == 131_072 {
-        Ok(
-            opening
-                .wrapping_add(other_opening)
-                .wrapping_add(reserving)
-                .wrapping_add(delivering),
-        )
+        Ok(reserving.wrapping_add(delivering))
     } else {
         Err(Fault::Differs(4))
     }
@@ -145,16 +147,18 @@ fn bandwidth(alloc: Global) -> Result<u32, Fault> {
 fn throttle(alloc: Global) -> Result<u32, Fault> {
     let (mut sender, opening) = open(alloc)?;
     let (mut taker, other_opening) = open(alloc)?;
-    let reserving = reserve(&mut sender)?;
+    let telling = tell_throttle(&mut sender, &mut taker)?;
+    Ok(opening.wrapping_add(other_opening).wrapping_add(telling))
+}
+
+fn tell_throttle(sender: &mut Peer, taker: &mut Peer) -> Result<u32, Fault>
+    requires connected { IsTrue (is_connected sender.old.peer.state) }
+{
+    let reserving = reserve(sender)?;
     sender.throttle_configure(1000, 4, 1);
-    put_out(&mut sender, &THROTTLE)?;
-    let delivering = deliver(&mut taker, &THROTTLE)?;
-    Ok(
-        opening
-            .wrapping_add(other_opening)
-            .wrapping_add(reserving)
-            .wrapping_add(delivering),
-    )
+    put_out(sender, &THROTTLE)?;
+    let delivering = deliver(taker, &THROTTLE)?;
+    Ok(reserving.wrapping_add(delivering))
 }
 
 /// A joined peer tells both in one datagram, for which room is made twice.

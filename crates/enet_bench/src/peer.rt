@@ -58,10 +58,15 @@ pub fn time_commands<R: Clock>(
     if what == Coming::PassedOver {
         leave_later(&mut peer)?;
     }
+    receive_all(rt, &mut peer, what, thousands.min(100))
+}
+
+/// The times of so many thousands of commands.
+fn receive_all<R: Clock>(rt: &R, peer: &mut Peer, what: Coming, thousands: u32) -> Result<Times> {
     let mut times = Times { first: 0, last: 0 };
-    for batch in 0..thousands.min(100) {
+    for batch in 0..thousands {
         let start = Instant::now(rt)?;
-        receive(&mut peer, what, batch)?;
+        receive(peer, what, batch)?;
         times.last = start.elapsed(rt)?.as_nanos();
         if batch == 0 {
             times.first = times.last;
@@ -78,11 +83,22 @@ pub fn time_submissions<R: Clock>(
     thousands: u32,
 ) -> Result<Times> {
     let mut peer = joined(alloc)?;
+    submit_all(rt, alloc, &mut peer, what, thousands)
+}
+
+/// The times of so many thousands of packets.
+fn submit_all<R: Clock>(
+    rt: &R,
+    alloc: Global,
+    peer: &mut Peer,
+    what: Submission,
+    thousands: u32,
+) -> Result<Times> {
     let body = Bytes::copy_from_slice(alloc, &[0; 4096][..what.len.min(4096)])?;
     let mut times = Times { first: 0, last: 0 };
     for batch in 0..thousands {
         let start = Instant::now(rt)?;
-        submit(&mut peer, what.flags, &body)?;
+        submit(peer, what.flags, &body)?;
         times.last = start.elapsed(rt)?.as_nanos();
         if batch == 0 {
             times.first = times.last;
@@ -94,13 +110,18 @@ pub fn time_submissions<R: Clock>(
 /// The times of the acknowledgements of 8,192 empty reliable packets: the first thousand and the last.
 pub fn time_acknowledgements<R: Clock>(rt: &R, alloc: Global, order: Order) -> Result<Times> {
     let mut peer = joined(alloc)?;
-    send_all(&mut peer)?;
+    acknowledge_all(rt, &mut peer, order)
+}
+
+/// Sends the packets, and times their acknowledgements.
+fn acknowledge_all<R: Clock>(rt: &R, peer: &mut Peer, order: Order) -> Result<Times> {
+    send_all(peer)?;
     let start = Instant::now(rt)?;
-    acknowledge(&mut peer, order, 0, BATCH)?;
+    acknowledge(peer, order, 0, BATCH)?;
     let first = start.elapsed(rt)?.as_nanos();
-    acknowledge(&mut peer, order, BATCH, SPAN - BATCH)?;
+    acknowledge(peer, order, BATCH, SPAN - BATCH)?;
     let start = Instant::now(rt)?;
-    acknowledge(&mut peer, order, SPAN - BATCH, SPAN)?;
+    acknowledge(peer, order, SPAN - BATCH, SPAN)?;
     let last = start.elapsed(rt)?.as_nanos();
     Ok(Times { first, last })
 }

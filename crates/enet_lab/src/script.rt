@@ -7,7 +7,7 @@ use crate::answer::answer_text;
 use crate::fault::LabFault;
 use crate::line::{Line, read_line, side_of};
 use enet_script::refusal_text;
-use enet_types::Config;
+use enet_types::{Config, Refusal};
 use enet_world::{World, WorldEvent};
 use std::alloc::{AllocError, Global};
 use std::io::{ErrorKind, Read, Write};
@@ -69,17 +69,22 @@ impl Script {
         let Stage::Empty = self.stage else {
             return Err(LabFault::BadScript(self.lines));
         };
-        let config = Config::standard(1, channels);
-        match World::joined(self.alloc, config, config) {
-            Ok(world) => {
-                self.stage = Stage::Running(world);
-                Ok(Some(String::from_str(self.alloc, "ok")?))
-            }
+        match self.join(channels) {
+            Ok(()) => Ok(Some(String::from_str(self.alloc, "ok")?)),
             Err(refusal) => {
                 self.stage = Stage::Refused;
                 Ok(Some(refusal_text(self.alloc, refusal)?))
             }
         }
+    }
+
+    // Puts a new world in the place of what there is.
+    fn join(&mut self, channels: u8) -> Result<(), Refusal>
+        ensures lines { self.new.lines ≡ self.old.lines }
+    {
+        let config = Config::standard(1, channels);
+        self.stage = Stage::Running(World::joined(self.alloc, config, config)?);
+        Ok(())
     }
 
     // Makes something happen in the world.
@@ -154,16 +159,25 @@ fn run_script<R: Read, W: Write>(
     writer: &mut W,
 ) -> Result<(), LabFault> {
     let mut script = Script::new(alloc);
-    let mut line = Vec::new(alloc);
+    run_lines(&mut script, reader, writer)
+}
+
+// Reads lines and runs them, to the reader's end.
+fn run_lines<R: Read, W: Write>(
+    script: &mut Script,
+    reader: &mut R,
+    writer: &mut W,
+) -> Result<(), LabFault> {
+    let mut line = Vec::new(script.alloc);
     let mut buf = [0u8; 4096];
     for _ in 0..READS {
         let Some(len) = read_some(reader, &mut buf)? else {
             if line.is_empty() {
                 return Ok(());
             }
-            return run_line(&mut script, line.as_slice(), writer);
+            return run_line(script, line.as_slice(), writer);
         };
-        take_in(&mut script, &mut line, &buf[..len], writer)?;
+        take_in(script, &mut line, &buf[..len], writer)?;
     }
     Err(LabFault::Io)
 }
