@@ -2,12 +2,20 @@
 use Rattle.std.specs.Prelude.{List, ◌++◌}
 use Rattle.crossbeam_queue.specs.Fifo.{Held}
 use Rattle.enet_submit.specs.declared.order.Order.{Order}
+use Rattle.enet_submit.specs.declared.queue.SubmitQueue.{SubmitQueue}
 use Rattle.enet_submit.specs.Words.{sent}
 use Rattle.enet_events.specs.declared.numbered.Numbered.{Numbered}
-use Rattle.enet_events.specs.Words.{TakerFits}
+use Rattle.enet_events.specs.Words.{Queue, TakerFits}
 use Rattle.enet_bridge.specs.declared.desk.Desk.{Desk}
 use Rattle.enet_bridge.specs.declared.inbox.Inbox.{Inbox}
 use Rattle.enet_bridge.specs.Ends.{orders}
+
+-- the queues that they belong to
+abbrev pub desk_queue : Desk → SubmitQueue
+desk_queue desk = desk.queue.now
+
+abbrev pub inbox_queue : Inbox → Queue
+inbox_queue inbox = inbox.queue.now
 
 -- what a desk was asked: what its seat submitted, and then what waits
 abbrev pub asked : Desk → List Order

@@ -1,6 +1,6 @@
 //! A seat with the orders that wait for room, and the bell that tells the service of what was submitted.
 ghost use Rattle.std.specs.Prelude.{◌≡◌, ◌++◌, ◌∷◌, [], OnOk, OnErr, IfErr, IsTrue, ◌↔◌, length};
-ghost use Rattle.enet_submit.specs.Words.{IsSeatOf, IsFinishedOf, sent};
+ghost use Rattle.enet_submit.specs.Words.{IsSeatOf, IsFinishedOf, sent, all_sent};
 ghost use Rattle.enet_bridge.specs.Ends.{orders};
 
 use crate::waiting::{Pumped, pump};
@@ -23,12 +23,13 @@ pub struct Desk<'a> {
 }
 
 impl<'a> Desk<'a> {
-    ghost use Rattle.enet_bridge.specs.Holding.{asked};
+    ghost use Rattle.enet_bridge.specs.Holding.{asked, desk_queue};
 
     /// A desk at which nothing waits. The bell is that of the wire on which the service waits.
     pub fn new(alloc: Global, queue: &'a SubmitQueue, seat: Seat, bell: &'a Bell) -> Desk<'a>
         requires { IsSeatOf queue.now seat }
-        ensures { asked result ≡ orders (sent seat) }
+        ensures asked { asked result ≡ orders (sent seat) }
+        ensures queue { desk_queue result ≡ queue.now }
     {
         Desk {
             queue,
@@ -44,6 +45,7 @@ impl<'a> Desk<'a> {
         ensures added { OnOk result (asked self.new ≡ asked self.old ++ order ∷ []) }
         ensures same { OnErr result (asked self.new ≡ asked self.old) }
         ensures memory { IfErr result (λ why. why ≡ Refusal.Memory) }
+        ensures queue { desk_queue self.new ≡ desk_queue self.old }
     {
         match self.waiting.push_back(order) {
             Ok(()) => Ok(()),
@@ -56,6 +58,7 @@ impl<'a> Desk<'a> {
         ensures added { OnOk result (asked self.new ≡ asked self.old ++ orders.items) }
         ensures same { OnErr result (asked self.new ≡ asked self.old) }
         ensures memory { IfErr result (λ why. why ≡ Refusal.Memory) }
+        ensures queue { desk_queue self.new ≡ desk_queue self.old }
     {
         let mut orders = orders;
         match self.waiting.append(&mut orders) {
@@ -68,6 +71,7 @@ impl<'a> Desk<'a> {
     pub fn submit<R: Wait>(&mut self, rt: &R) -> Pumped
         ensures kept { asked self.new ≡ asked self.old }
         ensures all { result ≡ Pumped.All → self.new.waiting.items ≡ [] }
+        ensures queue { desk_queue self.new ≡ desk_queue self.old }
     {
         pump(rt, self.queue, &mut self.seat, &mut self.waiting)
     }
@@ -93,15 +97,16 @@ impl<'a> Desk<'a> {
 
     /// Gives the seat up. What still waits is dropped.
     pub fn finish(self) -> Finished
-        ensures { IsFinishedOf self.entry.queue.now result }
+        ensures { IsFinishedOf (desk_queue self.entry) result }
     {
         self.seat.finish()
     }
 
-    /// Gives the seat up, for what still waits.
-    pub fn into_waiting(self) -> VecDeque<Order>
-        ensures { asked self.entry ≡ orders (sent self.entry.seat) ++ result.items }
+    /// Gives the seat up, with what still waits.
+    pub fn into_parts(self) -> (Finished, VecDeque<Order>)
+        ensures fits { IsFinishedOf (desk_queue self.entry) result.0 }
+        ensures all { asked self.entry ≡ orders (all_sent result.0) ++ result.1.items }
     {
-        self.waiting
+        (self.seat.finish(), self.waiting)
     }
 }

@@ -65,12 +65,13 @@ pub struct Inbox<'a> {
 }
 
 impl<'a> Inbox<'a> {
-    ghost use Rattle.enet_bridge.specs.Holding.{received, FoundNone};
+    ghost use Rattle.enet_bridge.specs.Holding.{inbox_queue, received, FoundNone};
 
     /// An inbox of this queue.
     pub fn new(queue: &'a EventQueue, taker: Taker) -> Inbox<'a>
         requires { taker.queue ≡ queue.now.id }
-        ensures { result.taker ≡ taker }
+        ensures taker { result.taker ≡ taker }
+        ensures queue { inbox_queue result ≡ queue.now }
     {
         Inbox { queue, taker }
     }
@@ -80,6 +81,7 @@ impl<'a> Inbox<'a> {
         ensures taken { IfSome result (λ x. received self.new ≡ received self.old ++ x ∷ []) }
         ensures none { IfNone result (received self.new ≡ received self.old) }
         ensures empty { IfNone result (FoundNone self.new) }
+        ensures queue { inbox_queue self.new ≡ inbox_queue self.old }
     {
         self.queue.take(rt, &mut self.taker)
     }
@@ -87,7 +89,7 @@ impl<'a> Inbox<'a> {
     /// The taker, by which the queue is settled.
     pub fn into_taker(self) -> Taker
         ensures taker { result ≡ self.entry.taker }
-        ensures fits { result.queue ≡ self.entry.queue.now.id }
+        ensures fits { result.queue ≡ (inbox_queue self.entry).id }
     {
         self.taker
     }

@@ -1,5 +1,5 @@
 -- Steps of a relay, one after another.
-use Rattle.std.proofs.Common.{◌≡◌, List, [], ◌∷◌, ◌++◌, map, refl, sym, ◌∙◌, ap, append_assoc}
+use Rattle.std.proofs.Common.{◌≡◌, List, [], ◌∷◌, ◌++◌, refl, sym, ◌∙◌, ap, append_assoc}
 use Rattle.std.proofs.lemmas.List.{append-nil, map-append}
 use Rattle.enet_types.specs.declared.event.PeerRef.{PeerRef}
 use Rattle.enet_types.specs.declared.event.Event.{Event}
@@ -9,7 +9,7 @@ use Rattle.enet_events.specs.declared.numbered.Numbered.{Numbered}
 use Rattle.enet_bridge.specs.Holding.{asked, received}
 use Rattle.enet_chat.specs.Chat.{noted, relayed, IsNewcomer}
 use Rattle.enet_chat.specs.declared.relaying.Relay.{Relay}
-use Rattle.enet_chat.specs.Relaying.{events, noted_all, relayed_all, Relays}
+use Rattle.enet_chat.specs.Relaying.{events, noted_all, relayed_all, SameQueues, Relays}
 
 noted_more : (peers : List PeerRef) (es fs : List Event) → noted_all peers (es ++ fs) ≡ noted_all (noted_all peers es) fs
 noted_more peers [] fs = refl
@@ -37,11 +37,13 @@ relays_on a b c p q = record {
       ∙ append_assoc (asked a.desk) (relayed_all a.table p.expanded) (relayed_all b.table q.expanded)
       ∙ ap (λ (ps : List PeerRef). asked a.desk ++ (relayed_all a.table p.expanded ++ relayed_all ps q.expanded)) p.peers
       ∙ ap (λ (os : List Order). asked a.desk ++ os) (sym (relayed_more a.table p.expanded q.expanded));
+  same_queues = (q.same_queues.0 ∙ p.same_queues.0, q.same_queues.1 ∙ p.same_queues.1);
 }
 
 -- nothing was taken or expanded
-pub relays_none : (a b : Relay) → received b.inbox ≡ received a.inbox → b.backlog.items ≡ a.backlog.items → b.table ≡ a.table → asked b.desk ≡ asked a.desk → Relays a b
-relays_none a b inbox backlog table desk = record {
+pub relays_none : (a b : Relay) → SameQueues a b → received b.inbox ≡ received a.inbox → b.backlog.items ≡ a.backlog.items → b.table ≡ a.table → asked b.desk ≡ asked a.desk → Relays a b
+relays_none a b same inbox backlog table desk = record {
+  same_queues = same;
   taken = [];
   expanded = [];
   took = ap events inbox ∙ sym (append-nil (events (received a.inbox)));
@@ -51,9 +53,10 @@ relays_none a b inbox backlog table desk = record {
 }
 
 -- an event was taken
-pub relays_taken : (a b : Relay) (x : Numbered) → received b.inbox ≡ received a.inbox ++ x ∷ [] → b.backlog.items ≡ a.backlog.items ++ x.event ∷ [] → b.table ≡ a.table
+pub relays_taken : (a b : Relay) (x : Numbered) → SameQueues a b → received b.inbox ≡ received a.inbox ++ x ∷ [] → b.backlog.items ≡ a.backlog.items ++ x.event ∷ [] → b.table ≡ a.table
     → asked b.desk ≡ asked a.desk → Relays a b
-relays_taken a b x inbox backlog table desk = record {
+relays_taken a b x same inbox backlog table desk = record {
+  same_queues = same;
   taken = x.event ∷ [];
   expanded = [];
   took = ap events inbox ∙ map-append (λ (y : Numbered). y.event) (received a.inbox) (x ∷ []);
@@ -63,9 +66,10 @@ relays_taken a b x inbox backlog table desk = record {
 }
 
 -- an event was expanded
-pub relays_expanded : (a b : Relay) (e : Event) → received b.inbox ≡ received a.inbox → a.backlog.items ≡ e ∷ b.backlog.items → b.table ≡ noted a.table e
+pub relays_expanded : (a b : Relay) (e : Event) → SameQueues a b → received b.inbox ≡ received a.inbox → a.backlog.items ≡ e ∷ b.backlog.items → b.table ≡ noted a.table e
     → asked b.desk ≡ asked a.desk ++ relayed (noted a.table e) e → Relays a b
-relays_expanded a b e inbox backlog table desk = record {
+relays_expanded a b e same inbox backlog table desk = record {
+  same_queues = same;
   taken = [];
   expanded = e ∷ [];
   took = ap events inbox ∙ sym (append-nil (events (received a.inbox)));

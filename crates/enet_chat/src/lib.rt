@@ -15,7 +15,7 @@ mod table;
 
 pub use laws::each_other_peer_once;
 pub use relay::relay_step;
-pub use relaying::Relay;
+pub use relaying::{Parts, Relay};
 pub use table::Table;
 
 #[cfg(test)]

@@ -1,12 +1,13 @@
 //! The thread that takes the service's events and asks for what they give.
 ghost use Rattle.std.specs.Prelude.{◌≡◌, ◌++◌, OnOk, OnErr, IfErr};
-ghost use Rattle.enet_bridge.specs.Holding.{asked};
+ghost use Rattle.enet_bridge.specs.Holding.{asked, desk_queue};
 ghost use Rattle.enet_chat.specs.Chat.{noted, relayed};
 
 use crate::relay::relay_step;
 use crate::table::Table;
 use enet_bridge::{Desk, Inbox, Pumped, TakerBell};
-use enet_submit::Order;
+use enet_events::Taker;
+use enet_submit::{Finished, Order};
 use enet_types::{Event, Refusal};
 use std::alloc::Global;
 use std::collections::VecDeque;
@@ -38,6 +39,20 @@ pub struct Relay<'a> {
     untold: usize,
 }
 
+/// What a relay leaves.
+#[derive(Drop)]
+pub struct Parts {
+    /// The peers that are connected.
+    pub table: Table,
+    /// The events that were taken and not expanded.
+    pub backlog: VecDeque<Event>,
+    /// The orders that found no room.
+    pub orders: VecDeque<Order>,
+    /// The seat, given up.
+    pub seat: Finished,
+    pub taker: Taker,
+}
+
 /// What a step of the relay found to do.
 #[derive(Clone, Copy, Debug, PartialEq, Eq)]
 enum Found {
@@ -51,9 +66,9 @@ enum Found {
 
 impl<'a> Relay<'a> {
     ghost use Rattle.std.specs.Prelude.{◌≡◌, ◌⊎◌, ◌++◌, true, OnOk, IfOk, IfErr};
-    ghost use Rattle.enet_submit.specs.Words.{sent};
+    ghost use Rattle.enet_submit.specs.Words.{IsFinishedOf, all_sent};
     ghost use Rattle.enet_bridge.specs.Ends.{orders};
-    ghost use Rattle.enet_bridge.specs.Holding.{asked, FoundNone};
+    ghost use Rattle.enet_bridge.specs.Holding.{asked, received, desk_queue, inbox_queue, FoundNone};
     ghost use Rattle.enet_chat.specs.Relaying.{Relays};
 
     /// A relay that goes on from these peers and these events.
@@ -76,13 +91,22 @@ impl<'a> Relay<'a> {
         }
     }
 
-    /// The peers, the events that were not expanded, and the orders that found no room.
-    pub fn into_parts(self) -> (Table, VecDeque<Event>, VecDeque<Order>)
-        ensures peers { result.0 ≡ self.entry.table }
-        ensures backlog { result.1 ≡ self.entry.backlog }
-        ensures orders { asked self.entry.desk ≡ orders (sent self.entry.desk.seat) ++ result.2.items }
+    /// Gives seat and taker up, with the peers, the events that were not expanded and the orders that found no room.
+    pub fn into_parts(self) -> Parts
+        ensures peers { result.table ≡ self.entry.table }
+        ensures backlog { result.backlog ≡ self.entry.backlog }
+        ensures orders { asked self.entry.desk ≡ orders (all_sent result.seat) ++ result.orders.items }
+        ensures taken { result.taker.taken ≡ received self.entry.inbox }
+        ensures fits { IsFinishedOf (desk_queue self.entry.desk) result.seat × (result.taker.queue ≡ (inbox_queue self.entry.inbox).id) }
     {
-        (self.table, self.backlog, self.desk.into_waiting())
+        let (seat, orders) = self.desk.into_parts();
+        Parts {
+            table: self.table,
+            backlog: self.backlog,
+            orders,
+            seat,
+            taker: self.inbox.into_taker(),
+        }
     }
 
     /// Takes events, expands them by the rule of the relay and submits their orders, until the service has ended and no event
@@ -233,6 +257,7 @@ fn relay_event(
     ensures peers { OnOk result (table.new ≡ noted table.old event.now) }
     ensures orders { OnOk result (asked desk.new ≡ asked desk.old ++ relayed (noted table.old event.now) event.now) }
     ensures same { OnErr result ((table.new ≡ table.old) × (asked desk.new ≡ asked desk.old)) }
+    ensures queue { desk_queue desk.new ≡ desk_queue desk.old }
     ensures memory { IfErr result (λ why. why ≡ Refusal.Memory) }
 {
     let orders = relay_step(alloc, table, event)?;

@@ -3,4 +3,4 @@ use Rattle.enet_chat.proofs.Relays.{relays_none}
 use Rattle.enet_chat.proofs.relaying.Relay.submit.Goals as goal
 
 pub returns : goal.returns
-returns g c = relays_none _ _ refl refl refl c.submit-pumped.ensures.kept
+returns g c = relays_none _ _ (c.submit-pumped.ensures.queue, refl) refl refl refl c.submit-pumped.ensures.kept
