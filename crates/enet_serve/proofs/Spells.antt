@@ -1,0 +1,69 @@
+-- Turns in which the wire did not fail, one run of them after another.
+use Rattle.std.proofs.Common.{◌≡◌, ℕ, ◌+◌, Bool, List, [], ◌++◌, Option, refl, sym, ap, ◌∙◌, append_assoc, arith}
+use Rattle.std.specs.Prelude.{map}
+use Rattle.std.specs.List.{sum_by}
+use Rattle.std.proofs.lemmas.List.{append-nil, map-append}
+use Rattle.std.proofs.lemmas.List.Elements.{All-nil, All-append, filter-append, filter_map-append}
+use Rattle.std.proofs.lemmas.List.Sums.{sum_by-append}
+use Rattle.std.proofs.lemmas.Grind.{flat_map-append}
+use Rattle.enet_types.specs.declared.event.Event.{Event}
+use Rattle.enet_submit.specs.declared.order.Submission.{Submission}
+use Rattle.enet_submit.specs.declared.token.Drain.{Drain}
+use Rattle.enet_submit.specs.Words.{taken}
+use Rattle.enet_events.specs.Words.{PosterState}
+use Rattle.enet_host.specs.Host.{Host}
+use Rattle.enet_turn.specs.declared.report.Report.{Report}
+use Rattle.enet_turn.specs.Counts.{stopped}
+use Rattle.enet_turn.specs.Queues.{given, accepted}
+use Rattle.enet_turn.specs.Run.{Round, IsSound, all_gave, all_puts, total}
+use Rattle.enet_turn.proofs.PhaseSteps.{chain_more}
+use Rattle.enet_turn.proofs.Reporting.{same_report}
+use Rattle.enet_chat.specs.Relaying.{events}
+use Rattle.enet_serve.specs.Threads.{Spell}
+
+sum_of_both : (f : Round → ℕ) (xs ys : List Round) (a b : ℕ) → a ≡ stopped (sum_by f xs) → b ≡ stopped (sum_by f ys) → stopped (a + b) ≡ stopped (sum_by f (xs ++ ys))
+sum_of_both f xs ys a b ea eb = omega (arith, sum_by-append f xs ys, ea, eb)
+
+total_of_both : (t d u : Report) (xs ys : List Round) → t ≡ total xs → d ≡ total ys
+    → u ≡ record { orders = stopped (t.orders + d.orders); received = stopped (t.received + d.received); sent = stopped (t.sent + d.sent); lost = stopped (t.lost + d.lost); events = stopped (t.events + d.events) }
+    → u ≡ total (xs ++ ys)
+total_of_both t d u xs ys et ed eu =
+    same_report u _ _ _ _ _ _ _ _ _ _ eu
+    (sum_of_both (λ r. r.report.orders) xs ys _ _ (ap (λ (t : Report). t.orders) et) (ap (λ (d : Report). d.orders) ed))
+    (sum_of_both (λ r. r.report.received) xs ys _ _ (ap (λ (t : Report). t.received) et) (ap (λ (d : Report). d.received) ed))
+    (sum_of_both (λ r. r.report.sent) xs ys _ _ (ap (λ (t : Report). t.sent) et) (ap (λ (d : Report). d.sent) ed))
+    (sum_of_both (λ r. r.report.lost) xs ys _ _ (ap (λ (t : Report). t.lost) et) (ap (λ (d : Report). d.lost) ed))
+    (sum_of_both (λ r. r.report.events) xs ys _ _ (ap (λ (t : Report). t.events) et) (ap (λ (d : Report). d.events) ed))
+
+given_both : (xs ys : List Round) → given (all_gave (xs ++ ys)) ≡ given (all_gave xs) ++ given (all_gave ys)
+given_both xs ys = ap given (flat_map-append (λ (r : Round). r.gave) xs ys) ∙ filter_map-append (λ (x : Option Submission). x) (all_gave xs) (all_gave ys)
+
+accepted_both : (xs ys : List Round) → accepted (all_puts (xs ++ ys)) ≡ accepted (all_puts xs) ++ accepted (all_puts ys)
+accepted_both xs ys =
+    ap accepted (flat_map-append (λ (r : Round). r.puts) xs ys)
+    ∙ ap (map (λ (x : Event × Bool). x.0)) (filter-append (λ (x : Event × Bool). x.1) (all_puts xs) (all_puts ys))
+    ∙ map-append (λ (x : Event × Bool). x.0) _ _
+
+pub no_turn : (s : Host × Option Event) (d : Drain) (p : PosterState) (r : Report) → r ≡ total [] → Spell s d p [] s d p r
+no_turn s d p r e = record {
+  turns = refl;
+  sound = All-nil IsSound;
+  totals = e;
+  gave = sym (append-nil (taken d));
+  put = record { same = refl; grown = sym (append-nil _) };
+}
+
+pub further : (a b c : Host × Option Event) (d e f : Drain) (p q r : PosterState) (xs ys : List Round) (t u w : Report)
+    → Spell a d p xs b e q t → Spell b e q ys c f r u
+    → w ≡ record { orders = stopped (t.orders + u.orders); received = stopped (t.received + u.received); sent = stopped (t.sent + u.sent); lost = stopped (t.lost + u.lost); events = stopped (t.events + u.events) }
+    → Spell a d p (xs ++ ys) c f r w
+further a b c d e f p q r xs ys t u w one two sum = record {
+  turns = chain_more _ a xs b ys c one.turns two.turns;
+  sound = All-append IsSound xs ys one.sound two.sound;
+  totals = total_of_both t u w xs ys one.totals two.totals sum;
+  gave = two.gave ∙ (ap (λ (zs : List Submission). zs ++ given (all_gave ys)) one.gave ∙ (append_assoc (taken d) (given (all_gave xs)) (given (all_gave ys)) ∙ ap (λ (zs : List Submission). taken d ++ zs) (sym (given_both xs ys))));
+  put = record {
+    same = two.put.same ∙ one.put.same;
+    grown = two.put.grown ∙ (ap (λ (zs : List Event). zs ++ accepted (all_puts ys)) one.put.grown ∙ (append_assoc (events p.posted) (accepted (all_puts xs)) (accepted (all_puts ys)) ∙ ap (λ (zs : List Event). events p.posted ++ zs) (sym (accepted_both xs ys))));
+  };
+}

@@ -1,0 +1,10 @@
+use Rattle.std.proofs.Common.{refl}
+use Rattle.enet_serve.proofs.Settled.{taken_is_sent}
+use Rattle.enet_serve.proofs.settling.settle_orders.Goals.{in-Ok-settle, in-Err}
+use Rattle.enet_serve.proofs.settling.settle_orders.Goals as goal
+
+pub returns : goal.returns
+returns c = elim c.match-settle.branch [
+  | in-Ok-settle w ↦ rw w.result-is (taken_is_sent c.args.queue.now c.args.drain c.args.seat _ c.in-Ok.ensures.items c.requires.one (w.in-Ok-settle.ensures.settled.0 refl) w.in-Ok-settle.ensures.all_taken w.in-Ok-settle.ensures.empty)
+  | in-Err w ↦ rw w.result-is tt
+]

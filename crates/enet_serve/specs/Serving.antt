@@ -1,0 +1,69 @@
+-- What a server does in a shift.
+use Rattle.std.specs.Prelude.{◌≡◌, List, [], ◌++◌, length, Option, None}
+use Rattle.std.specs.List.{All}
+use Rattle.enet_types.specs.declared.event.PeerRef.{PeerRef}
+use Rattle.enet_types.specs.declared.event.Event.{Event}
+use Rattle.enet_types.specs.Config.{standard_config}
+use Rattle.enet_submit.specs.declared.order.Order.{Order}
+use Rattle.enet_host.specs.Host.{Host}
+use Rattle.enet_host.specs.Opening.{opened}
+use Rattle.enet_bridge.specs.Ends.{orders}
+use Rattle.enet_turn.specs.declared.report.Report.{Report}
+use Rattle.enet_turn.specs.Hosting.{Ticks, Obeys, Hears, Gives, Tells}
+use Rattle.enet_turn.specs.Queues.{given, accepted}
+use Rattle.enet_turn.specs.Run.{Round, Rounds, IsSound, all_gave, all_puts, total}
+use Rattle.enet_chat.specs.Relaying.{noted_all, relayed_all}
+use Rattle.enet_serve.specs.declared.shift.Shift.{Shift}
+use Rattle.enet_serve.specs.declared.shift.Shift.TheVariants.{Turns, Time}
+use Rattle.enet_serve.specs.declared.server.Server.{Server}
+use Rattle.enet_serve.specs.declared.server.Settings.{Settings}
+
+-- ---- what a server is between two shifts
+abbrev pub host_of : Server → Host
+host_of server = server.service.host
+
+-- the event that waits for room in the queue, if there is one
+abbrev pub waiting_of : Server → Option Event
+waiting_of server = server.service.waiting
+
+-- the peers that the relay knows, the events that it has not expanded, and the orders that were not carried out
+abbrev pub peers_of : Server → List PeerRef
+peers_of server = server.kept.table
+
+abbrev pub backlog_of : Server → List Event
+backlog_of server = server.kept.backlog.items
+
+abbrev pub orders_of : Server → List Order
+orders_of server = server.kept.orders.items
+
+-- a fresh host of these settings, and nothing that waits
+pub record IsOpened (settings : Settings) (server : Server) : Type 0 where
+  pub host : host_of server ≡ opened (standard_config settings.peers settings.channels)
+  pub waiting : waiting_of server ≡ None
+  pub peers : peers_of server ≡ []
+  pub backlog : backlog_of server ≡ []
+  pub orders : orders_of server ≡ []
+
+-- ---- a shift
+-- how many turns it has: as many as it was told; where it was told a time, that isn't said
+abbrev pub Lasts : Shift → List Round → Type 0
+Lasts (Turns n) rounds = length rounds ≡ n
+Lasts (Time length) rounds = Unit {0}
+
+-- turns of a service over our host, one after another, each with the host and the event that waits
+abbrev pub TakesTurns : Host × Option Event → List Round → Host × Option Event → Type 0
+TakesTurns old rounds new = Rounds Ticks Obeys Hears Gives Tells old rounds new
+
+-- From one shift to the next. In none of its turns the wire failed, and the report is their sums. The events that the turns put are
+-- expanded behind those that waited, once and in order, or wait; the orders that they give over the peers come behind those that
+-- waited and were handed to the turns, once and in order, or wait
+pub record Serves (old : Server) (shift : Shift) (new : Server) (report : Report) : Type 0 where
+  pub rounds : List Round
+  pub expanded : List Event
+  pub lasts : Lasts shift rounds
+  pub turns : TakesTurns (host_of old, waiting_of old) rounds (host_of new, waiting_of new)
+  pub sound : All IsSound rounds
+  pub totals : report ≡ total rounds
+  pub events : backlog_of old ++ accepted (all_puts rounds) ≡ expanded ++ backlog_of new
+  pub peers : peers_of new ≡ noted_all (peers_of old) expanded
+  pub orders_done : orders_of old ++ relayed_all (peers_of old) expanded ≡ orders (given (all_gave rounds)) ++ orders_of new

@@ -1,0 +1,96 @@
+//! What is left of a shift, once both its threads have ended.
+ghost use Rattle.std.specs.Prelude.{◌≡◌, ◌++◌, OnOk, IfOk};
+ghost use Rattle.enet_submit.specs.Words.{IsDrainOf, IsFinishedOf, seats_of, taken, all_sent};
+ghost use Rattle.enet_bridge.specs.Ends.{orders};
+
+use enet_events::{EventQueue, Poster, Taker};
+use enet_submit::{Drain, Finished, Order, SubmitQueue};
+use enet_types::Refusal;
+use std::alloc::Global;
+use std::collections::VecDeque;
+use std::sync::Wait;
+
+/// Settles the event queue: its only taker took all that was posted. E16 where it didn't, E1 for want of memory.
+pub(crate) fn settle_events(
+    alloc: Global,
+    events: &EventQueue,
+    poster: Poster,
+    taker: Taker,
+) -> Result<(), Refusal>
+    requires poster { poster.queue ≡ events.now.id }
+    requires taker { taker.queue ≡ events.now.id }
+    requires one { events.now.id.takers ≡ 1 }
+    ensures { OnOk result (taker.taken ≡ poster.posted) }
+{
+    let Ok(takers) = Vec::from_array(alloc, [taker]) else {
+        return Err(Refusal::Memory);
+    };
+    match events.settle(poster, takers) {
+        Ok(_) => Ok(()),
+        Err((why, _, _)) => Err(why),
+    }
+}
+
+/// The orders that the only seat submitted and the drain didn't take, in order. E16 where the queue has others still, E1 for want
+/// of memory.
+pub(crate) fn untaken<R: Wait>(
+    rt: &R,
+    alloc: Global,
+    queue: &SubmitQueue,
+    drain: Drain,
+    seat: Finished,
+) -> Result<VecDeque<Order>, Refusal>
+    requires drain { IsDrainOf queue.now drain }
+    requires seat { IsFinishedOf queue.now seat }
+    requires one { seats_of queue.now ≡ 1 }
+    ensures { IfOk result (λ rest. orders (all_sent seat) ≡ orders (taken drain) ++ rest.items) }
+{
+    let (drain, rest) = take_rest(rt, alloc, queue, drain)?;
+    settle_orders(alloc, queue, drain, seat)?;
+    Ok(rest)
+}
+
+// What the queue still holds.
+fn take_rest<R: Wait>(
+    rt: &R,
+    alloc: Global,
+    queue: &SubmitQueue,
+    drain: Drain,
+) -> Result<(Drain, VecDeque<Order>), Refusal>
+    requires { IsDrainOf queue.now drain }
+    ensures fits { IfOk result (λ r. IsDrainOf queue.now r.0) }
+    ensures rest { IfOk result (λ r. orders (taken r.0) ≡ orders (taken drain) ++ r.1.items) }
+{
+    let mut drain = drain;
+    let mut rest = VecDeque::new(alloc);
+    for _ in rt.forever() {
+        let Some(submission) = queue.take(rt, &mut drain) else {
+            break;
+        };
+        if rest.push_back(submission.order).is_err() {
+            return Err(Refusal::Memory);
+        }
+    }
+    Ok((drain, rest))
+}
+
+// The drain took all that the only seat submitted, or E16.
+fn settle_orders(
+    alloc: Global,
+    queue: &SubmitQueue,
+    drain: Drain,
+    seat: Finished,
+) -> Result<(), Refusal>
+    requires drain { IsDrainOf queue.now drain }
+    requires seat { IsFinishedOf queue.now seat }
+    requires one { seats_of queue.now ≡ 1 }
+    ensures { OnOk result (taken drain ≡ all_sent seat) }
+{
+    let Ok(seats) = Vec::from_array(alloc, [seat]) else {
+        return Err(Refusal::Memory);
+    };
+    match queue.settle(drain, seats) {
+        Ok(_) => Ok(()),
+        Err((why, _, _)) => Err(why),
+    }
+}

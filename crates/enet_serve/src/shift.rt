@@ -1,0 +1,103 @@
+//! How long a service takes turns.
+ghost use Rattle.std.specs.Prelude.{◌≡◌, List, length, IfOk};
+ghost use Rattle.enet_turn.specs.Run.{Round as OneTurn};
+ghost use Rattle.enet_turn.specs.Queues.{queue_of, drain_of, poster_of};
+ghost use Rattle.enet_serve.specs.Serving.{Lasts};
+ghost use Rattle.enet_serve.specs.Threads.{Spell};
+
+use enet_host::HostCore;
+use enet_service::{MioWire, QueueSink, QueueSource, Report, Service, run_between_queues};
+use enet_types::Refusal;
+use std::io;
+use std::rt::Clock;
+use std::sync::Wait;
+use std::time::{Duration, Instant};
+
+/// Between two looks at the clock a service takes so many turns.
+const TURNS_AT_ONCE: u64 = 64;
+
+/// How long a service takes turns.
+#[derive(Clone, Copy)]
+pub enum Shift {
+    /// So many turns.
+    Turns(u64),
+    /// As many turns as it takes until so much time has passed.
+    Time(Duration),
+}
+
+/// The turns of a shift, and the sums of their reports. E14 where the wire fails.
+pub(crate) fn take_turns<R: Wait + Clock>(
+    rt: &R,
+    service: &mut Service<HostCore>,
+    wire: &mut MioWire,
+    source: &mut QueueSource<'_>,
+    sink: &mut QueueSink<'_>,
+    shift: Shift,
+) -> Result<Report, Refusal>
+    ensures queue { queue_of source.new ≡ queue_of source.old }
+    ensures turns { IfOk result (λ report. (rounds : List OneTurn) × Lasts shift rounds
+        × Spell (service.old.host, service.old.waiting) (drain_of source.old) (poster_of sink.old) rounds
+        (service.new.host, service.new.waiting) (drain_of source.new) (poster_of sink.new) report) }
+{
+    match shift {
+        Shift::Turns(turns) => turns_of(rt, service, wire, source, sink, turns),
+        Shift::Time(length) => turns_for(rt, service, wire, source, sink, length),
+    }
+}
+
+// So many turns.
+fn turns_of<R: Wait + Clock>(
+    rt: &R,
+    service: &mut Service<HostCore>,
+    wire: &mut MioWire,
+    source: &mut QueueSource<'_>,
+    sink: &mut QueueSink<'_>,
+    turns: u64,
+) -> Result<Report, Refusal>
+    ensures queue { queue_of source.new ≡ queue_of source.old }
+    ensures turns { IfOk result (λ report. (rounds : List OneTurn) × (length rounds ≡ turns)
+        × Spell (service.old.host, service.old.waiting) (drain_of source.old) (poster_of sink.old) rounds
+        (service.new.host, service.new.waiting) (drain_of source.new) (poster_of sink.new) report) }
+{
+    match run_between_queues(rt, service, wire, source, sink, turns) {
+        Ok(report) => Ok(report),
+        Err(fault) => Err(fault.why),
+    }
+}
+
+// Turns until so much time has passed.
+fn turns_for<R: Wait + Clock>(
+    rt: &R,
+    service: &mut Service<HostCore>,
+    wire: &mut MioWire,
+    source: &mut QueueSource<'_>,
+    sink: &mut QueueSink<'_>,
+    length: Duration,
+) -> Result<Report, Refusal>
+    ensures queue { queue_of source.new ≡ queue_of source.old }
+    ensures turns { IfOk result (λ report. (rounds : List OneTurn)
+        × Spell (service.old.host, service.old.waiting) (drain_of source.old) (poster_of sink.old) rounds
+        (service.new.host, service.new.waiting) (drain_of source.new) (poster_of sink.new) report) }
+{
+    let start = Instant::now(rt);
+    let mut total = Report::nothing();
+    for _ in rt.forever() {
+        let report = turns_of(rt, service, wire, source, sink, TURNS_AT_ONCE)?;
+        total = total.and(report);
+        if has_passed(rt, &start, length) {
+            return Ok(total);
+        }
+    }
+    unreachable!()
+}
+
+// Where the clock can't be read, no time passes.
+fn has_passed<R: Clock>(rt: &R, start: &io::Result<Instant>, length: Duration) -> bool {
+    let Ok(start) = start else {
+        return false;
+    };
+    match start.elapsed(rt) {
+        Ok(elapsed) => elapsed >= length,
+        Err(_) => false,
+    }
+}
