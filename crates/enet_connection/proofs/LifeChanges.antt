@@ -217,7 +217,7 @@ lives-ended joined es p info in-time h = (
 pub lives : (joined : Bool) (es : List PeerEvent) → Changes (Lives joined es)
 lives joined es = record {
   quiet = λ p q e h. lives-core joined es p q e h;
-  controls = λ p what on h. lives-connected joined es p (record p { outbox = with_control p.outbox what }) refl refl on h;
+  controls = λ p what plain on h. lives-connected joined es p (record p { outbox = with_control p.outbox what }) refl refl on h;
   ends = λ p info in-time h. lives-ended joined es p info in-time h;
   cuts = λ p now gone over h. absurd (let none = still-patient p.outbox now p.patience (gone-still joined es p p.state gone h) in let x : true ≡ false = sym over ∙ none in cc);
   frees = λ p h. record { life = lives-one joined es p h; greeting = refl; untaken = refl; still = still-cleared p.outbox };
@@ -226,7 +226,7 @@ lives joined es = record {
   answers = λ p info up h. standing joined es p p.state up h;
   waits = λ p info on h. standing joined es p p.state (ap stands (connected-is p.state on)) h;
   greets = λ p e h. (let a : LivesIn state.Answering joined es p = subst (λ (s : PeerState). LivesIn s joined es p) e h in let u = a.1 in inr (a.0, u.none, p.info, refl));
-  welcomes = λ p v terms e big h. (let a : LivesIn state.Connecting joined es p = subst (λ (s : PeerState). LivesIn s joined es p) e h in let u = a.1 in inr (a.0, u.none, 0, refl));
+  welcomes = λ p v terms e big word h. (let a : LivesIn state.Connecting joined es p = subst (λ (s : PeerState). LivesIn s joined es p) e h in let u = a.1 in inr (a.0, u.none, 0, refl));
   acknowledges = λ p j number in-time h. lives-outbox joined es p (outbox.acknowledged p.outbox j number) (λ gone. absurd (let x : true ≡ false = sym gone ∙ in-time in cc)) h;
   marks = λ p now h. lives-outbox joined es p (outbox.marked p.outbox now) (λ gone still. still-marked p.outbox now still) h;
   takes = λ p j r c on there h. lives-connected joined es p (record p { inbox = handed_over p.inbox j (after_command r (Some c) (is_full p.inbox)) }) refl refl on h;

@@ -42,7 +42,7 @@ none channel far = refl
 pub lows : Changes IsLow
 lows = record {
   quiet = λ p q e h. record { channels = subst (λ (c : Core). length c.receivers ≤ 255) (sym e) h.channels; untaken = subst (λ (c : Core). AreLow c.untaken) (sym e) h.untaken };
-  controls = λ p what on h. record { channels = h.channels; untaken = h.untaken };
+  controls = λ p what plain on h. record { channels = h.channels; untaken = h.untaken };
   ends = λ p info here h. dropped-low p (ended p info) refl h.untaken h;
   cuts = λ p now gone over h. dropped-low p (ended p 0) refl h.untaken h;
   frees = λ p h. dropped-low p (freed p) refl none h;
@@ -51,7 +51,7 @@ lows = record {
   answers = λ p info up h. dropped-low p (record (dropped p) { state = AckDisconnect; info = info }) refl h.untaken h;
   waits = λ p info on h. record { channels = h.channels; untaken = h.untaken };
   greets = λ p e h. record { channels = h.channels; untaken = h.untaken };
-  welcomes = λ p v terms e big h. record { channels = take-few terms.channels p.inbox.receivers h.channels; untaken = h.untaken };
+  welcomes = λ p v terms e big word h. record { channels = take-few terms.channels p.inbox.receivers h.channels; untaken = h.untaken };
   acknowledges = λ p j number here h. record { channels = h.channels; untaken = h.untaken };
   marks = λ p now h. record { channels = h.channels; untaken = h.untaken };
   takes = λ p j r c on there h. record {

@@ -47,6 +47,8 @@ use Rattle.enet_connection.proofs.Runs.{either, and-left}
 pub record Core : Type 0 where
   pub state : PeerState
   pub mtu : ℕ
+  pub connect_id : ℕ
+  pub offered : ℕ  -- the connect id of the offer with which it asked
   pub greeting : Option ℕ
   pub receivers : List ReceivingEnd
   pub untaken : List Packet
@@ -54,7 +56,12 @@ pub record Core : Type 0 where
   pub senders : List SendingEnd
 
 abbrev pub core : Peering → Core
-core p = record { state = p.state; mtu = p.terms.mtu; greeting = p.greeting; receivers = p.inbox.receivers; untaken = p.inbox.untaken; control = p.outbox.control; senders = p.outbox.senders }
+core p = record { state = p.state; mtu = p.terms.mtu; connect_id = p.terms.connect_id; offered = p.offer.connect_id; greeting = p.greeting; receivers = p.inbox.receivers; untaken = p.inbox.untaken; control = p.outbox.control; senders = p.outbox.senders }
+
+-- a CONNECT, which nothing queues but the beginning of a connection
+abbrev pub is_offer : Control → Bool
+is_offer (control.Connect offer) = true
+is_offer _ = false
 
 -- nothing reliable is sent any more
 abbrev pub is_gone : PeerState → Bool
@@ -71,7 +78,7 @@ stands _ = false
 
 pub record Changes (P : Peering → Type 0) : Type 0 where
   pub quiet : (p q : Peering) → core q ≡ core p → P p → P q
-  pub controls : (p : Peering) (what : Control) → is_connected p.state ≡ true → P p → P (record p { outbox = with_control p.outbox what })
+  pub controls : (p : Peering) (what : Control) → is_offer what ≡ false → is_connected p.state ≡ true → P p → P (record p { outbox = with_control p.outbox what })
   pub ends : (p : Peering) (info : ℕ) → is_gone p.state ≡ false → P p → P (ended p info)
   pub cuts : (p : Peering) (now : ℕ) → is_gone p.state ≡ true → has_ended p.outbox now p.patience ≡ true → P p → P (ended p 0)
   pub frees : (p : Peering) → P p → P (freed p)
@@ -80,7 +87,7 @@ pub record Changes (P : Peering → Type 0) : Type 0 where
   pub answers : (p : Peering) (info : ℕ) → stands p.state ≡ true → P p → P (record (dropped p) { state = state.AckDisconnect; info = info })
   pub waits : (p : Peering) (info : ℕ) → is_connected p.state ≡ true → P p → P (record p { state = state.DisconnectLater; info = info })
   pub greets : (p : Peering) → p.state ≡ state.Answering → P p → P (record p { state = state.Connected; greeting = Some p.info })
-  pub welcomes : (p : Peering) (v : Verify) (terms : Terms) → p.state ≡ state.Connecting → 28 < terms.mtu → P p → P (welcomed p v (Some terms))
+  pub welcomes : (p : Peering) (v : Verify) (terms : Terms) → p.state ≡ state.Connecting → 28 < terms.mtu → terms.connect_id ≡ p.offer.connect_id → P p → P (welcomed p v (Some terms))
   pub acknowledges : (p : Peering) (channel number : ℕ) → is_gone p.state ≡ false → P p → P (record p { outbox = acknowledged p.outbox channel number })
   pub marks : (p : Peering) (now : ℕ) → P p → P (record p { outbox = outbox.marked p.outbox now })
   pub takes : (p : Peering) (channel : ℕ) (r : ReceivingEnd) (c : DataCommand) → is_connected p.state ≡ true → slice_get p.inbox.receivers channel ≡ Some r → P p
@@ -135,7 +142,7 @@ kept-ticked P k p now h =
     let q : Peering = after_timeouts p now in
     let a : P q = kept-timeouts P k p now h in
     if-peer P (is_pinged q now) (record q { outbox = with_control q.outbox control.Ping }) q
-    (λ t. k.controls q control.Ping (and-left (is_connected q.state) (outbox.is_quiet q.outbox) (and-left (is_connected q.state && outbox.is_quiet q.outbox) (leb q.ping_interval (elapsed_time now q.heard)) t)) a) a
+    (λ t. k.controls q control.Ping refl (and-left (is_connected q.state) (outbox.is_quiet q.outbox) (and-left (is_connected q.state && outbox.is_quiet q.outbox) (leb q.ping_interval (elapsed_time now q.heard)) t)) a) a
 
 -- the user ends the connection
 
@@ -175,11 +182,11 @@ kept-set P k p (Bandwidth incoming outgoing) may h = by (is_connected p.state) r
     by : (b : Bool) → is_connected p.state ≡ b → P (record p { limits = record p.limits { incoming = incoming; outgoing = outgoing }; outbox = cond b (with_control p.outbox (control.BandwidthLimit incoming outgoing)) p.outbox })
     by true e = k.quiet (record p { outbox = with_control p.outbox (control.BandwidthLimit incoming outgoing) })
         (record p { limits = record p.limits { incoming = incoming; outgoing = outgoing }; outbox = with_control p.outbox (control.BandwidthLimit incoming outgoing) }) refl
-        (k.controls p (control.BandwidthLimit incoming outgoing) e h)
+        (k.controls p (control.BandwidthLimit incoming outgoing) refl e h)
     by false e = k.quiet p (record p { limits = record p.limits { incoming = incoming; outgoing = outgoing } }) refl h
 kept-set P k p (Throttle interval acceleration deceleration) may h =
     let what : Control = control.ThrottleConfigure interval acceleration deceleration in
-    k.quiet (record p { outbox = with_control p.outbox what }) (with_setting (Throttle interval acceleration deceleration) p) refl (k.controls p what may h)
+    k.quiet (record p { outbox = with_control p.outbox what }) (with_setting (Throttle interval acceleration deceleration) p) refl (k.controls p what refl may h)
 kept-set P k p (ThrottleLimit limit) may h = k.quiet p (with_setting (ThrottleLimit limit) p) refl h
 kept-set P k p (PingInterval ms) may h = k.quiet p (with_setting (PingInterval ms) p) refl h
 kept-set P k p (Timeout limit minimum maximum) may h = k.quiet p (with_setting (Timeout limit minimum maximum) p) refl h
@@ -265,19 +272,25 @@ kept-acknowledged P k p now channel number time here h = by (matched_by p.outbox
 big-enough : (n : ℕ) → 28 < max 576 n
 big-enough n = omega arith
 
-confirmed-big : (o : Offer) (v : Verify) (terms : Terms) → confirmed o v ≡ Some terms → 28 < terms.mtu
-confirmed-big o v terms e = by (is_accepted o v) e
+confirmed-agreed : (o : Offer) (v : Verify) (terms : Terms) → confirmed o v ≡ Some terms → agreed o v ≡ terms
+confirmed-agreed o v terms e = by (is_accepted o v) e
   where
-    by : (b : Bool) → cond b (Some (agreed o v)) None ≡ Some terms → 28 < terms.mtu
-    by true e = (let same : agreed o v ≡ terms = cc in subst (λ (t : Terms). 28 < t.mtu) same (big-enough (min (min o.mtu v.mtu) 4096)))
+    by : (b : Bool) → cond b (Some (agreed o v)) None ≡ Some terms → agreed o v ≡ terms
+    by true e = (let same : agreed o v ≡ terms = cc in same)
     by false e = absurd (cc)
+
+confirmed-big : (o : Offer) (v : Verify) (terms : Terms) → confirmed o v ≡ Some terms → 28 < terms.mtu
+confirmed-big o v terms e = subst (λ (t : Terms). 28 < t.mtu) (confirmed-agreed o v terms e) (big-enough (min (min o.mtu v.mtu) 4096))
+
+confirmed-word : (o : Offer) (v : Verify) (terms : Terms) → confirmed o v ≡ Some terms → terms.connect_id ≡ o.connect_id
+confirmed-word o v terms e = sym (ap (λ (t : Terms). t.connect_id) (confirmed-agreed o v terms e))
 
 kept-verified : (P : Peering → Type 0) → Changes P → (p : Peering) (v : Verify) (s : PeerState) → p.state ≡ s → P p → P (on_verify_in s p v)
 kept-verified P k p v state.Connecting e h = by (confirmed p.offer v) refl
   where
     by : (o : Option Terms) → confirmed p.offer v ≡ o → P (welcomed p v o)
     by None c = k.ends p 0 (ap is_gone e) h
-    by (Some terms) c = k.welcomes p v terms e (confirmed-big p.offer v terms c) h
+    by (Some terms) c = k.welcomes p v terms e (confirmed-big p.offer v terms c) (confirmed-word p.offer v terms c) h
 kept-verified P k p v s e h = h
 
 kept-last : (P : Peering → Type 0) → Changes P → (p : Peering) (b : Bool) (info : ℕ) → stands p.state ≡ true → is_gone p.state ≡ false → P p → P (on_last_disconnect p b info)

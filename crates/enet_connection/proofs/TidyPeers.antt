@@ -143,7 +143,7 @@ flat-set rs k t none flagged flat i r e = elim (set-cases rs k t i r e) [
 pub tidies : (qs : List Packet) → Changes (IsTidy qs)
 tidies qs = record {
   quiet = λ p q e h. tidy-core qs p q e h;
-  controls = λ p what on h. record { places = h.places; few = h.few; receivers = h.receivers; young = h.young; big = h.big };
+  controls = λ p what plain on h. record { places = h.places; few = h.few; receivers = h.receivers; young = h.young; big = h.big };
   ends = λ p info here h. tidy-stopped qs p (ended p info) refl refl refl refl h;
   cuts = λ p now gone over h. tidy-stopped qs p (ended p 0) refl refl refl refl h;
   frees = λ p h. tidy-stopped qs p (freed p) refl refl refl refl h;
@@ -164,7 +164,7 @@ tidies qs = record {
     young = λ t. absurd (let x : false ≡ true = t in cc);
     big = λ t. h.big (ap is_agreed e);
   };
-  welcomes = λ p v terms e big h. record {
+  welcomes = λ p v terms e big word h. record {
     places = narrowed-places terms.channels p.outbox.senders h.places;
     few = take-few terms.channels (map cleared_sender p.outbox.senders) (subst (λ n. n ≤ 255) (sym (length-map p.outbox.senders cleared_sender)) h.few);
     receivers = λ i r there. elim (get-take terms.channels p.inbox.receivers i) [
