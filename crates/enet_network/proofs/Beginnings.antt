@@ -20,6 +20,7 @@ use Rattle.enet_datagram.specs.Heading.{IsRead, IsOffer}
 use Rattle.enet_peer.specs.declared.parts.PeerState.TheVariants as state
 use Rattle.enet_peer.specs.Peering.{Peering, connecting, answering as answering_peer}
 use Rattle.enet_link.specs.Steps.{Has}
+use Rattle.enet_link.proofs.Lists.{Has-push, Has-slice_get}
 use Rattle.enet_connection.specs.Connection.{Put, End, messages_of}
 use Rattle.enet_connection.specs.Steps.{Answer, with_peer, no_end}
 use Rattle.enet_connection.proofs.Runs.{reached-none}
@@ -51,11 +52,6 @@ first-kept zero i = refl
 first-kept (suc n) zero = refl
 first-kept (suc n) (suc i) = first-kept n i
 
-Has-get : (log : List Logged) (i : ℕ) (d : Logged) → slice_get log i ≡ Some d → Has log d
-Has-get [] i d h = absurd (let y : None ≡ Some d = h in cc)
-Has-get (x ∷ log) zero d h = inl (let y : Some x ≡ Some d = h in cc)
-Has-get (x ∷ log) (suc i) d h = inr (Has-get log i d h)
-
 shows-fresh : (s : Site) (x : ℕ) (name : PeerRef) (p : Peering) → p.state ≢ state.Free → IsThere s.host.slots name p → HasNothingOf x s → Shows s (fresh_end x name) (with_peer no_end p)
 unfolding fresh_channels fresh_greatest
 shows-fresh s x name p live there none = record {
@@ -64,7 +60,7 @@ shows-fresh s x name p live there none = record {
   shows = shows-held s.host name p live there;
   long = refl;
   numbers = refl;
-  log = λ k d h of. absurd (none d (Has-get s.log k d h) of);
+  log = λ k d h of. absurd (none d (Has-slice_get s.log k d h) of);
   greatest = λ channel low. first-number 256 channel ∙ sym (reached-none channel 0);
   submitted = λ channel low. ap (λ (k : Kept). k.submitted) (first-kept 256 channel);
   taken = λ channel low. ap (λ (k : Kept). k.taken) (first-kept 256 channel);
@@ -72,10 +68,6 @@ shows-fresh s x name p live there none = record {
 }
 
 -- its user asks
-
-Has-last : (ends : List HostEnd) (e : HostEnd) → Has (ends ++ e ∷ []) e
-Has-last [] e = inl refl
-Has-last (f ∷ ends) e = inr (Has-last ends e)
 
 ok-name : (a b : PeerRef) → ◌≡◌ {A = Result PeerRef Refusal} (Ok a) (Ok b) → a ≡ b
 ok-name a b e = cc
@@ -106,7 +98,7 @@ asked next other old new address channels info word name x none =
     let logs : new.log ≡ old.log = ap (λ (s : Site). s.log) x.1.1 in (
       a.offer,
       a.says,
-      subst (λ (l : List HostEnd). Has l (fresh_end next name)) (sym ends) (Has-last old.ends (fresh_end next name)),
+      subst (λ (l : List HostEnd). Has l (fresh_end next name)) (sym ends) (Has-push old.ends (fresh_end next name)),
       shows-fresh new next name (connecting old.host.clock a.offer (limits_of old.host.config)) (λ e. absurd (let y : state.Connecting ≡ state.Free = e in cc)) a.there
           (subst (λ (l : List Logged). (d : Logged) → Has l d → d.connection ≢ next) (sym logs) none),
     )
@@ -114,7 +106,7 @@ asked next other old new address channels info word name x none =
 -- its host answers a CONNECT
 
 -- the CONNECT is a command that was put out
-the-offer : (puts : List Put) (commands : List ℕ) (o : Offer) → IsOffer commands o → SpellsAll commands (messages_of puts) → (x : Put) × Has puts x × (x.message.body ≡ connect o)
+pub the-offer : (puts : List Put) (commands : List ℕ) (o : Offer) → IsOffer commands o → SpellsAll commands (messages_of puts) → (x : Put) × Has puts x × (x.message.body ≡ connect o)
 the-offer [] commands o offer s = absurd (some-bytes commands [] (record { head = offer.0; body = connect o }) offer.1 (append-nil commands ∙ s))
 the-offer (x ∷ puts) commands o offer s =
     let one = one_spelling s.0 commands s.1 [] x.message (record { head = offer.0; body = connect o }) s.3 offer.1 (sym s.2 ∙ sym (append-nil commands)) in
@@ -129,7 +121,7 @@ counts o h = by (nat_le no_peer o.outgoing_peer) (is_channel_count o.channels) h
     by false false e = absurd (cc)
 
 -- nothing begins in a slot that is free
-none-in : (x : ℕ) (i : ℕ) (new : Host) (s : SlotState) (f : HostEnd) → slice_get new.slots i ≡ Some s → s.peer ≡ None → Has (begun_in x (Some i) new) f → ⊥
+pub none-in : (x : ℕ) (i : ℕ) (new : Host) (s : SlotState) (f : HostEnd) → slice_get new.slots i ≡ Some s → s.peer ≡ None → Has (begun_in x (Some i) new) f → ⊥
 none-in x i new s f there none h =
     subst (λ (o : Option Peering). Has (end_in x i s o) f → ⊥) (sym none) (λ y. y) (subst (λ (o : Option SlotState). Has (end_at x i o) f) there h)
 

@@ -54,7 +54,7 @@ or-right : (a b : Bool) → (a || b) ≡ false → b ≡ false
 or-right true b e = absurd (cc)
 or-right false b e = e
 
-none-of : {X : Type 0} (p : X → Bool) (xs : List X) (x : X) → list_any p xs ≡ false → Has xs x → p x ≡ false
+pub none-of : {X : Type 0} (p : X → Bool) (xs : List X) (x : X) → list_any p xs ≡ false → Has xs x → p x ≡ false
 none-of p [] x e h = absurd h
 none-of p (y ∷ xs) x e (inl same) = ap p (sym same) ∙ or-left (p y) (list_any p xs) e
 none-of p (y ∷ xs) x e (inr h) = none-of p xs x (or-right (p y) (list_any p xs) e) h

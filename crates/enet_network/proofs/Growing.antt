@@ -5,6 +5,7 @@ use Rattle.enet_types.specs.declared.event.PeerRef.{PeerRef}
 use Rattle.enet_types.specs.declared.event.Received.{Received}
 use Rattle.enet_peer.specs.Peering.{Peering}
 use Rattle.enet_link.specs.Steps.{Has}
+use Rattle.enet_link.proofs.Lists.{Has-append_cases}
 use Rattle.enet_connection.specs.Law.{mtu_in}
 use Rattle.enet_host.specs.Host.{Host, SlotState, named, name_of}
 use Rattle.enet_host.specs.Calls.{TakesOne}
@@ -14,7 +15,7 @@ use Rattle.enet_isolation.specs.Calls as call
 use Rattle.enet_network.specs.Log.{Logged}
 use Rattle.enet_network.specs.Network.{HostEnd, Site, fresh_end, is_same_name, with_end, numbers_of}
 use Rattle.enet_network.specs.Steps.{Happening, Calls, Hears, Happens, Called, Logs, BringsOne, ends_after, after_event, with_packet, with_event, end_in, end_at, begun_in, begun}
-use Rattle.enet_network.proofs.OneThing.{event-ends}
+use Rattle.enet_network.proofs.OneThing.{Has-append_left, event-ends}
 
 -- the ends that begin
 abbrev pub more_in : ℕ → Site → Site → Option Logged → List HostEnd
@@ -93,38 +94,28 @@ grows next other old new (Hears k answer) x = brings-grow next other old new ans
 
 -- each end is one of before, or begins
 
-Has-either : {X : Type 0} (a b : List X) (x : X) → Has (a ++ b) x → Has a x ⊎ Has b x
-Has-either [] b x h = inr h
-Has-either (y ∷ a) b x (inl e) = inl (inl e)
-Has-either (y ∷ a) b x (inr h) = elim (Has-either a b x h) [ inl k ↦ inl (inr k) | inr k ↦ inr k ]
-
 Has-mapped : (f : HostEnd → HostEnd) (xs : List HostEnd) (y : HostEnd) → Has (map f xs) y → (x : HostEnd) × Has xs x × (f x ≡ y)
 Has-mapped f [] y h = absurd h
 Has-mapped f (x ∷ xs) y (inl e) = (x, inl refl, e)
 Has-mapped f (x ∷ xs) y (inr h) = let r = Has-mapped f xs y h in (r.0, inr r.1, r.2)
 
 pub from-before : (old new : Site) (more : List HostEnd) (g : Grows old new more) (f : HostEnd) → Has new.ends f → ((e : HostEnd) × Has old.ends e × (g.change e ≡ f)) ⊎ Has more f
-from-before old new more g f h = elim (Has-either (map g.change old.ends) more f (subst (λ (l : List HostEnd). Has l f) g.ends h)) [ inl k ↦ inl (Has-mapped g.change old.ends f k) | inr k ↦ inr k ]
+from-before old new more g f h = elim (Has-append_cases (map g.change old.ends) more f (subst (λ (l : List HostEnd). Has l f) g.ends h)) [ inl k ↦ inl (Has-mapped g.change old.ends f k) | inr k ↦ inr k ]
 
 Has-map : (f : HostEnd → HostEnd) (xs : List HostEnd) (x : HostEnd) → Has xs x → Has (map f xs) (f x)
 Has-map f [] x h = absurd h
 Has-map f (y ∷ xs) x (inl e) = inl (ap f e)
 Has-map f (y ∷ xs) x (inr h) = inr (Has-map f xs x h)
 
-Has-left : {X : Type 0} (a b : List X) (x : X) → Has a x → Has (a ++ b) x
-Has-left [] b x h = absurd h
-Has-left (y ∷ a) b x (inl e) = inl e
-Has-left (y ∷ a) b x (inr h) = inr (Has-left a b x h)
-
-Has-right : {X : Type 0} (a b : List X) (x : X) → Has b x → Has (a ++ b) x
-Has-right [] b x h = h
-Has-right (y ∷ a) b x h = inr (Has-right a b x h)
+Has-append_right : {X : Type 0} (a b : List X) (x : X) → Has b x → Has (a ++ b) x
+Has-append_right [] b x h = h
+Has-append_right (y ∷ a) b x h = inr (Has-append_right a b x h)
 
 pub stays-there : (old new : Site) (more : List HostEnd) (g : Grows old new more) (e : HostEnd) → Has old.ends e → Has new.ends (g.change e)
-stays-there old new more g e h = subst (λ (l : List HostEnd). Has l (g.change e)) (sym g.ends) (Has-left (map g.change old.ends) more (g.change e) (Has-map g.change old.ends e h))
+stays-there old new more g e h = subst (λ (l : List HostEnd). Has l (g.change e)) (sym g.ends) (Has-append_left (map g.change old.ends) more (g.change e) (Has-map g.change old.ends e h))
 
 pub begins-there : (old new : Site) (more : List HostEnd) (g : Grows old new more) (f : HostEnd) → Has more f → Has new.ends f
-begins-there old new more g f h = subst (λ (l : List HostEnd). Has l f) (sym g.ends) (Has-right (map g.change old.ends) more f h)
+begins-there old new more g f h = subst (λ (l : List HostEnd). Has l f) (sym g.ends) (Has-append_right (map g.change old.ends) more f h)
 
 -- an end that begins where a CONNECT is answered
 

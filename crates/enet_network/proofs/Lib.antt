@@ -11,4 +11,5 @@ pub mod OneThing
 pub mod Beginnings
 pub mod Growing
 pub mod Worlds
+pub mod Once
 pub mod Runs

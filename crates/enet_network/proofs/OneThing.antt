@@ -1,11 +1,12 @@
 -- Each thing that happens at a host, end by end.
-use Rattle.std.proofs.Common.{◌≡◌, ◌≤◌, ℕ, zero, suc, ◌⊎◌, inl, inr, Bool, true, false, cond, List, [], ◌∷◌, ◌++◌, refl, sym, ap, subst, ◌∙◌, Option, Some, None, Ok, Err, slice_get}
+use Rattle.std.proofs.Common.{◌≡◌, ◌≤◌, ℕ, ◌⊎◌, inl, inr, Bool, true, false, cond, List, [], ◌∷◌, ◌++◌, refl, sym, ap, subst, ◌∙◌, Option, Some, None, Ok, Err, slice_get}
 use Rattle.enet_types.specs.declared.event.Event.{Event as Told}
 use Rattle.enet_types.specs.declared.event.PeerRef.{PeerRef}
 use Rattle.enet_types.specs.declared.event.Received.{Received}
 use Rattle.enet_peer.specs.declared.parts.PeerEvent.{PeerEvent}
 use Rattle.enet_peer.specs.declared.parts.PeerEvent.TheVariants as told
 use Rattle.enet_link.specs.Steps.{Has}
+use Rattle.enet_link.proofs.Lists.{Has-slice_get}
 use Rattle.enet_connection.specs.Connection.{End}
 use Rattle.enet_connection.specs.Law.{mtu_in}
 use Rattle.enet_host.specs.Host.{Host, Keeps, named, name_of, greatest}
@@ -24,10 +25,10 @@ use Rattle.enet_network.proofs.Delivering.{goes-brought}
 
 -- the ends afterwards
 
-Has-push : (ends more : List HostEnd) (e : HostEnd) → Has ends e → Has (ends ++ more) e
-Has-push [] more e h = absurd h
-Has-push (f ∷ ends) more e (inl same) = inl same
-Has-push (f ∷ ends) more e (inr h) = inr (Has-push ends more e h)
+pub Has-append_left : {X : Type 0} (a b : List X) (x : X) → Has a x → Has (a ++ b) x
+Has-append_left [] b x h = absurd h
+Has-append_left (y ∷ a) b x (inl e) = inl e
+Has-append_left (y ∷ a) b x (inr h) = inr (Has-append_left a b x h)
 
 Has-changed : (change : HostEnd → HostEnd) (name : PeerRef) (ends : List HostEnd) (e : HostEnd) → Has ends e → Has (with_end change name ends) (cond (is_same_name e.name name) (change e) e)
 Has-changed change name [] e h = absurd h
@@ -64,7 +65,7 @@ event-ends name (told.Disconnect info) ends = refl
 quiet : (next : ℕ) (c : Call) (old new : Site) (e : HostEnd) (own far : End) → is_quiet_call c ≡ true → ((ends : List HostEnd) × (ends_after next old c ≡ old.ends ++ ends)) ⊎ (ends_after next old c ≡ old.ends) → Called next c old new
     → old.host.config.generations ≤ greatest → Has old.ends e → Shows old e own → GoesOn own far new e
 quiet next c old new e own far q (inl more) called low h k =
-    on-same own far new e (old.ends ++ more.0) (ap (λ (s : Site). s.ends) called.1 ∙ more.1) (Has-push old.ends more.0 e h) (goes-quiet c old new e own far q low called.0 (same-log old new e.connection (ap (λ (s : Site). s.log) called.1)) k)
+    on-same own far new e (old.ends ++ more.0) (ap (λ (s : Site). s.ends) called.1 ∙ more.1) (Has-append_left old.ends more.0 e h) (goes-quiet c old new e own far q low called.0 (same-log old new e.connection (ap (λ (s : Site). s.log) called.1)) k)
 quiet next c old new e own far q (inr same) called low h k =
     on-same own far new e old.ends (ap (λ (s : Site). s.ends) called.1 ∙ same) h (goes-quiet c old new e own far q low called.0 (same-log old new e.connection (ap (λ (s : Site). s.log) called.1)) k)
 
@@ -101,12 +102,7 @@ calling next other old new (call.NextEvent (Some event)) x low e h apart own far
 
 -- a datagram that comes
 
-Has-get : (log : List Logged) (i : ℕ) (d : Logged) → slice_get log i ≡ Some d → Has log d
-Has-get [] i d h = absurd (let y : None ≡ Some d = h in cc)
-Has-get (x ∷ log) zero d h = inl (let y : Some x ≡ Some d = h in cc)
-Has-get (x ∷ log) (suc i) d h = inr (Has-get log i d h)
-
-in-none : (earlier late : Bool) → cond earlier (Some Rattle.enet_types.specs.declared.refusal.Refusal.TheVariants.Earlier) (cond late (Some Rattle.enet_types.specs.declared.refusal.Refusal.TheVariants.Late) None) ≡ None → (earlier ≡ false) × (late ≡ false)
+pub in-none : (earlier late : Bool) → cond earlier (Some Rattle.enet_types.specs.declared.refusal.Refusal.TheVariants.Earlier) (cond late (Some Rattle.enet_types.specs.declared.refusal.Refusal.TheVariants.Late) None) ≡ None → (earlier ≡ false) × (late ≡ false)
 in-none true late h = absurd (cc)
 in-none false true h = absurd (cc)
 in-none false false h = (refl, refl)
@@ -117,8 +113,8 @@ bringing k answer other old new None is x low named' e h apart own far shows sho
 bringing k answer other old new (Some d) is x low named' e h apart own far shows shown =
     let b : Brought other.address d answer old new = x.1 in
     let passed = in-none (is_earlier old other.address d) (is_late other old d) x.0 in
-    on-same own far new e (old.ends ++ begun d.connection old.host new.host) (ap (λ (s : Site). s.ends) b.1) (Has-push old.ends (begun d.connection old.host new.host) e h)
-    (goes-brought other k d answer old new e own far low b.0 (same-log old new e.connection (ap (λ (s : Site). s.log) b.1)) is h apart shown (named' d (Has-get other.log k d is)) passed.0 passed.1 shows)
+    on-same own far new e (old.ends ++ begun d.connection old.host new.host) (ap (λ (s : Site). s.ends) b.1) (Has-append_left old.ends (begun d.connection old.host new.host) e h)
+    (goes-brought other k d answer old new e own far low b.0 (same-log old new e.connection (ap (λ (s : Site). s.log) b.1)) is h apart shown (named' d (Has-slice_get other.log k d is)) passed.0 passed.1 shows)
 
 pub one-thing : OneThing
 one-thing old low next other new (Calls c) x named' e h apart own far k shown = calling next other old new c x low e h apart own far k shown

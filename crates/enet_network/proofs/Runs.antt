@@ -1,7 +1,9 @@
--- Every run of a world of two hosts by which no connection begins twice at one of them.
-use Rattle.std.proofs.Common.{◌≡◌, ◌<◌, ◌≤◌, ℕ, zero, suc, ◌+◌, ◌⊎◌, inl, inr, ◌&&◌, ◌==◌, Bool, true, false, min, List, [], ◌∷◌, ◌++◌, replicate, refl, sym, ap, subst, ◌∙◌, arith, Some, None, Ok, slice_get}
+-- Whatever happens in a world of two hosts, the law of one connection holds of each connection.
+use Rattle.std.proofs.Common.{◌≡◌, ◌<◌, ◌≤◌, ℕ, zero, suc, ◌+◌, ◌⊎◌, inl, inr, ◌&&◌, ◌==◌, Bool, true, false, min, List, [], ◌∷◌, ◌++◌, replicate, refl, sym, ap, subst, ◌∙◌, arith, Option, Some, None, Result, Ok, Err, slice_get}
 use Rattle.std.proofs.lemmas.Bool.Decides.{nat_tests}
+use Rattle.enet_types.specs.declared.address.Addr.{Addr}
 use Rattle.enet_types.specs.declared.config.Config.{Config}
+use Rattle.enet_types.specs.declared.refusal.Refusal.{Refusal}
 use Rattle.enet_types.specs.Config.{is_in_range}
 use Rattle.enet_peer.specs.declared.parts.PeerState.TheVariants as state
 use Rattle.enet_peer.specs.Peering.{joined}
@@ -9,26 +11,36 @@ use Rattle.enet_connection.specs.Connection.{End}
 use Rattle.enet_connection.specs.Steps.{with_peer, no_end, asking_pair}
 use Rattle.enet_connection.proofs.Laws.{lawful, asking-kept, joined-kept}
 use Rattle.enet_connection.proofs.Runs.{reached-none}
-use Rattle.enet_host.specs.Host.{limits_of, greatest}
+use Rattle.enet_connection.proofs.Words.{word-none, word-asking, word-joined}
+use Rattle.enet_link.specs.Steps.{Has}
+use Rattle.enet_host.specs.Host.{SlotState, limits_of, greatest}
 use Rattle.enet_host.specs.Opening.{unused_slot, joined_terms, given}
 use Rattle.enet_isolation.specs.Calls as call
 use Rattle.enet_isolation.proofs.Lists.{get-set}
+use Rattle.enet_network.specs.declared.event.Answer.{Answer}
 use Rattle.enet_network.specs.declared.event.Side.{Side}
+use Rattle.enet_network.specs.declared.event.WorldEvent.{WorldEvent}
 use Rattle.enet_network.specs.declared.event.Side.TheVariants.{A, B}
-use Rattle.enet_network.specs.Law.{BeginsOnce, RunsOnce, KeptEither, LawfulEither, Pair, EachRun, EachJoinedRun}
-use Rattle.enet_network.specs.Log.{Kept as KeptOf, fresh_kept, fresh_channels, joined_greatest, kept_at, greatest_at}
+use Rattle.enet_network.specs.Law.{LawfulEither, AreLawful, EachRun, EachJoinedRun, EachList, EachJoinedList}
+use Rattle.enet_network.specs.Log.{Logged, Kept as KeptOf, fresh_kept, fresh_channels, joined_greatest, kept_at, greatest_at}
 use Rattle.enet_network.specs.Network.{HostEnd, Site, fresh_end}
 use Rattle.enet_network.specs.Shown.{Shows}
-use Rattle.enet_network.specs.Steps.{Happening, Calls, Hears, Happens, count_after}
-use Rattle.enet_network.specs.World.{World, site_of, other, address_of, HappensAt, open_world, joined_config, joined_end, joined_site, joined_world}
+use Rattle.enet_network.specs.Steps.{Happening, Calls, Hears, Happens, BringsOne, count_after}
+use Rattle.enet_network.specs.World.{World, other, address_of, HappensAt, AllHappen, side_of, Runs, open_world, joined_config, joined_end, joined_site, joined_world}
 use Rattle.enet_network.proofs.Beginnings.{asked}
 use Rattle.enet_network.proofs.Peers.{shows-held}
-use Rattle.enet_network.proofs.Worlds.{IsHost, swapped, pair-goes, host-goes, nothing-of, count-grows}
+use Rattle.enet_network.proofs.Submitting.{same-some}
+use Rattle.enet_network.proofs.Worlds.{KeptEither, Pair, BeginsOnce, IsHost, swapped, pair-goes, host-goes, nothing-of, count-grows}
+use Rattle.enet_network.proofs.Once.{AreAt, at-goes, begins-once}
 
 -- which connections stand from the start is told by j
 record Sound (j : ℕ → Bool) (w : World) : Type 0 where
   a : IsHost w.a w.count
   b : IsHost w.b w.count
+  at_a : w.a.address ≡ address_of A
+  at_b : w.b.address ≡ address_of B
+  far_a : AreAt (address_of B) w.a
+  far_b : AreAt (address_of A) w.b
   pairs : (x : ℕ) → x < w.count → Pair (j x) w.a w.b x
   later : (x : ℕ) → w.count ≤ x → j x ≡ false
 
@@ -45,9 +57,25 @@ new-pair next other old new (Calls (call.Connect address channels info word (Ok 
       here = inl (fresh_end next name, y.2, refl, y.3);
       there = inr ((λ e h of. let low : e.connection < next = ko.below e h in let same : e.connection ≡ next = of in omega arith), refl);
       kept = inl (asking-kept old.host.clock y.0 (limits_of old.host.config));
+      word = y.0.connect_id;
+      one_word = word-asking old.host.clock y.0 (limits_of old.host.config);
+      two_word = word-none y.0.connect_id;
     })
 new-pair next other old new (Calls c) x happens k ko least most = absurd (let few : x < next = most in omega arith)
 new-pair next other old new (Hears i answer) x happens k ko least most = absurd (let few : x < next = most in omega arith)
+
+-- no host moves
+stays-put : (next : ℕ) (other old new : Site) (what : Happening) → Happens next other what old new → new.address ≡ old.address
+stays-put next other old new (Calls (call.Connect address channels info word answer)) x = ap (λ (s : Site). s.address) x.1.1
+stays-put next other old new (Calls (call.Receive from bytes answer)) x = absurd x
+stays-put next other old new (Calls (call.Service None buf)) x = ap (λ (s : Site). s.address) x.1
+stays-put next other old new (Calls (call.Service (Some gave) buf)) x = ap (λ (s : Site). s.address) x.1.rest
+stays-put next other old new (Calls c) x = ap (λ (s : Site). s.address) x.1
+stays-put next other old new (Hears k answer) x = by (slice_get other.log k) x
+  where
+    by : (found : Option Logged) → BringsOne other found answer old new → new.address ≡ old.address
+    by None y = absurd y
+    by (Some d) y = ap (λ (s : Site). s.address) y.1.1
 
 less-or-not : (a b : ℕ) → (a < b) ⊎ (b ≤ a)
 less-or-not a b = grind arith
@@ -60,30 +88,49 @@ goes j next other old new what happens k ko pairs later x low = elim (less-or-no
   | inr after ↦ subst (λ (t : Bool). Pair t new other x) (sym (later x after)) (new-pair next other old new what x happens k ko after low)
 ]
 
-sound-goes : (j : ℕ → Bool) (side : Side) (what : Happening) (w v : World) → HappensAt side what w v → BeginsOnce (site_of w (other side)) (site_of w side) (site_of v side) what → Sound j w → Sound j v
-sound-goes j A what w v h once k =
+sound-goes : (j : ℕ → Bool) (side : Side) (what : Happening) (w v : World) → HappensAt side what w v → Sound j w → Sound j v
+sound-goes j A what w v h k =
+    let at : AreAt w.b.address w.a = subst (λ (x : Addr). AreAt x w.a) (sym k.at_b) k.far_a in
+    let once : BeginsOnce w.b w.a v.a what = begins-once j w.count w.b w.a v.a what h.here k.a k.b k.pairs at in
     let count : count_after w.count what ≡ v.count = sym h.count in
     let up : w.count ≤ v.count = (let g : w.count ≤ count_after w.count what = count-grows w.count what in let c : v.count ≡ count_after w.count what = h.count in omega arith) in
     record {
       a = subst (IsHost v.a) count (host-goes j w.count w.b w.a v.a what h.here k.a k.b once k.pairs);
       b = subst (λ (s : Site). IsHost s v.count) (sym h.there) (wider w.b w.count v.count up k.b);
+      at_a = stays-put w.count w.b w.a v.a what h.here ∙ k.at_a;
+      at_b = ap (λ (s : Site). s.address) h.there ∙ k.at_b;
+      far_a = subst (λ (x : Addr). AreAt x v.a) k.at_b (at-goes j w.count w.b w.a v.a what h.here k.a k.pairs at);
+      far_b = subst (AreAt (address_of A)) (sym h.there) k.far_b;
       pairs = λ x low. subst (λ (s : Site). Pair (j x) v.a s x) (sym h.there) (goes j w.count w.b w.a v.a what h.here k.a k.b k.pairs k.later x (let c : v.count ≡ count_after w.count what = h.count in omega arith));
       later = λ x least. k.later x (let u : w.count ≤ v.count = up in omega arith);
     }
-sound-goes j B what w v h once k =
+sound-goes j B what w v h k =
     let count : count_after w.count what ≡ v.count = sym h.count in
     let back : (x : ℕ) → x < w.count → Pair (j x) w.b w.a x = (λ x low. swapped (j x) w.a w.b x (k.pairs x low)) in
+    let at : AreAt w.a.address w.b = subst (λ (x : Addr). AreAt x w.b) (sym k.at_a) k.far_b in
+    let once : BeginsOnce w.a w.b v.b what = begins-once j w.count w.a w.b v.b what h.here k.b k.a back at in
     let up : w.count ≤ v.count = (let g : w.count ≤ count_after w.count what = count-grows w.count what in let c : v.count ≡ count_after w.count what = h.count in omega arith) in
     record {
       a = subst (λ (s : Site). IsHost s v.count) (sym h.there) (wider w.a w.count v.count up k.a);
       b = subst (IsHost v.b) count (host-goes j w.count w.a w.b v.b what h.here k.b k.a once back);
+      at_a = ap (λ (s : Site). s.address) h.there ∙ k.at_a;
+      at_b = stays-put w.count w.a w.b v.b what h.here ∙ k.at_b;
+      far_a = subst (AreAt (address_of B)) (sym h.there) k.far_a;
+      far_b = subst (λ (x : Addr). AreAt x v.b) k.at_a (at-goes j w.count w.a w.b v.b what h.here k.b back at);
       pairs = λ x low. subst (λ (s : Site). Pair (j x) s v.b x) (sym h.there) (swapped (j x) v.b w.a x (goes j w.count w.a w.b v.b what h.here k.b k.a back k.later x (let c : v.count ≡ count_after w.count what = h.count in omega arith)));
       later = λ x least. k.later x (let u : w.count ≤ v.count = up in omega arith);
     }
 
-sound-runs : (j : ℕ → Bool) (es : List (Side × Happening)) (w v : World) → RunsOnce es w v → Sound j w → Sound j v
-sound-runs j [] w v r k = subst (Sound j) r k
-sound-runs j (e ∷ es) w v r k = sound-runs j es r.0 v r.3 (sound-goes j e.0 e.1 w r.0 r.1 r.2 k)
+sound-happens : (j : ℕ → Bool) (es : List (Side × Happening)) (w v : World) → AllHappen es w v → Sound j w → Sound j v
+sound-happens j [] w v r k = subst (Sound j) r k
+sound-happens j (e ∷ es) w v r k = sound-happens j es r.0 v r.2 (sound-goes j e.0 e.1 w r.0 r.1 k)
+
+sound-runs : (j : ℕ → Bool) (events : List WorldEvent) (answers : List (Result Answer Refusal)) (w v : World) → Runs w events answers v → Sound j w → Sound j v
+sound-runs j [] [] w v r k = subst (Sound j) (sym r) k
+sound-runs j [] (a ∷ as') w v r k = absurd r
+sound-runs j (e ∷ es) [] w v r k = absurd r
+sound-runs j (e ∷ es) (Ok a ∷ as') w v r k = sound-runs j es as' r.0 v r.2 (sound-goes j (side_of e) r.1.0 w r.0 r.1.2 k)
+sound-runs j (e ∷ es) (Err why ∷ as') w v r k = sound-runs j es as' r.0 v r.2 (subst (Sound j) (sym r.1.1) k)
 
 -- at first
 
@@ -95,12 +142,19 @@ both true true h = (refl, refl)
 both true false h = absurd (cc)
 both false b h = absurd (cc)
 
+none-at : (from : Addr) (s : Site) → s.ends ≡ [] → AreAt from s
+none-at from s none e h p x = absurd (subst (λ (l : List HostEnd). Has l e) none h)
+
 open-sound : (a b : Config) → (is_in_range a && is_in_range b) ≡ true → Sound (λ x. false) (open_world a b)
 open-sound a b h =
     let r = both (is_in_range a) (is_in_range b) h in
     record {
       a = record { few = few-of a r.0; apart = λ e i. absurd i; below = λ e i. absurd i; logged = λ d i. absurd i; named = λ d i. absurd i };
       b = record { few = few-of b r.1; apart = λ e i. absurd i; below = λ e i. absurd i; logged = λ d i. absurd i; named = λ d i. absurd i };
+      at_a = refl;
+      at_b = refl;
+      far_a = none-at (address_of B) (open_world a b).a refl;
+      far_b = none-at (address_of A) (open_world a b).b refl;
       pairs = λ x low. absurd (let z : x < 0 = low in omega arith);
       later = λ x least. refl;
     }
@@ -159,6 +213,14 @@ joined-host side c few = record {
     first e (inl a) = (let z : e.connection ≡ 0 = ap (λ (x : HostEnd). x.connection) (sym a) in omega arith)
     first e (inr a) = absurd a
 
+joined-at : (side : Side) (c : Config) → 0 < c.peers → AreAt (address_of (other side)) (joined_site side c)
+joined-at side c some e (inl is) p x =
+    let s : SlotState = given unused_slot (address_of (other side)) (joined c.clock (joined_terms c) (limits_of c)) in
+    let there : slice_get (joined_site side c).host.slots e.name.slot ≡ Some s =
+    subst (λ (f : HostEnd). slice_get (joined_site side c).host.slots f.name.slot ≡ Some s) is (get-set (replicate c.peers unused_slot) 0 unused_slot s (first-slot c.peers some)) in
+    ap (λ (y : SlotState). y.address) (same-some x.slot s (sym x.there ∙ there))
+joined-at side c some e (inr is) p x = absurd is
+
 in-range : (c : Config) → is_in_range c ≡ true → (576 ≤ c.mtu) × (c.channels ≤ 255) × (0 < c.peers)
 in-range c h = (grind (arith, nat_tests), grind (arith, nat_tests), grind (arith, nat_tests))
 
@@ -166,6 +228,10 @@ joined-sound : (a b : Config) → (is_in_range a && is_in_range b) ≡ true → 
 joined-sound a b h = record {
   a = joined-host A (joined_config a b) (few-of a r.0);
   b = joined-host B (joined_config b a) (few-of b r.1);
+  at_a = refl;
+  at_b = refl;
+  far_a = joined-at A (joined_config a b) ra.2;
+  far_b = joined-at B (joined_config b a) rb.2;
   pairs = λ x low. at x low;
   later = λ x least. (let l : 1 ≤ x = least in let t : (x == 0) ≡ false = grind (arith, nat_tests) in t);
 }
@@ -186,6 +252,9 @@ joined-sound a b h = record {
       here = inl (joined_end, inl refl, refl, joined-shows A (joined_config a b) ra.2);
       there = inl (joined_end, inl refl, refl, joined-shows B (joined_config b a) rb.2);
       kept = inl (joined-kept a.clock b.clock (joined_terms (joined_config a b)) (joined_terms (joined_config b a)) (limits_of (joined_config a b)) (limits_of (joined_config b a)) big-a big-b few-a few-b);
+      word = 0;
+      one_word = word-joined a.clock (joined_terms (joined_config a b)) (limits_of (joined_config a b));
+      two_word = word-joined b.clock (joined_terms (joined_config b a)) (limits_of (joined_config b a));
     }
       where
         big-a : 28 < min a.mtu b.mtu
@@ -210,14 +279,19 @@ lawful-either : (j : Bool) (one two : End) → KeptEither j one two → LawfulEi
 lawful-either j one two (inl k) = inl (lawful j (record { one = one; two = two }) k)
 lawful-either j one two (inr k) = inr (lawful j (record { one = two; two = one }) k)
 
-pub each-run : EachRun
-each-run a b h es w r x low =
-    let s = sound-runs (λ x. false) es (open_world a b) w r (open-sound a b h) in
+are-lawful : (joined : Bool) (w : World) → Sound (λ x. joined && x == 0) w → AreLawful joined w
+are-lawful joined w s x low =
     let p = s.pairs x low in
-    record { one = p.one; two = p.two; here = p.here; there = p.there; lawful = lawful-either false p.one p.two p.kept }
+    record { one = p.one; two = p.two; here = p.here; there = p.there; lawful = lawful-either (joined && x == 0) p.one p.two p.kept }
+
+pub each-run : EachRun
+each-run a b h es w r = are-lawful false w (sound-happens (λ x. false) es (open_world a b) w r (open-sound a b h))
 
 pub each-joined : EachJoinedRun
-each-joined a b h es w r x low =
-    let s = sound-runs (λ y. y == 0) es (joined_world a b) w r (joined-sound a b h) in
-    let p = s.pairs x low in
-    record { one = p.one; two = p.two; here = p.here; there = p.there; lawful = lawful-either (x == 0) p.one p.two p.kept }
+each-joined a b h es w r = are-lawful true w (sound-happens (λ x. x == 0) es (joined_world a b) w r (joined-sound a b h))
+
+pub each-list : EachList
+each-list a b h events answers w r = are-lawful false w (sound-runs (λ x. false) events answers (open_world a b) w r (open-sound a b h))
+
+pub each-joined-list : EachJoinedList
+each-joined-list a b h events answers w r = are-lawful true w (sound-runs (λ x. x == 0) events answers (joined_world a b) w r (joined-sound a b h))

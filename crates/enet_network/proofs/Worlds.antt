@@ -1,5 +1,5 @@
 -- What holds of both hosts of a world, whatever happens.
-use Rattle.std.proofs.Common.{◌≡◌, ◌≢◌, ◌<◌, ◌≤◌, ℕ, zero, suc, ◌+◌, ◌⊎◌, inl, inr, Bool, false, cond, ◌==◌, List, [], ◌∷◌, ◌++◌, take, refl, sym, ap, subst, ◌∙◌, arith, Option, Some, None, Result, Ok, slice_get}
+use Rattle.std.proofs.Common.{◌≡◌, ◌≢◌, ◌<◌, ◌≤◌, ℕ, ◌+◌, ◌⊎◌, inl, inr, Bool, false, cond, ◌==◌, List, [], ◌∷◌, ◌++◌, take, refl, sym, ap, subst, ◌∙◌, arith, Option, Some, None, Result, Ok, slice_get}
 use Rattle.std.proofs.lemmas.Bool.Decides.{nat_tests}
 use Rattle.enet_types.specs.declared.event.PeerRef.{PeerRef}
 use Rattle.enet_types.specs.declared.event.Received.{Received}
@@ -11,11 +11,13 @@ use Rattle.enet_datagram.specs.Heading.{IsRead}
 use Rattle.enet_peer.specs.declared.parts.PeerState.TheVariants as state
 use Rattle.enet_peer.specs.Peering.{Peering}
 use Rattle.enet_link.specs.Steps.{Has}
+use Rattle.enet_link.proofs.Lists.{Has-push_cases, Has-slice_get}
 use Rattle.enet_connection.specs.Connection.{End, sent_on}
 use Rattle.enet_connection.specs.Kept.{Kept as KeptBetween}
 use Rattle.enet_connection.specs.Steps.{One, Two, Event, no_end}
 use Rattle.enet_connection.proofs.Laws.{kept-at as kept-event}
 use Rattle.enet_connection.proofs.Runs.{reached-none}
+use Rattle.enet_connection.proofs.Words.{IsWord, word-happens}
 use Rattle.enet_host.specs.Host.{Host, SlotState, name_of, greatest}
 use Rattle.enet_host.specs.Opening.{Connects, no_channel, no_slot, no_memory, asks}
 use Rattle.enet_isolation.specs.Calls.{Call, Acts}
@@ -26,7 +28,7 @@ use Rattle.enet_isolation.proofs.OneCall.{one-call}
 use Rattle.enet_isolation.proofs.Receiving.{is_open}
 use Rattle.enet_isolation.specs.Falling as falling
 use Rattle.enet_isolation.specs.Law as isolation
-use Rattle.enet_network.specs.Law.{AreNamed, HasNothingOf, GoesOn, Begins, ShowsAt, KeptEither, Pair, BeginsOnce}
+use Rattle.enet_network.specs.Law.{AreNamed, HasNothingOf, GoesOn, Begins, ShowsAt}
 use Rattle.enet_network.specs.Log.{Logged, greatest_at}
 use Rattle.enet_network.specs.Network.{HostEnd, Site, fresh_end, end_of, numbers_in, numbers_of}
 use Rattle.enet_network.specs.Shown.{ShowsPeer, Shows, ShowsFar, RunsAt, IsApart}
@@ -37,6 +39,27 @@ use Rattle.enet_network.proofs.Growing.{more_of, more_in, Grows, grows, from-bef
 use Rattle.enet_network.proofs.OneThing.{one-thing}
 use Rattle.enet_network.proofs.Peers.{there-or}
 use Rattle.enet_network.proofs.Submitting.{same-some}
+
+-- two ends of one connection, either of which may have asked
+abbrev pub KeptEither : Bool → End → End → Type 0
+KeptEither joined a b = KeptBetween joined (record { one = a; two = b }) ⊎ KeptBetween joined (record { one = b; two = a })
+
+-- two hosts show the ends of connection x, which stands from the start or not, which keep what every connection keeps, and which have one connect id
+pub record Pair (joined : Bool) (a b : Site) (x : ℕ) : Type 0 where
+  pub one : End
+  pub two : End
+  pub here : ShowsAt a x one
+  pub there : ShowsAt b x two
+  pub kept : KeptEither joined one two
+  pub word : ℕ
+  pub one_word : IsWord word one
+  pub two_word : IsWord word two
+
+-- no connection begins at a host that has an end of it
+abbrev pub BeginsOnce : Site → Site → Site → Happening → Type 0
+BeginsOnce other old new (Calls c) = Unit {0}
+BeginsOnce other old new (Hears k answer) =
+    (d : Logged) → slice_get other.log k ≡ Some d → (e : HostEnd) → Has old.ends e → e.connection ≡ d.connection → (f : HostEnd) → Has (begun d.connection old.host new.host) f → ⊥
 
 -- what holds of a host where there were so many connections
 pub record IsHost (s : Site) (count : ℕ) : Type 0 where
@@ -51,7 +74,7 @@ kept-swapped j a b (inl k) = inr k
 kept-swapped j a b (inr k) = inl k
 
 pub swapped : (j : Bool) (a b : Site) (x : ℕ) → Pair j a b x → Pair j b a x
-swapped j a b x p = record { one = p.two; two = p.one; here = p.there; there = p.here; kept = kept-swapped j p.one p.two p.kept }
+swapped j a b x p = record { one = p.two; two = p.one; here = p.there; there = p.here; kept = kept-swapped j p.one p.two p.kept; word = p.word; one_word = p.two_word; two_word = p.one_word }
 
 -- events keep it
 
@@ -67,6 +90,10 @@ kept-ran : (j : Bool) (es : List Event) (own far new : End) → RunsAt es own fa
 kept-ran j es own far new r (inl k) = inl (kept-one j es own far new r k)
 kept-ran j es own far new r (inr k) = inr (kept-two j es own far new r k)
 
+word-ran : (w : ℕ) (es : List Event) (own far new : End) → IsWord w far → RunsAt es own far new → IsWord w own → IsWord w new
+word-ran w [] own far new f r k = subst (IsWord w) r k
+word-ran w (e ∷ es) own far new f r k = word-ran w es r.0 far new f r.2 (word-happens w own far r.0 e f k r.1)
+
 -- what is shown from afar
 
 end-none : (ends : List HostEnd) (x : ℕ) → ((e : HostEnd) → Has ends e → e.connection ≢ x) → end_of x ends ≡ None
@@ -74,11 +101,6 @@ end-none [] x none = refl
 end-none (f ∷ ends) x none =
     ap (λ (b : Bool). cond b (Some f) (end_of x ends)) (let n : f.connection ≢ x = none f (inl refl) in let t : (f.connection == x) ≡ false = grind (arith, nat_tests) in t)
     ∙ end-none ends x (λ e h. none e (inr h))
-
-Has-get : (log : List Logged) (i : ℕ) (d : Logged) → slice_get log i ≡ Some d → Has log d
-Has-get [] i d h = absurd (let y : None ≡ Some d = h in cc)
-Has-get (x ∷ log) zero d h = inl (let y : Some x ≡ Some d = h in cc)
-Has-get (x ∷ log) (suc i) d h = inr (Has-get log i d h)
 
 -- a host that has no end of a connection put nothing out of it
 pub nothing-of : (s : Site) (count x : ℕ) → IsHost s count → ((e : HostEnd) → Has s.ends e → e.connection ≢ x) → HasNothingOf x s
@@ -90,7 +112,7 @@ far-shown s count x own k (inl shown) = record {
   greatest = λ channel low. ap (λ (l : List ℕ). greatest_at l channel) (ap numbers_in (subst (λ (n : ℕ). end_of n s.ends ≡ Some shown.0) shown.2 (end-there s.ends shown.0 shown.1 (k.apart shown.0 shown.1)))) ∙ shown.3.greatest channel low;
 }
 far-shown s count x own k (inr none) = record {
-  log = λ i d h of. absurd (nothing-of s count x k none.0 d (Has-get s.log i d h) of);
+  log = λ i d h of. absurd (nothing-of s count x k none.0 d (Has-slice_get s.log i d h) of);
   greatest = λ channel low. ap (λ (l : List ℕ). greatest_at l channel) (ap numbers_in (end-none s.ends x none.0)) ∙ sym (reached-none channel 0) ∙ ap (sent_on channel) (sym none.1);
 }
 
@@ -138,13 +160,16 @@ pair-goes j next other old new what x happens k ko low p = by p.here
       | inr m ↦ more f m of
     ]
 
-    begin : (own : End) → own ≡ no_end → KeptEither j own p.two → (f : HostEnd) → Has (more_of next other old new what) f → f.connection ≡ x → Begins p.two new f → Pair j new other x
-    begin own is kept f h of b = record {
+    begin : (own : End) → own ≡ no_end → KeptEither j own p.two → IsWord p.word own → (f : HostEnd) → Has (more_of next other old new what) f → f.connection ≡ x → Begins p.two new f → Pair j new other x
+    begin own is kept word f h of b = record {
       one = b.own;
       two = p.two;
       here = inl (f, begins-there old new (more_of next other old new what) g f h, of, b.shows);
       there = p.there;
       kept = kept-ran j (b.event ∷ []) no_end p.two b.own (b.own, b.answers, refl) (subst (λ (e : End). KeptEither j e p.two) is kept);
+      word = p.word;
+      one_word = word-happens p.word no_end p.two b.own b.event p.two_word (subst (IsWord p.word) is word) b.answers;
+      two_word = p.two_word;
     }
 
     by : ShowsAt old x p.one → Pair j new other x
@@ -157,16 +182,19 @@ pair-goes j next other old new what x happens k ko low p = by p.here
           here = inl (goes.after, goes.there, goes.connection ∙ shown.2, goes.went.shows);
           there = p.there;
           kept = kept-ran j goes.went.events p.one p.two goes.went.new goes.went.runs p.kept;
+          word = p.word;
+          one_word = word-ran p.word goes.went.events p.one p.two goes.went.new p.two_word goes.went.runs p.one_word;
+          two_word = p.two_word;
         }
     by (inr none) = elim (begins-or (more_of next other old new what) x) [
-      | inl f ↦ begin p.one none.1 p.kept f.0 f.1 f.2 (begins-by next other old new what x p.two happens k ko none.0 low p.there f.0 f.1 f.2)
-      | inr more ↦ record { one = p.one; two = p.two; here = inr (none-after none.0 more, none.1); there = p.there; kept = p.kept }
+      | inl f ↦ begin p.one none.1 p.kept p.one_word f.0 f.1 f.2 (begins-by next other old new what x p.two happens k ko none.0 low p.there f.0 f.1 f.2)
+      | inr more ↦ record { one = p.one; two = p.two; here = inr (none-after none.0 more, none.1); there = p.there; kept = p.kept; word = p.word; one_word = p.one_word; two_word = p.two_word }
     ]
 
 -- a host goes on
 
 -- the call that a thing is
-acts-of : (next : ℕ) (other old new : Site) (c : Call) → Happens next other (Calls c) old new → Acts c old.host new.host
+pub acts-of : (next : ℕ) (other old new : Site) (c : Call) → Happens next other (Calls c) old new → Acts c old.host new.host
 acts-of next other old new (call.Connect address channels info word answer) x = x.1.0
 acts-of next other old new (call.Submit name channel q answer) x = x.0
 acts-of next other old new (call.Receive from bytes answer) x = absurd x
@@ -231,21 +259,15 @@ log-grows : (next : ℕ) (other old new : Site) (what : Happening) → Happens n
 log-grows next other old new (Calls c) x = calls-log next other old new c x
 log-grows next other old new (Hears k answer) x = inl (brought-log other old new answer (slice_get other.log k) x)
 
-Has-last : (xs : List Logged) (y x : Logged) → Has (xs ++ y ∷ []) x → Has xs x ⊎ (y ≡ x)
-Has-last [] y x (inl e) = inr e
-Has-last [] y x (inr h) = absurd h
-Has-last (z ∷ xs) y x (inl e) = inl (inl e)
-Has-last (z ∷ xs) y x (inr h) = elim (Has-last xs y x h) [ inl k ↦ inl (inr k) | inr e ↦ inr e ]
-
 -- an end that begins has a name that no other has
 
 -- the slot that it was given was free, with a generation left
-record IsFresh (h : Host) (name : PeerRef) : Type 0 where
-  slot : SlotState
-  there : slice_get h.slots name.slot ≡ Some slot
-  vacant : slot.peer ≡ None
-  left : slot.generation < h.config.generations
-  generation : name.generation ≡ slot.generation
+pub record IsFresh (h : Host) (name : PeerRef) : Type 0 where
+  pub slot : SlotState
+  pub there : slice_get h.slots name.slot ≡ Some slot
+  pub vacant : slot.peer ≡ None
+  pub left : slot.generation < h.config.generations
+  pub generation : name.generation ≡ slot.generation
 
 fresh-connected : (h : Host) (address : Addr) (channels info word : ℕ) (name : PeerRef) (answer : Result PeerRef Refusal) (slots after : List SlotState) → slots ≡ h.slots → Connects h.config h.clock slots address channels info word answer after
     → answer ≡ Ok name → IsFresh h name
@@ -276,7 +298,7 @@ fresh-begun c x old new f acts h =
     let generation : b.1.generation ≡ s.0.generation = ap (λ (z : SlotState). z.generation) (sym same) ∙ kept-generation c old b.0 s.0 t.0 open'.0 t.2 in
     subst (λ (z : HostEnd). IsFresh old z.name) (sym b.4) (record { slot = s.0; there = s.1; vacant = open'.0; left = open'.1; generation = generation })
 
-fresh-more : (next : ℕ) (other old new : Site) (what : Happening) → Happens next other what old new → (f : HostEnd) → Has (more_of next other old new what) f → IsFresh old.host f.name
+pub fresh-more : (next : ℕ) (other old new : Site) (what : Happening) → Happens next other what old new → (f : HostEnd) → Has (more_of next other old new what) f → IsFresh old.host f.name
 fresh-more next other old new (Calls (call.Connect address channels info word (Ok name))) x f (inl e) =
     subst (λ (z : HostEnd). IsFresh old.host z.name) e (fresh-connected old.host address channels info word name (Ok name) old.host.slots new.host.slots refl x.1.0.0 refl)
 fresh-more next other old new (Calls (call.Connect address channels info word (Ok name))) x f (inr h) = absurd h
@@ -309,11 +331,11 @@ not-fresh h e name p k f same = by (there-or h e.name p k)
         past s is (inr over) = let a : s.generation ≡ g.slot.generation = ap (λ (z : SlotState). z.generation) is in let b : g.slot.generation < h.config.generations = g.left in let c : h.config.generations ≤ s.generation = over.0 in omega arith
 
 -- each end of a host is shown
-shown-end : (j : Bool) (s other : Site) (count : ℕ) (e : HostEnd) → IsHost s count → Has s.ends e → Pair j s other e.connection → (own : End) × Shows s e own
+pub shown-end : (j : Bool) (s other : Site) (count : ℕ) (e : HostEnd) → IsHost s count → Has s.ends e → (p : Pair j s other e.connection) → Shows s e p.one
 shown-end j s other count e k h p = by p.here
   where
-    by : ShowsAt s e.connection p.one → (own : End) × Shows s e own
-    by (inl shown) = (p.one, subst (λ (z : HostEnd). Shows s z p.one) (k.apart e h shown.0 shown.1 (inr shown.2)) shown.3)
+    by : ShowsAt s e.connection p.one → Shows s e p.one
+    by (inl shown) = subst (λ (z : HostEnd). Shows s z p.one) (k.apart e h shown.0 shown.1 (inr shown.2)) shown.3
     by (inr none) = absurd (none.0 e h refl)
 
 -- at most one begins
@@ -348,8 +370,7 @@ new-connection next other old new (Hears i answer) k once f is e h same = by (sl
     by None there m = absurd m
     by (Some d) there m =
         let b = begun-is d.connection old.host new.host f m in
-        let none : begun d.connection old.host new.host ≡ [] = once d there e h (same ∙ ap (λ (z : HostEnd). z.connection) b.4) in
-        subst (λ (l : List HostEnd). Has l f → ⊥) (sym none) (λ z. z) m
+        once d there e h (same ∙ ap (λ (z : HostEnd). z.connection) b.4) f m
 
 more-count : (next : ℕ) (other old new : Site) (what : Happening) → IsHost other next → Happens next other what old new → (f : HostEnd) → Has (more_of next other old new what) f → f.connection < count_after next what
 more-count next other old new (Calls (call.Connect address channels info word (Ok name))) ko x f (inl is) = (let a : f.connection ≡ next = ap (λ (z : HostEnd). z.connection) (sym is) in let r : f.connection < next + 1 = omega arith in r)
@@ -361,7 +382,7 @@ more-count next other old new (Hears i answer) ko x f is = by (slice_get other.l
     by None there m = absurd m
     by (Some d) there m =
         let b = begun-is d.connection old.host new.host f m in
-        let l = ko.logged d (Has-get other.log i d there) in
+        let l = ko.logged d (Has-slice_get other.log i d there) in
         let a : f.connection ≡ d.connection = ap (λ (z : HostEnd). z.connection) b.4 in
         let c : l.0.connection ≡ d.connection = l.2 in
         let low : l.0.connection < next = ko.below l.0 l.1 in
@@ -394,7 +415,7 @@ host-goes j next other old new what x k ko once pairs = record {
     mixed : (b e : HostEnd) → Has old.ends b → Has more e → ((g.change b).name ≡ e.name) ⊎ ((g.change b).connection ≡ e.connection) → ⊥
     mixed b e h m (inl same) =
         let own = shown-end (j b.connection) old other next b k h (pairs b.connection (k.below b h)) in
-        not-fresh old.host b e.name own.1.peer own.1.shows (fresh-more next other old new what x e m) (sym same ∙ g.name b)
+        not-fresh old.host b e.name own.peer own.shows (fresh-more next other old new what x e m) (sym same ∙ g.name b)
     mixed b e h m (inr same) = new-connection next other old new what k once e m b h (sym (g.connection b) ∙ same)
 
     apart-by : (e f : HostEnd) → ((b : HostEnd) × Has old.ends b × (g.change b ≡ e)) ⊎ Has more e → ((c : HostEnd) × Has old.ends c × (g.change c ≡ f)) ⊎ Has more f → (f.name ≡ e.name) ⊎ (f.connection ≡ e.connection) → f ≡ e
@@ -413,14 +434,14 @@ host-goes j next other old new what x k ko once pairs = record {
 
     logged : (new.log ≡ old.log) ⊎ LogsOne old new → (d : Logged) → Has new.log d → (e : HostEnd) × Has new.ends e × (e.connection ≡ d.connection)
     logged (inl same) d h = logged-old d (subst (λ (l : List Logged). Has l d) same h)
-    logged (inr one) d h = elim (Has-last old.log one.d d (subst (λ (l : List Logged). Has l d) one.logs h)) [
+    logged (inr one) d h = elim (Has-push_cases old.log one.d d (subst (λ (l : List Logged). Has l d) one.logs h)) [
       | inl before ↦ logged-old d before
       | inr is ↦ (g.change one.own, stays-there old new more g one.own one.there, g.connection one.own ∙ one.of ∙ ap (λ (z : Logged). z.connection) is)
     ]
 
     named : (new.log ≡ old.log) ⊎ LogsOne old new → AreNamed new.log
     named (inl same) d h = k.named d (subst (λ (l : List Logged). Has l d) same h)
-    named (inr one) d h = elim (Has-last old.log one.d d (subst (λ (l : List Logged). Has l d) one.logs h)) [
+    named (inr one) d h = elim (Has-push_cases old.log one.d d (subst (λ (l : List Logged). Has l d) one.logs h)) [
       | inl before ↦ k.named d before
       | inr is ↦ subst (λ (z : Logged). (h : Header) (commands : List ℕ) → IsRead z.text h commands → z.peer ≡ h.peer) is one.named
     ]

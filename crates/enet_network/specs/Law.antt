@@ -1,26 +1,28 @@
 -- What happens at a host is, for each of its connections, a number of events of the law of one connection.
-use Rattle.std.specs.Prelude.{◌≡◌, ◌≢◌, ◌<◌, ◌≤◌, ◌⊎◌, ◌&&◌, ◌==◌, Bool, true, false, ℕ, List, [], ◌∷◌, Some, Ok, slice_get}
+use Rattle.std.specs.Prelude.{◌≡◌, ◌≢◌, ◌<◌, ◌≤◌, ◌⊎◌, ◌&&◌, ◌==◌, Bool, true, false, ℕ, List, Some, Result, Ok, slice_get}
 use Rattle.enet_types.specs.declared.address.Addr.{Addr}
 use Rattle.enet_types.specs.declared.config.Config.{Config}
 use Rattle.enet_types.specs.Config.{is_in_range}
 use Rattle.enet_types.specs.declared.event.PeerRef.{PeerRef}
 use Rattle.enet_types.specs.declared.event.Received.{Received}
+use Rattle.enet_types.specs.declared.refusal.Refusal.{Refusal}
 use Rattle.enet_codec.specs.declared.command.Offer.{Offer}
 use Rattle.enet_codec.specs.declared.header.Header.{Header}
 use Rattle.enet_datagram.specs.Heading.{IsRead}
 use Rattle.enet_link.specs.Steps.{Has}
 use Rattle.enet_connection.specs.Connection.{End}
-use Rattle.enet_connection.specs.Kept.{Kept}
 use Rattle.enet_connection.specs.Law.{IsLawful}
 use Rattle.enet_connection.specs.Steps.{Event, Happens as HappensLaw, no_end, asking_pair}
 use Rattle.enet_host.specs.Host.{Host, limits_of, greatest}
 use Rattle.enet_isolation.specs.Calls as call
+use Rattle.enet_network.specs.declared.event.Answer.{Answer}
 use Rattle.enet_network.specs.declared.event.Side.{Side}
+use Rattle.enet_network.specs.declared.event.WorldEvent.{WorldEvent}
 use Rattle.enet_network.specs.Log.{Logged}
 use Rattle.enet_network.specs.Network.{HostEnd, Site, fresh_end}
 use Rattle.enet_network.specs.Shown.{Shows, ShowsFar, Went, IsApart}
 use Rattle.enet_network.specs.Steps.{Happening, Calls, Hears, Happens, begun}
-use Rattle.enet_network.specs.World.{World, site_of, other, HappensAt, open_world, joined_world}
+use Rattle.enet_network.specs.World.{World, AllHappen, Runs, open_world, joined_world}
 
 -- of each datagram of a log it is kept which peer id its header names
 abbrev pub AreNamed : List Logged → Type 0
@@ -72,19 +74,8 @@ abbrev pub ShowsAt : Site → ℕ → End → Type 0
 ShowsAt s x own = ((e : HostEnd) × Has s.ends e × (e.connection ≡ x) × Shows s e own) ⊎ (((e : HostEnd) → Has s.ends e → e.connection ≢ x) × (own ≡ no_end))
 
 -- two ends of one connection, either of which may have asked
-abbrev pub KeptEither : Bool → End → End → Type 0
-KeptEither joined a b = Kept joined (record { one = a; two = b }) ⊎ Kept joined (record { one = b; two = a })
-
 abbrev pub LawfulEither : Bool → End → End → Type 0
 LawfulEither joined a b = IsLawful joined (record { one = a; two = b }) ⊎ IsLawful joined (record { one = b; two = a })
-
--- two hosts show the ends of connection x, which stands from the start or not, and which keep what every connection keeps
-pub record Pair (joined : Bool) (a b : Site) (x : ℕ) : Type 0 where
-  pub one : End
-  pub two : End
-  pub here : ShowsAt a x one
-  pub there : ShowsAt b x two
-  pub kept : KeptEither joined one two
 
 -- two hosts show the ends of connection x, of which the law of one connection holds
 pub record IsPaired (joined : Bool) (a b : Site) (x : ℕ) : Type 0 where
@@ -94,22 +85,23 @@ pub record IsPaired (joined : Bool) (a b : Site) (x : ℕ) : Type 0 where
   pub there : ShowsAt b x two
   pub lawful : LawfulEither joined one two
 
--- no connection begins at a host that has an end of it
-abbrev pub BeginsOnce : Site → Site → Site → Happening → Type 0
-BeginsOnce other old new (Calls c) = Unit {0}
-BeginsOnce other old new (Hears k answer) =
-    (d : Logged) → slice_get other.log k ≡ Some d → (e : HostEnd) → Has old.ends e → e.connection ≡ d.connection → begun d.connection old.host new.host ≡ []
+-- the law of one connection holds of each connection so far; `joined` says that connection 0 stands from the start
+abbrev pub AreLawful : Bool → World → Type 0
+AreLawful joined w = (x : ℕ) → x < w.count → IsPaired (joined && x == 0) w.a w.b x
 
--- things that happen, one after another, by which no connection begins twice at a host
-abbrev pub RunsOnce : List (Side × Happening) → World → World → Type 0
-RunsOnce [] old new = old ≡ new
-RunsOnce (e ∷ es) old new =
-    (between : World) × HappensAt e.0 e.1 old between × BeginsOnce (site_of old (other e.0)) (site_of old e.0) (site_of between e.0) e.1 × RunsOnce es between new
-
--- of every such run of two hosts that begin with free slots, the law of one connection holds of each connection so far
+-- so it is of two hosts that begin with free slots, whatever happens at either
 abbrev pub EachRun : Type 0
-EachRun = (a b : Config) → (is_in_range a && is_in_range b) ≡ true → (es : List (Side × Happening)) (w : World) → RunsOnce es (open_world a b) w → (x : ℕ) → x < w.count → IsPaired false w.a w.b x
+EachRun = (a b : Config) → (is_in_range a && is_in_range b) ≡ true → (es : List (Side × Happening)) (w : World) → AllHappen es (open_world a b) w → AreLawful false w
 
--- the same of two hosts that have connection 0 from the start
+-- and of two that have connection 0 from the start
 abbrev pub EachJoinedRun : Type 0
-EachJoinedRun = (a b : Config) → (is_in_range a && is_in_range b) ≡ true → (es : List (Side × Happening)) (w : World) → RunsOnce es (joined_world a b) w → (x : ℕ) → x < w.count → IsPaired (x == 0) w.a w.b x
+EachJoinedRun = (a b : Config) → (is_in_range a && is_in_range b) ≡ true → (es : List (Side × Happening)) (w : World) → AllHappen es (joined_world a b) w → AreLawful true w
+
+-- the same of the events of a world, whatever is answered to them
+abbrev pub EachList : Type 0
+EachList = (a b : Config) → (is_in_range a && is_in_range b) ≡ true
+    → (events : List WorldEvent) (answers : List (Result Answer Refusal)) (w : World) → Runs (open_world a b) events answers w → AreLawful false w
+
+abbrev pub EachJoinedList : Type 0
+EachJoinedList = (a b : Config) → (is_in_range a && is_in_range b) ≡ true
+    → (events : List WorldEvent) (answers : List (Result Answer Refusal)) (w : World) → Runs (joined_world a b) events answers w → AreLawful true w

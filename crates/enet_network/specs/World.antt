@@ -43,9 +43,9 @@ pub record HappensAt (side : Side) (e : Happening) (old new : World) : Type 0 wh
   pub count : new.count ≡ count_after old.count e
 
 -- things that happen, one after another
-abbrev pub Runs : List (Side × Happening) → World → World → Type 0
-Runs [] old new = old ≡ new
-Runs (e ∷ es) old new = (between : World) × HappensAt e.0 e.1 old between × Runs es between new
+abbrev pub AllHappen : List (Side × Happening) → World → World → Type 0
+AllHappen [] old new = old ≡ new
+AllHappen (e ∷ es) old new = (between : World) × HappensAt e.0 e.1 old between × AllHappen es between new
 
 -- the side of an event
 abbrev pub side_of : WorldEvent → Side
@@ -94,6 +94,12 @@ Refuses w (happen.Disconnect side peer how info) why = RefusesCall (call.Disconn
 abbrev pub Steps : World → WorldEvent → Result Answer Refusal → World → Type 0
 Steps old event (Ok answer) new = (e : Happening) × Makes old event answer e × HappensAt (side_of event) e old new
 Steps old event (Err why) new = Refuses old event why × (new ≡ old)
+
+-- the steps of a list of events with what was answered to each, in order
+abbrev pub Runs : World → List WorldEvent → List (Result Answer Refusal) → World → Type 0
+Runs old [] [] new = new ≡ old
+Runs old (e ∷ es) (a ∷ as') new = (between : World) × Steps old e a between × Runs between es as' new
+Runs old _ _ new = ⊥
 
 -- a world of two hosts to which nothing has happened
 abbrev pub open_site : Side → Config → Site

@@ -7,10 +7,9 @@
 //! counts the hosts.
 //!
 //! Proved: `each_thing_is_events`, `each_thing_at` and `one_world`, of these definitions; no code meets them yet.
-//! Open: that no connection begins twice at a host, which `one_world` assumes.
 #![tactic(auto)]
 
-ghost use Rattle.enet_network.specs.Law.{OneThing, GoOnAt, Asked, Answered, EachRun, EachJoinedRun};
+ghost use Rattle.enet_network.specs.Law.{OneThing, GoOnAt, Asked, Answered, EachRun, EachJoinedRun, EachList, EachJoinedList};
 
 use enet_host::HostCore;
 
@@ -48,14 +47,20 @@ pub fn each_thing_at(host: &HostCore)
 }
 
 /// A world of two hosts, over every list of calls of either and of datagrams that the network brings, none of them of an
-/// earlier connection or late, by which no connection begins at a host that has an end of it.
+/// earlier connection or late.
 ///
 /// `opened`: where all slots are free at first, both hosts show of each connection two ends of which the law of one connection
 /// holds: what the user of one took of a channel follows what the user of the other submitted on it, and each user's events
-/// are one life. Connections may stand one after another, at once, and in slots that are used again.
+/// are one life. Connections may stand one after another, at once, and in slots that are used again, and connect ids may be
+/// given again.
 ///
 /// `joined`: so it is where both hosts have connection 0 from the start.
+///
+/// `events_opened`, `events_joined`: so it is of every list of a world's events, whatever is answered to them; one that is
+/// refused, a datagram that is late or of an earlier connection too, changes nothing.
 pub fn one_world()
     ensures opened { EachRun }
     ensures joined { EachJoinedRun }
+    ensures events_opened { EachList }
+    ensures events_joined { EachJoinedList }
 {}
