@@ -1,6 +1,7 @@
 #!/usr/bin/env bash
 # All tests: the gate (every proof from nothing, the must-fail edits, the tests, the programs), then the worked scripts
-# through the built program. The last line is 'N passed, M failed'; the status is other than 0 where anything failed.
+# through the built program, and clients of the reference library that talk through it. Each of the two last ends with a line
+# 'N passed, M failed'; the status is other than 0 where anything failed.
 set -u
 cd "$(dirname "$0")/.."
 begun=$SECONDS
@@ -9,3 +10,5 @@ gate=$?
 echo "rt ci ended with status $gate after $((SECONDS - begun)) seconds"
 [ "$gate" = 0 ] || exit 1
 bash scripts/check-rows.sh
+rows=$?
+bash scripts/check-clients.sh && [ "$rows" = 0 ]

@@ -1,80 +1,41 @@
-//! The program `enet_relay`. `enet_relay lab` runs a script of what happens to two hosts.
+//! The program `enet_relay`. `enet_relay lab` runs a script of what happens to two hosts, `enet_relay serve` relays chat between
+//! real ENet clients.
 //!
-//! Proved: it is safe and ends, for every command line.
-//! Only tested, by scripts/check-rows.sh: the scripts of scripts/rows, and the command lines `--help`, no subcommand, an
-//! unknown one, `serve`, a word too many, an input that can't be read and an output that can't be written. By hand alone:
-//! want of memory (`E1 Memory`, status 1).
+//! Proved: that it is safe; what a shift of the server did is said by `enet_serve`, and how a script of the lab is answered by
+//! `enet_lab`. Only tested, by scripts/check-rows.sh: the scripts of scripts/rows; the command lines `--help`, no subcommand, an unknown
+//! one, a word too many, and those of `serve` with numbers out of range; what `serve` prints; an input that can't be read, an output
+//! that can't be written, a port that is taken. By scripts/check-clients.sh: what clients of the reference library get from `serve`.
+//! By hand alone: want of memory (`E1 Memory`, status 1), and the line of totals of `serve --forever`.
+//! Neither: that `serve` ends, since threads may wait.
 #![tactic(auto)]
 
-use clap::Command;
-use clap::error::ErrorKind;
-use enet_lab::{LabFault, lab};
-use std::alloc::{AllocError, Global};
+mod command_line;
+mod failure;
+mod serving;
+
+use command_line::{Task, read_task};
+use enet_lab::lab;
+use failure::Failure;
+use serving::serve;
+use std::io;
+use std::net::Net;
 use std::process::ExitCode;
-use std::rt::Env;
-use std::{env, io};
-use thiserror::Error;
+use std::rt::{Clock, Env};
+use std::sync::Wait;
+use std::thread::Threads;
 
-/// Why the program ends with a status other than 0. The text goes to standard error.
-#[derive(Clone, Copy, Debug, PartialEq, Eq, Error)]
-enum Failure {
-    /// The command line was refused.
-    #[error("bad command line")]
-    CommandLine,
-    /// The lab ended before the end of its script, or the command line met the same faults.
-    #[error("{0}")]
-    Lab(LabFault),
-}
-
-impl Failure {
-    // 2 where what the program was given can't be read, else 1.
-    fn status(self) -> u8 {
-        match self {
-            Failure::CommandLine | Failure::Lab(LabFault::BadScript(_)) => 2,
-            Failure::Lab(LabFault::Memory | LabFault::Io) => 1,
+fn run<R>(rt: &R) -> Result<(), Failure>
+where
+    R: Env + Input + Print + Eprint + AllocGlobal + Threads + Wait + Net + Clock + Sync,
+{
+    match read_task(rt)? {
+        Task::Nothing => {}
+        Task::Lab => {
+            lab(rt.alloc(), &mut rt.reader(), &mut io::writer(rt)).map_err(Failure::Lab)?;
         }
+        Task::Serve(options) => serve(rt, options)?,
     }
-}
-
-impl From<AllocError> for Failure {
-    fn from(_error: AllocError) -> Failure {
-        Failure::Lab(LabFault::Memory)
-    }
-}
-
-// The words of the command line. A word that isn't text is refused.
-fn words_of<R: Env + AllocGlobal>(rt: &R) -> Result<Vec<String>, Failure> {
-    match env::args(rt) {
-        Ok(words) => Ok(words.collect(rt.alloc())?),
-        Err(error) if error.kind() == io::ErrorKind::OutOfMemory => {
-            Err(Failure::Lab(LabFault::Memory))
-        }
-        Err(_) => Err(Failure::CommandLine),
-    }
-}
-
-// What the program can be told.
-fn command<'a>(alloc: Global) -> Result<Command<'a>, AllocError> {
-    let lab = Command::new(alloc, "lab").about(
-        "Runs a script from standard input and writes one answer per line",
-    );
-    Command::new(alloc, "enet_relay")
-        .about("Hosts of ENet 1.3: a lab for two of them")
-        .disable_help_subcommand(true)
-        .subcommand_required(true)
-        .subcommand(lab)
-}
-
-fn run<R: Env + Input + Print + Eprint + AllocGlobal>(rt: &R) -> Result<(), Failure> {
-    let words = words_of(rt)?;
-    match command(rt.alloc())?.try_get_matches_from(words.as_slice()) {
-        Ok(_) => lab(rt.alloc(), &mut rt.reader(), &mut io::writer(rt)).map_err(Failure::Lab),
-        Err(error) => match error.kind() {
-            ErrorKind::DisplayHelp => { error.print(rt).map_err(|_| Failure::Lab(LabFault::Io)) }
-            ErrorKind::OutOfMemory => Err(Failure::Lab(LabFault::Memory)),
-            _ => Err(Failure::CommandLine),
-        },
-    }
+    Ok(())
 }
 
 fn main(rt: HostRuntime) -> ExitCode {

@@ -1,0 +1,147 @@
+//! What the program can be told.
+
+use crate::failure::Failure;
+use clap::error::ErrorKind;
+use clap::{Arg, ArgAction, ArgMatches, Command, Error, value_parser};
+use enet_types::Addr;
+use std::alloc::{AllocError, Global};
+use std::net::Ipv4Addr;
+use std::rt::Env;
+use std::{env, io};
+
+/// How long `serve` serves.
+#[derive(Clone, Copy, Debug, PartialEq, Eq)]
+pub enum Length {
+    /// So many turns.
+    Turns(u32),
+    /// Until the process is stopped.
+    Forever,
+}
+
+/// What `serve` was told.
+#[derive(Clone, Copy, Debug, PartialEq, Eq)]
+pub struct ServeOptions {
+    pub address: Addr,
+    pub peers: u16,
+    pub channels: u8,
+    pub length: Length,
+}
+
+/// What the program is to do.
+#[derive(Clone, Copy, Debug, PartialEq, Eq)]
+pub enum Task {
+    /// The help was printed, and nothing is left to do.
+    Nothing,
+    Lab,
+    Serve(ServeOptions),
+}
+
+/// Reads the command line. `--help` is answered here.
+pub fn read_task<R: Env + Print + Eprint + AllocGlobal>(rt: &R) -> Result<Task, Failure> {
+    let words = words_of(rt)?;
+    match command(rt.alloc())?.try_get_matches_from(words.as_slice()) {
+        Ok(found) => task_of(&found).ok_or(Failure::CommandLine),
+        Err(error) => answer(rt, &error),
+    }
+}
+
+// The words of the command line. A word that isn't text is refused.
+fn words_of<R: Env + AllocGlobal>(rt: &R) -> Result<Vec<String>, Failure> {
+    match env::args(rt) {
+        Ok(words) => Ok(words.collect(rt.alloc())?),
+        Err(error) if error.kind() == io::ErrorKind::OutOfMemory => Err(Failure::Memory),
+        Err(_) => Err(Failure::CommandLine),
+    }
+}
+
+fn answer<R: Print + Eprint>(rt: &R, error: &Error) -> Result<Task, Failure> {
+    match error.kind() {
+        ErrorKind::DisplayHelp => match error.print(rt) {
+            Ok(()) => Ok(Task::Nothing),
+            Err(_) => Err(Failure::Io),
+        },
+        ErrorKind::OutOfMemory => Err(Failure::Memory),
+        _ => Err(Failure::CommandLine),
+    }
+}
+
+fn command<'a>(alloc: Global) -> Result<Command<'a>, AllocError> {
+    let lab = Command::new(alloc, "lab").about(
+        "Runs a script from standard input and writes one answer per line",
+    );
+    Command::new(alloc, "enet_relay")
+        .about("Hosts of ENet 1.3: a lab for two of them, and a server that relays chat")
+        .disable_help_subcommand(true)
+        .subcommand_required(true)
+        .subcommand(lab)?
+        .subcommand(serve_command(alloc)?)
+}
+
+fn serve_command<'a>(alloc: Global) -> Result<Command<'a>, AllocError> {
+    let address = Arg::new(alloc, "address")
+        .long("address")
+        .help("The address to listen at, as a.b.c.d")
+        .default_value("127.0.0.1");
+    let forever = Arg::new(alloc, "forever")
+        .long("forever")
+        .help("Serve until the process is stopped, and tell totals on standard error each minute")
+        .action(ArgAction::SetTrue)
+        .conflicts_with("turns")?;
+    let port = number16(alloc, "port", 1, 65_535)
+        .help("The UDP port to listen at")
+        .required(true);
+    Command::new(alloc, "serve")
+        .about("Relays chat between the ENet clients that connect")
+        .arg(port)?
+        .arg(address)?
+        .arg(number16(alloc, "peers", 1, 4_095).default_value("32"))?
+        .arg(number8(alloc, "channels", 1, 255).default_value("2"))?
+        .arg(turns(alloc))?
+        .arg(forever)
+}
+
+fn turns<'a>(alloc: Global) -> Arg<'a> {
+    Arg::new(alloc, "turns")
+        .long("turns")
+        .help("How many turns each service takes")
+        .value_parser(value_parser!(u32).range(0..=1_000_000))
+        .default_value("1000")
+}
+
+fn number16<'a>(alloc: Global, name: &'a str, least: i64, most: i64) -> Arg<'a> {
+    Arg::new(alloc, name)
+        .long(name)
+        .value_parser(value_parser!(u16).range(least..=most))
+}
+
+fn number8<'a>(alloc: Global, name: &'a str, least: i64, most: i64) -> Arg<'a> {
+    Arg::new(alloc, name)
+        .long(name)
+        .value_parser(value_parser!(u8).range(least..=most))
+}
+
+// None where a word isn't one of ours, which the parser has refused before, or the address isn't one.
+fn task_of(found: &ArgMatches<'_>) -> Option<Task> {
+    let (name, found) = found.subcommand()?;
+    match name {
+        "lab" => Some(Task::Lab),
+        "serve" => Some(Task::Serve(serve_options(found)?)),
+        _ => None,
+    }
+}
+
+fn serve_options(found: &ArgMatches<'_>) -> Option<ServeOptions> {
+    let ip = found.get_one::<Ipv4Addr>("address")?.to_bits();
+    let port = found.get_one::<u16>("port")?;
+    let length = if found.get_flag("forever") {
+        Length::Forever
+    } else {
+        Length::Turns(found.get_one::<u32>("turns")?)
+    };
+    Some(ServeOptions {
+        address: Addr { ip, port },
+        peers: found.get_one::<u16>("peers")?,
+        channels: found.get_one::<u8>("channels")?,
+        length,
+    })
+}

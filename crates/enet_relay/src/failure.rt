@@ -1,0 +1,48 @@
+//! Why the program ends with a status other than 0.
+
+use enet_lab::LabFault;
+use enet_types::Refusal;
+use std::alloc::AllocError;
+use thiserror::Error;
+
+/// Why the program ends with a status other than 0. The text goes to standard error.
+#[derive(Clone, Copy, Debug, PartialEq, Eq, Error)]
+pub enum Failure {
+    /// The command line was refused.
+    #[error("bad command line")]
+    CommandLine,
+    /// There was no memory to read the command line.
+    #[error("E1 Memory")]
+    Memory,
+    /// What was to be told couldn't be written.
+    #[error("input or output failed")]
+    Io,
+    /// The lab ended before the end of its script.
+    #[error("{0}")]
+    Lab(LabFault),
+    /// A server or a client failed.
+    #[error("{0}")]
+    Service(Refusal),
+}
+
+impl Failure {
+    /// 2 where what the program was given can't be read, else 1.
+    pub fn status(self) -> u8 {
+        match self {
+            Failure::CommandLine | Failure::Lab(LabFault::BadScript(_)) => 2,
+            _ => 1,
+        }
+    }
+}
+
+impl From<AllocError> for Failure {
+    fn from(_error: AllocError) -> Failure {
+        Failure::Memory
+    }
+}
+
+impl From<Refusal> for Failure {
+    fn from(why: Refusal) -> Failure {
+        Failure::Service(why)
+    }
+}

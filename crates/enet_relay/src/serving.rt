@@ -1,0 +1,75 @@
+//! The server, as it tells of itself.
+
+use crate::command_line::{Length, ServeOptions};
+use crate::failure::Failure;
+use enet_serve::{Server, Settings, Shift};
+use std::net::Net;
+use std::rt::Clock;
+use std::sync::Wait;
+use std::sync::atomic::AtomicUsize;
+use std::sync::atomic::Ordering::SeqCst;
+use std::thread::Threads;
+use std::time::Duration;
+
+/// How many places each queue of the server has.
+const ROOM: u32 = 65_536;
+
+/// Totals are told once in so many seconds.
+const BETWEEN_TOTALS: u64 = 60;
+
+/// Serves, and tells how much it was.
+pub fn serve<R>(rt: &R, options: ServeOptions) -> Result<(), Failure>
+where
+    R: Threads + Wait + Net + Clock + Sync + Print + Eprint + AllocGlobal,
+{
+    let settings = Settings {
+        address: options.address,
+        peers: options.peers,
+        channels: options.channels,
+        room: ROOM,
+    };
+    let server = Server::open(rt, settings)?;
+    match options.length {
+        Length::Turns(turns) => serve_turns(rt, server, turns),
+        Length::Forever => serve_on(rt, server),
+    }
+}
+
+fn serve_turns<R>(rt: &R, server: Server, turns: u32) -> Result<(), Failure>
+where
+    R: Threads + Wait + Clock + Sync + Print,
+{
+    let (_server, report) = server.serve(rt, Shift::Turns(u64::from(turns)), &AtomicUsize::new(0))?;
+    let received = report.received;
+    let sent = report.sent;
+    println!(rt; "served {turns} received {received} sent {sent}").map_err(|_| Failure::Io)
+}
+
+// Serves until the process is stopped. Totals that can't be written end nothing.
+fn serve_on<R>(rt: &R, server: Server) -> Result<(), Failure>
+where
+    R: Threads + Wait + Clock + Sync + Eprint,
+{
+    let mut server = server;
+    let present = AtomicUsize::new(0);
+    let mut lost = 0u64;
+    for _ in rt.forever() {
+        let shift = Shift::Time(Duration::from_secs(BETWEEN_TOTALS));
+        let (next, report) = server.serve(rt, shift, &present)?;
+        server = next;
+        lost = lost.saturating_add(u64::from(report.lost));
+        tell_totals(rt, &server, present.load(SeqCst), lost);
+    }
+    Ok(())
+}
+
+fn tell_totals<R: Eprint>(rt: &R, server: &Server, peers: usize, lost: u64) {
+    let totals = server.host().totals();
+    let came = totals.datagrams_in;
+    let bytes_in = totals.bytes_in;
+    let went = totals.datagrams_out;
+    let bytes_out = totals.bytes_out;
+    let _ = eprintln!(rt;
+        "peers {peers} in {came} bytes {bytes_in} out {went} bytes {bytes_out} lost {lost}"
+    );
+}
