@@ -1,0 +1,10 @@
+use Rattle.std.proofs.Common.{List}
+use Rattle.enet_turn.specs.Run.{Round}
+use Rattle.enet_serve.proofs.shift.turns_of.Goals as goal
+
+pub returns-in-Ok-clause-turns : goal.returns-in-Ok-clause-turns
+returns-in-Ok-clause-turns g c =
+    let ran = c.in-Ok.ensures.run in
+    let ends = ran.6 in
+    let rounds : List Round = ran.0 in
+    (rounds, ends.1, record { turns = ran.1; sound = ends.0; totals = ends.2; gave = ran.3.grown; put = ran.4 })
