@@ -95,10 +95,9 @@ impl Field {
         }
     }
 
-    /// The host that the next word names.
-    fn host(&mut self, words: &mut Words<'_>) -> Result<&mut HostCore, Fault> {
-        let place = usize::from(words.letter()?);
-        self.hosts.get_mut(place).ok_or(UNREADABLE)
+    /// The host of a letter.
+    fn host(&mut self, letter: u8) -> Result<&mut HostCore, Fault> {
+        self.hosts.get_mut(usize::from(letter)).ok_or(UNREADABLE)
     }
 
     fn open(&mut self, words: &mut Words<'_>, text: &mut String) -> Result<(), Fault> {
@@ -131,12 +130,12 @@ impl Field {
     }
 
     fn connect(&mut self, words: &mut Words<'_>, text: &mut String) -> Result<(), Fault> {
-        let host = self.host(words)?;
+        let from = words.letter()?;
         let to = words.address()?;
         let channels = words.byte()?;
         let info = words.number()?;
         let id = words.hex()?;
-        match host.connect(to, channels, info, id) {
+        match self.host(from)?.connect(to, channels, info, id) {
             Ok(peer) => {
                 let slot = peer.slot;
                 let generation = peer.generation;
@@ -148,35 +147,26 @@ impl Field {
     }
 
     fn submit(&mut self, words: &mut Words<'_>, text: &mut String) -> Result<(), Fault> {
-        let alloc = self.alloc;
-        let host = self.host(words)?;
+        let from = words.letter()?;
         let peer = words.peer()?;
         let channel = words.byte()?;
         let flags = words.byte()?;
-        let bytes = read_bytes(alloc, words.word()?)?;
+        let bytes = read_bytes(self.alloc, words.word()?)?;
         let body = Bytes::from_vec(bytes).map_err(|_| Fault::OwnMemory)?;
-        let outcome = host.submit(peer, channel, flags, body);
+        let outcome = self.host(from)?.submit(peer, channel, flags, body);
         push_done(text, outcome.map_err(|refused| refused.0))
     }
 
     /// One datagram is put out.
     fn turn(&mut self, words: &mut Words<'_>, text: &mut String) -> Result<(), Fault> {
         let from = words.letter()?;
-        let Some(host) = self.hosts.get_mut(usize::from(from)) else {
-            return Err(UNREADABLE);
-        };
         let mut buf = [0; 4_096];
-        let Some((peer, to, len)) = host.service(&mut buf) else {
+        let Some((peer, to, len)) = self.host(from)?.service(&mut buf) else {
             text.push_str("none")?;
             return Ok(());
         };
         let datagram = buf.get(..len).unwrap_or(&[]);
-        let start = self.bytes.len();
-        self.bytes.extend_from_slice(datagram)?;
-        let end = self.bytes.len();
-        if self.sent.push(Sent { from, start, end }).is_err() {
-            return Err(Fault::OwnMemory);
-        }
+        self.keep(from, datagram)?;
         let slot = peer.slot;
         let generation = peer.generation;
         let letter = letter_of(to);
@@ -185,9 +175,20 @@ impl Field {
         Ok(())
     }
 
+    /// Keeps a datagram that a host put out.
+    fn keep(&mut self, from: u8, datagram: &[u8]) -> Result<(), Fault> {
+        let start = self.bytes.len();
+        self.bytes.extend_from_slice(datagram)?;
+        let end = self.bytes.len();
+        match self.sent.push(Sent { from, start, end }) {
+            Ok(()) => Ok(()),
+            Err(_) => Err(Fault::OwnMemory),
+        }
+    }
+
     /// All that waits is put out, and doesn't count among the datagrams.
     fn drain(&mut self, words: &mut Words<'_>, text: &mut String) -> Result<(), Fault> {
-        let host = self.host(words)?;
+        let host = self.host(words.letter()?)?;
         let mut buf = [0; 4_096];
         for _ in 0..MOST_AT_ONCE {
             if host.service(&mut buf).is_none() {
@@ -214,17 +215,16 @@ impl Field {
     }
 
     fn receive(&mut self, words: &mut Words<'_>, text: &mut String) -> Result<(), Fault> {
-        let alloc = self.alloc;
-        let host = self.host(words)?;
+        let to = words.letter()?;
         let from = words.address()?;
-        let bytes = read_bytes(alloc, words.word()?)?;
-        push_received(text, host.receive(from, bytes.as_slice()))?;
+        let bytes = read_bytes(self.alloc, words.word()?)?;
+        let received = self.host(to)?.receive(from, bytes.as_slice());
+        push_received(text, received)?;
         Ok(())
     }
 
     fn take(&mut self, words: &mut Words<'_>, text: &mut String) -> Result<(), Fault> {
-        let host = self.host(words)?;
-        match host.next_event() {
+        match self.host(words.letter()?)?.next_event() {
             Some(event) => push_event(text, &event)?,
             None => text.push_str("none")?,
         }
@@ -232,8 +232,9 @@ impl Field {
     }
 
     fn tick(&mut self, words: &mut Words<'_>, text: &mut String) -> Result<(), Fault> {
-        let host = self.host(words)?;
-        host.tick(words.number()?);
+        let host = words.letter()?;
+        let ms = words.number()?;
+        self.host(host)?.tick(ms);
         push_done(text, Ok(()))
     }
 
@@ -243,9 +244,10 @@ impl Field {
         words: &mut Words<'_>,
         text: &mut String,
     ) -> Result<(), Fault> {
-        let host = self.host(words)?;
+        let host = words.letter()?;
         let peer = words.peer()?;
         let info = words.number()?;
+        let host = self.host(host)?;
         let outcome = if command.starts_with("ask") {
             host.disconnect(peer, info)
         } else if command.starts_with("now") {
@@ -262,19 +264,20 @@ impl Field {
         words: &mut Words<'_>,
         text: &mut String,
     ) -> Result<(), Fault> {
-        let host = self.host(words)?;
+        let host = words.letter()?;
         if command.starts_with("bandwidth") {
             let incoming = words.number()?;
             let outgoing = words.number()?;
-            return push_done(text, host.set_bandwidth(incoming, outgoing));
+            return push_done(text, self.host(host)?.set_bandwidth(incoming, outgoing));
         }
         let peer = words.peer()?;
         let first = words.number()?;
         if command.starts_with("ping") {
-            return push_done(text, host.set_ping_interval(peer, first));
+            return push_done(text, self.host(host)?.set_ping_interval(peer, first));
         }
         let second = words.number()?;
         let third = words.number()?;
+        let host = self.host(host)?;
         let outcome = if command.starts_with("throttle") {
             host.throttle_configure(peer, first, second, third)
         } else {
@@ -290,7 +293,7 @@ impl Field {
         words: &mut Words<'_>,
         text: &mut String,
     ) -> Result<(), Fault> {
-        let host = self.host(words)?;
+        let host = self.host(words.letter()?)?;
         if command.starts_with("totals") {
             push_totals(text, host.totals())?;
             return Ok(());
@@ -309,8 +312,9 @@ impl Field {
         words: &mut Words<'_>,
         text: &mut String,
     ) -> Result<(), Fault> {
-        let host = self.host(words)?;
+        let host = words.letter()?;
         let peer = words.peer()?;
+        let host = self.host(host)?;
         if command.starts_with("state") {
             match host.state(peer) {
                 Some(state) => write!(text, "{state:?}")?,

@@ -78,26 +78,35 @@ fn command<'a>(alloc: Global) -> Result<Command<'a>, AllocError> {
 }
 
 fn serve_command<'a>(alloc: Global) -> Result<Command<'a>, AllocError> {
-    let address = Arg::new(alloc, "address")
-        .long("address")
-        .help("The address to listen at, as a.b.c.d")
-        .default_value("127.0.0.1");
-    let forever = Arg::new(alloc, "forever")
-        .long("forever")
-        .help("Serve until the process is stopped, and tell totals on standard error each minute")
-        .action(ArgAction::SetTrue)
-        .conflicts_with("turns")?;
-    let port = number16(alloc, "port", 1, 65_535)
-        .help("The UDP port to listen at")
-        .required(true);
     Command::new(alloc, "serve")
         .about("Relays chat between the ENet clients that connect")
-        .arg(port)?
-        .arg(address)?
+        .arg(port(alloc))?
+        .arg(address(alloc))?
         .arg(number16(alloc, "peers", 1, 4_095).default_value("32"))?
         .arg(number8(alloc, "channels", 1, 255).default_value("2"))?
         .arg(turns(alloc))?
-        .arg(forever)
+        .arg(forever(alloc)?)
+}
+
+fn port<'a>(alloc: Global) -> Arg<'a> {
+    number16(alloc, "port", 1, 65_535)
+        .help("The UDP port to listen at")
+        .required(true)
+}
+
+fn address<'a>(alloc: Global) -> Arg<'a> {
+    Arg::new(alloc, "address")
+        .long("address")
+        .help("The address to listen at, as a.b.c.d")
+        .default_value("127.0.0.1")
+}
+
+fn forever<'a>(alloc: Global) -> Result<Arg<'a>, AllocError> {
+    Arg::new(alloc, "forever")
+        .long("forever")
+        .help("Serve until the process is stopped, and tell totals on standard error each minute")
+        .action(ArgAction::SetTrue)
+        .conflicts_with("turns")
 }
 
 fn turns<'a>(alloc: Global) -> Arg<'a> {
