@@ -3,8 +3,8 @@
 //! status 1.
 //!
 //! A line `peer START` (`starts`) makes the peer of a new trial. Each other line is a call (`scene`, `states`) and, behind ` = `, its
-//! answer, which is `ok` where none stands there. Bytes are in hex, or a name (`datagrams`). A line that is empty or begins with
-//! `#` is passed over.
+//! answer, which is `ok` where none stands there. Bytes are in hex, or a name (`datagrams`). `times COUNT CALL` makes a call so
+//! many times, and its last answer counts. A line that is empty or begins with `#` is passed over.
 #![tactic(auto)]
 
 mod datagrams;

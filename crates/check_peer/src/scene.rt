@@ -12,7 +12,7 @@ use enet_types::{Event, PeerRef, Received, Refusal, Stop};
 use std::alloc::Global;
 
 /// How many bytes of a datagram are shown.
-const SHOWN: usize = 52;
+const SHOWN: usize = 120;
 
 const PEER: PeerRef = PeerRef {
     slot: 0,
@@ -62,8 +62,9 @@ fn told(event: PeerEvent) -> Event {
 impl Scene {
     /// Makes one call and gives its answer; None where it can't be read or there is no memory.
     ///
-    /// - `deliver BYTES`: a datagram comes. `turn`: a datagram goes. Answers its first 52 bytes, or `none`. `drain`: all go.
-    ///   Answers how many.
+    /// - `deliver BYTES`: a datagram comes. `turn`: a datagram goes. Answers its first 120 bytes, or `none`. `drain`: all go.
+    ///   Answers how many. `run LAST`: the reliable packets 1 to LAST of channel 0, without bytes, come one by one, and each is
+    ///   taken and acknowledged at once; otherwise answers with the number of the first that isn't.
     /// - `tick MS`: time passes. `ticks TIMES`: so many times 500 ms pass, each with a turn. Answers when datagrams went.
     /// - `take`: the next event. `submit CHANNEL FLAGS BYTES`, `zeros CHANNEL FLAGS LENGTH`: a packet.
     /// - `ask INFO`, `now INFO`, `later INFO`: the disconnects. `state`. `terms`: mtu, window and the other end's incoming bandwidth.
@@ -74,6 +75,7 @@ impl Scene {
             b"deliver" => self.deliver(alloc, rest),
             b"turn" => self.turn(alloc),
             b"drain" => self.drain(alloc),
+            b"run" => self.run(alloc, numbers(rest)?[0]),
             b"ticks" => self.ticks(alloc, numbers(rest)?[0]),
             b"take" => self.take(alloc),
             b"submit" => self.submit(alloc, rest),
@@ -159,6 +161,20 @@ impl Scene {
         let (datagram, _) = bytes_word(alloc, named(datagram)).ok()??;
         let received = self.take_in(datagram.as_slice());
         received_text(alloc, received).ok()
+    }
+
+    fn run(&mut self, alloc: Global, last: u32) -> Option<String> {
+        let mut buf = [0u8; 4096];
+        for number in 1..=last {
+            let [_, _, high, low] = number.to_be_bytes();
+            let received = self.take_in(&[0x80, 0, 0, 0, 0x86, 0, high, low, 0, 0]);
+            let is_taken = self.peer.next_event().is_some();
+            let goes = self.peer.emit(self.now, &mut buf) == Some(10);
+            if received.handled != 1 || !is_taken || !goes {
+                return format!(in alloc; "{number}").ok();
+            }
+        }
+        String::from_str(alloc, "ok").ok()
     }
 
     /// Hands the commands of a datagram over, whatever peer and session its header names.

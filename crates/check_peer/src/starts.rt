@@ -61,11 +61,20 @@ pub fn start(alloc: Global, text: &[u8]) -> Option<Scene> {
         _ => return opened(alloc, text),
     };
     let mut scene = opened(alloc, opening.as_bytes())?;
+    if comes_to(alloc, &mut scene, calls, text) == Some(true) {
+        Some(scene)
+    } else {
+        None
+    }
+}
+
+/// Makes the calls. Whether the peer is in the state of this name then; None where one can't be made.
+fn comes_to(alloc: Global, scene: &mut Scene, calls: &str, state: &[u8]) -> Option<bool> {
     for call in calls.split(',') {
         let (name, rest) = word(call.as_bytes())?;
         let _answer = scene.act(alloc, name, rest)?;
     }
-    (scene.act(alloc, b"state", &[])?.as_bytes() == text).then_some(scene)
+    Some(scene.act(alloc, b"state", &[])?.as_bytes() == state)
 }
 
 fn opened(alloc: Global, text: &[u8]) -> Option<Scene> {

@@ -13,17 +13,26 @@ pub fn disconnects(alloc: Global, text: &[u8]) -> Option<String> {
     let mut told = String::new(alloc);
     let mut before = "";
     for call in ["ask", "now", "later"] {
-        let mut scene = start(alloc, state)?;
-        let refusal = match scene.act(alloc, call.as_bytes(), b"5")?.as_str() {
-            "ok" => "",
-            "E3 NotConnected" => "E3 ",
-            _ => "another answer ",
-        };
-        let after = scene.peer.state();
-        write!(told, "{before}{refusal}{after:?}").ok()?;
+        told.push_str(before).ok()?;
+        push_call_in(alloc, &mut told, state, call)?;
         before = ", ";
     }
     Some(told)
+}
+
+fn push_call_in(alloc: Global, told: &mut String, state: &[u8], call: &str) -> Option<()> {
+    let mut scene = start(alloc, state)?;
+    push_call(alloc, told, &mut scene, call)
+}
+
+fn push_call(alloc: Global, told: &mut String, scene: &mut Scene, call: &str) -> Option<()> {
+    let refusal = match scene.act(alloc, call.as_bytes(), b"5")?.as_str() {
+        "ok" => "",
+        "E3 NotConnected" => "E3 ",
+        _ => "another answer ",
+    };
+    let after = scene.peer.state();
+    write!(told, "{refusal}{after:?}").ok()
 }
 
 /// The commands 1 to 12, each of which asks for an acknowledgement.
@@ -55,14 +64,18 @@ pub fn commands(alloc: Global, text: &[u8]) -> Option<String> {
         text.push_str(command).ok()?;
         let (datagram, _) = bytes_word(alloc, text.as_bytes()).ok()??;
         told.push_str(before).ok()?;
-        push_arrival(&mut told, start(alloc, state)?, datagram.as_slice())?;
+        push_arrival_in(alloc, &mut told, state, datagram.as_slice())?;
         before = " ";
     }
     Some(told)
 }
 
-fn push_arrival(told: &mut String, scene: Scene, datagram: &[u8]) -> Option<()> {
-    let mut scene = scene;
+fn push_arrival_in(alloc: Global, told: &mut String, state: &[u8], datagram: &[u8]) -> Option<()> {
+    let mut scene = start(alloc, state)?;
+    push_arrival(told, &mut scene, datagram)
+}
+
+fn push_arrival(told: &mut String, scene: &mut Scene, datagram: &[u8]) -> Option<()> {
     let before = scene.peer.state();
     let stop = scene.take_in(datagram).stop;
     if let Some(stop) = stop {
@@ -74,7 +87,7 @@ fn push_arrival(told: &mut String, scene: Scene, datagram: &[u8]) -> Option<()> 
         write!(told, "{after:?}").ok()?;
     }
     if stop.is_none() {
-        let count = acknowledgements(&mut scene);
+        let count = acknowledgements(scene);
         write!(told, "+{count}").ok()?;
     }
     Some(())
