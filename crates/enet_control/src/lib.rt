@@ -4,7 +4,7 @@
 //! Proved, exactly by specs/Controlling: `queue`, `next_due`, `acknowledge`, `late`, `clear`, `is_idle`, `reserve`, `open`
 //! and the calls that only test or only mark (`ends`, `is_late`, `mark`, `has_queued`); a list without commands has room for
 //! one.
-//! Only tested, in `check_sending`: the bytes of each command, and worked rows.
+//! Only tested, by `check_peer`: the bytes of each command, and worked rows.
 #![tactic(auto)]
 
 mod control;

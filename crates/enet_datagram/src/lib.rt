@@ -4,7 +4,7 @@
 //! `obeyed` says, until none is left, none stands at the front (S6) or one stops the datagram; how many were handled, and
 //! S12's command counts. `read_heading` and `read_offer` read the header and a stranger's offer exactly. Law
 //! `what_was_put_out_comes`: of bytes that spell a list of commands, just these come to the peer.
-//! Only tested, in `check_receiving`: that commands find memory, and worked datagrams.
+//! Only tested, by `check_peer`: that commands find memory, and worked datagrams.
 #![tactic(auto)]
 
 ghost use Rattle.std.specs.Prelude.{◌≡◌, ℕ, ◌≤◌, List, Option, drop, length};

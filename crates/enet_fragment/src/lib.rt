@@ -11,8 +11,8 @@
 //! that brings it (`add`), so that handing the body out (`into_body`) takes no memory. `DataCommand::command` is the command
 //! on the wire, and what is written so is read again as itself (`what_is_read_was_written`). A huge count or total is had in
 //! full or is E1, never a wrapped size.
-//! Only tested, in `check_sending`: that calls succeed with ample memory; by hand, not by the gate, that each allocation may
-//! fail (two in `new`, one in `finish`).
+//! Only tested, in `check_numbers` and `check_peer`: that calls succeed with ample memory; by hand, not by the gate, that each
+//! allocation may fail (two in `new`, one in `finish`).
 //! Neither: how much time and memory the calls take. By the code, an assembly takes `total` bytes and one byte a piece,
 //! `put` copies the piece once and walks over nothing else, `finish` copies nothing.
 #![tactic(auto)]

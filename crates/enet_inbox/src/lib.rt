@@ -5,7 +5,7 @@
 //! tests, or whether it may be acknowledged, and the inbox after it; want of memory changes nothing and comes only where
 //! nothing else stops the command), `foresee`, `pass_over`, `take`, `next`, `clear`, `forget`, `narrow`, `open`; the bytes
 //! that wait are kept by a counter.
-//! Only tested, in `check_receiving`: that calls succeed with ample memory, and worked rows.
+//! Only tested, in `check_numbers` and `check_peer`: that calls succeed with ample memory, and worked rows.
 #![tactic(auto)]
 
 mod arriving;

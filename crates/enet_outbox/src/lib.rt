@@ -10,7 +10,7 @@
 //! that nothing is in transit.
 //! Laws: the bytes of a datagram spell its header and its commands, in their order, and nothing else
 //! (`what_goes_is_spelled`); the acknowledgement that waits longest goes first (`oldest_goes_first`).
-//! Only tested, by `check_outbox`: that calls succeed with ample memory, and worked datagrams byte for byte.
+//! Only tested, by `check_peer`: that calls succeed with ample memory, and worked datagrams byte for byte.
 #![tactic(auto)]
 
 mod laws;

@@ -6,7 +6,7 @@
 //! `flush` hand out the whole packets of a line from a number on, by rising number, and drop those that have fallen
 //! behind; the counts of packets and bytes are exact (`len`, `bytes`, `packets`), by counters; want of memory changes
 //! nothing.
-//! Only tested, in `check_receiving`: that calls succeed with ample memory, and worked lines.
+//! Only tested, by `check_peer`: that calls succeed with ample memory, and worked lines.
 #![tactic(auto)]
 
 mod coming;

@@ -7,7 +7,7 @@
 //! span and the bytes in transit let it go, written where it fits; NoRoom and Nothing change nothing), `skip`,
 //! `acknowledge`, `late`, `clear`, `left`. Laws: how the bytes in transit change (`transit_follows`) and what stays left
 //! (`reliable_stays_left`).
-//! Only tested, in `check_sending`: that calls succeed with ample memory, and worked rows.
+//! Only tested, by `check_peer`: that calls succeed with ample memory, and worked rows.
 #![tactic(auto)]
 
 mod course;
