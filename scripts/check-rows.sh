@@ -10,6 +10,7 @@ cd "$(dirname "$0")/.." || exit 1
 program=${1:-crates/enet_relay/out/enet_relay}
 lists=crates/check_memory/out/check_memory
 rows=scripts/rows
+. scripts/clients.sh
 passed=0
 failed=0
 
@@ -77,11 +78,64 @@ command_line() {
 service_line() {
     local name=$1 wanted=$2 err=$3 out=$4
     shift 4
-    command_line "$name" "$wanted" "$err" /dev/null "$room/out" "$@"
-    [ "$(<"$room/out")" = "$out" ] || fail "$name" "standard output is: $(head -c 200 "$room/out")"
+    timeout 120 "$program" "$@" > "$room/out" 2> "$room/err"
+    local status=$?
+    [ "$(<"$room/err")" = "$err" ] || { fail "$name" "standard error is: $(head -c 200 "$room/err")"; return; }
+    [ "$(<"$room/out")" = "$out" ] || { fail "$name" "standard output is: $(head -c 200 "$room/out")"; return; }
+    [ "$status" -eq "$wanted" ] || { fail "$name" "status $status where $wanted is wanted"; return; }
+    passed=$((passed + 1))
+}
+
+# Starts `serve` with these words on the port `port`, its outputs as $room/first and $room/first.err, and waits until it has the port.
+start_service() {
+    "$program" serve --port "$port" "$@" > "$room/first" 2> "$room/first.err" &
+    first=$!
+    for _ in {1..100}; do
+        grep -q ":$(printf '%04X' "$port") " /proc/net/udp && return
+        sleep 0.1
+    done
 }
 
 refused_command_lines() {
+    local words
+    while IFS= read -r words; do
+        # shellcheck disable=SC2086
+        command_line "bad: $words" 2 'bad command line' /dev/null "$room/out" $words
+    done << 'END'
+serve
+serve --port 0
+serve --port 65536
+serve --port 47001 --peers 0
+serve --port 47001 --peers 4096
+serve --port 47001 --channels 0
+serve --port 47001 --channels 256
+serve --port 47001 --turns 1000001
+serve --port 47001 --turns -1
+serve --port 47001 --turns 2 --forever
+serve --port 47001 --address localhost
+serve --port 47001 --address 127.0.0.1.1
+END
+}
+
+services() {
+    free_port
+    service_line serve-two-turns 0 '' 'served 2 received 0 sent 0' serve --port "$port" --turns 2
+    service_line serve-no-turn 0 '' 'served 0 received 0 sent 0' serve --port "$port" --turns 0 --address 127.0.0.1
+    start_service --turns 1000000
+    service_line port-taken 1 'E14 WireFault' '' serve --port "$port" --turns 2
+    service_line another-address 0 '' 'served 2 received 0 sent 0' serve --port "$port" --turns 2 --address 127.0.0.2
+    kill "$first"
+    wait "$first" 2> "$room/gone"
+    free_port
+    start_service --forever
+    sleep 2
+    kill -0 "$first" 2> "$room/gone" || fail forever 'it ended by itself'
+    kill "$first"
+    wait "$first" 2> "$room/gone"
+    [ ! -s "$room/first" ] && [ ! -s "$room/first.err" ] || fail forever "it wrote: $(head -c 200 "$room/first" "$room/first.err")"
+}
+
+command_lines() {
     local words
     while IFS= read -r words; do
         # shellcheck disable=SC2086

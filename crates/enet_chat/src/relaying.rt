@@ -50,6 +50,7 @@ pub struct Parts {
     pub orders: VecDeque<Order>,
     /// The seat, given up.
     pub seat: Finished,
+    /// The taker, with all that it took.
     pub taker: Taker,
 }
 

@@ -82,8 +82,8 @@ fn serve_command<'a>(alloc: Global) -> Result<Command<'a>, AllocError> {
         .about("Relays chat between the ENet clients that connect")
         .arg(port(alloc))?
         .arg(address(alloc))?
-        .arg(number16(alloc, "peers", 1, 4_095).default_value("32"))?
-        .arg(number8(alloc, "channels", 1, 255).default_value("2"))?
+        .arg(peers(alloc))?
+        .arg(channels(alloc))?
         .arg(turns(alloc))?
         .arg(forever(alloc)?)
 }
@@ -101,6 +101,18 @@ fn address<'a>(alloc: Global) -> Arg<'a> {
         .default_value("127.0.0.1")
 }
 
+fn peers<'a>(alloc: Global) -> Arg<'a> {
+    number16(alloc, "peers", 1, 4_095)
+        .help("How many clients it has room for")
+        .default_value("32")
+}
+
+fn channels<'a>(alloc: Global) -> Arg<'a> {
+    number8(alloc, "channels", 1, 255)
+        .help("How many channels a client is granted at most")
+        .default_value("2")
+}
+
 fn forever<'a>(alloc: Global) -> Result<Arg<'a>, AllocError> {
     Arg::new(alloc, "forever")
         .long("forever")
@@ -112,7 +124,7 @@ fn forever<'a>(alloc: Global) -> Result<Arg<'a>, AllocError> {
 fn turns<'a>(alloc: Global) -> Arg<'a> {
     Arg::new(alloc, "turns")
         .long("turns")
-        .help("How many turns each service takes")
+        .help("How many turns the service takes")
         .value_parser(value_parser!(u32).range(0..=1_000_000))
         .default_value("1000")
 }

@@ -20,7 +20,7 @@ pub enum Failure {
     /// The lab ended before the end of its script.
     #[error("{0}")]
     Lab(LabFault),
-    /// A server or a client failed.
+    /// The server failed.
     #[error("{0}")]
     Service(Refusal),
 }

@@ -63,6 +63,7 @@ where
     Ok(())
 }
 
+// `out` counts what the host put out; `lost` says how many of those didn't leave.
 fn tell_totals<R: Eprint>(rt: &R, server: &Server, peers: usize, lost: u64) {
     let totals = server.host().totals();
     let came = totals.datagrams_in;

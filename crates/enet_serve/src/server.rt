@@ -50,7 +50,8 @@ impl Server {
 
     /// A server at this address, with no peer.
     ///
-    /// E8 where a number of the settings is out of its range, E14 where the address can't be had, E1 for want of memory.
+    /// E8 where `peers` or `channels` is out of its range (`room` is tested by [`Server::serve`]), E14 where the address can't be had,
+    /// E1 for want of memory.
     pub fn open<R: Net + AllocGlobal>(rt: &R, settings: Settings) -> Result<Server, Refusal>
         ensures { IfOk result (IsOpened settings) }
     {
@@ -78,7 +79,8 @@ impl Server {
     /// Each shift has queues of its own, since a seat submits 4,294,967,295 orders at most.
     ///
     /// E14 where the wire fails, E1 for want of memory, E8 where the queues' places are out of range, E10 where a shift is so long
-    /// that the seat has submitted as many orders as it may, E16 where the threads ended and a queue isn't empty.
+    /// that the seat has submitted as many orders as it may, E16 where the threads ended and a queue isn't empty. Whatever is refused,
+    /// the server is gone with it: its socket and its connections.
     pub fn serve<R>(
         self,
         rt: &R,

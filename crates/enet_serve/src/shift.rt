@@ -17,11 +17,11 @@ use std::time::{Duration, Instant};
 const TURNS_AT_ONCE: u64 = 64;
 
 /// How long a service takes turns.
-#[derive(Clone, Copy)]
+#[derive(Clone, Copy, Debug, PartialEq, Eq)]
 pub enum Shift {
     /// So many turns.
     Turns(u64),
-    /// As many turns as it takes until so much time has passed.
+    /// As many turns as it takes until so much time has passed. Where the clock can't be read it never ends.
     Time(Duration),
 }
 
