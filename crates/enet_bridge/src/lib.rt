@@ -16,6 +16,3 @@ pub use inbox::{Inbox, TakerBell};
 pub use sink::{MemorySink, QueueSink, Sink};
 pub use source::{MemorySource, QueueSource, Source};
 pub use waiting::{Pumped, pump};
-
-#[cfg(test)]
-mod tests;

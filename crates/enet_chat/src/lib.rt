@@ -17,6 +17,3 @@ pub use laws::each_other_peer_once;
 pub use relay::relay_step;
 pub use relaying::{Parts, Relay};
 pub use table::Table;
-
-#[cfg(test)]
-mod tests;

@@ -22,6 +22,3 @@ pub use account::Account;
 pub use numbered::Numbered;
 pub use queue::EventQueue;
 pub use token::{Poster, Taker};
-
-#[cfg(test)]
-mod tests;

@@ -27,6 +27,3 @@ pub use laws::taken_of_a_seat_comes_first;
 pub use order::{Account, Order, Submission, Ticket};
 pub use queue::SubmitQueue;
 pub use token::{Drain, Finished, Seat};
-
-#[cfg(test)]
-mod tests;

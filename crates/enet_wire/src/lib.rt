@@ -17,6 +17,3 @@ pub use memory::MemoryWire;
 pub use socket::MioWire;
 pub use told::{Step, Told};
 pub use wire::Wire;
-
-#[cfg(test)]
-mod tests;

@@ -1,8 +1,8 @@
 ghost use Rattle.std.specs.Prelude.{◌≡◌, IfOk};
 ghost use Rattle.std.specs.List.{All};
 
-use crate::{Account, EventQueue, Poster, Taker};
 use enet_codec::Refusal;
+use enet_events::{Account, EventQueue, Poster, Taker};
 use enet_types::{Event, PeerRef};
 use std::alloc::{AllocError, Global};
 use std::sync::Wait;

@@ -1,5 +1,5 @@
-use super::*;
 use bytes::Bytes;
+use enet_chat::{Table, relay_step};
 use enet_submit::Order;
 use enet_types::{Event, Packet, PeerRef, Refusal};
 use std::alloc::Global;

@@ -3,8 +3,8 @@ ghost use Rattle.std.specs.Prelude.{◌≡◌, IfOk, length};
 ghost use Rattle.std.specs.List.{All};
 ghost use Rattle.enet_submit.specs.Words.{IsSeatOf, IsDrainOf, IsFinishedOf};
 
-use crate::{Account, Drain, Finished, Order, Seat, SubmitQueue};
 use enet_codec::{Addr, Refusal};
+use enet_submit::{Account, Drain, Finished, Order, Seat, SubmitQueue};
 use std::alloc::{AllocError, Global};
 use std::sync::Wait;
 use std::thread;

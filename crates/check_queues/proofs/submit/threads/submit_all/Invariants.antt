@@ -1,5 +1,5 @@
 use Rattle.enet_submit.specs.Words.{IsSeatOf}
-use Rattle.enet_submit.proofs.tests.threads.submit_all.Given as goal
+use Rattle.check_queues.proofs.submit.threads.submit_all.Given as goal
 
 abbrev pub invariant-loop : goal.invariant-loop
 invariant-loop g l = IsSeatOf l.queue l.seat

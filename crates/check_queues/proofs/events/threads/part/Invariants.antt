@@ -1,6 +1,6 @@
 use Rattle.std.proofs.Common.{◌≡◌, vec_len}
 use Rattle.std.specs.List.{All}
-use Rattle.enet_events.proofs.tests.threads.part.Given as goal
+use Rattle.check_queues.proofs.events.threads.part.Given as goal
 
 abbrev pub invariant-loop-taker : goal.invariant-loop-taker
 invariant-loop-taker l = All (λ r. r.0.queue ≡ l.queue.id) l.taken.items × All (λ t. t.queue ≡ l.queue.id) l.takers.items

@@ -1,8 +1,8 @@
 ghost use Rattle.std.specs.Prelude.{◌≡◌, IfSome};
 ghost use Rattle.std.specs.List.{All};
 
-use crate::{EventQueue, Poster, Taker};
 use enet_codec::Refusal;
+use enet_events::{EventQueue, Poster, Taker};
 use enet_types::{Event, PeerRef};
 use std::alloc::Global;
 use std::sync::Wait;

@@ -3,8 +3,8 @@
 ghost use Rattle.std.specs.Prelude.{IfSome};
 ghost use Rattle.enet_submit.specs.Words.{IsSeatOf, IsDrainOf};
 
-use super::*;
 use bytes::Bytes;
+use enet_bridge::{Desk, MemorySink, MemorySource, Pumped, QueueSource, Sink, Source};
 use enet_submit::{Drain, Order, Seat, Submission, SubmitQueue};
 use enet_types::{Addr, Event, PeerRef};
 use enet_wire::MioWire;

@@ -1,5 +1,5 @@
 use Rattle.enet_submit.specs.Words.{IsDrainOf}
-use Rattle.enet_submit.proofs.tests.threads.take_all.Given as goal
+use Rattle.check_queues.proofs.submit.threads.take_all.Given as goal
 
 abbrev pub invariant-loop : goal.invariant-loop
 invariant-loop g l = IsDrainOf l.queue l.drain

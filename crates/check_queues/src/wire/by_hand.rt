@@ -1,8 +1,8 @@
 //! A wire in memory by hand.
 
-use crate::{MemoryWire, Step, Told, Wire};
 use bytes::Bytes;
 use enet_types::{Addr, Refusal};
+use enet_wire::{MemoryWire, Step, Told, Wire};
 use std::collections::VecDeque;
 use std::test::Fail;
 
