@@ -63,6 +63,7 @@ shows-fresh s x name p live there none = record {
   log = λ k d h of. absurd (none d (Has-slice_get s.log k d h) of);
   greatest = λ channel low. first-number 256 channel ∙ sym (reached-none channel 0);
   submitted = λ channel low. ap (λ (k : Kept). k.submitted) (first-kept 256 channel);
+  mtu = inl refl;
   taken = λ channel low. ap (λ (k : Kept). k.taken) (first-kept 256 channel);
   events = refl;
 }

@@ -198,7 +198,7 @@ heard-there from i d answer old new e own far k low acts same sent has apart sho
   new = with_peer own hears.after;
   events = run.0;
   runs = run.1;
-  shows = shows-with old new e own hears.after same k (shows-after (call.Receive from.address d.text answer) old.host new.host e.name k.peer hears.after x t (slot_with_peer x.slot hears.after).emitted low
+  shows = shows-with old new e own far hears.after run.0 run.1 same k (shows-after (call.Receive from.address d.text answer) old.host new.host e.name k.peer hears.after x t (slot_with_peer x.slot hears.after).emitted low
       (same-generations (call.Receive from.address d.text answer) old.host new.host acts) there' (hears.left ∙ ap (λ (y : SlotState). slot_with_peer y hears.after) slot));
 }
   where

@@ -3,6 +3,7 @@ pub mod Counting
 pub mod PutOut
 pub mod Keeping
 pub mod Peers
+pub mod Steady
 pub mod Quiet
 pub mod Submitting
 pub mod Serving

@@ -75,7 +75,7 @@ calling next other old new (call.Connect address channels info word (Ok name)) x
 calling next other old new (call.Connect address channels info word (Err why)) x low e h apart own far k shown = quiet next (call.Connect address channels info word (Err why)) old new e own far refl (inr refl) x.1 low h k
 calling next other old new (call.Submit name channel q (Ok done)) x low e h apart own far k shown =
     on-changed own far new e old.ends (with_packet (mtu_in (named old.host.slots name)) (record { channel = channel; flags = q.flags; body = q.body })) name (ap (λ (s : Site). s.ends) x.1) h refl refl
-    (goes-submitted name channel (mtu_in (named old.host.slots name)) q done old new e own far low x.0 (same-log old new e.connection (ap (λ (s : Site). s.log) x.1)) k)
+    (goes-submitted name channel (mtu_in (named old.host.slots name)) q done old new e own far low x.0 (same-log old new e.connection (ap (λ (s : Site). s.log) x.1)) k refl)
 calling next other old new (call.Submit name channel q (Err why)) x low e h apart own far k shown = quiet next (call.Submit name channel q (Err why)) old new e own far refl (inr refl) x low h k
 calling next other old new (call.Receive from bytes answer) x low e h apart own far k shown = absurd x
 calling next other old new (call.Service None buf) x low e h apart own far k shown =

@@ -13,6 +13,7 @@ use Rattle.enet_network.specs.Log.{Logged}
 use Rattle.enet_network.specs.Network.{HostEnd, Site}
 use Rattle.enet_network.specs.Shown.{ShowsPeer, Shows, RunsAt, Went}
 use Rattle.enet_network.proofs.Peers.{Moved, is_gone, goes, moved}
+use Rattle.enet_network.proofs.Steady.{mtu-stays}
 
 -- a host's log has nothing new of a connection
 abbrev pub KeepsLog : Site → Site → ℕ → Type 0
@@ -21,9 +22,9 @@ KeepsLog old new x = (k : ℕ) (d : Logged) → slice_get new.log k ≡ Some d �
 pub same-log : (old new : Site) (x : ℕ) → new.log ≡ old.log → KeepsLog old new x
 same-log old new x same k d h of = subst (λ (l : List Logged). slice_get l k ≡ Some d) same h
 
--- an end with another peer
-pub shows-with : (old new : Site) (e : HostEnd) (own : End) (q : Peering) → KeepsLog old new e.connection → Shows old e own → ShowsPeer new.host e.name q → Shows new e (with_peer own q)
-shows-with old new e own q same k shows = record {
+-- an end to which events brought another peer
+pub shows-with : (old new : Site) (e : HostEnd) (own far : End) (q : Peering) (es : List Event) → RunsAt es own far (with_peer own q) → KeepsLog old new e.connection → Shows old e own → ShowsPeer new.host e.name q → Shows new e (with_peer own q)
+shows-with old new e own far q es runs same k shows = record {
   peer = q;
   has = refl;
   shows = shows;
@@ -32,6 +33,7 @@ shows-with old new e own q same k shows = record {
   log = λ n d h of. k.log n d (same n d h of) of;
   greatest = k.greatest;
   submitted = k.submitted;
+  mtu = mtu-stays e.mtu es own far (with_peer own q) k.peer q k.has runs refl refl k.mtu;
   taken = k.taken;
   events = k.events;
 }
@@ -45,7 +47,7 @@ goes-still old new e own far k same shows = record {
   new = with_peer own k.peer;
   events = [];
   runs = same-peer own k.peer k.has;
-  shows = shows-with old new e own k.peer same k shows;
+  shows = shows-with old new e own far k.peer [] (same-peer own k.peer k.has) same k shows;
 }
 
 -- deeds that change the peer alone
@@ -112,4 +114,4 @@ goes-quiet c old new e own far quiet low acts same k = by (moved c old.host new.
     by (is_gone shows never) = goes-still old new e own far k same shows
     by (goes x ds q fell alone shows) =
         let run = quiet-all ds own far k.peer q (fell-quiet c old.host e.name.slot x.slot k.peer ds quiet fell) k.has alone in
-        record { new = with_peer own q; events = run.0; runs = run.1; shows = shows-with old new e own q same k shows }
+        record { new = with_peer own q; events = run.0; runs = run.1; shows = shows-with old new e own far q run.0 run.1 same k shows }

@@ -191,6 +191,7 @@ joined-shows side c some = record {
   log = λ k d h of. absurd (let e : None ≡ Some d = h in cc);
   greatest = λ channel low. first-number 255 channel 1 low ∙ sym (reached-none channel 0);
   submitted = λ channel low. ap (λ (k : KeptOf). k.submitted) (first-kept 256 channel);
+  mtu = inl refl;
   taken = λ channel low. ap (λ (k : KeptOf). k.taken) (first-kept 256 channel);
   events = refl;
 }

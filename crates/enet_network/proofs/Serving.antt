@@ -38,13 +38,14 @@ use Rattle.enet_network.specs.declared.mark.MarkKind.TheVariants.{Data, Acknowle
 use Rattle.enet_network.specs.Log.{Logged, greatest_at, counted_all, side_of, reached}
 use Rattle.enet_network.specs.Marks.{mark_as, mark_by_body, mark_of, Counts}
 use Rattle.enet_network.specs.Network.{HostEnd, Site, is_same_name}
-use Rattle.enet_network.specs.Shown.{ShowsPeer, IsLogged, Shows, Went, IsApart}
+use Rattle.enet_network.specs.Shown.{ShowsPeer, IsLogged, Shows, RunsAt, Went, IsApart}
 use Rattle.enet_network.specs.Steps.{Logs}
 use Rattle.enet_network.proofs.Marked.{marks_of, marked-datagram, Has-marks}
 use Rattle.enet_network.proofs.Counting.{counted-long, counts-all}
 use Rattle.enet_network.proofs.PutOut.{plain-filled}
 use Rattle.enet_network.proofs.Peers.{there-or, shows-held, shows-gone, shows-after}
 use Rattle.enet_network.proofs.Quiet.{KeepsLog, goes-still}
+use Rattle.enet_network.proofs.Steady.{mtu-stays}
 use Rattle.enet_network.proofs.Submitting.{same-name, same-some, not-there, other-slot, stays-as, changes-as}
 
 -- lists
@@ -125,21 +126,28 @@ goes-unlogged : (old new : Site) (e : HostEnd) (own far : End) (now : ℕ) (q : 
 goes-unlogged old new e own far now q buf k out same shows = record {
   new = with_emission own far k.peer now;
   events = Emit now ∷ [];
-  runs = (with_emission own far k.peer now, (k.peer, k.has, refl), refl);
+  runs = runs;
   shows = record {
     peer = q;
-    has = ap (λ (x : Peering). Some x) (ap (λ (x : Outbox). gone_on (record k.peer { outbox = x })) (sym out.emits.1) ∙ sym out.after);
+    has = has;
     shows = shows;
     long = k.long;
     numbers = k.numbers;
     log = λ n d there of. still-logged own.log (map put ms) d (k.log n d (same n d there of) of);
     greatest = λ channel low. k.greatest channel low ∙ sym (reached-none channel (sent_on channel own)) ∙ ap (connection.reached channel (sent_on channel own)) (sym out.emits.0) ∙ sym (sent-with channel own put ms (λ m. refl));
     submitted = k.submitted;
+    mtu = mtu-stays e.mtu (Emit now ∷ []) own far (with_emission own far k.peer now) k.peer q k.has runs has refl k.mtu;
     taken = k.taken;
     events = k.events;
   };
 }
   where
+    runs : RunsAt (Emit now ∷ []) own far (with_emission own far k.peer now)
+    runs = (with_emission own far k.peer now, (k.peer, k.has, refl), refl)
+
+    has : (with_emission own far k.peer now).peer ≡ Some q
+    has = ap (λ (x : Peering). Some x) (ap (λ (x : Outbox). gone_on (record k.peer { outbox = x })) (sym out.emits.1) ∙ sym out.after)
+
     ms : List Message
     ms = (filled (pace_of k.peer now) k.peer.outbox).messages
 
@@ -154,10 +162,10 @@ goes-logged : (old new : Site) (e : HostEnd) (own far : End) (now len : ℕ) (q 
 goes-logged old new e own far now len q buf k out shows numbers others noted' d counts theirs h commands front names text marked' logs = record {
   new = with_emission own far k.peer now;
   events = Emit now ∷ [];
-  runs = (with_emission own far k.peer now, (k.peer, k.has, refl), refl);
+  runs = runs;
   shows = record {
     peer = q;
-    has = ap (λ (x : Peering). Some x) (ap (λ (x : Outbox). gone_on (record k.peer { outbox = x })) (sym out.emits.0) ∙ sym out.after);
+    has = has;
     shows = shows;
     long = k.long;
     numbers = ap length counted ∙ counted-long (marks_of ms) e.greatest ∙ k.numbers;
@@ -167,11 +175,18 @@ goes-logged old new e own far now len q buf k out shows numbers others noted' d 
     ];
     greatest = λ channel low. far-as channel low ∙ sym (sent-with channel own put ms (λ m. refl));
     submitted = k.submitted;
+    mtu = mtu-stays e.mtu (Emit now ∷ []) own far (with_emission own far k.peer now) k.peer q k.has runs has refl k.mtu;
     taken = k.taken;
     events = k.events;
   };
 }
   where
+    runs : RunsAt (Emit now ∷ []) own far (with_emission own far k.peer now)
+    runs = (with_emission own far k.peer now, (k.peer, k.has, refl), refl)
+
+    has : (with_emission own far k.peer now).peer ≡ Some q
+    has = ap (λ (x : Peering). Some x) (ap (λ (x : Outbox). gone_on (record k.peer { outbox = x })) (sym out.emits.0) ∙ sym out.after)
+
     ms : List Message
     ms = (filled (pace_of k.peer now) k.peer.outbox).messages
 

@@ -9,26 +9,29 @@ use Rattle.enet_sender.specs.Carriage as carriage
 use Rattle.enet_peer.specs.declared.parts.PeerEvent.{PeerEvent}
 use Rattle.enet_peer.specs.declared.parts.PeerEvent.TheVariants as told
 use Rattle.enet_peer.specs.Peering.{Peering}
+use Rattle.enet_peer.specs.Calls.{next_event}
 use Rattle.enet_connection.specs.Connection.{End, packets_of}
+use Rattle.enet_connection.specs.Law.{mtu_in}
 use Rattle.enet_connection.specs.Steps.{with_peer, with_submission}
 use Rattle.enet_connection.specs.Steps as event
 use Rattle.enet_connection.proofs.Moves.{packets-push}
-use Rattle.enet_host.specs.Host.{SlotState, name_of, greatest}
+use Rattle.enet_host.specs.Host.{SlotState, name_of, named, greatest}
 use Rattle.enet_host.specs.Calls.{submission, event_of, TakesOne}
 use Rattle.enet_isolation.specs.Calls.{Call, Acts}
 use Rattle.enet_isolation.specs.Calls as call
 use Rattle.enet_isolation.specs.Deeds.{Deed, AllAlone, Submit, Take}
 use Rattle.enet_isolation.specs.Falling.{deeds_if, taken_from}
 use Rattle.enet_isolation.proofs.Lists.{same-or}
-use Rattle.enet_isolation.proofs.Names.{IsThere}
+use Rattle.enet_isolation.proofs.Names.{IsThere, there-named}
 use Rattle.enet_isolation.proofs.Single.{Does, does-named}
 use Rattle.enet_network.specs.Log.{Kept, kept_at, with_submission as kept_submission, with_taken}
 use Rattle.enet_network.specs.Network.{HostEnd, Site, is_same_name}
-use Rattle.enet_network.specs.Shown.{ShowsPeer, Shows, Went, on_channel}
+use Rattle.enet_network.specs.Shown.{ShowsPeer, Shows, RunsAt, Went, on_channel}
 use Rattle.enet_network.specs.Steps.{with_packet, kept_by, with_event}
 use Rattle.enet_network.proofs.Keeping.{part-stays, part-grows, with-long}
 use Rattle.enet_network.proofs.Peers.{Moved, is_gone, goes, moved, named-generation}
 use Rattle.enet_network.proofs.Quiet.{KeepsLog, goes-still}
+use Rattle.enet_network.proofs.Steady.{mtu-stays, mtu-submitted}
 
 -- names
 
@@ -74,9 +77,9 @@ changes-as own far s b f e sure w = subst (λ (t : Bool). Went own far s (cond t
 -- a packet is submitted
 
 pub goes-submitted : (name : PeerRef) (channel mtu : ℕ) (q : carriage.Packet) (done : Unit {0}) (old new : Site) (e : HostEnd) (own far : End) → old.host.config.generations ≤ greatest
-    → Acts (call.Submit name channel q (Ok done)) old.host new.host → KeepsLog old new e.connection → Shows old e own
+    → Acts (call.Submit name channel q (Ok done)) old.host new.host → KeepsLog old new e.connection → Shows old e own → mtu ≡ mtu_in (named old.host.slots name)
     → Went own far new (cond (is_same_name e.name name) (with_packet mtu (record { channel = channel; flags = q.flags; body = q.body }) e) e)
-goes-submitted name channel mtu q done old new e own far low acts same k = by (moved c old.host new.host e.name k.peer low acts k.shows)
+goes-submitted name channel mtu q done old new e own far low acts same k goes-by = by (moved c old.host new.host e.name k.peer low acts k.shows)
   where
     c : Call
     c = call.Submit name channel q (Ok done)
@@ -108,6 +111,8 @@ goes-submitted name channel mtu q done old new e own far low acts same k = by (m
             let a : AllAlone (Submit packet ∷ []) k.peer r = subst (λ (l : List Deed). AllAlone l k.peer r) one alone in
             let slot : does.slot ≡ x.slot = same-slot old.host.slots name.slot e.name.slot does.slot x.slot here does.there x.there in
             let g : e.name.generation ≡ name.generation = sym x.same ∙ ap (λ (s : SlotState). s.generation) (sym slot) ∙ generation in
+            let called : name ≡ e.name = (λ i. record { slot = here i; generation = sym g i }) in
+            let held : named old.host.slots name ≡ Some k.peer = ap (λ (y : PeerRef). named old.host.slots y) called ∙ there-named old.host.slots e.name k.peer x in
             changes-as own far new (is_same_name e.name name) f e (same-name e.name name (sym here) g) (record {
               new = with_submission own k.peer packet;
               events = event.Submit packet ∷ [];
@@ -120,6 +125,7 @@ goes-submitted name channel mtu q done old new e own far low acts same k = by (m
                 numbers = k.numbers;
                 log = λ n d h of. k.log n d (same n d h of) of;
                 greatest = k.greatest;
+                mtu = mtu-submitted mtu k.peer r channel q (own.submitted ++ packet ∷ []) a.1.0 (sym (goes-by ∙ ap mtu_in held)) (sym a.1.1 ∙ a.2);
                 submitted = λ j few. part-grows (λ (y : Kept). y.submitted) (kept_submission packet) packet (λ y. refl) e.channels j own.submitted k.long few (k.submitted j few);
                 taken = λ j few. part-stays (λ (y : Kept). y.taken) (kept_submission packet) (λ y. refl) e.channels channel j k.long few ∙ k.taken j few;
                 events = k.events;
@@ -175,6 +181,12 @@ goes-taken told' old new e own far low acts same k = by (moved c old.host new.ho
     fallen : taken_from e.name.slot (Some told') ≡ deeds_if (acts.from == e.name.slot) (Take t)
     fallen = ap (λ (x : Told). taken_from e.name.slot (Some x)) is ∙ taken-event e.name.slot name t
 
+    taken-end : Peering → End
+    taken-end p = record own { peer = Some p; events = own.events ++ t ∷ [] }
+
+    runs : (p : Peering) → next_event k.peer ≡ Some (record { event = t; after = p }) → RunsAt (event.Take ∷ []) own far (taken-end p)
+    runs p next = (taken-end p, (k.peer, p, t, k.has, next, refl), refl)
+
     by : Moved c old.host new.host e.name k.peer → Went own far new (cond (is_same_name e.name name) f e)
     by (is_gone shows never) = stays-as own far new (is_same_name e.name name) f e (not-there old.host.slots e.name name acts.first.slot acts.gives.peer acts.first.there refl acts.gives.held never) (goes-still old new e own far k same shows)
     by (goes x ds r fell alone shows) = at (same-or acts.from e.name.slot)
@@ -194,9 +206,9 @@ goes-taken told' old new e own far low acts same k = by (moved c old.host new.ho
             let event' : told' ≡ event_of e.name t = is ∙ ap (λ (y : PeerRef). event_of y t) called in
             changes-as own far new (is_same_name e.name name) f e (same-name e.name name (sym here) g)
             (subst (λ (y : Told). Went own far new (with_event y e)) (sym event') (record {
-              new = record own { peer = Some a.0; events = own.events ++ t ∷ [] };
+              new = taken-end a.0;
               events = event.Take ∷ [];
-              runs = (record own { peer = Some a.0; events = own.events ++ t ∷ [] }, (k.peer, a.0, t, k.has, a.1, refl), refl);
+              runs = runs a.0 a.1;
               shows = record {
                 peer = r;
                 has = ap (λ (y : Peering). Some y) a.2;
@@ -205,6 +217,7 @@ goes-taken told' old new e own far low acts same k = by (moved c old.host new.ho
                 numbers = k.numbers;
                 log = λ n d h of. k.log n d (same n d h of) of;
                 greatest = k.greatest;
+                mtu = mtu-stays e.mtu (event.Take ∷ []) own far (taken-end a.0) k.peer r k.has (runs a.0 a.1) (ap (λ (y : Peering). Some y) a.2) refl k.mtu;
                 submitted = λ j few. event-part (λ (y : Kept). y.submitted) (λ q y. refl) t e.name e.channels j k.long few ∙ k.submitted j few;
                 taken = λ j few. event-taken t e.name e.channels j own.events k.long few (k.taken j few);
                 events = ap (λ (l : List Told). l ++ event_of e.name t ∷ []) k.events ∙ sym (map-append (event_of e.name) own.events (t ∷ []));

@@ -1,5 +1,5 @@
 -- How the two hosts of a world show the two ends of a connection, as the law of one connection has them.
-use Rattle.std.specs.Prelude.{◌≡◌, ◌<◌, ◌≤◌, ℕ, ◌==◌, ◌⊎◌, List, [], ◌∷◌, length, map, filter, Some, None, slice_get}
+use Rattle.std.specs.Prelude.{◌≡◌, ◌<◌, ◌≤◌, ℕ, ◌==◌, ◌⊎◌, false, List, [], ◌∷◌, length, map, filter, Some, None, slice_get}
 use Rattle.enet_types.specs.declared.event.PeerRef.{PeerRef}
 use Rattle.enet_types.specs.declared.packet.Packet.{Packet}
 use Rattle.enet_codec.specs.declared.header.Header.{Header}
@@ -8,6 +8,7 @@ use Rattle.enet_peer.specs.declared.parts.PeerState.TheVariants as state
 use Rattle.enet_peer.specs.Peering.{Peering}
 use Rattle.enet_link.specs.Steps.{Has}
 use Rattle.enet_connection.specs.Connection.{Put, End, messages_of, sent_on, packets_of}
+use Rattle.enet_connection.specs.Kept.{is_young}
 use Rattle.enet_connection.specs.Steps.{Event, Happens}
 use Rattle.enet_host.specs.Host.{Host, SlotState}
 use Rattle.enet_host.specs.Calls.{event_of}
@@ -40,6 +41,10 @@ pub record IsLogged (log : List Put) (d : Logged) : Type 0 where
 abbrev pub on_channel : ℕ → List Packet → List Packet
 on_channel channel qs = filter (λ (q : Packet). q.channel == channel) qs
 
+-- the mtu by which the packets that were submitted to a peer go: its own, which stays once the connection stands, as it did by the first of them
+abbrev pub GoesBy : List Packet → ℕ → Peering → Type 0
+GoesBy submitted mtu p = (submitted ≡ []) ⊎ ((is_young p.state ≡ false) × (p.terms.mtu ≡ mtu))
+
 -- a host shows an end of a connection: its peer, all its datagrams and how far its numbers have come, what was submitted and taken, and its events
 pub record Shows (s : Site) (e : HostEnd) (own : End) : Type 0 where
   pub peer : Peering
@@ -50,6 +55,7 @@ pub record Shows (s : Site) (e : HostEnd) (own : End) : Type 0 where
   pub log : (k : ℕ) (d : Logged) → slice_get s.log k ≡ Some d → d.connection ≡ e.connection → IsLogged own.log d
   pub greatest : (channel : ℕ) → channel < 255 → greatest_at e.greatest channel ≡ sent_on channel own
   pub submitted : (channel : ℕ) → channel < 256 → (kept_at e.channels channel).submitted ≡ on_channel channel own.submitted
+  pub mtu : GoesBy own.submitted e.mtu peer
   pub taken : (channel : ℕ) → channel < 256 → (kept_at e.channels channel).taken ≡ on_channel channel (packets_of own.events)
   pub events : e.events ≡ map (event_of e.name) own.events
 
