@@ -14,3 +14,4 @@ pub mod Growing
 pub mod Worlds
 pub mod Once
 pub mod Runs
+pub mod Headlines

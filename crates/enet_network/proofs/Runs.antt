@@ -21,7 +21,7 @@ use Rattle.enet_network.specs.declared.event.Answer.{Answer}
 use Rattle.enet_network.specs.declared.event.Side.{Side}
 use Rattle.enet_network.specs.declared.event.WorldEvent.{WorldEvent}
 use Rattle.enet_network.specs.declared.event.Side.TheVariants.{A, B}
-use Rattle.enet_network.specs.Law.{LawfulEither, AreLawful, EachRun, EachJoinedRun, EachList, EachJoinedList}
+use Rattle.enet_network.specs.Law.{LawfulEither, AreLawful, OfEachRun, OfEachJoinedRun, OfEachList, OfEachJoinedList}
 use Rattle.enet_network.specs.Log.{Logged, Kept as KeptOf, fresh_kept, fresh_channels, joined_greatest, kept_at, greatest_at}
 use Rattle.enet_network.specs.Network.{HostEnd, Site, fresh_end}
 use Rattle.enet_network.specs.Shown.{Shows}
@@ -34,15 +34,15 @@ use Rattle.enet_network.proofs.Worlds.{KeptEither, Pair, BeginsOnce, IsHost, swa
 use Rattle.enet_network.proofs.Once.{AreAt, at-goes, begins-once}
 
 -- which connections stand from the start is told by j
-record Sound (j : ℕ → Bool) (w : World) : Type 0 where
-  a : IsHost w.a w.count
-  b : IsHost w.b w.count
-  at_a : w.a.address ≡ address_of A
-  at_b : w.b.address ≡ address_of B
-  far_a : AreAt (address_of B) w.a
-  far_b : AreAt (address_of A) w.b
-  pairs : (x : ℕ) → x < w.count → Pair (j x) w.a w.b x
-  later : (x : ℕ) → w.count ≤ x → j x ≡ false
+pub record Sound (j : ℕ → Bool) (w : World) : Type 0 where
+  pub a : IsHost w.a w.count
+  pub b : IsHost w.b w.count
+  pub at_a : w.a.address ≡ address_of A
+  pub at_b : w.b.address ≡ address_of B
+  pub far_a : AreAt (address_of B) w.a
+  pub far_b : AreAt (address_of A) w.b
+  pub pairs : (x : ℕ) → x < w.count → Pair (j x) w.a w.b x
+  pub later : (x : ℕ) → w.count ≤ x → j x ≡ false
 
 wider : (s : Site) (n m : ℕ) → n ≤ m → IsHost s n → IsHost s m
 wider s n m low k = record { few = k.few; apart = k.apart; below = λ e h. (let b : e.connection < n = k.below e h in omega arith); logged = k.logged; named = k.named }
@@ -77,7 +77,7 @@ stays-put next other old new (Hears k answer) x = by (slice_get other.log k) x
     by None y = absurd y
     by (Some d) y = ap (λ (s : Site). s.address) y.1.1
 
-less-or-not : (a b : ℕ) → (a < b) ⊎ (b ≤ a)
+pub less-or-not : (a b : ℕ) → (a < b) ⊎ (b ≤ a)
 less-or-not a b = grind arith
 
 -- one side goes on
@@ -280,19 +280,35 @@ lawful-either : (j : Bool) (one two : End) → KeptEither j one two → LawfulEi
 lawful-either j one two (inl k) = inl (lawful j (record { one = one; two = two }) k)
 lawful-either j one two (inr k) = inr (lawful j (record { one = two; two = one }) k)
 
-are-lawful : (joined : Bool) (w : World) → Sound (λ x. joined && x == 0) w → AreLawful joined w
+pub are-lawful : (joined : Bool) (w : World) → Sound (λ x. joined && x == 0) w → AreLawful joined w
 are-lawful joined w s x low =
     let p = s.pairs x low in
     record { one = p.one; two = p.two; here = p.here; there = p.there; lawful = lawful-either (joined && x == 0) p.one p.two p.kept }
 
-pub each-run : EachRun
-each-run a b h es w r = are-lawful false w (sound-happens (λ x. false) es (open_world a b) w r (open-sound a b h))
+-- every world is sound
 
-pub each-joined : EachJoinedRun
-each-joined a b h es w r = are-lawful true w (sound-happens (λ x. x == 0) es (joined_world a b) w r (joined-sound a b h))
+pub sound-run : OfEachRun (Sound (λ x. false))
+sound-run a b h es w r = sound-happens (λ x. false) es (open_world a b) w r (open-sound a b h)
 
-pub each-list : EachList
-each-list a b h events answers w r = are-lawful false w (sound-runs (λ x. false) events answers (open_world a b) w r (open-sound a b h))
+pub sound-joined-run : OfEachJoinedRun (Sound (λ x. x == 0))
+sound-joined-run a b h es w r = sound-happens (λ x. x == 0) es (joined_world a b) w r (joined-sound a b h)
 
-pub each-joined-list : EachJoinedList
-each-joined-list a b h events answers w r = are-lawful true w (sound-runs (λ x. x == 0) events answers (joined_world a b) w r (joined-sound a b h))
+pub sound-list : OfEachList (Sound (λ x. false))
+sound-list a b h events answers w r = sound-runs (λ x. false) events answers (open_world a b) w r (open-sound a b h)
+
+pub sound-joined-list : OfEachJoinedList (Sound (λ x. x == 0))
+sound-joined-list a b h events answers w r = sound-runs (λ x. x == 0) events answers (joined_world a b) w r (joined-sound a b h)
+
+-- so the law holds
+
+pub each-run : OfEachRun (AreLawful false)
+each-run a b h es w r = are-lawful false w (sound-run a b h es w r)
+
+pub each-joined : OfEachJoinedRun (AreLawful true)
+each-joined a b h es w r = are-lawful true w (sound-joined-run a b h es w r)
+
+pub each-list : OfEachList (AreLawful false)
+each-list a b h events answers w r = are-lawful false w (sound-list a b h events answers w r)
+
+pub each-joined-list : OfEachJoinedList (AreLawful true)
+each-joined-list a b h events answers w r = are-lawful true w (sound-joined-list a b h events answers w r)

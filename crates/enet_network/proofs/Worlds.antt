@@ -96,7 +96,7 @@ word-ran w (e ∷ es) own far new f r k = word-ran w es r.0 far new f r.2 (word-
 
 -- what is shown from afar
 
-end-none : (ends : List HostEnd) (x : ℕ) → ((e : HostEnd) → Has ends e → e.connection ≢ x) → end_of x ends ≡ None
+pub end-none : (ends : List HostEnd) (x : ℕ) → ((e : HostEnd) → Has ends e → e.connection ≢ x) → end_of x ends ≡ None
 end-none [] x none = refl
 end-none (f ∷ ends) x none =
     ap (λ (b : Bool). cond b (Some f) (end_of x ends)) (let n : f.connection ≢ x = none f (inl refl) in let t : (f.connection == x) ≡ false = grind (arith, nat_tests) in t)

@@ -1,5 +1,5 @@
 -- What happens at a host is, for each of its connections, a number of events of the law of one connection.
-use Rattle.std.specs.Prelude.{◌≡◌, ◌≢◌, ◌<◌, ◌≤◌, ◌⊎◌, ◌&&◌, ◌==◌, Bool, true, false, ℕ, List, Some, Result, Ok, slice_get}
+use Rattle.std.specs.Prelude.{◌≡◌, ◌≢◌, ◌<◌, ◌≤◌, ◌⊎◌, ◌&&◌, ◌==◌, Bool, true, ℕ, List, Some, Result, Ok, slice_get}
 use Rattle.enet_types.specs.declared.address.Addr.{Addr}
 use Rattle.enet_types.specs.declared.config.Config.{Config}
 use Rattle.enet_types.specs.Config.{is_in_range}
@@ -89,19 +89,19 @@ pub record IsPaired (joined : Bool) (a b : Site) (x : ℕ) : Type 0 where
 abbrev pub AreLawful : Bool → World → Type 0
 AreLawful joined w = (x : ℕ) → x < w.count → IsPaired (joined && x == 0) w.a w.b x
 
--- so it is of two hosts that begin with free slots, whatever happens at either
-abbrev pub EachRun : Type 0
-EachRun = (a b : Config) → (is_in_range a && is_in_range b) ≡ true → (es : List (Side × Happening)) (w : World) → AllHappen es (open_world a b) w → AreLawful false w
+-- of every world that comes of two hosts that begin with free slots, whatever happens at either
+abbrev pub OfEachRun : (World → Type 0) → Type 0
+OfEachRun P = (a b : Config) → (is_in_range a && is_in_range b) ≡ true → (es : List (Side × Happening)) (w : World) → AllHappen es (open_world a b) w → P w
 
 -- and of two that have connection 0 from the start
-abbrev pub EachJoinedRun : Type 0
-EachJoinedRun = (a b : Config) → (is_in_range a && is_in_range b) ≡ true → (es : List (Side × Happening)) (w : World) → AllHappen es (joined_world a b) w → AreLawful true w
+abbrev pub OfEachJoinedRun : (World → Type 0) → Type 0
+OfEachJoinedRun P = (a b : Config) → (is_in_range a && is_in_range b) ≡ true → (es : List (Side × Happening)) (w : World) → AllHappen es (joined_world a b) w → P w
 
 -- the same of the events of a world, whatever is answered to them
-abbrev pub EachList : Type 0
-EachList = (a b : Config) → (is_in_range a && is_in_range b) ≡ true
-    → (events : List WorldEvent) (answers : List (Result Answer Refusal)) (w : World) → Runs (open_world a b) events answers w → AreLawful false w
+abbrev pub OfEachList : (World → Type 0) → Type 0
+OfEachList P = (a b : Config) → (is_in_range a && is_in_range b) ≡ true
+    → (events : List WorldEvent) (answers : List (Result Answer Refusal)) (w : World) → Runs (open_world a b) events answers w → P w
 
-abbrev pub EachJoinedList : Type 0
-EachJoinedList = (a b : Config) → (is_in_range a && is_in_range b) ≡ true
-    → (events : List WorldEvent) (answers : List (Result Answer Refusal)) (w : World) → Runs (joined_world a b) events answers w → AreLawful true w
+abbrev pub OfEachJoinedList : (World → Type 0) → Type 0
+OfEachJoinedList P = (a b : Config) → (is_in_range a && is_in_range b) ≡ true
+    → (events : List WorldEvent) (answers : List (Result Answer Refusal)) (w : World) → Runs (joined_world a b) events answers w → P w

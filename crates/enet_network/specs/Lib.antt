@@ -6,3 +6,4 @@ pub mod Steps
 pub mod World
 pub mod Shown
 pub mod Law
+pub mod Headline

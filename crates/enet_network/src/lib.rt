@@ -6,10 +6,15 @@
 //! all that, specs/World the events of a world of two hosts with the refusals that each meets. None of these but specs/World
 //! counts the hosts.
 //!
-//! Proved: `each_thing_is_events`, `each_thing_at` and `one_world`, of these definitions; no code meets them yet.
+//! specs/Headline has the headline, of the lists that are kept of each connection, end and channel.
+//!
+//! Proved: `each_thing_is_events`, `each_thing_at`, `one_world` and `each_connection_in_order`, of these definitions; no code
+//! meets them yet.
 #![tactic(auto)]
 
-ghost use Rattle.enet_network.specs.Law.{OneThing, GoOnAt, Asked, Answered, EachRun, EachJoinedRun, EachList, EachJoinedList};
+ghost use Rattle.std.specs.Prelude.{true, false};
+ghost use Rattle.enet_network.specs.Law.{OneThing, GoOnAt, Asked, Answered, AreLawful, OfEachRun, OfEachJoinedRun, OfEachList, OfEachJoinedList};
+ghost use Rattle.enet_network.specs.Headline.{HasHeadline};
 
 use enet_host::HostCore;
 
@@ -59,8 +64,21 @@ pub fn each_thing_at(host: &HostCore)
 /// `events_opened`, `events_joined`: so it is of every list of a world's events, whatever is answered to them; one that is
 /// refused, a datagram that is late or of an earlier connection too, changes nothing.
 pub fn one_world()
-    ensures opened { EachRun }
-    ensures joined { EachJoinedRun }
-    ensures events_opened { EachList }
-    ensures events_joined { EachJoinedList }
+    ensures opened { OfEachRun (AreLawful false) }
+    ensures joined { OfEachJoinedRun (AreLawful true) }
+    ensures events_opened { OfEachList (AreLawful false) }
+    ensures events_joined { OfEachJoinedList (AreLawful true) }
+{}
+
+/// The headline over the same worlds, of the lists that are kept of each connection, end and channel, whatever the network
+/// lost, repeated or brought out of order: what the user of one end took of a channel, unsequenced packets apart, is a
+/// subsequence of what the user of the other submitted on it, each packet whole and once, that leaves out no reliable packet
+/// before its last; each user takes at most one Connect, before all else, and nothing after a Disconnect, all of one peer.
+///
+/// The clauses are those of `one_world`, from which it comes.
+pub fn each_connection_in_order()
+    ensures opened { OfEachRun (HasHeadline false) }
+    ensures joined { OfEachJoinedRun (HasHeadline true) }
+    ensures events_opened { OfEachList (HasHeadline false) }
+    ensures events_joined { OfEachJoinedList (HasHeadline true) }
 {}

@@ -1,0 +1,204 @@
+-- The headline of both hosts of a world, from the law of each connection.
+use Rattle.std.proofs.Common.{◌≡◌, ◌<◌, ◌≤◌, ℕ, zero, suc, ◌⊎◌, inl, inr, ◌&&◌, ◌==◌, not, Bool, true, false, cond, List, [], ◌∷◌, length, map, refl, sym, ap, subst, ◌∙◌, arith, Option, Some, None}
+use Rattle.std.proofs.lemmas.Bool.Decides.{nat_tests}
+use Rattle.enet_types.specs.declared.event.PeerRef.{PeerRef}
+use Rattle.enet_types.specs.declared.packet.Packet.{Packet}
+use Rattle.enet_sender.specs.Carriage as carriage
+use Rattle.enet_outbox.specs.Outbox.{is_unsequenced}
+use Rattle.enet_packets.specs.declared.coming.Dispatched.{Dispatched}
+use Rattle.enet_link.specs.Follows.{Follows}
+use Rattle.enet_link.specs.Steps.{Has, bodies_of}
+use Rattle.enet_connection.specs.Connection.{End, of_channel, packets_of, in_sequence}
+use Rattle.enet_connection.specs.Law.{mtu_in, IsOneLife, IsInOrder as IsInOrderBetween}
+use Rattle.enet_connection.specs.Steps.{no_end}
+use Rattle.enet_host.specs.Calls.{event_of}
+use Rattle.enet_network.specs.declared.event.Side.{Side}
+use Rattle.enet_network.specs.declared.event.Side.TheVariants.{A, B}
+use Rattle.enet_network.specs.Headline.{end_at, submitted_at, taken_at, events_at, mtu_at, AreOn, IsInOrder, IsLife, HasHeadline}
+use Rattle.enet_network.specs.Law.{ShowsAt, LawfulEither, IsPaired, OfEachRun, OfEachJoinedRun, OfEachList, OfEachJoinedList}
+use Rattle.enet_network.specs.Log.{Kept, fresh_kept, kept_at}
+use Rattle.enet_network.specs.Network.{HostEnd, Site, end_of}
+use Rattle.enet_network.specs.Shown.{on_channel, Shows}
+use Rattle.enet_network.specs.World.{World, site_of, other}
+use Rattle.enet_network.proofs.Delivering.{end-there}
+use Rattle.enet_network.proofs.Worlds.{IsHost, end-none}
+use Rattle.enet_network.proofs.Runs.{Sound, less-or-not, are-lawful, sound-run, sound-joined-run, sound-list, sound-joined-list}
+
+-- the lists of a channel
+
+on-them : (channel : ℕ) (qs : List Packet) → AreOn channel (on_channel channel qs)
+on-them channel [] x h = absurd h
+on-them channel (q ∷ qs) x h = by (q.channel == channel) refl (on-them channel qs x) h
+  where
+    by : (b : Bool) → (q.channel == channel) ≡ b → (Has (on_channel channel qs) x → x.channel ≡ channel) → Has (cond b (q ∷ on_channel channel qs) (on_channel channel qs)) x → x.channel ≡ channel
+    by true e rest (inl same) = ap (λ (y : Packet). y.channel) (sym same) ∙ (let y : q.channel ≡ channel = grind (arith, nat_tests) in y)
+    by true e rest (inr more) = rest more
+    by false e rest more = rest more
+
+same-going : (mtu channel : ℕ) (qs : List Packet) → of_channel mtu channel (on_channel channel qs) ≡ of_channel mtu channel qs
+same-going mtu channel [] = refl
+same-going mtu channel (q ∷ qs) = by (q.channel == channel) refl (same-going mtu channel qs)
+  where
+    content : carriage.Packet
+    content = record { flags = q.flags; body = q.body }
+
+    in_turn : Bool
+    in_turn = not (is_unsequenced mtu content)
+
+    by : (b : Bool) → (q.channel == channel) ≡ b → of_channel mtu channel (on_channel channel qs) ≡ of_channel mtu channel qs
+        → of_channel mtu channel (cond b (q ∷ on_channel channel qs) (on_channel channel qs)) ≡ cond (b && in_turn) (content ∷ of_channel mtu channel qs) (of_channel mtu channel qs)
+    by true e rest = (λ i. cond (e i && in_turn) (content ∷ rest i) (rest i))
+    by false e rest = rest
+
+same-come : (channel : ℕ) (qs : List Packet) → in_sequence channel (on_channel channel qs) ≡ in_sequence channel qs
+same-come channel [] = refl
+same-come channel (q ∷ qs) = by (q.channel == channel) refl (same-come channel qs)
+  where
+    content : Dispatched
+    content = record { flags = q.flags; body = q.body }
+
+    by : (b : Bool) → (q.channel == channel) ≡ b → in_sequence channel (on_channel channel qs) ≡ in_sequence channel qs
+        → in_sequence channel (cond b (q ∷ on_channel channel qs) (on_channel channel qs)) ≡ cond (b && not (q.flags == 2)) (content ∷ in_sequence channel qs) (in_sequence channel qs)
+    by true e rest = (λ i. cond (e i && not (q.flags == 2)) (content ∷ rest i) (rest i))
+    by false e rest = rest
+
+kept-outside : (xs : List Kept) (i : ℕ) → length xs ≤ i → kept_at xs i ≡ fresh_kept
+kept-outside [] i h = refl
+kept-outside (x ∷ xs) zero h = absurd (omega arith)
+kept-outside (x ∷ xs) (suc i) h = kept-outside xs i (omega arith)
+
+-- what is handed out of an end that a host has, or hasn't, is an end's of the law
+
+record Hands (o : Option HostEnd) (own : End) : Type 0 where
+  submitted : (channel : ℕ) → channel < 256 → submitted_at channel o ≡ on_channel channel own.submitted
+  taken : (channel : ℕ) → channel < 256 → taken_at channel o ≡ on_channel channel (packets_of own.events)
+  outside : (channel : ℕ) → 256 ≤ channel → (submitted_at channel o ≡ []) × (taken_at channel o ≡ [])
+  mtu : (own.submitted ≡ []) ⊎ (mtu_in own.peer ≡ mtu_at o)
+  name : PeerRef
+  events : events_at o ≡ map (event_of name) own.events
+
+hands-some : (s : Site) (e : HostEnd) (own : End) → Shows s e own → Hands (Some e) own
+hands-some s e own k = record {
+  submitted = k.submitted;
+  taken = k.taken;
+  outside = λ channel far. (let none = kept-outside e.channels channel (let long = k.long in omega arith) in (ap (λ (y : Kept). y.submitted) none, ap (λ (y : Kept). y.taken) none));
+  mtu = elim k.mtu [ inl none ↦ inl none | inr goes ↦ inr (ap mtu_in k.has ∙ goes.1) ];
+  name = e.name;
+  events = k.events;
+}
+
+hands-none : Hands None no_end
+hands-none = record {
+  submitted = λ channel low. refl;
+  taken = λ channel low. refl;
+  outside = λ channel far. (refl, refl);
+  mtu = inl refl;
+  name = record { slot = 0; generation = 0 };
+  events = refl;
+}
+
+hands-at : (s : Site) (count x : ℕ) (own : End) → IsHost s count → ShowsAt s x own → Hands (end_of x s.ends) own
+hands-at s count x own k (inl shown) =
+    let is : end_of x s.ends ≡ Some shown.0 = subst (λ (n : ℕ). end_of n s.ends ≡ Some shown.0) shown.2 (end-there s.ends shown.0 shown.1 (k.apart shown.0 shown.1)) in
+    subst (λ (o : Option HostEnd). Hands o own) (sym is) (hands-some s shown.0 own shown.3)
+hands-at s count x own k (inr none) = subst (λ (o : Option HostEnd). Hands o own) (sym (end-none s.ends x none.0)) (subst (Hands None) (sym none.1) hands-none)
+
+-- one direction
+
+-- nothing was submitted, or all went by the mtu that is kept
+by-mtu : (channel m n : ℕ) (qs : List Packet) (came : List (List ℕ)) → (qs ≡ []) ⊎ (m ≡ n) → Follows m (of_channel m channel qs) came → Follows n (of_channel n channel qs) came
+by-mtu channel m n qs came (inl none) h = subst (λ (l : List Packet). Follows n (of_channel n channel l) came) (sym none) (subst (λ (l : List Packet). Follows m (of_channel m channel l) came) none h)
+by-mtu channel m n qs came (inr same) h = subst (λ (k : ℕ). Follows k (of_channel k channel qs) came) same h
+
+between : (o u : Option HostEnd) (from to : End) → Hands o from → Hands u to → IsInOrderBetween from to → (channel : ℕ) → IsInOrder o u channel
+between o u from to k ko h channel = elim (less-or-not channel 256) [
+  | inl low ↦ record {
+    submitted = subst (AreOn channel) (sym (k.submitted channel low)) (on-them channel from.submitted);
+    taken = subst (AreOn channel) (sym (ko.taken channel low)) (on-them channel (packets_of to.events));
+    follows = follows low;
+  }
+  | inr far ↦ record {
+    submitted = subst (AreOn channel) (sym (k.outside channel far).0) (λ q none. absurd none);
+    taken = subst (AreOn channel) (sym (ko.outside channel far).1) (λ q none. absurd none);
+    follows = subst (λ (l : List Packet). Follows (mtu_at o) (of_channel (mtu_at o) channel (submitted_at channel o)) (bodies_of (in_sequence channel l))) (sym (ko.outside channel far).1) tt;
+  }
+]
+  where
+    follows : channel < 256 → Follows (mtu_at o) (of_channel (mtu_at o) channel (submitted_at channel o)) (bodies_of (in_sequence channel (taken_at channel u)))
+    follows low =
+        let sent : of_channel (mtu_at o) channel from.submitted ≡ of_channel (mtu_at o) channel (submitted_at channel o) =
+        sym (same-going (mtu_at o) channel from.submitted) ∙ ap (of_channel (mtu_at o) channel) (sym (k.submitted channel low)) in
+        let came : in_sequence channel (packets_of to.events) ≡ in_sequence channel (taken_at channel u) =
+        sym (same-come channel (packets_of to.events)) ∙ ap (in_sequence channel) (sym (ko.taken channel low)) in
+        let first = by-mtu channel (mtu_in from.peer) (mtu_at o) from.submitted (bodies_of (in_sequence channel (packets_of to.events))) k.mtu (h channel) in
+        let second = subst (λ (l : List carriage.Packet). Follows (mtu_at o) l (bodies_of (in_sequence channel (packets_of to.events)))) sent first in
+        subst (λ (l : List Dispatched). Follows (mtu_at o) (of_channel (mtu_at o) channel (submitted_at channel o)) (bodies_of l)) came second
+
+-- both hosts
+
+swapped-law : (j : Bool) (a b : End) → LawfulEither j a b → LawfulEither j b a
+swapped-law j a b (inl l) = inr l
+swapped-law j a b (inr l) = inl l
+
+order-of : (j : Bool) (a b : End) → LawfulEither j a b → IsInOrderBetween a b
+order-of j a b (inl l) = l.forth
+order-of j a b (inr l) = l.back
+
+life-of : (j : Bool) (a b : End) → LawfulEither j a b → IsOneLife j a.events
+life-of j a b (inl l) = l.life_one
+life-of j a b (inr l) = l.life_two
+
+at-end : (j : Bool) (o u : Option HostEnd) (one two : End) → Hands o one → Hands u two → LawfulEither j one two → ((channel : ℕ) → IsInOrder o u channel) × IsLife j (events_at o)
+at-end j o u one two k ko l = (between o u one two k ko (order-of j one two l), record { name = k.name; events = one.events; told = k.events; life = life-of j one two l })
+
+life-none : (j : Bool) → IsOneLife j []
+life-none true = tt
+life-none false = tt
+
+-- a connection that hasn't begun has no end
+paired : (joined : Bool) (w : World) → Sound (λ x. joined && x == 0) w → (x : ℕ) → IsPaired (joined && x == 0) w.a w.b x
+paired joined w s x = elim (less-or-not x w.count) [
+  | inl low ↦ are-lawful joined w s x low
+  | inr far ↦ record {
+    one = no_end;
+    two = no_end;
+    here = inr (none w.a s.a far, refl);
+    there = inr (none w.b s.b far, refl);
+    lawful = inl (record { forth = λ channel. tt; back = λ channel. tt; life_one = life-none (joined && x == 0); life_two = life-none (joined && x == 0) });
+  }
+]
+  where
+    none : (site : Site) → IsHost site w.count → w.count ≤ x → (e : HostEnd) → Has site.ends e → e.connection ≡ x → ⊥
+    none site k far e h of = let low : e.connection < w.count = k.below e h in omega arith
+
+at-side : (joined : Bool) (w : World) → Sound (λ x. joined && x == 0) w → (x : ℕ) (side : Side)
+    → ((channel : ℕ) → IsInOrder (end_at w x side) (end_at w x (other side)) channel) × IsLife (joined && x == 0) (events_at (end_at w x side))
+at-side joined w s x A =
+    let p = paired joined w s x in
+    at-end (joined && x == 0) (end_of x w.a.ends) (end_of x w.b.ends) p.one p.two (hands-at w.a w.count x p.one s.a p.here) (hands-at w.b w.count x p.two s.b p.there) p.lawful
+at-side joined w s x B =
+    let p = paired joined w s x in
+    at-end (joined && x == 0) (end_of x w.b.ends) (end_of x w.a.ends) p.two p.one (hands-at w.b w.count x p.two s.b p.there) (hands-at w.a w.count x p.one s.a p.here) (swapped-law (joined && x == 0) p.one p.two p.lawful)
+
+only-one : (joined : Bool) (w : World) → Sound (λ x. joined && x == 0) w → (side : Side) (e : HostEnd) → Has (site_of w side).ends e → end_at w e.connection side ≡ Some e
+only-one joined w s A e h = (let k = s.a in end-there w.a.ends e h (k.apart e h))
+only-one joined w s B e h = (let k = s.b in end-there w.b.ends e h (k.apart e h))
+
+has-headline : (joined : Bool) (w : World) → Sound (λ x. joined && x == 0) w → HasHeadline joined w
+has-headline joined w s = record {
+  only = only-one joined w s;
+  in_order = λ x side. (at-side joined w s x side).0;
+  one_life = λ x side. (at-side joined w s x side).1;
+}
+
+pub headline-run : OfEachRun (HasHeadline false)
+headline-run a b h es w r = has-headline false w (sound-run a b h es w r)
+
+pub headline-joined-run : OfEachJoinedRun (HasHeadline true)
+headline-joined-run a b h es w r = has-headline true w (sound-joined-run a b h es w r)
+
+pub headline-list : OfEachList (HasHeadline false)
+headline-list a b h events answers w r = has-headline false w (sound-list a b h events answers w r)
+
+pub headline-joined-list : OfEachJoinedList (HasHeadline true)
+headline-joined-list a b h events answers w r = has-headline true w (sound-joined-list a b h events answers w r)

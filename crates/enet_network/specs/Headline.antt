@@ -1,0 +1,64 @@
+-- The headline, of the lists that are kept in a world of two hosts: what was submitted and taken on each channel of an end, and its events.
+use Rattle.std.specs.Prelude.{◌≡◌, ℕ, ◌&&◌, ◌==◌, Bool, List, [], map, Option, Some, None}
+use Rattle.enet_types.specs.declared.event.Event.{Event}
+use Rattle.enet_types.specs.declared.event.PeerRef.{PeerRef}
+use Rattle.enet_types.specs.declared.packet.Packet.{Packet}
+use Rattle.enet_peer.specs.declared.parts.PeerEvent.{PeerEvent}
+use Rattle.enet_link.specs.Follows.{Follows}
+use Rattle.enet_link.specs.Steps.{Has, bodies_of}
+use Rattle.enet_connection.specs.Connection.{of_channel, in_sequence}
+use Rattle.enet_connection.specs.Law.{IsOneLife}
+use Rattle.enet_host.specs.Calls.{event_of}
+use Rattle.enet_network.specs.declared.event.Side.{Side}
+use Rattle.enet_network.specs.Log.{kept_at}
+use Rattle.enet_network.specs.Network.{HostEnd, end_of}
+use Rattle.enet_network.specs.World.{World, site_of, other}
+
+-- the end of connection x at a side, if its host has one
+abbrev pub end_at : World → ℕ → Side → Option HostEnd
+end_at w x side = end_of x (site_of w side).ends
+
+-- what the user of an end submitted on a channel
+abbrev pub submitted_at : ℕ → Option HostEnd → List Packet
+submitted_at channel None = []
+submitted_at channel (Some e) = (kept_at e.channels channel).submitted
+
+-- what the user of an end took of a channel
+abbrev pub taken_at : ℕ → Option HostEnd → List Packet
+taken_at channel None = []
+taken_at channel (Some e) = (kept_at e.channels channel).taken
+
+-- all events that the user of an end took
+abbrev pub events_at : Option HostEnd → List Event
+events_at None = []
+events_at (Some e) = e.events
+
+-- the greatest length of the datagrams by which the packets of an end go, in bytes
+abbrev pub mtu_at : Option HostEnd → ℕ
+mtu_at None = 0
+mtu_at (Some e) = e.mtu
+
+abbrev pub AreOn : ℕ → List Packet → Type 0
+AreOn channel qs = (q : Packet) → Has qs q → q.channel ≡ channel
+
+-- what the user of one end took of a channel follows what the user of the other submitted on it, unsequenced packets apart: a subsequence of
+-- whole packets, each once, that leaves out no reliable packet before its last. Both lists have packets of that channel alone
+pub record IsInOrder (from to : Option HostEnd) (channel : ℕ) : Type 0 where
+  pub submitted : AreOn channel (submitted_at channel from)
+  pub taken : AreOn channel (taken_at channel to)
+  pub follows : Follows (mtu_at from) (of_channel (mtu_at from) channel (submitted_at channel from)) (bodies_of (in_sequence channel (taken_at channel to)))
+
+-- the events that the user of an end took are one life's, all of one peer: at most one Connect, and only first; packets only after it, or from the
+-- start where the connection stands from the start; at most one Disconnect, and only last
+pub record IsLife (joined : Bool) (taken : List Event) : Type 0 where
+  pub name : PeerRef
+  pub events : List PeerEvent
+  pub told : taken ≡ map (event_of name) events
+  pub life : IsOneLife joined events
+
+-- so it is of each connection, end and channel; `joined` says that connection 0 stands from the start
+pub record HasHeadline (joined : Bool) (w : World) : Type 0 where
+  -- a host has no two ends of a connection
+  pub only : (side : Side) (e : HostEnd) → Has (site_of w side).ends e → end_at w e.connection side ≡ Some e
+  pub in_order : (x : ℕ) (side : Side) (channel : ℕ) → IsInOrder (end_at w x side) (end_at w x (other side)) channel
+  pub one_life : (x : ℕ) (side : Side) → IsLife (joined && x == 0) (events_at (end_at w x side))
