@@ -3,8 +3,8 @@
 //! specs/Network has what is kept of a host: all that it put out, each datagram with its connection and with the marks of its
 //! commands, and its ends of connections, each with the name of its peer, how far its numbers have come, what its user
 //! submitted and took. It has when a datagram is of an earlier connection or late. specs/Steps has what one host call adds to
-//! all that, specs/World the events of a world of two hosts with the refusals that each meets. None of these but specs/World
-//! counts the hosts.
+//! all that where it has one other, specs/World the events of a world of two hosts with the refusals that each meets.
+//! specs/Network counts no hosts.
 //!
 //! specs/Headline has the headline, of the lists that are kept of each connection, end and channel.
 //!
@@ -51,8 +51,8 @@ pub fn each_thing_at(host: &HostCore)
     host.keeps();
 }
 
-/// A world of two hosts, over every list of calls of either and of datagrams that the network brings, none of them of an
-/// earlier connection or late.
+/// A world of two hosts, over every list of calls of either (a Connect goes to the other's address) and of datagrams of the other
+/// that the network brings, none of them of an earlier connection or late.
 ///
 /// `opened`: where all slots are free at first, both hosts show of each connection two ends of which the law of one connection
 /// holds: what the user of one took of a channel follows what the user of the other submitted on it, and each user's events
