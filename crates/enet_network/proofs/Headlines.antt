@@ -14,7 +14,7 @@ use Rattle.enet_connection.specs.Steps.{no_end}
 use Rattle.enet_host.specs.Calls.{event_of}
 use Rattle.enet_network.specs.declared.event.Side.{Side}
 use Rattle.enet_network.specs.declared.event.Side.TheVariants.{A, B}
-use Rattle.enet_network.specs.Headline.{end_at, submitted_at, taken_at, events_at, mtu_at, AreOn, IsInOrder, IsLife, HasHeadline}
+use Rattle.enet_network.specs.Headline.{end_at, submitted_at, taken_at, events_at, mtu_at, AreEnds, AreOn, IsInOrder, IsLife, HasHeadline}
 use Rattle.enet_network.specs.Law.{ShowsAt, LawfulEither, IsPaired, OfEachRun, OfEachJoinedRun, OfEachList, OfEachJoinedList}
 use Rattle.enet_network.specs.Log.{Kept, fresh_kept, kept_at}
 use Rattle.enet_network.specs.Network.{HostEnd, Site, end_of}
@@ -22,6 +22,7 @@ use Rattle.enet_network.specs.Shown.{on_channel, Shows}
 use Rattle.enet_network.specs.World.{World, site_of, other}
 use Rattle.enet_network.proofs.Delivering.{end-there}
 use Rattle.enet_network.proofs.Worlds.{IsHost, end-none}
+use Rattle.enet_network.proofs.Owned.{are-ends}
 use Rattle.enet_network.proofs.Runs.{Sound, less-or-not, are-lawful, sound-run, sound-joined-run, sound-list, sound-joined-list}
 
 -- the lists of a channel
@@ -184,8 +185,13 @@ only-one : (joined : Bool) (w : World) → Sound (λ x. joined && x == 0) w → 
 only-one joined w s A e h = (let k = s.a in end-there w.a.ends e h (k.apart e h))
 only-one joined w s B e h = (let k = s.b in end-there w.b.ends e h (k.apart e h))
 
+all-ends : (joined : Bool) (w : World) → Sound (λ x. joined && x == 0) w → (side : Side) → AreEnds (site_of w side)
+all-ends joined w s A = are-ends w.a s.owned_a
+all-ends joined w s B = are-ends w.b s.owned_b
+
 has-headline : (joined : Bool) (w : World) → Sound (λ x. joined && x == 0) w → HasHeadline joined w
 has-headline joined w s = record {
+  all = all-ends joined w s;
   only = only-one joined w s;
   in_order = λ x side. (at-side joined w s x side).0;
   one_life = λ x side. (at-side joined w s x side).1;

@@ -13,5 +13,6 @@ pub mod Beginnings
 pub mod Growing
 pub mod Worlds
 pub mod Once
+pub mod Owned
 pub mod Runs
 pub mod Headlines

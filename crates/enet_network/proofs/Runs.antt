@@ -32,6 +32,7 @@ use Rattle.enet_network.proofs.Peers.{shows-held}
 use Rattle.enet_network.proofs.Submitting.{same-some}
 use Rattle.enet_network.proofs.Worlds.{KeptEither, Pair, BeginsOnce, IsHost, swapped, pair-goes, host-goes, nothing-of, count-grows}
 use Rattle.enet_network.proofs.Once.{AreAt, at-goes, begins-once}
+use Rattle.enet_network.proofs.Owned.{AreOwned, owned-goes, none-held, one-held}
 
 -- which connections stand from the start is told by j
 pub record Sound (j : ℕ → Bool) (w : World) : Type 0 where
@@ -41,6 +42,8 @@ pub record Sound (j : ℕ → Bool) (w : World) : Type 0 where
   pub at_b : w.b.address ≡ address_of B
   pub far_a : AreAt (address_of B) w.a
   pub far_b : AreAt (address_of A) w.b
+  pub owned_a : AreOwned w.a
+  pub owned_b : AreOwned w.b
   pub pairs : (x : ℕ) → x < w.count → Pair (j x) w.a w.b x
   pub later : (x : ℕ) → w.count ≤ x → j x ≡ false
 
@@ -101,6 +104,8 @@ sound-goes j A what w v h k =
       at_b = ap (λ (s : Site). s.address) h.there ∙ k.at_b;
       far_a = subst (λ (x : Addr). AreAt x v.a) k.at_b (at-goes j w.count w.b w.a v.a what h.here k.a k.pairs at);
       far_b = subst (AreAt (address_of A)) (sym h.there) k.far_b;
+      owned_a = owned-goes w.count w.b w.a v.a what h.here k.owned_a;
+      owned_b = subst AreOwned (sym h.there) k.owned_b;
       pairs = λ x low. subst (λ (s : Site). Pair (j x) v.a s x) (sym h.there) (goes j w.count w.b w.a v.a what h.here k.a k.b k.pairs k.later x (let c : v.count ≡ count_after w.count what = h.count in omega arith));
       later = λ x least. k.later x (let u : w.count ≤ v.count = up in omega arith);
     }
@@ -117,6 +122,8 @@ sound-goes j B what w v h k =
       at_b = stays-put w.count w.a w.b v.b what h.here ∙ k.at_b;
       far_a = subst (AreAt (address_of B)) (sym h.there) k.far_a;
       far_b = subst (λ (x : Addr). AreAt x v.b) k.at_a (at-goes j w.count w.a w.b v.b what h.here k.b back at);
+      owned_a = subst AreOwned (sym h.there) k.owned_a;
+      owned_b = owned-goes w.count w.a w.b v.b what h.here k.owned_b;
       pairs = λ x low. subst (λ (s : Site). Pair (j x) s v.b x) (sym h.there) (swapped (j x) v.b w.a x (goes j w.count w.a w.b v.b what h.here k.b k.a back k.later x (let c : v.count ≡ count_after w.count what = h.count in omega arith)));
       later = λ x least. k.later x (let u : w.count ≤ v.count = up in omega arith);
     }
@@ -155,6 +162,8 @@ open-sound a b h =
       at_b = refl;
       far_a = none-at (address_of B) (open_world a b).a refl;
       far_b = none-at (address_of A) (open_world a b).b refl;
+      owned_a = λ i t p there has. absurd (none-held a.peers i t p there has);
+      owned_b = λ i t p there has. absurd (none-held b.peers i t p there has);
       pairs = λ x low. absurd (let z : x < 0 = low in omega arith);
       later = λ x least. refl;
     }
@@ -222,6 +231,9 @@ joined-at side c some e (inl is) p x =
     ap (λ (y : SlotState). y.address) (same-some x.slot s (sym x.there ∙ there))
 joined-at side c some e (inr is) p x = absurd is
 
+joined-owned : (side : Side) (c : Config) → AreOwned (joined_site side c)
+joined-owned side c i t p there has = (joined_end, inl refl, one-held c.peers i (given unused_slot (address_of (other side)) (joined c.clock (joined_terms c) (limits_of c))) t p there has)
+
 in-range : (c : Config) → is_in_range c ≡ true → (576 ≤ c.mtu) × (c.channels ≤ 255) × (0 < c.peers)
 in-range c h = (grind (arith, nat_tests), grind (arith, nat_tests), grind (arith, nat_tests))
 
@@ -233,6 +245,8 @@ joined-sound a b h = record {
   at_b = refl;
   far_a = joined-at A (joined_config a b) ra.2;
   far_b = joined-at B (joined_config b a) rb.2;
+  owned_a = joined-owned A (joined_config a b);
+  owned_b = joined-owned B (joined_config b a);
   pairs = λ x low. at x low;
   later = λ x least. (let l : 1 ≤ x = least in let t : (x == 0) ≡ false = grind (arith, nat_tests) in t);
 }

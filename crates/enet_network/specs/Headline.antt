@@ -4,14 +4,16 @@ use Rattle.enet_types.specs.declared.event.Event.{Event}
 use Rattle.enet_types.specs.declared.event.PeerRef.{PeerRef}
 use Rattle.enet_types.specs.declared.packet.Packet.{Packet}
 use Rattle.enet_peer.specs.declared.parts.PeerEvent.{PeerEvent}
+use Rattle.enet_peer.specs.Peering.{Peering}
 use Rattle.enet_link.specs.Follows.{Follows}
 use Rattle.enet_link.specs.Steps.{Has, bodies_of}
 use Rattle.enet_connection.specs.Connection.{of_channel, in_sequence}
 use Rattle.enet_connection.specs.Law.{IsOneLife}
+use Rattle.enet_host.specs.Host.{named}
 use Rattle.enet_host.specs.Calls.{event_of}
 use Rattle.enet_network.specs.declared.event.Side.{Side}
 use Rattle.enet_network.specs.Log.{kept_at}
-use Rattle.enet_network.specs.Network.{HostEnd, end_of}
+use Rattle.enet_network.specs.Network.{HostEnd, Site, end_of}
 use Rattle.enet_network.specs.World.{World, site_of, other}
 
 -- the end of connection x at a side, if its host has one
@@ -56,8 +58,13 @@ pub record IsLife (joined : Bool) (taken : List Event) : Type 0 where
   pub told : taken ≡ map (event_of name) events
   pub life : IsOneLife joined events
 
+-- each peer of a host is that of an end, which keeps what is submitted to it and taken from it
+abbrev pub AreEnds : Site → Type 0
+AreEnds s = (name : PeerRef) (p : Peering) → named s.host.slots name ≡ Some p → (e : HostEnd) × Has s.ends e × (e.name ≡ name)
+
 -- so it is of each connection, end and channel; `joined` says that connection 0 stands from the start
 pub record HasHeadline (joined : Bool) (w : World) : Type 0 where
+  pub all : (side : Side) → AreEnds (site_of w side)
   -- a host has no two ends of a connection
   pub only : (side : Side) (e : HostEnd) → Has (site_of w side).ends e → end_at w e.connection side ≡ Some e
   pub in_order : (x : ℕ) (side : Side) (channel : ℕ) → IsInOrder (end_at w x side) (end_at w x (other side)) channel

@@ -74,6 +74,7 @@ pub fn one_world()
 /// lost, repeated or brought out of order: what the user of one end took of a channel, unsequenced packets apart, is a
 /// subsequence of what the user of the other submitted on it, each packet whole and once, that leaves out no reliable packet
 /// before its last; each user takes at most one Connect, before all else, and nothing after a Disconnect, all of one peer.
+/// Each peer of a host is that of an end, so what is submitted or taken is kept.
 ///
 /// The clauses are those of `one_world`, from which it comes.
 pub fn each_connection_in_order()

@@ -1,0 +1,171 @@
+-- Each peer of a host is that of an end.
+use Rattle.std.proofs.Common.{◌≡◌, ◌<◌, ℕ, zero, suc, Bool, true, false, cond, inl, List, length, map, replicate, refl, sym, ap, subst, ◌∙◌, arith, Option, Some, None, Result, Ok, Err, slice_get, slice_set}
+use Rattle.std.proofs.lemmas.List.{length-set, length-map}
+use Rattle.std.proofs.lemmas.Option.{slice_get_within}
+use Rattle.enet_types.specs.declared.address.Addr.{Addr}
+use Rattle.enet_types.specs.declared.event.PeerRef.{PeerRef}
+use Rattle.enet_types.specs.declared.event.Received.{Received}
+use Rattle.enet_types.specs.declared.refusal.Refusal.{Refusal}
+use Rattle.enet_codec.specs.declared.command.Offer.{Offer}
+use Rattle.enet_peer.specs.declared.parts.PeerState.{PeerState}
+use Rattle.enet_peer.specs.declared.parts.PeerState.TheVariants as state
+use Rattle.enet_peer.specs.Peering.{Peering}
+use Rattle.enet_peer.specs.Calls as peers
+use Rattle.enet_link.specs.Steps.{Has}
+use Rattle.enet_host.specs.Host.{Host, SlotState, name_of, with_peer, with_peer_in, changed}
+use Rattle.enet_host.specs.Calls.{Does as DoesCall, DoesWithMemory, on_named, submission, leaving, throttling, pinging, waiting}
+use Rattle.enet_host.specs.Opening.{unused_slot, asking, answering, Connects, no_channel, no_slot, no_memory, asks}
+use Rattle.enet_host.specs.Receiving.{Offers, Arrives}
+use Rattle.enet_host.specs.Receiving as receiving
+use Rattle.enet_host.specs.Ticking.{clock_after, is_standing, shared, with_time, is_due, ticked}
+use Rattle.std.specs.List.{count_by}
+use Rattle.enet_isolation.specs.Calls.{Call, Done, Acts}
+use Rattle.enet_isolation.specs.Calls as call
+use Rattle.enet_isolation.specs.Falling as falling
+use Rattle.enet_isolation.specs.Law.{Fares, untouched, goes_on, begins}
+use Rattle.enet_isolation.proofs.Lists.{get-within}
+use Rattle.enet_isolation.proofs.Names.{IsThere, named-there}
+use Rattle.enet_isolation.proofs.OneCall.{one-call}
+use Rattle.enet_isolation.proofs.Single.{does-named, begins-at}
+use Rattle.enet_network.specs.Headline.{AreEnds}
+use Rattle.enet_network.specs.Log.{Logged}
+use Rattle.enet_network.specs.Network.{HostEnd, Site, fresh_end}
+use Rattle.enet_network.specs.Steps.{Happening, Calls, Hears, Happens, BringsOne, end_in, end_at, begun_in, begun}
+use Rattle.enet_network.proofs.Growing.{more_of, more_in, Grows, grows, stays-there, begins-there}
+use Rattle.enet_network.proofs.Submitting.{same-some}
+use Rattle.enet_network.proofs.Worlds.{acts-of}
+
+-- no call changes how many slots a host has
+
+count-connects : (h : Host) (address : Addr) (channels info word : ℕ) (answer : Result PeerRef Refusal) (slots after : List SlotState) → Connects h.config h.clock slots address channels info word answer after → length after ≡ length slots
+count-connects h address channels info word answer slots after (no_channel z) = refl
+count-connects h address channels info word answer slots after (no_slot some none) = refl
+count-connects h address channels info word answer slots after (no_memory i some free) = refl
+count-connects h address channels info word answer slots after (asks i s some free there) = length-set slots i (asking h.config h.clock i s address channels info word)
+
+count-offers : (h : Host) (from : Addr) (o : Offer) (reply : Received) (slots after : List SlotState) → Offers h.config h.clock slots from o reply after → length after ≡ length slots
+count-offers h from o reply slots after (receiving.refused why r) = refl
+count-offers h from o reply slots after (receiving.repeated r known) = refl
+count-offers h from o reply slots after (receiving.no_slot r known full) = refl
+count-offers h from o reply slots after (receiving.no_memory j r known open') = refl
+count-offers h from o reply slots after (receiving.answers j s r known open' at) = length-set slots j (answering h.config h.clock j s from o)
+
+count-arrives : (h : Host) (from : Addr) (bytes : List ℕ) (reply : Received) (slots after : List SlotState) → Arrives h.config h.clock slots from bytes reply after → length after ≡ length slots
+count-arrives h from bytes reply slots after (receiving.unreadable why u) = refl
+count-arrives h from bytes reply slots after (receiving.no_offer header commands read nobody offer) = refl
+count-arrives h from bytes reply slots after (receiving.offered header commands o said left read nobody offer comes) = count-offers h from o said slots left comes
+count-arrives h from bytes reply slots after (receiving.turned_away header commands why read n r) = refl
+count-arrives h from bytes reply slots after (receiving.heard header commands s t said read n open' at hears) = length-set slots header.peer t
+
+count-named : (slots : List SlotState) (name : PeerRef) (made : Peering → Result Peering Refusal) (after : List SlotState) → on_named slots name made ≡ Ok after → length after ≡ length slots
+count-named slots name made after h = (let d = does-named slots name made after h in ap length d.set ∙ length-set slots name.slot (with_peer d.slot d.left))
+
+count-does : (answer : Done) (slots : List SlotState) (name : PeerRef) (made : Peering → Result Peering Refusal) (after : List SlotState) → DoesCall answer (on_named slots name made) slots after → length after ≡ length slots
+count-does (Ok done) slots name made after h = count-named slots name made after h
+count-does (Err why) slots name made after h = ap length h.1
+
+count-memory : (answer : Done) (slots : List SlotState) (name : PeerRef) (made : Peering → Result Peering Refusal) (after : List SlotState) → DoesWithMemory answer (on_named slots name made) slots after → length after ≡ length slots
+count-memory (Ok done) slots name made after h = count-named slots name made after h
+count-memory (Err why) slots name made after h = ap length h.1
+
+count-if : (b : Bool) (f : SlotState → SlotState) (slots : List SlotState) → length (cond b (map f slots) slots) ≡ length slots
+count-if true f slots = length-map slots f
+count-if false f slots = refl
+
+count-ticked : (h : Host) (ms : ℕ) → length (ticked h ms).slots ≡ length h.slots
+count-ticked h ms =
+    let timed : Host = with_time h (clock_after h.clock ms) in
+    count-if (is_due timed) (shared timed.config.outgoing (count_by is_standing timed.slots)) timed.slots ∙ length-map h.slots (changed (λ (p : Peering). peers.ticked p (clock_after h.clock ms)))
+
+same-count : (c : Call) (old new : Host) → Acts c old new → length new.slots ≡ length old.slots
+same-count (call.Connect address channels info word answer) old new acts = count-connects old address channels info word answer old.slots new.slots acts.0
+same-count (call.Submit name channel q (Ok done)) old new acts = count-named old.slots name (submission channel q) new.slots acts.0
+same-count (call.Submit name channel q (Err e)) old new acts = ap length acts.0.2
+same-count (call.Receive from bytes answer) old new acts = count-arrives old from bytes answer old.slots new.slots acts.arrives
+same-count (call.Service None buf) old new acts = (let a = acts.0 in a.count)
+same-count (call.Service (Some gave) buf) old new acts = (let a = acts.0 in a.count)
+same-count (call.Tick ms) old new acts = ap (λ (h : Host). length h.slots) acts ∙ count-ticked old ms
+same-count (call.Disconnect m name info answer) old new acts = count-does answer old.slots name (leaving m info) new.slots acts.0
+same-count (call.SetBandwidth incoming outgoing (Ok done)) old new acts = ap (λ (h : Host). length h.slots) acts ∙ length-map old.slots (changed (λ (p : Peering). peers.with_bandwidth p incoming outgoing))
+same-count (call.SetBandwidth incoming outgoing (Err why)) old new acts = ap (λ (h : Host). length h.slots) acts.1
+same-count (call.ConfigureThrottle name interval acceleration deceleration answer) old new acts = count-memory answer old.slots name (throttling interval acceleration deceleration) new.slots acts.0
+same-count (call.SetPingInterval name ms answer) old new acts = count-does answer old.slots name (pinging ms) new.slots acts.0
+same-count (call.SetTimeout name limit minimum maximum answer) old new acts = count-does answer old.slots name (waiting limit minimum maximum) new.slots acts.0
+same-count (call.NextEvent None) old new acts = ap (λ (h : Host). length h.slots) acts.1
+same-count (call.NextEvent (Some event)) old new acts = ap (λ (h : Host). length h.slots) acts.rest ∙ length-set old.slots acts.from acts.after
+
+-- slot by slot
+
+abbrev pub IsOwned : List HostEnd → ℕ → SlotState → Type 0
+IsOwned ends i t = (e : HostEnd) × Has ends e × (e.name ≡ name_of i t)
+
+abbrev pub AreOwned : Site → Type 0
+AreOwned s = (i : ℕ) (t : SlotState) (p : Peering) → slice_get s.host.slots i ≡ Some t → t.peer ≡ Some p → IsOwned s.ends i t
+
+-- a slot that holds a peer after one went on has the same generation
+kept-name : (st : PeerState) (s : SlotState) (q p : Peering) → (with_peer_in st s q).peer ≡ Some p → (with_peer_in st s q).generation ≡ s.generation
+kept-name state.Free s q p has = absurd (let e : ◌≡◌ {A = Option Peering} None (Some p) = has in cc)
+kept-name st s q p has = refl
+
+fared : (c : Call) (old new : Site) (more : List HostEnd) → Grows old new more → AreOwned old → (i : ℕ) (s t : SlotState) (p : Peering) → slice_get old.host.slots i ≡ Some s → t.peer ≡ Some p → Fares c old.host i s t
+    → (falling.Begins c old.host i s t → IsOwned more i t) → IsOwned new.ends i t
+fared c old new more g k i s t p there has (untouched fell not' e) new-end =
+    let o = k i s p there (ap (λ (z : SlotState). z.peer) (sym e) ∙ has) in
+    (g.change o.0, stays-there old new more g o.0 o.1, g.name o.0 ∙ o.2 ∙ ap (λ (n : ℕ). record { slot = i; generation = n }) (ap (λ (z : SlotState). z.generation) (sym e)))
+fared c old new more g k i s t p there has (goes_on r q ds was fell alone e) new-end =
+    let o = k i s r there was in
+    let generation : (with_peer s q).generation ≡ s.generation = kept-name q.state s q p (ap (λ (z : SlotState). z.peer) (sym e) ∙ has) in
+    (g.change o.0, stays-there old new more g o.0 o.1, g.name o.0 ∙ o.2 ∙ ap (λ (n : ℕ). record { slot = i; generation = n }) (sym generation ∙ ap (λ (z : SlotState). z.generation) (sym e)))
+fared c old new more g k i s t p there has (begins none left b) new-end = (let f = new-end b in (f.0, begins-there old new more g f.0 f.1, f.2))
+
+called : (next : ℕ) (other old new : Site) (c : Call) → Happens next other (Calls c) old new → (i : ℕ) (s t : SlotState) → falling.Begins c old.host i s t → IsOwned (more_of next other old new (Calls c)) i t
+called next other old new c x i s t (falling.asks address channels info word is some at) =
+    (fresh_end next (name_of i s), subst (λ (d : Call). Has (more_of next other old new (Calls d)) (fresh_end next (name_of i s))) (sym is) (inl refl), refl)
+called next other old new c x i s t (falling.answers from bytes commands header o is read stranger offer taken unknown at) = absurd (subst (λ (d : Call). Happens next other (Calls d) old new) is x)
+
+brought : (x : ℕ) (old new : Host) (c : Call) (i : ℕ) (s t : SlotState) (p : Peering) → slice_get new.slots i ≡ Some t → t.peer ≡ Some p → falling.Begins c old i s t → IsOwned (begun x old new) i t
+brought x old new c i s t p there has b = (
+  fresh_end x (name_of i t),
+  subst (λ (o : Option ℕ). Has (begun_in x o new) (fresh_end x (name_of i t))) (sym (begins-at c old i s t b))
+      (subst (λ (o : Option SlotState). Has (end_at x i o) (fresh_end x (name_of i t))) (sym there) (subst (λ (o : Option Peering). Has (end_in x i t o) (fresh_end x (name_of i t))) (sym has) (inl refl))),
+  refl,
+)
+
+-- a host by one call
+by-call : (c : Call) (old new : Site) (more : List HostEnd) → Acts c old.host new.host → Grows old new more → AreOwned old
+    → ((i : ℕ) (s t : SlotState) (p : Peering) → slice_get new.host.slots i ≡ Some t → t.peer ≡ Some p → falling.Begins c old.host i s t → IsOwned more i t) → AreOwned new
+by-call c old new more acts g k new-end i t p there has =
+    let s = get-within old.host.slots i (let few : i < length new.host.slots = slice_get_within new.host.slots i t there in let same : length new.host.slots ≡ length old.host.slots = same-count c old.host new.host acts in omega arith) in
+    let f = one-call c old.host new.host acts i s.0 s.1 in
+    let fares : Fares c old.host i s.0 t = subst (Fares c old.host i s.0) (same-some f.0 t (sym f.1 ∙ there)) f.2 in
+    fared c old new more g k i s.0 t p s.1 has fares (new-end i s.0 t p there has)
+
+pub owned-goes : (next : ℕ) (other old new : Site) (what : Happening) → Happens next other what old new → AreOwned old → AreOwned new
+owned-goes next other old new (Calls c) x k =
+    by-call c old new (more_of next other old new (Calls c)) (acts-of next other old new c x) (grows next other old new (Calls c) x) k (λ i s t p there has b. called next other old new c x i s t b)
+owned-goes next other old new (Hears n answer) x k = by (slice_get other.log n) x (grows next other old new (Hears n answer) x)
+  where
+    by : (found : Option Logged) → BringsOne other found answer old new → Grows old new (more_in next old new found) → AreOwned new
+    by None y g = absurd y
+    by (Some d) y g =
+        by-call (call.Receive other.address d.text answer) old new (begun d.connection old.host new.host) y.1.0 g k
+        (λ i s t p there has b. brought d.connection old.host new.host (call.Receive other.address d.text answer) i s t p there has b)
+
+-- at first
+
+pub none-held : (n i : ℕ) (t : SlotState) (p : Peering) → slice_get (replicate n unused_slot) i ≡ Some t → t.peer ≡ Some p → ⊥
+none-held zero i t p there has = absurd (let e : ◌≡◌ {A = Option SlotState} None (Some t) = there in cc)
+none-held (suc n) zero t p there has = absurd (let same : unused_slot ≡ t = same-some unused_slot t there in let e : ◌≡◌ {A = Option Peering} None (Some p) = ap (λ (z : SlotState). z.peer) same ∙ has in cc)
+none-held (suc n) (suc i) t p there has = none-held n i t p there has
+
+pub one-held : (n i : ℕ) (s t : SlotState) (p : Peering) → slice_get (slice_set (replicate n unused_slot) 0 s) i ≡ Some t → t.peer ≡ Some p → name_of 0 s ≡ name_of i t
+one-held zero i s t p there has = absurd (let e : ◌≡◌ {A = Option SlotState} None (Some t) = there in cc)
+one-held (suc n) zero s t p there has = ap (λ (z : SlotState). name_of 0 z) (same-some s t there)
+one-held (suc n) (suc i) s t p there has = absurd (none-held n i t p there has)
+
+-- so it is of each name
+pub are-ends : (s : Site) → AreOwned s → AreEnds s
+are-ends s k name p is =
+    let x : IsThere s.host.slots name p = named-there s.host.slots name p is in
+    let o = k name.slot x.slot p x.there x.peer in
+    (o.0, o.1, o.2 ∙ ap (λ (n : ℕ). record { slot = name.slot; generation = n }) x.same)
