@@ -1,4 +1,4 @@
-use Rattle.std.proofs.Common.{◌≡◌, true, is_some, sym, ap, ◌∙◌}
+use Rattle.std.proofs.Common.{◌≡◌, true, is_some, sym, ap, ◌∙◌, rules}
 use Rattle.enet_fragment.specs.Making.{piece_at}
 use Rattle.enet_fragment.proofs.Wholes.{whole_seen, whole-misses_none}
 use Rattle.enet_fragment.proofs.gathering.Gathering.add.Goals as goal
@@ -9,3 +9,6 @@ unreachable-requires c =
     let there : is_some (piece_at c.args.self.now c.args.place.number) ≡ true = whole-misses_none _ _ _ _ c.args.place here c.requires.belongs in
     let missing = ap is_some c.requires.missing in
     cc
+
+pub returns-in-Ok-clause-ok : goal.returns-in-Ok-clause-ok
+returns-in-Ok-clause-ok c = search rules

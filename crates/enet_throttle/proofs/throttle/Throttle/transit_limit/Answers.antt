@@ -1,0 +1,5 @@
+use Rattle.std.proofs.Common.{rules}
+use Rattle.enet_throttle.proofs.throttle.Throttle.transit_limit.Goals as goal
+
+pub returns : goal.returns
+returns c = search rules
