@@ -1,5 +1,5 @@
 use enet_rtt::{
-    Expiry, Patience, Timing, doubled, earlier, elapsed, expired, one_more, round_trip_sample,
+    Expiry, Patience, Timing, Transmission, earlier, elapsed, expired, round_trip_sample,
 };
 
 #[test]
@@ -18,38 +18,41 @@ fn round_trip_samples(rt: HostRuntime) {
     }
 }
 
+fn expiry(patience: &Patience, now: u32, sent: &Transmission) -> Expiry {
+    expired(
+        patience,
+        now,
+        sent.first,
+        sent.last,
+        sent.timeout,
+        sent.attempts,
+    )
+}
+
 // A command that no one acknowledges, with a timeout of 500 ms at first: it goes at 0, 500, 1500, 3500, 7500 and 15500,
 // and its peer has timed out at 31500.
 #[test]
 fn resends_and_timeout(rt: HostRuntime) {
     let patience = Patience::with_defaults(0, 0, 0);
     assert_eq!(rt; patience, Patience::standard());
-    let mut last = 0;
-    let mut timeout = 500;
-    let mut attempts = 1;
+    let mut sent = Transmission::begin(0, 500);
     for now in [500, 1_500, 3_500, 7_500, 15_500] {
         assert_eq!(rt;
-            expired(&patience, now - 1, 0, last, timeout, attempts),
+            expiry(&patience, now - 1, &sent),
             Expiry::No,
             "before {now}"
         );
-        assert_eq!(rt;
-            expired(&patience, now, 0, last, timeout, attempts),
-            Expiry::Resend,
-            "at {now}"
-        );
-        last = now;
-        timeout = doubled(timeout);
-        attempts = one_more(attempts);
+        assert_eq!(rt; expiry(&patience, now, &sent), Expiry::Resend, "at {now}");
+        assert!(rt; !sent.is_late(now - 1) && sent.is_late(now), "{now}");
+        assert!(rt; !sent.ends(now, &patience), "{now}");
+        sent.mark(now);
+        assert!(rt; sent.due && !sent.is_late(now), "{now}");
+        sent.send_again(now);
     }
-    assert_eq!(rt;
-        expired(&patience, 31_499, 0, last, timeout, attempts),
-        Expiry::No
-    );
-    assert_eq!(rt;
-        expired(&patience, 31_500, 0, last, timeout, attempts),
-        Expiry::End
-    );
+    assert_eq!(rt; sent.attempts, 6);
+    assert_eq!(rt; expiry(&patience, 31_499, &sent), Expiry::No);
+    assert_eq!(rt; expiry(&patience, 31_500, &sent), Expiry::End);
+    assert!(rt; !sent.ends(31_499, &patience) && sent.ends(31_500, &patience));
 }
 
 #[test]

@@ -4,14 +4,13 @@ use Rattle.std.specs.List.{position, remove}
 use Rattle.enet_codec.specs.declared.command.Fragment.{Fragment}
 use Rattle.enet_codec.specs.declared.command.Offer.{Offer}
 use Rattle.enet_codec.specs.Message.{Message, connect}
-use Rattle.enet_rtt.specs.Expiry.{doubled_time}
 use Rattle.enet_connect.specs.declared.terms.Terms.{Terms}
 use Rattle.enet_connect.specs.Verification.{verification_of}
 use Rattle.enet_control.specs.declared.control.Control.{Control}
 use Rattle.enet_control.specs.declared.control.Control.TheVariants as control
 use Rattle.enet_control.specs.declared.control.Numbered.{Numbered}
 use Rattle.enet_control.specs.declared.control.SentControl.{SentControl}
-use Rattle.enet_control.specs.Controlling.{Commands, Next, is_reliable, is_in_span, begun, again, next_queued, next_resent, next_of, next, acknowledged, without_place, place_of, marked, is_late, body_of, message_of}
+use Rattle.enet_control.specs.Controlling.{Commands, Next, is_reliable, is_in_span, begun, again, next_queued, next_resent, next_of, next, acknowledged, without_place, place_of, marked, body_of, message_of}
 use Rattle.enet_control.specs.Controlling as controlling
 use Rattle.enet_fragment.specs.DataCommand.{wire_body}
 use Rattle.enet_fragment.specs.DataCommand as fragment
@@ -124,7 +123,7 @@ resent-says w now c i (Some p) n is e a =
     (record { queued = a.queued; sent = λ x h. elim (Has-set c.sent i (again now p) x h) [ inl k ↦ a.sent x k | inr f ↦ subst (λ (y : SentControl). Says w y.command.control) f says ] }, says)
 
 next-says : (w now timeout : ℕ) (c : Commands) (n : Next) → next now timeout c ≡ Some n → AllSay w c → AllSay w n.commands × Says w n.command.control
-next-says w now timeout c n e a = by (position (λ (p : SentControl). p.due) c.sent) e
+next-says w now timeout c n e a = by (position (λ (p : SentControl). p.transmission.due) c.sent) e
   where
     by : (o : Option ℕ) → next_of now timeout c o ≡ Some n → AllSay w n.commands × Says w n.command.control
     by None f = queue-says w now timeout c c.queued n refl f a
@@ -133,13 +132,6 @@ next-says w now timeout c n e a = by (position (λ (p : SentControl). p.due) c.s
 without-says : (w : ℕ) (c : Commands) (o : Option ℕ) → AllSay w c → AllSay w (record c { sent = without_place c.sent o })
 without-says w c None a = a
 without-says w c (Some i) a = record { queued = a.queued; sent = λ x h. a.sent x (Has-removed c.sent i x h) }
-
-marks-say : (w now : ℕ) (p : SentControl) → Says w p.command.control → Says w (marked now p).command.control
-marks-say w now p s = by (is_late now p)
-  where
-    by : (b : Bool) → Says w (cond b (record p { timeout = doubled_time p.timeout; due = true }) p).command.control
-    by true = s
-    by false = s
 
 -- a peer
 
@@ -170,7 +162,7 @@ acknowledged-says w o channel number a = by (channel == 0xFF)
 marked-all : (w now : ℕ) (c : Commands) → AllSay w c → AllSay w (controlling.with_marked now c)
 marked-all w now c a = record {
   queued = a.queued;
-  sent = λ x h. (let r = Has-from_map (marked now) c.sent x h in subst (λ (y : SentControl). Says w y.command.control) r.2 (marks-say w now r.0 (a.sent r.0 r.1)));
+  sent = λ x h. (let r = Has-from_map (marked now) c.sent x h in subst (λ (y : SentControl). Says w y.command.control) r.2 (a.sent r.0 r.1));
 }
 
 cleared-queued : (w number : ℕ) (what : Control) → Says w what → AllSay w (controlling.with_queued (record { number = number; queued = []; sent = [] }) what)

@@ -1,11 +1,10 @@
 -- The sender of channel 0xFF: what is queued, and what is sent and not yet acknowledged. Times are in milliseconds.
-use Rattle.std.specs.Prelude.{◌≡◌, ℕ, ◌+◌, ◌<◌, Bool, true, false, ◌&&◌, not, ◌==◌, nat_lt, nat_le, if◌then◌else◌, List, [], ◌∷◌, ◌++◌, length, map, Option, Some, None, slice_get, slice_set, is_some}
+use Rattle.std.specs.Prelude.{◌≡◌, ℕ, ◌+◌, ◌<◌, Bool, true, false, ◌&&◌, not, ◌==◌, nat_lt, if◌then◌else◌, List, [], ◌∷◌, ◌++◌, length, map, Option, Some, None, slice_get, slice_set, is_some}
 use Rattle.std.specs.List.{position, remove}
 use Rattle.enet_codec.specs.Message.{Message, Body, connect, verify_connect, disconnect, ping, bandwidth_limit, throttle_configure, IsMessage, canonical}
 use Rattle.enet_codec.specs.Writing.{Puts}
 use Rattle.enet_seq.specs.Windows.{after, ahead}
-use Rattle.enet_rtt.specs.Clock.{elapsed_time}
-use Rattle.enet_rtt.specs.Expiry.{doubled_time, next_attempts, gives_up}
+use Rattle.enet_rtt.specs.Transmission as transmission
 use Rattle.enet_rtt.specs.declared.expiry.Patience.{Patience}
 use Rattle.enet_rtt.specs.declared.expiry.Expiry.{Expiry}
 use Rattle.enet_rtt.specs.declared.expiry.Expiry.TheVariants.{No, Resend, End}
@@ -61,11 +60,11 @@ message_of n = record {
 
 -- sent once more
 abbrev pub again : ℕ → SentControl → SentControl
-again now p = record p { last = now; attempts = next_attempts p.attempts; due = false }
+again now p = record p { transmission = transmission.again now p.transmission }
 
 -- sent for the first time
 abbrev pub begun : ℕ → ℕ → Numbered → SentControl
-begun now timeout n = record { command = n; first = now; last = now; timeout = timeout; attempts = 1; due = false }
+begun now timeout n = record { command = n; transmission = transmission.begun now timeout }
 
 -- a command goes for the first time only where its number is less than 8,192 past the oldest unacknowledged one
 abbrev pub is_in_span : List SentControl → ℕ → Bool
@@ -94,7 +93,7 @@ next_of now timeout c (Some i) = next_resent now c i (slice_get c.sent i)
 
 -- by number: the first sent command that is due to go again, else the head of the queue where it may go
 abbrev pub next : ℕ → ℕ → Commands → Option Next
-next now timeout c = next_of now timeout c (position (λ (p : SentControl). p.due) c.sent)
+next now timeout c = next_of now timeout c (position (λ (p : SentControl). p.transmission.due) c.sent)
 
 -- what a call of next_due does: it writes what is due where that fits, and else changes nothing. What is written has its
 -- numbers in their ranges, so its bytes spell it
@@ -129,20 +128,20 @@ control_at sent (Some i) = control_of (slice_get sent i)
 abbrev pub acknowledged_control : Commands → ℕ → Option Control
 acknowledged_control c number = control_at c.sent (place_of number c.sent)
 
--- a sent command that waited out its timeout
+-- a sent command that waited out its timeout, and is not due to go again already
 abbrev pub is_late : ℕ → SentControl → Bool
-is_late now p = not p.due && nat_le p.timeout (elapsed_time now p.last)
+is_late now p = transmission.is_late now p.transmission
 
--- it is due to go again, and waits twice as long then
+-- where it is late, it is due to go again, and waits twice as long then
 abbrev pub marked : ℕ → SentControl → SentControl
-marked now p = if is_late now p then record p { timeout = doubled_time p.timeout; due = true } else p
+marked now p = record p { transmission = transmission.marked now p.transmission }
 
 abbrev pub with_marked : ℕ → Commands → Commands
 with_marked now c = record c { sent = map (marked now) c.sent }
 
--- the peer has timed out over this command
+-- it is late, and the peer has timed out over it
 abbrev pub ends : ℕ → Patience → SentControl → Bool
-ends now patience p = is_late now p && gives_up patience (elapsed_time now p.first) p.attempts
+ends now patience p = transmission.ends now patience p.transmission
 
 -- what a moment brings: the end of the peer, resends, or nothing
 abbrev pub lateness : ℕ → Patience → Commands → Expiry

@@ -12,7 +12,7 @@ ghost use Rattle.enet_control.specs.Kept.{KeepsRoom, room_of};
 
 use crate::{Numbered, SentControl};
 use enet_codec::write_command;
-use enet_rtt::{Expiry, Patience};
+use enet_rtt::{Expiry, Patience, Transmission};
 use enet_seq::ahead;
 use std::collections::VecDeque;
 
@@ -46,10 +46,10 @@ pub fn make_room(queued: &mut VecDeque<Numbered>, sent: &mut VecDeque<SentContro
 
 /// The first sent command that is due to go again.
 pub fn place_of_due(sent: &VecDeque<SentControl>) -> Option<usize>
-    ensures place { result ≡ position (λ (p : SentControl). p.due) sent.now.items }
+    ensures place { result ≡ position (λ (p : SentControl). p.transmission.due) sent.now.items }
     ensures bound { IfSome result (λ place. place < deque_len sent.now) }
 {
-    sent.iter().position(|command| command.due)
+    sent.iter().position(|sent| sent.transmission.due)
 }
 
 /// Where the sent command of this number stands.
@@ -86,7 +86,7 @@ pub fn send_again(sent: &mut VecDeque<SentControl>, place: usize, now: u32)
     ensures len { deque_len sent.new ≡ deque_len sent.old }
     ensures capacity { deque_capacity sent.new ≡ deque_capacity sent.old }
 {
-    sent[place].send_again(now);
+    sent[place].transmission.send_again(now);
 }
 
 /// The head of the queue goes for the first time, and is kept where it is acknowledged.
@@ -109,7 +109,10 @@ pub fn send_head(
         unreachable!()
     };
     if command.control.is_reliable() {
-        sent.push_back_reserved(SentControl::begin(command, now, timeout));
+        sent.push_back_reserved(SentControl {
+            command,
+            transmission: Transmission::begin(now, timeout),
+        });
     }
 }
 
@@ -117,28 +120,30 @@ pub fn send_head(
 fn place_of_end(sent: &VecDeque<SentControl>, now: u32, patience: &Patience) -> Option<usize>
     ensures { result ≡ position (ends now patience.now) sent.now.items }
 {
-    sent.iter().position(|command| command.ends(now, patience))
+    sent.iter()
+        .position(|sent| sent.transmission.ends(now, patience))
 }
 
 /// The first sent command that is late.
 fn place_of_late(sent: &VecDeque<SentControl>, now: u32) -> Option<usize>
     ensures { result ≡ position (is_late now) sent.now.items }
 {
-    sent.iter().position(|command| command.is_late(now))
+    sent.iter().position(|sent| sent.transmission.is_late(now))
 }
 
 /// Whether the peer has timed out over a sent command.
 pub fn any_ends(sent: &VecDeque<SentControl>, now: u32, patience: &Patience) -> bool
     ensures { result ≡ list_any (ends now patience.now) sent.now.items }
 {
-    sent.iter().any(|command| command.ends(now, patience))
+    sent.iter()
+        .any(|sent| sent.transmission.ends(now, patience))
 }
 
 /// Whether a sent command is late.
 pub fn any_late(sent: &VecDeque<SentControl>, now: u32) -> bool
     ensures { result ≡ list_any (is_late now) sent.now.items }
 {
-    sent.iter().any(|command| command.is_late(now))
+    sent.iter().any(|sent| sent.transmission.is_late(now))
 }
 
 /// Marks all that is late as due to go again.
@@ -149,7 +154,7 @@ pub fn mark(sent: &mut VecDeque<SentControl>, now: u32)
     ensures capacity { deque_capacity sent.new ≡ deque_capacity sent.old }
 {
     for place in 0..sent.len() {
-        sent[place].mark(now);
+        sent[place].transmission.mark(now);
     }
 }
 

@@ -8,13 +8,12 @@ use Rattle.std.specs.List.{position}
 use Rattle.enet_seq.specs.Windows.{ahead}
 use Rattle.enet_seq.proofs.WindowsLemmas.{ahead_true}
 use Rattle.enet_seq.specs.Numbering.{wire, unbounded}
-use Rattle.enet_rtt.specs.Expiry.{doubled_time}
 use Rattle.enet_fragment.specs.Cutting.{piece_length, piece_count}
 use Rattle.enet_fragment.proofs.Cuts.{piece_count-enough}
 use Rattle.enet_fragment.specs.declared.data.DataCommand.{DataCommand}
 use Rattle.enet_receiver.specs.Receiver.{Receiver}
 use Rattle.enet_sender.specs.Carriage.{Packet, Carried, carried, carried_from, carried_as, goes_reliable}
-use Rattle.enet_sender.specs.Sender.{Sender, Next, commands_of, with_queued, again, begun, is_in_span, may_go, resent, first_sent, next_queued, next_resent, next_of, next, is_more, skipped, with_skipped, marked, is_late}
+use Rattle.enet_sender.specs.Sender.{Sender, Next, commands_of, with_queued, again, begun, is_in_span, may_go, resent, first_sent, next_queued, next_resent, next_of, next, is_more, skipped, with_skipped, marked}
 use Rattle.enet_sender.specs.declared.sent.Sent.{Sent}
 use Rattle.enet_link.specs.Follows.{command_count, count_after}
 use Rattle.enet_link.specs.Link.{Link, accept, send, wired}
@@ -163,7 +162,7 @@ some_same : {X : Type 0} (x y : X) → Some x ≡ Some y → x ≡ y
 some_same x y e = cc
 
 pub next_cases : (now timeout transit most : ℕ) (o : Sender) (n : Next) → next wire now timeout transit most o ≡ Some n → Resends o now n ⊎ Begins o now timeout transit most n
-next_cases now timeout transit most o n e = go (position (λ (p : Sent). p.due) o.sent) e
+next_cases now timeout transit most o n e = go (position (λ (p : Sent). p.transmission.due) o.sent) e
   where
     from_queue : (q : List DataCommand) → o.queued ≡ q → next_queued wire now timeout transit most o q ≡ Some n → Resends o now n ⊎ Begins o now timeout transit most n
     from_queue [] t k = absurd (cc)
@@ -553,9 +552,6 @@ Sound-drops mtu v now timeout transit most n s sending e kind =
         }
 
 -- what waited too long is due to go again
-marked-command : (now : ℕ) (p : Sent) → (marked now p).command ≡ p.command
-marked-command now p = elim (is_late now p) as (λ b. (cond b (record p { timeout = doubled_time p.timeout; due = true }) p).command ≡ p.command) [ true ↦ refl | false ↦ refl ]
-
 pub Sound-marks : (mtu : ℕ) (v : WireLink) (now : ℕ) → Sound mtu v → v.is_sending ≡ true → Sound mtu (marks v now)
 Sound-marks mtu v now s sending =
     let l = s.link in
@@ -578,6 +574,6 @@ Sound-marks mtu v now s sending =
         answers = h.answers;
         acks = h.acks;
         queues = λ j. let q = h.queues sending in record { gone = q.gone; left = q.left; whole = q.whole; count = q.count; queued = q.queued; number = q.number; unreliable = q.unreliable };
-        images = λ j. Images-map mtu l.carried l.unacked v.outgoing.sent (marked now) (marked-command now) (h.images sending);
+        images = λ j. Images-map mtu l.carried l.unacked v.outgoing.sent (marked now) (λ p. refl) (h.images sending);
       };
     }

@@ -9,7 +9,6 @@ use Rattle.std.specs.List.{position, range_with_len}
 use Rattle.enet_codec.specs.declared.command.Fragment.{Fragment}
 use Rattle.enet_seq.proofs.WindowsLemmas.{ahead_true}
 use Rattle.enet_seq.specs.Numbering.{wire, unbounded}
-use Rattle.enet_rtt.specs.Expiry.{doubled_time}
 use Rattle.enet_rtt.specs.declared.expiry.Patience.{Patience}
 use Rattle.enet_rtt.specs.declared.expiry.Expiry.{Expiry}
 use Rattle.enet_rtt.specs.declared.expiry.Expiry.TheVariants.{No, Resend, End}
@@ -256,10 +255,10 @@ may_go-same transit most v s c h number =
 pub Shows-next : (now timeout transit most : ℕ) (v s : Sender) → ShowsSender v s → ShowsNext (next wire now timeout transit most v) (next unbounded now timeout transit most s)
 Shows-next now timeout transit most v s h =
     subst (λ o. ShowsNext (next_of wire now timeout transit most v o) (next unbounded now timeout transit most s)) (sym due)
-    (go (position (λ (p : Sent). p.due) s.sent))
+    (go (position (λ (p : Sent). p.transmission.due) s.sent))
   where
-    due : position (λ (p : Sent). p.due) v.sent ≡ position (λ (p : Sent). p.due) s.sent
-    due = ap (position (λ (p : Sent). p.due)) h.sent ∙ position-map wired_sent (λ (p : Sent). p.due) (λ (p : Sent). p.due) s.sent (λ p k. refl)
+    due : position (λ (p : Sent). p.transmission.due) v.sent ≡ position (λ (p : Sent). p.transmission.due) s.sent
+    due = ap (position (λ (p : Sent). p.transmission.due)) h.sent ∙ position-map wired_sent (λ (p : Sent). p.transmission.due) (λ (p : Sent). p.transmission.due) s.sent (λ p k. refl)
 
     from_queue : (q : List DataCommand) → s.queued ≡ q → ShowsNext (next_queued wire now timeout transit most v (map wired q)) (next_queued unbounded now timeout transit most s q)
     from_queue [] e = tt
@@ -416,27 +415,21 @@ Shows-in_transit v s h =
 
 -- a moment passes
 
-marked-wired : (now : ℕ) (p : Sent) → marked now (wired_sent p) ≡ wired_sent (marked now p)
-marked-wired now p = elim (is_late now p) as (λ b. (cond b (record (wired_sent p) { timeout = doubled_time p.timeout; due = true }) (wired_sent p)) ≡ wired_sent (cond b (record p { timeout = doubled_time p.timeout; due = true }) p)) [ true ↦ refl | false ↦ refl ]
-
-marked-command : (now : ℕ) (p : Sent) → (marked now p).command ≡ p.command
-marked-command now p = elim (is_late now p) as (λ b. (cond b (record p { timeout = doubled_time p.timeout; due = true }) p).command ≡ p.command) [ true ↦ refl | false ↦ refl ]
-
 pub Shows-marked : (now : ℕ) (v s : Sender) → ShowsSender v s → ShowsSender (with_marked now v) (with_marked now s)
 Shows-marked now v s h =
     Shows-resent v s (map (marked now) s.sent) (map (marked now) v.sent) h (ap (map (marked now)) h.sent ∙ marks s.sent) (numbers s.sent) (same s.sent)
   where
     marks : (sent : List Sent) → map (marked now) (map wired_sent sent) ≡ map wired_sent (map (marked now) sent)
     marks [] = refl
-    marks (p ∷ sent) = (λ i. marked-wired now p i ∷ marks sent i)
+    marks (p ∷ sent) = (λ i. wired_sent (marked now p) ∷ marks sent i)
 
     numbers : (sent : List Sent) → numbers_of (map (marked now) sent) ≡ numbers_of sent
     numbers [] = refl
-    numbers (p ∷ sent) = (λ i. (marked-command now p i).number ∷ numbers sent i)
+    numbers (p ∷ sent) = (λ i. p.command.number ∷ numbers sent i)
 
     same : (sent : List Sent) → SameCommands sent (map (marked now) sent)
     same [] x h = absurd h
-    same (p ∷ sent) x (inl is) = (p, inl refl, ap (λ (z : Sent). z.command) (sym is) ∙ marked-command now p)
+    same (p ∷ sent) x (inl is) = (p, inl refl, ap (λ (z : Sent). z.command) (sym is))
     same (p ∷ sent) x (inr h) = let rest = same sent x h in (rest.0, inr rest.1, rest.2)
 
 pub Shows-lateness : (now : ℕ) (patience : Patience) (v s : Sender) → ShowsSender v s → lateness now patience v ≡ lateness now patience s

@@ -51,7 +51,7 @@ sent-none s e = none-sent _ s.sender.sent e
 -- a channel with nothing queued or sent has nothing due
 next-none : (g : Numbering) (now timeout transit most : ℕ) (s : Sender) → s.queued ≡ [] → s.sent ≡ [] → next g now timeout transit most s ≡ None
 next-none g now timeout transit most s e f =
-    ap (λ (xs : List Sent). next_of g now timeout transit most s (position (λ (p : Sent). p.due) xs)) f
+    ap (λ (xs : List Sent). next_of g now timeout transit most s (position (λ (p : Sent). p.transmission.due) xs)) f
     ∙ ap (λ (xs : List DataCommand). next_queued g now timeout transit most s xs) e
 
 -- what holds of all holds at each place
@@ -77,7 +77,7 @@ none_passes p (s ∷ rest) e =
 
 control-none : (now timeout : ℕ) (c : Commands) → controlling.is_idle c ≡ true → controlling.next now timeout c ≡ None
 control-none now timeout c e =
-    ap (λ (xs : List _). controlling.next_of now timeout c (position (λ (p : SentControl). p.due) xs)) (empty c.sent (all-right (length c.queued == 0) (length c.sent == 0) e))
+    ap (λ (xs : List _). controlling.next_of now timeout c (position (λ (p : SentControl). p.transmission.due) xs)) (empty c.sent (all-right (length c.queued == 0) (length c.sent == 0) e))
     ∙ ap (λ (xs : List Numbered). controlling.next_queued now timeout c xs) (empty c.queued (all-left (length c.queued == 0) (length c.sent == 0) e))
   where
     empty : {X : Type 0} (xs : List X) → (length xs == 0) ≡ true → xs ≡ []

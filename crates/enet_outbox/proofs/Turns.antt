@@ -55,39 +55,39 @@ if-goes P false x n h e = cc
 
 -- what a channel has left to send
 abbrev pub left_of : Sender → ℕ
-left_of s = length s.queued + due_in (λ (p : Sent). p.due) s.sent
+left_of s = length s.queued + due_in (λ (p : Sent). p.transmission.due) s.sent
 
 pub left-most : (s : Sender) → left_of s ≤ length s.queued + length s.sent
-left-most s = let h = due-most (λ (p : Sent). p.due) s.sent in omega arith
+left-most s = let h = due-most (λ (p : Sent). p.transmission.due) s.sent in omega arith
 
 -- a fact of what is due next: of each first send and of each resend
 by-next : (P : Next → Type 0) (g : Numbering) (now timeout transit most : ℕ) (s : Sender) (n : Next)
     → ((c : DataCommand) (rest : List DataCommand) → s.queued ≡ c ∷ rest → may_go g s.sent transit most c ≡ true → P (first_sent now timeout s c rest))
-    → ((i : ℕ) (p : Sent) → slice_get s.sent i ≡ Some p → p.due ≡ true → P (resent now s i p))
+    → ((i : ℕ) (p : Sent) → slice_get s.sent i ≡ Some p → p.transmission.due ≡ true → P (resent now s i p))
     → next g now timeout transit most s ≡ Some n → P n
-by-next P g now timeout transit most s n first again_ e = by-place (position (λ (p : Sent). p.due) s.sent) refl e
+by-next P g now timeout transit most s n first again_ e = by-place (position (λ (p : Sent). p.transmission.due) s.sent) refl e
   where
     by-queue : (queued : List DataCommand) → s.queued ≡ queued → next_queued g now timeout transit most s queued ≡ Some n → P n
     by-queue [] is e = cc
     by-queue (c ∷ rest) is e = if-goes P (may_go g s.sent transit most c) (first_sent now timeout s c rest) n (first c rest is) e
 
-    by-sent : (i : ℕ) → position (λ (p : Sent). p.due) s.sent ≡ Some i → (o : Option Sent) → slice_get s.sent i ≡ o → next_resent now s i o ≡ Some n → P n
+    by-sent : (i : ℕ) → position (λ (p : Sent). p.transmission.due) s.sent ≡ Some i → (o : Option Sent) → slice_get s.sent i ≡ o → next_resent now s i o ≡ Some n → P n
     by-sent i found None is e = cc
-    by-sent i found (Some p) is e = if-some P (resent now s i p) n (again_ i p is (found-due (λ (p : Sent). p.due) s.sent i p found is)) e
+    by-sent i found (Some p) is e = if-some P (resent now s i p) n (again_ i p is (found-due (λ (p : Sent). p.transmission.due) s.sent i p found is)) e
 
-    by-place : (o : Option ℕ) → position (λ (p : Sent). p.due) s.sent ≡ o → next_of g now timeout transit most s o ≡ Some n → P n
+    by-place : (o : Option ℕ) → position (λ (p : Sent). p.transmission.due) s.sent ≡ o → next_of g now timeout transit most s o ≡ Some n → P n
     by-place None found e = by-queue s.queued refl e
     by-place (Some i) found e = by-sent i found (slice_get s.sent i) refl e
 
-sent-first : (b : Bool) (sent : List Sent) (q : Sent) → q.due ≡ false → due_in (λ (p : Sent). p.due) (cond b (sent ++ q ∷ []) sent) ≡ due_in (λ (p : Sent). p.due) sent
-sent-first true sent q e = due-push (λ (p : Sent). p.due) sent q e
+sent-first : (b : Bool) (sent : List Sent) (q : Sent) → q.transmission.due ≡ false → due_in (λ (p : Sent). p.transmission.due) (cond b (sent ++ q ∷ []) sent) ≡ due_in (λ (p : Sent). p.transmission.due) sent
+sent-first true sent q e = due-push (λ (p : Sent). p.transmission.due) sent q e
 sent-first false sent q e = refl
 
 pub left-falls : (g : Numbering) (now timeout transit most : ℕ) (s : Sender) (n : Next) → next g now timeout transit most s ≡ Some n → left_of n.sender < left_of s
 left-falls g now timeout transit most s n e =
     by-next (λ (m : Next). left_of m.sender < left_of s) g now timeout transit most s n
     (λ c rest is goes. let d = sent-first c.reliable s.sent (begun now timeout c) refl in let l = ap (λ (cs : List DataCommand). length cs) is in omega arith)
-    (λ i p there due. let d = due-set (λ (p : Sent). p.due) s.sent i p (again now p) there due refl in omega arith) e
+    (λ i p there due. let d = due-set (λ (p : Sent). p.transmission.due) s.sent i p (again now p) there due refl in omega arith) e
 
 -- what is new in transit fits what may be
 pub added-fits : (g : Numbering) (now timeout transit most : ℕ) (s : Sender) (n : Next) → next g now timeout transit most s ≡ Some n → (n.added ≡ 0) ⊎ (transit + n.added ≤ most)
@@ -121,17 +121,17 @@ left-skipped s = let h = skipped-most s.queued in omega arith
 
 -- what channel 0xFF has left to send
 abbrev pub control_left : control.Commands → ℕ
-control_left c = length c.queued + due_in (λ (p : SentControl). p.due) c.sent
+control_left c = length c.queued + due_in (λ (p : SentControl). p.transmission.due) c.sent
 
 pub control-most : (c : control.Commands) → control_left c ≤ length c.queued + length c.sent
-control-most c = let h = due-most (λ (p : SentControl). p.due) c.sent in omega arith
+control-most c = let h = due-most (λ (p : SentControl). p.transmission.due) c.sent in omega arith
 
-control-first : (b : Bool) (sent : List SentControl) (q : SentControl) → q.due ≡ false → due_in (λ (p : SentControl). p.due) (cond b (sent ++ q ∷ []) sent) ≡ due_in (λ (p : SentControl). p.due) sent
-control-first true sent q e = due-push (λ (p : SentControl). p.due) sent q e
+control-first : (b : Bool) (sent : List SentControl) (q : SentControl) → q.transmission.due ≡ false → due_in (λ (p : SentControl). p.transmission.due) (cond b (sent ++ q ∷ []) sent) ≡ due_in (λ (p : SentControl). p.transmission.due) sent
+control-first true sent q e = due-push (λ (p : SentControl). p.transmission.due) sent q e
 control-first false sent q e = refl
 
 pub control-falls : (now timeout : ℕ) (c : control.Commands) (n : control.Next) → control.next now timeout c ≡ Some n → control_left n.commands < control_left c
-control-falls now timeout c n e = by-place (position (λ (p : SentControl). p.due) c.sent) refl e
+control-falls now timeout c n e = by-place (position (λ (p : SentControl). p.transmission.due) c.sent) refl e
   where
     by-queue : (queued : List Numbered) → c.queued ≡ queued → control.next_queued now timeout c queued ≡ Some n → control_left n.commands < control_left c
     by-queue [] is e = cc
@@ -140,12 +140,12 @@ control-falls now timeout c n e = by-place (position (λ (p : SentControl). p.du
         let l = ap (λ (cs : List Numbered). length cs) is in
         if-goes (λ (m : control.Next). control_left m.commands < control_left c) (control.is_in_span c.sent x.number) _ n (λ goes. omega arith) e
 
-    by-sent : (i : ℕ) → position (λ (p : SentControl). p.due) c.sent ≡ Some i → (o : Option SentControl) → slice_get c.sent i ≡ o → control.next_resent now c i o ≡ Some n → control_left n.commands < control_left c
+    by-sent : (i : ℕ) → position (λ (p : SentControl). p.transmission.due) c.sent ≡ Some i → (o : Option SentControl) → slice_get c.sent i ≡ o → control.next_resent now c i o ≡ Some n → control_left n.commands < control_left c
     by-sent i found None is e = cc
     by-sent i found (Some p) is e =
-        let d = due-set (λ (p : SentControl). p.due) c.sent i p (control.again now p) is (found-due (λ (p : SentControl). p.due) c.sent i p found is) refl in
+        let d = due-set (λ (p : SentControl). p.transmission.due) c.sent i p (control.again now p) is (found-due (λ (p : SentControl). p.transmission.due) c.sent i p found is) refl in
         if-some (λ (m : control.Next). control_left m.commands < control_left c) _ n (omega arith) e
 
-    by-place : (o : Option ℕ) → position (λ (p : SentControl). p.due) c.sent ≡ o → control.next_of now timeout c o ≡ Some n → control_left n.commands < control_left c
+    by-place : (o : Option ℕ) → position (λ (p : SentControl). p.transmission.due) c.sent ≡ o → control.next_of now timeout c o ≡ Some n → control_left n.commands < control_left c
     by-place None found e = by-queue c.queued refl e
     by-place (Some i) found e = by-sent i found (slice_get c.sent i) refl e

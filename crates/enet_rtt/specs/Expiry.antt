@@ -1,5 +1,5 @@
 -- When a sent command is due for resending, and when its peer has timed out. Times are in milliseconds.
-use Rattle.std.specs.Prelude.{ℕ, ◌+◌, ◌-◌, ◌*◌, ◌^◌, min, Bool, ◌&&◌, ◌||◌, ◌==◌, nat_le, nat_lt, if◌then◌else◌}
+use Rattle.std.specs.Prelude.{ℕ, ◌-◌, ◌^◌, Bool, ◌&&◌, ◌||◌, ◌==◌, nat_le, nat_lt, if◌then◌else◌}
 use Rattle.enet_rtt.specs.Clock.{elapsed_time}
 use Rattle.enet_rtt.specs.declared.expiry.Patience.{Patience}
 use Rattle.enet_rtt.specs.declared.expiry.Expiry.{Expiry}
@@ -14,14 +14,6 @@ abbrev pub expiry : Patience → ℕ → ℕ → ℕ → ℕ → ℕ → Expiry
 expiry p now first last timeout attempts =
     if nat_lt (elapsed_time now last) timeout then No
     else (if gives_up p (elapsed_time now first) attempts then End else Resend)
-
--- Doublings stop at the greatest number of 32 bits.
-abbrev pub doubled_time : ℕ → ℕ
-doubled_time t = min (2 * t) 4294967295
-
--- Attempts stop at 255.
-abbrev pub next_attempts : ℕ → ℕ
-next_attempts n = min (n + 1) 255
 
 -- ENet's default numbers.
 abbrev pub standard_patience : Patience

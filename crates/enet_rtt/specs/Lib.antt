@@ -1,3 +1,4 @@
 pub mod Clock
 pub mod Timing
 pub mod Expiry
+pub mod Transmission

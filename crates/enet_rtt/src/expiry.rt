@@ -1,7 +1,7 @@
 //! When a sent command is due for resending, and when its peer has timed out.
 
 ghost use Rattle.std.specs.Prelude.{◌≡◌, ◌-◌, ◌^◌, nat_le};
-ghost use Rattle.enet_rtt.specs.Expiry.{expiry, doubled_time, next_attempts, standard_patience, patience_with_defaults, or_default_number};
+ghost use Rattle.enet_rtt.specs.Expiry.{expiry, standard_patience, patience_with_defaults, or_default_number};
 
 use crate::clock::elapsed;
 
@@ -92,18 +92,4 @@ fn or_default(number: u32, default: u32) -> u32
     ensures { result ≡ or_default_number number default }
 {
     if number == 0 { default } else { number }
-}
-
-/// Twice the timeout, at most 4,294,967,295 ms: a command's timeout once it is due for resending (our profile).
-pub fn doubled(timeout: u32) -> u32
-    ensures { result ≡ doubled_time timeout }
-{
-    timeout.saturating_mul(2)
-}
-
-/// One attempt more, at most 255: a command's attempts once it is sent again (our profile).
-pub fn one_more(attempts: u8) -> u8
-    ensures { result ≡ next_attempts attempts }
-{
-    attempts.saturating_add(1)
 }

@@ -4,8 +4,8 @@
 //!
 //! Proved: the estimate of a peer's round trip, its timeout, resending and the end by timeout, each exactly the formula of
 //! docs/PROTOCOL.md on whole numbers, with the stops at 4,294,967,295 and 255 (`Timing::sample`, `Timing::timeout_of`,
-//! `expired`, `doubled`, `one_more`, `earlier`, `elapsed`, `round_trip_sample`); the clock that wraps tells elapsed time and
-//! order rightly (`clock_is_right`), and the estimate stays within what bounds it and its samples (`estimate_stays_within`).
+//! `expired`, `Transmission`, `earlier`, `elapsed`, `round_trip_sample`); the clock that wraps tells elapsed time and order
+//! rightly (`clock_is_right`), and the estimate stays within what bounds it and its samples (`estimate_stays_within`).
 //! Only tested, in `check_numbers`: that worked samples and a worked run of resends give the numbers that they should. Not
 //! claimed: that the estimate is near the network's real delay.
 #![tactic(auto)]
@@ -13,7 +13,9 @@
 mod clock;
 mod expiry;
 mod timing;
+mod transmission;
 
 pub use clock::{clock_is_right, earlier, elapsed, round_trip_sample};
-pub use expiry::{Expiry, Patience, doubled, expired, one_more};
+pub use expiry::{Expiry, Patience, expired};
 pub use timing::{Timing, estimate_stays_within};
+pub use transmission::Transmission;

@@ -1,21 +1,14 @@
 -- What a sender keeps, as its lists change.
-use Rattle.std.proofs.Common.{◌≡◌, ℕ, ◌+◌, ◌<◌, Bool, true, false, cond, List, ◌∷◌, ◌++◌, length, map, set, get_or, take, drop, sym, ap, ◌∙◌, All, IsTrue}
+use Rattle.std.proofs.Common.{◌≡◌, ℕ, ◌+◌, ◌<◌, cond, List, ◌∷◌, ◌++◌, length, map, set, get_or, take, drop, sym, ap, ◌∙◌, All, IsTrue}
 use Rattle.std.proofs.lemmas.List.Edits.{map_over_more}
 use Rattle.std.proofs.lemmas.List.Elements.{All-drop, All-take, All-same, All-map, All-weaker, All-append}
 use Rattle.enet_fragment.specs.declared.data.DataCommand.{DataCommand}
 use Rattle.enet_sender.specs.declared.sent.Sent.{Sent}
-use Rattle.enet_sender.specs.Sender.{marked, is_late, is_more, skipped}
+use Rattle.enet_sender.specs.Sender.{marked, is_more, skipped}
 use Rattle.enet_sender.specs.Kept.{IsShort, IsShortSent}
 
-marked_by : (b : Bool) (p q : Sent) → IsShortSent p → IsShortSent q → IsShortSent (cond b p q)
-marked_by true p q h k = h
-marked_by false p q h k = k
-
-pub short-marked : (now : ℕ) (p : Sent) → IsShortSent p → IsShortSent (marked now p)
-short-marked now p h = marked_by (is_late now p) _ p h h
-
 all-marked : (now : ℕ) (sent : List Sent) → All IsShortSent sent → All IsShortSent (map (marked now) sent)
-all-marked now sent h = All-map IsShortSent (marked now) sent (All-weaker IsShortSent (λ p. IsShortSent (marked now p)) (short-marked now) sent h)
+all-marked now sent h = All-map IsShortSent (marked now) sent (All-weaker IsShortSent (λ p. IsShortSent (marked now p)) (λ p short. short) sent h)
 
 pub map_marked : (now : ℕ) (xs ys : List Sent) (i : ℕ) (x : Sent) → i < length xs → ys ≡ map (marked now) (take i xs) ++ drop i xs → x ≡ get_or ys i x
     → set ys i (marked now x) ≡ map (marked now) (take (i + 1) xs) ++ drop (i + 1) xs

@@ -9,7 +9,7 @@ use Rattle.enet_seq.specs.Numbering.{Numbering}
 use Rattle.enet_fragment.specs.declared.data.DataCommand.{DataCommand}
 use Rattle.enet_sender.specs.declared.sent.Sent.{Sent}
 use Rattle.enet_sender.specs.declared.outgoing.Left.{Left}
-use Rattle.enet_sender.specs.Sender.{Sender, Next, next, next_of, next_queued, next_resent, first_sent, resent, begun, again, may_go, is_after_first, skipped, with_skipped, acknowledged, acknowledged_bytes, without_place, place_of, size_at, size_of, marked, is_late, with_marked, bytes_in_transit, left}
+use Rattle.enet_sender.specs.Sender.{Sender, Next, next, next_of, next_queued, next_resent, first_sent, resent, begun, again, may_go, is_after_first, skipped, with_skipped, acknowledged, acknowledged_bytes, without_place, place_of, size_at, size_of, marked, with_marked, bytes_in_transit, left}
 use Rattle.enet_sender.specs.Kept.{reliable_in}
 use Rattle.enet_sender.proofs.Counting.{found_by_count, counted-head}
 
@@ -47,7 +47,7 @@ by_next : (P : Next → Type 0) (g : Numbering) (now timeout transit most : ℕ)
     → ((c : DataCommand) (rest : List DataCommand) → s.queued ≡ c ∷ rest → P (first_sent now timeout s c rest))
     → ((i : ℕ) (p : Sent) → slice_get s.sent i ≡ Some p → P (resent now s i p))
     → next g now timeout transit most s ≡ Some n → P n
-by_next P g now timeout transit most s n first again_ e = by_place (position (λ (p : Sent). p.due) s.sent) e
+by_next P g now timeout transit most s n first again_ e = by_place (position (λ (p : Sent). p.transmission.due) s.sent) e
   where
     by_queue : (queued : List DataCommand) → s.queued ≡ queued → next_queued g now timeout transit most s queued ≡ Some n → P n
     by_queue [] is e = cc
@@ -84,20 +84,12 @@ transit-acknowledged s number = by_place (place_of number s.sent)
     by_place None = omega arith
     by_place (Some i) = bytes-remove s.sent i
 
-bytes-marked : (now : ℕ) (p : Sent) → bytes_of (marked now p) ≡ bytes_of p
-bytes-marked now p = by (is_late now p) _ p refl
-  where
-    by : (b : Bool) (q r : Sent) → bytes_of q ≡ bytes_of r → bytes_of (cond b q r) ≡ bytes_of r
-    by true q r e = e
-    by false q r e = refl
-
 bytes-all_marked : (now : ℕ) (sent : List Sent) → all_bytes (map (marked now) sent) ≡ all_bytes sent
 bytes-all_marked now [] = refl
 bytes-all_marked now (p ∷ sent) =
     let e = sum_by-cons bytes_of p sent in
     let f = sum_by-cons bytes_of (marked now p) (map (marked now) sent) in
     let h = bytes-all_marked now sent in
-    let k = bytes-marked now p in
     omega arith
 
 pub transit-marked : (now : ℕ) (s : Sender) → bytes_in_transit (with_marked now s) ≡ bytes_in_transit s

@@ -22,7 +22,7 @@ pub record KeepsSender (sent_len queued_len capacity reliable : ℕ) (sent : Lis
   pub queued_short : All IsShort queued
 
 abbrev pub IsNotDue : Sent → Type 0
-IsNotDue p = p.due ≡ false
+IsNotDue p = p.transmission.due ≡ false
 
 -- where nothing may be due, nothing is
 abbrev pub TellsDue : Bool → List Sent → Type 0

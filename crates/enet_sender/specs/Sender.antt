@@ -3,8 +3,7 @@ use Rattle.std.specs.Prelude.{ℕ, Bool, true, false, ◌+◌, ◌*◌, ◌&&◌
 use Rattle.std.specs.List.{range_with_len, position, remove}
 use Rattle.enet_codec.specs.declared.command.Fragment.{Fragment}
 use Rattle.enet_seq.specs.Numbering.{Numbering}
-use Rattle.enet_rtt.specs.Clock.{elapsed_time}
-use Rattle.enet_rtt.specs.Expiry.{doubled_time, next_attempts, gives_up}
+use Rattle.enet_rtt.specs.Transmission as transmission
 use Rattle.enet_rtt.specs.declared.expiry.Patience.{Patience}
 use Rattle.enet_rtt.specs.declared.expiry.Expiry.{Expiry}
 use Rattle.enet_rtt.specs.declared.expiry.Expiry.TheVariants.{No, Resend, End}
@@ -58,11 +57,11 @@ submitted g mtu s p = with_queued g mtu s (carried_as mtu s.unreliable p)
 
 -- sent once more
 abbrev pub again : ℕ → Sent → Sent
-again now p = record p { last = now; attempts = next_attempts p.attempts; due = false }
+again now p = record p { transmission = transmission.again now p.transmission }
 
 -- sent for the first time
 abbrev pub begun : ℕ → ℕ → DataCommand → Sent
-begun now timeout c = record { command = c; first = now; last = now; timeout = timeout; attempts = 1; due = false }
+begun now timeout c = record { command = c; transmission = transmission.begun now timeout }
 
 -- a command goes for the first time only where its number is less than 8,192 past the oldest unacknowledged one
 abbrev pub is_in_span : Numbering → List Sent → ℕ → Bool
@@ -103,7 +102,7 @@ next_of g now timeout transit most s (Some i) = next_resent now s i (slice_get s
 
 -- the first sent command that is due to go again, else the head of the queue where it may go
 abbrev pub next : Numbering → ℕ → ℕ → ℕ → ℕ → Sender → Option Next
-next g now timeout transit most s = next_of g now timeout transit most s (position (λ (p : Sent). p.due) s.sent)
+next g now timeout transit most s = next_of g now timeout transit most s (position (λ (p : Sent). p.transmission.due) s.sent)
 
 -- a piece that isn't the first of its packet
 abbrev pub is_after_first : Option Fragment → Bool
@@ -150,21 +149,21 @@ acknowledged_bytes s number = size_at s.sent (place_of number s.sent)
 abbrev pub bytes_in_transit : Sender → ℕ
 bytes_in_transit s = sum_by (λ (p : Sent). length p.command.body) s.sent
 
--- a sent command that waited out its timeout
+-- a sent command that waited out its timeout, and is not due to go again already
 abbrev pub is_late : ℕ → Sent → Bool
-is_late now p = not p.due && nat_le p.timeout (elapsed_time now p.last)
+is_late now p = transmission.is_late now p.transmission
 
--- it is due to go again, and waits twice as long then
+-- where it is late, it is due to go again, and waits twice as long then
 abbrev pub marked : ℕ → Sent → Sent
-marked now p = if is_late now p then record p { timeout = doubled_time p.timeout; due = true } else p
+marked now p = record p { transmission = transmission.marked now p.transmission }
 
 -- all that is late is due to go again
 abbrev pub with_marked : ℕ → Sender → Sender
 with_marked now s = record s { sent = map (marked now) s.sent }
 
--- the peer has timed out over this command
+-- it is late, and the peer has timed out over it
 abbrev pub ends : ℕ → Patience → Sent → Bool
-ends now patience p = is_late now p && gives_up patience (elapsed_time now p.first) p.attempts
+ends now patience p = transmission.ends now patience p.transmission
 
 -- what a moment brings: the end of the peer, resends, or nothing
 abbrev pub lateness : ℕ → Patience → Sender → Expiry

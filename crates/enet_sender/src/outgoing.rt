@@ -160,7 +160,7 @@ impl Outgoing {
 
     /// The place of the first sent command that is due to go again.
     fn next_resend(&mut self) -> Option<usize>
-        ensures place { result ≡ position (λ (p : Sent). p.due) self.old.sender.sent }
+        ensures place { result ≡ position (λ (p : Sent). p.transmission.due) self.old.sender.sent }
         ensures bound { IfSome result (λ place. place < length self.old.sender.sent) }
         ensures unchanged { self.new ≡ self.old }
     {

@@ -20,7 +20,7 @@ use crate::{Kind, Sent};
 use bytes::Bytes;
 use enet_codec::write_command;
 use enet_fragment::DataCommand;
-use enet_rtt::{Expiry, Patience};
+use enet_rtt::{Expiry, Patience, Transmission};
 use enet_seq::ahead;
 use std::collections::VecDeque;
 
@@ -93,10 +93,10 @@ pub fn push_packet(
 
 /// The first sent command that is due to go again.
 pub fn place_of_due(sent: &VecDeque<Sent>) -> Option<usize>
-    ensures place { result ≡ position (λ (p : Sent). p.due) sent.now.items }
+    ensures place { result ≡ position (λ (p : Sent). p.transmission.due) sent.now.items }
     ensures bound { IfSome result (λ place. place < deque_len sent.now) }
 {
-    sent.iter().position(|command| command.due)
+    sent.iter().position(|sent| sent.transmission.due)
 }
 
 /// Where the sent command of this number stands.
@@ -180,7 +180,7 @@ pub fn send_again(sent: &mut VecDeque<Sent>, place: usize, now: u32)
         → KeepsSender (deque_len sent.new) len (deque_capacity sent.new) reliable sent.new.items queued }
     ensures due { (may_be_due : Bool) → TellsDue may_be_due sent.old.items → TellsDue may_be_due sent.new.items }
 {
-    sent[place].send_again(now);
+    sent[place].transmission.send_again(now);
 }
 
 /// The head of the queue goes for the first time; `reliable` counts the reliable commands of the queue.
@@ -204,7 +204,10 @@ pub fn send_head(
     };
     if command.reliable {
         *reliable -= 1;
-        sent.push_back_reserved(Sent::begin(command, now, timeout));
+        sent.push_back_reserved(Sent {
+            command,
+            transmission: Transmission::begin(now, timeout),
+        });
     }
 }
 
@@ -234,28 +237,30 @@ pub fn skip_more(queued: &mut VecDeque<DataCommand>)
 fn place_of_end(sent: &VecDeque<Sent>, now: u32, patience: &Patience) -> Option<usize>
     ensures { result ≡ position (ends now patience.now) sent.now.items }
 {
-    sent.iter().position(|command| command.ends(now, patience))
+    sent.iter()
+        .position(|sent| sent.transmission.ends(now, patience))
 }
 
 /// The first sent command that is late.
 fn place_of_late(sent: &VecDeque<Sent>, now: u32) -> Option<usize>
     ensures { result ≡ position (is_late now) sent.now.items }
 {
-    sent.iter().position(|command| command.is_late(now))
+    sent.iter().position(|sent| sent.transmission.is_late(now))
 }
 
 /// Whether the peer has timed out over a sent command.
 pub fn any_ends(sent: &VecDeque<Sent>, now: u32, patience: &Patience) -> bool
     ensures { result ≡ list_any (ends now patience.now) sent.now.items }
 {
-    sent.iter().any(|command| command.ends(now, patience))
+    sent.iter()
+        .any(|sent| sent.transmission.ends(now, patience))
 }
 
 /// Whether a sent command is late.
 pub fn any_late(sent: &VecDeque<Sent>, now: u32) -> bool
     ensures { result ≡ list_any (is_late now) sent.now.items }
 {
-    sent.iter().any(|command| command.is_late(now))
+    sent.iter().any(|sent| sent.transmission.is_late(now))
 }
 
 /// Marks all that is late as due to go again.
@@ -267,7 +272,7 @@ pub fn mark(sent: &mut VecDeque<Sent>, now: u32)
         → KeepsSender (deque_len sent.new) len (deque_capacity sent.new) reliable sent.new.items queued }
 {
     for place in 0..sent.len() {
-        sent[place].mark(now);
+        sent[place].transmission.mark(now);
     }
 }
 

@@ -1,7 +1,7 @@
 use Rattle.std.proofs.Common.{◌≤◌, length, ◌∷◌, ap, arith}
 use Rattle.std.proofs.lemmas.List.Elements.{All-same, All-push, All-head, All-tail}
+use Rattle.enet_rtt.specs.declared.transmission.Transmission.{Transmission}
 use Rattle.enet_sender.proofs.Counting.{counted-less, counted-same}
-use Rattle.enet_sender.specs.declared.sent.Sent.{Sent}
 use Rattle.enet_sender.proofs.DueLemmas.{due-push}
 use Rattle.enet_sender.proofs.Keeping.{short-rest}
 use Rattle.enet_sender.specs.Kept.{IsShort, IsShortSent}
@@ -12,11 +12,10 @@ returns-then-command-clause-kept c =
     let rest = c.pop_front.new.self.items in
     let queued = All-same IsShort (c.in-Some.command ∷ rest) c.args.queued.now.items (cc) c.requires.kept.queued_short in
     let short : length c.in-Some.command.body ≤ 4068 = All-head IsShort c.in-Some.command rest queued in
-    let is_short : length c.begin.result.command.body ≤ 4068 = rw c.begin.ensures short in
     record {
       room = omega (arith, c.in-Some.ensures.cases, c.requires.kept.room);
       counted = counted-less _ _ _ _ c.in-Some.ensures.items c.requires.kept.counted c.if-command.true;
-      sent_short = rw c.push_back_reserved.ensures.items (All-push IsShortSent c.args.sent.now.items c.begin.result c.requires.kept.sent_short is_short);
+      sent_short = rw c.push_back_reserved.ensures.items (All-push IsShortSent c.args.sent.now.items _ c.requires.kept.sent_short short);
       queued_short = All-tail IsShort c.in-Some.command rest queued;
     }
 
@@ -30,4 +29,4 @@ returns-else-command-clause-kept c = record {
 
 pub returns-then-command-clause-due : goal.returns-then-command-clause-due
 returns-then-command-clause-due c = λ may_be_due tells.
-    due-push may_be_due c.args.sent.now.items _ c.begin.result c.push_back_reserved.ensures.items (ap (λ (p : Sent). p.due) c.begin.ensures) tells
+    due-push may_be_due c.args.sent.now.items _ _ c.push_back_reserved.ensures.items (ap (λ (t : Transmission). t.due) c.begin.ensures) tells

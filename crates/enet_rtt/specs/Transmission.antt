@@ -1,0 +1,34 @@
+-- How a command is sent, and sent again, until it is acknowledged. Times are in milliseconds.
+use Rattle.std.specs.Prelude.{ℕ, ◌+◌, ◌*◌, min, Bool, true, false, ◌&&◌, not, nat_le, if◌then◌else◌}
+use Rattle.enet_rtt.specs.Clock.{elapsed_time}
+use Rattle.enet_rtt.specs.Expiry.{gives_up}
+use Rattle.enet_rtt.specs.declared.expiry.Patience.{Patience}
+use Rattle.enet_rtt.specs.declared.transmission.Transmission.{Transmission}
+
+-- Sent for the first time.
+abbrev pub begun : ℕ → ℕ → Transmission
+begun now timeout = record { first = now; last = now; timeout = timeout; attempts = 1; due = false }
+
+-- Attempts stop at 255.
+abbrev pub next_attempts : ℕ → ℕ
+next_attempts n = min (n + 1) 255
+
+-- Sent once more.
+abbrev pub again : ℕ → Transmission → Transmission
+again now t = record t { last = now; attempts = next_attempts t.attempts; due = false }
+
+-- It has waited out its timeout, and is not due to go again already.
+abbrev pub is_late : ℕ → Transmission → Bool
+is_late now t = not t.due && nat_le t.timeout (elapsed_time now t.last)
+
+-- It is late, and its peer has timed out over it.
+abbrev pub ends : ℕ → Patience → Transmission → Bool
+ends now patience t = is_late now t && gives_up patience (elapsed_time now t.first) t.attempts
+
+-- Doublings stop at the greatest number of 32 bits.
+abbrev pub doubled_time : ℕ → ℕ
+doubled_time t = min (2 * t) 4294967295
+
+-- Where it is late, it is due to go again, and waits twice as long then.
+abbrev pub marked : ℕ → Transmission → Transmission
+marked now t = if is_late now t then record t { timeout = doubled_time t.timeout; due = true } else t

@@ -1,0 +1,79 @@
+//! How a command is sent, and sent again, until it is acknowledged.
+
+ghost use Rattle.std.specs.Prelude.{◌≡◌};
+ghost use Rattle.enet_rtt.specs.Transmission.{begun, again, is_late, ends, marked};
+
+use crate::clock::elapsed;
+use crate::expiry::{Expiry, Patience, expired};
+
+/// How a command that is not acknowledged yet was sent so far. Times are in milliseconds.
+#[derive(Clone, Copy, Debug, PartialEq, Eq)]
+pub struct Transmission {
+    /// When it was first sent, by the clock.
+    pub first: u32,
+    /// When it was last sent, by the clock.
+    pub last: u32,
+    /// How long to wait for its acknowledgement since it was last sent.
+    pub timeout: u32,
+    /// How often it was sent, up to 255.
+    pub attempts: u8,
+    /// Whether it waits to be sent again.
+    pub due: bool,
+}
+
+impl Transmission {
+    /// As it stands after the first send, at the time `now`.
+    pub fn begin(now: u32, timeout: u32) -> Self
+        ensures { result ≡ begun now timeout }
+    {
+        Transmission {
+            first: now,
+            last: now,
+            timeout,
+            attempts: 1,
+            due: false,
+        }
+    }
+
+    /// It was sent once more, at the time `now`.
+    pub fn send_again(&mut self, now: u32)
+        ensures { self.new ≡ again now self.old }
+    {
+        self.last = now;
+        self.attempts = self.attempts.saturating_add(1);
+        self.due = false;
+    }
+
+    /// Whether it has waited out its timeout at the time `now`, and is not due to go again already (our profile).
+    pub fn is_late(&self, now: u32) -> bool
+        ensures { result ≡ is_late now self.now }
+    {
+        !self.due && elapsed(now, self.last) >= self.timeout
+    }
+
+    /// Whether it is late at the time `now`, and the peer has timed out over it by `patience` (our profile).
+    pub fn ends(&self, now: u32, patience: &Patience) -> bool
+        ensures { result ≡ ends now patience.now self.now }
+    {
+        let expiry = expired(
+            patience,
+            now,
+            self.first,
+            self.last,
+            self.timeout,
+            self.attempts,
+        );
+        !self.due && expiry == Expiry::End
+    }
+
+    /// Where it is late at the time `now`, it is due to go again, and waits twice as long then, at most 4,294,967,295 ms
+    /// (our profile).
+    pub fn mark(&mut self, now: u32)
+        ensures { self.new ≡ marked now self.old }
+    {
+        if self.is_late(now) {
+            self.timeout = self.timeout.saturating_mul(2);
+            self.due = true;
+        }
+    }
+}
