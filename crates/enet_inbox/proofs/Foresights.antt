@@ -1,5 +1,5 @@
 -- What is foreseen of a data command is what becomes of it.
-use Rattle.std.proofs.Common.{◌≡◌, ℕ, Bool, true, false, cond, leb, ltb, Option, Some, None, Result, Ok, Err, List, length, refl, sym, ap, ◌∙◌}
+use Rattle.std.proofs.Common.{◌≡◌, ℕ, Bool, true, false, cond, leb, ltb, Result, Ok, Err, List, length, refl, sym, ap, ◌∙◌}
 use Rattle.std.specs.Prelude.{not, IfOk}
 use Rattle.enet_types.specs.declared.stop.Stop.{Stop}
 use Rattle.enet_types.specs.declared.stop.Stop.TheVariants as stop
@@ -7,9 +7,9 @@ use Rattle.enet_codec.specs.Message.{Message, Body, acknowledge, connect, verify
 use Rattle.enet_unsequenced.specs.Groups.{dispatches}
 use Rattle.enet_fragment.specs.DataCommand.{data_of}
 use Rattle.enet_inbox.specs.Inbox.{Inbox, is_full}
-use Rattle.enet_inbox.specs.Arrivals.{Arrival, Arrives, arrival, arrival_of, handled, is_kept, is_kept_of, sequenced, stopped, unsequenced, unsequenced_taken}
+use Rattle.enet_inbox.specs.Arrivals.{Arrival, Arrives, arrival, arrival_of, handled, is_kept, is_kept_of, stopped, unsequenced, unsequenced_taken}
 use Rattle.enet_inbox.specs.Kept.{HasFront}
-use Rattle.enet_inbox.specs.Parts.{foreseen, foreseen_of, foreseen_sequenced, seen_new, told, unsequenced_verdict}
+use Rattle.enet_inbox.specs.Parts.{foreseen, foreseen_of, seen_new, told, unsequenced_verdict}
 use Rattle.enet_inbox.specs.declared.arriving.Foreseen.{Foreseen}
 use Rattle.enet_inbox.proofs.Outcomes.{told_sequenced, kept_sequenced}
 use Rattle.enet_inbox.proofs.Stops.{Tells, arrival_stays, arrival_tells, quiet_stays}

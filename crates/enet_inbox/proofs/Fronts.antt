@@ -1,5 +1,5 @@
 -- A receiver's front is a number of the wire.
-use Rattle.std.proofs.Common.{◌≡◌, ℕ, zero, suc, ◌+◌, ◌%◌, ◌<◌, Bool, Option, Some, None, arith}
+use Rattle.std.proofs.Common.{ℕ, zero, suc, ◌<◌, Bool, Option, Some, None, arith}
 use Rattle.std.specs.FinMap.{get}
 use Rattle.enet_seq.specs.Numbering.{wire}
 use Rattle.enet_seq.specs.Windows.{after}
@@ -7,7 +7,7 @@ use Rattle.enet_fragment.specs.Making.{count_of}
 use Rattle.enet_fragment.specs.declared.data.DataCommand.{DataCommand}
 use Rattle.enet_receiver.specs.declared.took.Took.{Took}
 use Rattle.enet_receiver.specs.declared.took.Took.TheVariants.{Held, Again, Outside, Bad, Waiting, Memory}
-use Rattle.enet_receiver.specs.Receiver.{Receiver, next_whole, with_dispatched, released_with, released, all_released}
+use Rattle.enet_receiver.specs.Receiver.{Receiver, next_whole, with_dispatched, released_with, released}
 use Rattle.enet_receiver.specs.Reception.{outcome, place_read, added_at, received_with, received}
 
 fits : (number count : ℕ) → after number count < 65536

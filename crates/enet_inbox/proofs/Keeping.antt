@@ -1,5 +1,5 @@
 -- The fields of an inbox keep what they keep.
-use Rattle.std.proofs.Common.{◌≡◌, ℕ, ◌+◌, ◌-◌, ◌*◌, ◌^◌, ◌<◌, ◌≤◌, Bool, List, [], ◌∷◌, ◌++◌, All, length, map, take, drop, get_or, set, sum_by, refl, sym, ap, subst, ◌∙◌, inl, inr, ◌⊎◌, arith, length-set, length-take, Option, Some, None, Result, Ok}
+use Rattle.std.proofs.Common.{◌≡◌, ℕ, ◌+◌, ◌-◌, ◌*◌, ◌^◌, ◌<◌, ◌≤◌, Bool, true, List, [], ◌∷◌, ◌++◌, All, length, map, take, drop, get_or, set, sum_by, refl, sym, ap, subst, ◌∙◌, inl, inr, ◌⊎◌, arith, length-set, length-take, Option, Some, None, Result, Ok}
 use Rattle.std.specs.Prelude.{slice_get}
 use Rattle.std.specs.List.{range_with_len}
 use Rattle.std.proofs.lemmas.List.{get_or-set_same, get_or-set_other, get_or-map, get_or-take, length-map, length-drop, take_all}
@@ -16,17 +16,16 @@ use Rattle.enet_unsequenced.specs.Groups.{Seen}
 use Rattle.enet_fragment.specs.declared.data.DataCommand.{DataCommand}
 use Rattle.enet_packets.specs.declared.coming.Coming.{Coming}
 use Rattle.enet_packets.specs.Packets.{bytes_of}
-use Rattle.enet_receiver.specs.Receiver.{Receiver, held_bytes}
-use Rattle.enet_receiver.specs.declared.took.Took.TheVariants.{Held}
+use Rattle.enet_receiver.specs.Receiver.{held_bytes}
 use Rattle.enet_receiver.specs.declared.took.Foresight.{Foresight}
 use Rattle.enet_receiver.specs.Foresight.{ReceivingEnd, new_end, after_command}
-use Rattle.enet_inbox.specs.Inbox.{Inbox, empty_inbox, waiting_of, is_full, cleared, cleared_receiver, forgotten, narrowed}
-use Rattle.enet_inbox.specs.declared.arriving.Sequenced.{Sequenced}
-use Rattle.enet_inbox.specs.Arrivals.{emptied, packet_of, sequenced, handed_over}
-use Rattle.enet_inbox.specs.Parts.{IsOf, foresight_on, foresight_of}
+use Rattle.enet_inbox.specs.declared.arriving.Foreseen.{Foreseen}
+use Rattle.enet_inbox.specs.Inbox.{Inbox, empty_inbox, is_full, cleared, cleared_receiver, forgotten, narrowed}
+use Rattle.enet_inbox.specs.Arrivals.{emptied, packet_of, sequenced}
+use Rattle.enet_inbox.specs.Parts.{foresight_on, foresight_of, foreseen_sequenced}
 use Rattle.enet_inbox.specs.Kept.{IsShort, IsInPlace, KeepsInbox, HasFront, held_in, bytes_in}
 use Rattle.enet_inbox.proofs.Fronts.{front_received}
-use Rattle.enet_inbox.proofs.Outcomes.{Taken, taken}
+use Rattle.enet_inbox.proofs.Outcomes.{Taken, taken, foresight_in, foresight_is}
 
 -- the receiver of a channel is in its place
 pub in_place : (b : Inbox) (waiting channel : ℕ) (r : ReceivingEnd) → KeepsInbox b waiting → slice_get b.receivers channel ≡ Some r → IsInPlace b.max_packet channel r
@@ -262,11 +261,6 @@ rest_of channels rs all e =
 pub same_ok : (r d : ReceivingEnd) → ◌≡◌ {A = Result ReceivingEnd Refusal} (Ok r) (Ok d) → r ≡ d
 same_ok r d e = cc
 
--- the parts of a command are its own
-pub head_of : (s : Sequenced) (h : Head) (o : Option DataCommand) → IsOf (Some s) h o → s.head ≡ h
-head_of s h None e = absurd e
-head_of s h (Some c) e = e.0
-
 -- what is foreseen, taken to another inbox that is the same
 pub at_inside : (b inside : Inbox) (channel : ℕ) (o : Option DataCommand) (f : Foresight) → inside ≡ b → foresight_of b channel o ≡ Ok f → foresight_of inside channel o ≡ Ok f
 at_inside b inside channel o f e h = ap (λ (x : Inbox). foresight_of x channel o) e ∙ h
@@ -280,22 +274,38 @@ has_receiver : (b : Inbox) (channel : ℕ) (o : Option DataCommand) (f : Foresig
 has_receiver b channel None f e = absurd (cc)
 has_receiver b channel (Some c) f e = has_on b channel c f (slice_get b.receivers channel) refl e
 
--- a receiver that takes a command in, seen from its place
-pub taken_at : (inside : Inbox) (waiting : ℕ) (s : Sequenced) (h : Head) (o : Option DataCommand) (f : Foresight) (d : ReceivingEnd) (full : Bool) → KeepsInbox inside waiting → IsOf (Some s) h o
-    → d ≡ get_or inside.receivers s.head.channel d → full ≡ is_full inside → foresight_of inside h.channel o ≡ Ok f → f.took ≡ Held
-    → (s.head.channel < length inside.receivers) × Taken inside h.channel o f d full × IsInPlace inside.max_packet s.head.channel d
-taken_at inside waiting s h o f d full k is at same foreseen held =
-    let channel : s.head.channel ≡ h.channel = ap (λ (x : Head). x.channel) (head_of s h o is) in
-    let low : s.head.channel < length inside.receivers = subst (λ n. n < length inside.receivers) (sym channel) (has_receiver inside h.channel o f foreseen) in
-    let there : slice_get inside.receivers s.head.channel ≡ Some d = slice_get_read inside.receivers (length inside.receivers) s.head.channel d refl low at in
-    (low, taken inside h.channel o f d full foreseen held (ap (slice_get inside.receivers) (sym channel) ∙ there) same, in_place inside waiting s.head.channel d k there)
+-- a receiver that takes a command in as was foreseen, seen from its place
+pub taken_at : (b inside : Inbox) (waiting : ℕ) (own h : Head) (o : Option DataCommand) (what : Foreseen) (d : ReceivingEnd) (full : Bool) → inside ≡ b → KeepsInbox inside waiting → own ≡ h
+    → d ≡ get_or inside.receivers own.channel d → full ≡ is_full b → foreseen_sequenced b h.channel o ≡ Ok what → what.kept ≡ true
+    → (own.channel < length inside.receivers) × Taken inside h.channel o (foresight_in what) d full × IsInPlace inside.max_packet own.channel d
+taken_at b inside waiting own h o what d full view k is at same foreseen kept =
+    let f = foresight_in what in
+    let inner : foresight_of inside h.channel o ≡ Ok f = at_inside b inside h.channel o f view (foresight_is b h.channel o what foreseen kept) in
+    let channel : own.channel ≡ h.channel = ap (λ (x : Head). x.channel) is in
+    let low : own.channel < length inside.receivers = subst (λ n. n < length inside.receivers) (sym channel) (has_receiver inside h.channel o f inner) in
+    let there : slice_get inside.receivers own.channel ≡ Some d = slice_get_read inside.receivers (length inside.receivers) own.channel d refl low at in
+    let whole : full ≡ is_full inside = same ∙ ap (λ (x : Inbox). is_full x) (sym view) in
+    (low, taken inside h.channel o f d full inner refl (ap (slice_get inside.receivers) (sym channel) ∙ there) whole, in_place inside waiting own.channel d k there)
+
+-- what is kept after it, where what the receiver holds is counted anew
+pub kept_after : (b : Inbox) (waiting channel : ℕ) (d new : ReceivingEnd) (o : Option DataCommand) (full : Bool) (qs : List Packet) (bytes was now : ℕ) → KeepsInbox b waiting
+    → channel < length b.receivers → d ≡ get_or b.receivers channel d → IsInPlace b.max_packet channel d → new ≡ emptied (after_command d o full)
+    → was ≡ held_bytes d.receiver → now ≡ held_bytes new.receiver → now < 2 ^ 64 → All IsShort qs → bytes_in qs ≡ bytes_in b.untaken + bytes
+    → KeepsInbox (record b { receivers = set b.receivers channel new; untaken = qs }) (waiting - was + now + bytes)
+kept_after b waiting channel d new o full qs bytes was now k low at place is held holds light short more =
+    let same : held_bytes new.receiver ≡ held_bytes (after_command d o full).receiver = ap (λ (r : ReceivingEnd). held_bytes r.receiver) is in
+    let after = after_in_place b.max_packet channel d o full place (subst (λ n. n < 2 ^ 64) (holds ∙ same) light) in
+    let new_place : IsInPlace b.max_packet channel new = subst (λ (r : ReceivingEnd). IsInPlace b.max_packet channel r) (sym is) after in
+    let kept = keeps_taken b waiting channel d new qs bytes k low at new_place short more in
+    subst (λ n. KeepsInbox (record b { receivers = set b.receivers channel new; untaken = qs }) (waiting - was + n + bytes)) (sym holds)
+    (subst (λ n. KeepsInbox (record b { receivers = set b.receivers channel new; untaken = qs }) (waiting - n + held_bytes new.receiver + bytes)) (sym held) kept)
 
 -- the inbox after it
-pub handed_at : (inside : Inbox) (s : Sequenced) (h : Head) (o : Option DataCommand) (f : Foresight) (d new : ReceivingEnd) (full : Bool) (qs : List Packet) → IsOf (Some s) h o → Taken inside h.channel o f d full
-    → IsInPlace inside.max_packet s.head.channel d → new ≡ emptied (after_command d o full) → qs ≡ inside.untaken ++ map (packet_of d.channel) (after_command d o full).receiver.dispatched
-    → record inside { receivers = set inside.receivers s.head.channel new; untaken = qs } ≡ (sequenced inside h.channel o).after
-handed_at inside s h o f d new full qs is t place e q =
-    let channel : s.head.channel ≡ h.channel = ap (λ (x : Head). x.channel) (head_of s h o is) in
+pub handed_at : (inside : Inbox) (own h : Head) (o : Option DataCommand) (f : Foresight) (d new : ReceivingEnd) (full : Bool) (qs : List Packet) → own ≡ h → Taken inside h.channel o f d full
+    → IsInPlace inside.max_packet own.channel d → new ≡ emptied (after_command d o full) → qs ≡ inside.untaken ++ map (packet_of d.channel) (after_command d o full).receiver.dispatched
+    → record inside { receivers = set inside.receivers own.channel new; untaken = qs } ≡ (sequenced inside h.channel o).after
+handed_at inside own h o f d new full qs is t place e q =
+    let channel : own.channel ≡ h.channel = ap (λ (x : Head). x.channel) is in
     let wire : d.channel ≡ h.channel = place.channel ∙ channel in
     (λ i. record inside { receivers = set inside.receivers (channel i) (e i); untaken = q i })
     ∙ ap (λ n. record inside { receivers = set inside.receivers h.channel (emptied (after_command d o full)); untaken = inside.untaken ++ map (packet_of n) (after_command d o full).receiver.dispatched }) wire

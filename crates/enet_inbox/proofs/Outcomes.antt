@@ -1,9 +1,8 @@
 -- What a receiver's foresight means for a datagram.
-use Rattle.std.proofs.Common.{◌≡◌, ◌≢◌, ℕ, ◌%◌, ◌<◌, Bool, true, false, cond, Option, Some, None, Result, Ok, Err, List, refl, sym, ap, subst, ◌∙◌, arith}
+use Rattle.std.proofs.Common.{◌≡◌, ◌≢◌, ℕ, ◌%◌, ◌<◌, Bool, true, false, cond, Option, Some, None, Result, Ok, Err, refl, sym, ap, subst, ◌∙◌, arith}
 use Rattle.std.specs.Prelude.{◌&&◌, ◌||◌, not, slice_get}
 use Rattle.std.specs.Option.{is_none}
 use Rattle.enet_types.specs.declared.stop.Stop.{Stop}
-use Rattle.enet_types.specs.declared.stop.Stop.TheVariants as stop
 use Rattle.enet_seq.specs.Numbering.{wire}
 use Rattle.enet_seq.specs.Windows.{acknowledges}
 use Rattle.enet_fragment.specs.declared.data.DataCommand.{DataCommand}
@@ -15,7 +14,7 @@ use Rattle.enet_receiver.specs.Receiver.{Receiver}
 use Rattle.enet_receiver.specs.Reception.{outcome, outcome_at, outcome_of, place_read, came_at, is_piece, agrees_with, is_behind, came, is_handled}
 use Rattle.enet_receiver.specs.Foresight.{ReceivingEnd, foreseen as foreseen_by, outcome_for, after_command}
 use Rattle.enet_inbox.specs.Inbox.{Inbox, is_full}
-use Rattle.enet_inbox.specs.Arrivals.{Arrival, is_kept_as, is_kept_on, is_kept_sequenced, sequenced, sequenced_on, by_took, stopped, handled, handed_over}
+use Rattle.enet_inbox.specs.Arrivals.{is_kept_as, is_kept_on, is_kept_sequenced, sequenced, sequenced_on, by_took, handed_over}
 use Rattle.enet_inbox.specs.Kept.{HasFront}
 use Rattle.enet_inbox.specs.Parts.{answer_by, answer_of, foresight_on, foresight_of, seen_by, seen_of, foreseen_sequenced, told}
 use Rattle.enet_inbox.specs.declared.arriving.Foreseen.{Foreseen}

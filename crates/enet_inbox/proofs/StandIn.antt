@@ -1,5 +1,5 @@
 -- An empty unreliable packet tells what its number's window says.
-use Rattle.std.proofs.Common.{◌≡◌, ℕ, ◌%◌, ◌<◌, Bool, true, false, cond, Option, Some, None, List, [], refl, sym, ap, ◌∙◌, arith}
+use Rattle.std.proofs.Common.{◌≡◌, ℕ, ◌%◌, ◌<◌, Bool, true, false, cond, Option, Some, None, [], refl, ap, ◌∙◌, arith}
 use Rattle.std.specs.Prelude.{◌&&◌, ◌||◌, nat_le}
 use Rattle.std.proofs.lemmas.Bool.Decides.{nat_tests}
 use Rattle.enet_seq.specs.Numbering.{wire}
@@ -8,10 +8,9 @@ use Rattle.enet_fragment.specs.declared.data.DataCommand.{DataCommand}
 use Rattle.enet_fragment.specs.DataCommand.{place_in_packet}
 use Rattle.enet_fragment.specs.Place.{is_sound, is_even, told_cut}
 use Rattle.enet_packets.specs.declared.coming.Coming.{Coming}
-use Rattle.enet_receiver.specs.declared.took.Took.{Took}
 use Rattle.enet_receiver.specs.declared.took.Took.TheVariants.{Held, Again, Bad}
 use Rattle.enet_receiver.specs.Receiver.{Receiver}
-use Rattle.enet_receiver.specs.Reception.{outcome, outcome_at, outcome_of, place_read, came_at, is_piece, is_behind, is_handled, acknowledged}
+use Rattle.enet_receiver.specs.Reception.{outcome_at, outcome_of, place_read, came_at, is_piece, is_behind, is_handled, acknowledged}
 
 abbrev stand_in : ℕ → DataCommand
 stand_in number = record { reliable = false; number = number; count = 0; fragment = None; body = [] }

@@ -1,6 +1,5 @@
 -- An inbox of its parts, and the parts of what it answers.
-use Rattle.std.specs.Prelude.{◌≡◌, ℕ, Bool, true, false, not, nat_le, nat_lt, if◌then◌else◌, Option, Some, None, Result, Ok, Err, List, length, slice_get}
-use Rattle.enet_codec.specs.declared.command.Head.{Head}
+use Rattle.std.specs.Prelude.{ℕ, Bool, true, false, not, nat_le, nat_lt, if◌then◌else◌, Option, Some, None, Result, Ok, Err, List, length, slice_get}
 use Rattle.enet_codec.specs.Message.{Message, Body, send_unsequenced}
 use Rattle.enet_fragment.specs.DataCommand.{data_of}
 use Rattle.enet_types.specs.declared.packet.Packet.{Packet}
@@ -13,20 +12,12 @@ use Rattle.enet_receiver.specs.declared.took.Took.TheVariants as took
 use Rattle.enet_receiver.specs.declared.took.Foresight.{Foresight}
 use Rattle.enet_receiver.specs.Foresight.{ReceivingEnd}
 use Rattle.enet_receiver.specs.Foresight as receiving
-use Rattle.enet_inbox.specs.declared.arriving.Sequenced.{Sequenced}
 use Rattle.enet_inbox.specs.declared.arriving.Foreseen.{Foreseen}
 use Rattle.enet_inbox.specs.Inbox.{Inbox, is_full}
 
 abbrev pub inbox_of : ℕ → ℕ → List ReceivingEnd → Seen → List Packet → Inbox
 inbox_of max_packet max_waiting receivers seen untaken =
     record { max_packet = max_packet; max_waiting = max_waiting; receivers = receivers; seen = seen; untaken = untaken }
-
--- these are the parts of a sequenced data command, where there is one
-abbrev pub IsOf : Option Sequenced → Head → Option DataCommand → Type 0
-IsOf None h None = Unit {0}
-IsOf None h (Some c) = ⊥
-IsOf (Some s) h None = ⊥
-IsOf (Some s) h (Some c) = (s.head ≡ h) × (s.head.number ≡ c.number) × (s.payload.now ≡ c.body)
 
 -- what an outcome means for a datagram, where this says whether the command may be acknowledged
 abbrev pub answer_by : Took → Bool → Result Bool Stop

@@ -1,37 +1,11 @@
-//! A sequenced data command that comes, and what a channel's receiver foresees of it.
+//! What a channel's receiver foresees of a sequenced data command that comes.
 
 ghost use Rattle.std.specs.Prelude.{◌≡◌, ◌<◌};
-ghost use Rattle.enet_codec.specs.Message.{view};
-ghost use Rattle.enet_fragment.specs.DataCommand.{data_of};
 ghost use Rattle.enet_seq.specs.Windows as windows;
-ghost use Rattle.enet_inbox.specs.Parts.{IsOf, seen};
+ghost use Rattle.enet_inbox.specs.Parts.{seen};
 
 use enet_codec::{Command, Head, Stop};
 use enet_receiver::{Foresight, Incoming, Took};
-
-/// What a sequenced data command has that is tested before its channel's receiver is asked.
-#[derive(Clone, Copy)]
-pub(crate) struct Sequenced<'a> {
-    pub head: Head,
-    pub payload: &'a [u8],
-}
-
-impl<'a> Sequenced<'a> {
-    /// These parts of a command, if it is sequenced data.
-    pub fn of(command: &Command<'a>) -> Option<Sequenced<'a>>
-        ensures { IsOf result (view command.now).head (data_of (view command.now)) }
-    {
-        match *command {
-            Command::SendReliable { head, payload }
-            | Command::SendUnreliable { head, payload, .. }
-            | Command::SendFragment { head, payload, .. }
-            | Command::SendUnreliableFragment { head, payload, .. } => {
-                Some(Sequenced { head, payload })
-            }
-            _ => None,
-        }
-    }
-}
 
 /// What becomes of a data command that nothing stops, as it is handed on to the call that takes it in.
 #[derive(Clone, Copy, Debug, PartialEq, Eq)]

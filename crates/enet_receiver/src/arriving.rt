@@ -1,13 +1,13 @@
 //! A sequenced data command that comes.
 
-ghost use Rattle.std.specs.Prelude.{◌≡◌, ◌+◌, ◌<◌, ◌^◌, ◌%◌, IsTrue, length};
+ghost use Rattle.std.specs.Prelude.{◌≡◌, ◌+◌, ◌<◌, ◌^◌, ◌%◌, IfSome, IsTrue, length};
 ghost use Rattle.std.specs.Option.{option_copied, option_map};
 ghost use Rattle.enet_codec.specs.Message.{view};
 ghost use Rattle.enet_fragment.specs.DataCommand.{data_of, piece_of, place_in_packet};
 ghost use Rattle.enet_receiver.specs.Arriving.{data_command, own_place};
 ghost use Rattle.enet_receiver.specs.Reception.{is_piece, agrees_with, came, flags_of};
 
-use enet_codec::{Command, Fragment};
+use enet_codec::{Command, Fragment, Head};
 use enet_fragment::Place;
 use enet_packets::Coming;
 use enet_seq::after;
@@ -23,11 +23,11 @@ const NUMBERS: u32 = 65_536;
 
 /// A sequenced data command that comes: a packet, or one piece of it.
 #[derive(Clone, Copy)]
-pub(crate) struct Arriving<'a> {
-    /// Whether it is acknowledged, and dispatched in the order of the reliable numbers.
+pub struct Arriving<'a> {
+    /// Its channel, its reliable number, and whether it asks for an acknowledgement.
+    pub head: Head,
+    /// Whether it is dispatched in the order of the reliable numbers.
     pub reliable: bool,
-    /// Its reliable number.
-    pub number: u16,
     /// Its unreliable number, 0 for a reliable command; that of a fragment is its start number.
     pub count: u16,
     /// Where it stands in its packet, if that comes in pieces.
@@ -39,12 +39,13 @@ pub(crate) struct Arriving<'a> {
 impl<'a> Arriving<'a> {
     /// The sequenced data command that a command is, if it is one.
     pub fn of(command: &Command<'a>) -> Option<Arriving<'a>>
-        ensures { option_map data_command result ≡ data_of (view command.now) }
+        ensures data { option_map data_command result ≡ data_of (view command.now) }
+        ensures head { IfSome result (λ arriving. arriving.head ≡ (view command.now).head) }
     {
         match *command {
             Command::SendReliable { head, payload } => Some(Arriving {
+                head,
                 reliable: true,
-                number: head.number,
                 count: 0,
                 fragment: None,
                 payload,
@@ -54,8 +55,8 @@ impl<'a> Arriving<'a> {
                 unreliable,
                 payload,
             } => Some(Arriving {
+                head,
                 reliable: false,
-                number: head.number,
                 count: unreliable,
                 fragment: None,
                 payload,
@@ -65,8 +66,8 @@ impl<'a> Arriving<'a> {
                 fragment,
                 payload,
             } => Some(Arriving {
+                head,
                 reliable: true,
-                number: head.number,
                 count: 0,
                 fragment: Some(fragment),
                 payload,
@@ -76,8 +77,8 @@ impl<'a> Arriving<'a> {
                 fragment,
                 payload,
             } => Some(Arriving {
+                head,
                 reliable: false,
-                number: head.number,
                 count: fragment.start,
                 fragment: Some(fragment),
                 payload,
@@ -87,35 +88,35 @@ impl<'a> Arriving<'a> {
     }
 
     /// The number of its packet's first piece.
-    pub fn start(self) -> u16
+    pub(crate) fn start(self) -> u16
         ensures { result ≡ (piece_of (data_command self.entry)).start }
     {
         match self.fragment {
             Some(fragment) => fragment.start,
-            None => self.number,
+            None => self.head.number,
         }
     }
 
     /// The number under which its packet is held, or for which it waits, where that is inside the window.
-    pub fn own_place(self) -> u16
+    pub(crate) fn own_place(self) -> u16
         ensures { result ≡ own_place (data_command self.entry) }
     {
         if self.reliable {
             self.start()
         } else {
-            self.number
+            self.head.number
         }
     }
 
     /// Which piece of its packet it is.
-    pub fn piece(self) -> Fragment
+    pub(crate) fn piece(self) -> Fragment
         requires { length self.payload.now < 2 ^ 32 }
         ensures { result ≡ piece_of (data_command self.entry) }
     {
         match self.fragment {
             Some(fragment) => fragment,
             None => Fragment {
-                start: self.number,
+                start: self.head.number,
                 count: 1,
                 number: 0,
                 total: self.payload.len() as u32,
@@ -125,7 +126,7 @@ impl<'a> Arriving<'a> {
     }
 
     /// The place of that piece.
-    pub fn place(self) -> Place
+    pub(crate) fn place(self) -> Place
         requires { length self.payload.now < 2 ^ 32 }
         ensures { result ≡ place_in_packet (data_command self.entry) }
     {
@@ -140,7 +141,7 @@ impl<'a> Arriving<'a> {
     }
 
     /// Whether it can be a piece of a packet of at most `most` bytes, and has the number of that piece.
-    pub fn is_piece(self, most: u32) -> bool
+    pub(crate) fn is_piece(self, most: u32) -> bool
         ensures value { result ≡ is_piece most (data_command self.entry) }
         ensures short { IsTrue result → length self.entry.payload.now < 2 ^ 32 }
     {
@@ -150,11 +151,11 @@ impl<'a> Arriving<'a> {
         let piece = self.piece();
         self.place().is_sound()
             && piece.total <= most
-            && (!self.reliable || self.number == own_number(piece))
+            && (!self.reliable || self.head.number == own_number(piece))
     }
 
     /// Whether it agrees with the pieces of its packet that came.
-    pub fn agrees_with(self, earlier: Option<&Coming>) -> bool
+    pub(crate) fn agrees_with(self, earlier: Option<&Coming>) -> bool
         requires { length self.payload.now < 2 ^ 32 }
         ensures { result ≡ agrees_with (option_copied earlier.entry) (data_command self.entry) }
     {
@@ -165,7 +166,7 @@ impl<'a> Arriving<'a> {
     }
 
     /// Whether its place is taken, or the piece came.
-    pub fn came(self, earlier: Option<&Coming>) -> bool
+    pub(crate) fn came(self, earlier: Option<&Coming>) -> bool
         requires { length self.payload.now < 2 ^ 32 }
         ensures { result ≡ came (option_copied earlier.entry) (data_command self.entry) }
     {
@@ -176,7 +177,7 @@ impl<'a> Arriving<'a> {
     }
 
     /// The flags of its packet.
-    pub fn flags(self) -> u8
+    pub(crate) fn flags(self) -> u8
         ensures { result ≡ flags_of (data_command self.entry) }
     {
         if self.reliable {

@@ -107,8 +107,8 @@ impl Incoming {
             return Took::Bad;
         };
         let arriving = Arriving {
+            head: *head,
             reliable: true,
-            number: head.number,
             count: 0,
             fragment: None,
             payload,
@@ -130,8 +130,8 @@ impl Incoming {
             return Took::Bad;
         };
         let arriving = Arriving {
+            head: *head,
             reliable: false,
-            number: head.number,
             count: *unreliable,
             fragment: None,
             payload,
@@ -154,8 +154,8 @@ impl Incoming {
             return Took::Bad;
         };
         let arriving = Arriving {
+            head: *head,
             reliable: true,
-            number: head.number,
             count: 0,
             fragment: Some(*fragment),
             payload,
@@ -177,8 +177,8 @@ impl Incoming {
             return Took::Bad;
         };
         let arriving = Arriving {
+            head: *head,
             reliable: false,
-            number: head.number,
             count: fragment.start,
             fragment: Some(*fragment),
             payload,
@@ -205,9 +205,9 @@ impl Incoming {
         match self.admit(arriving, full) {
             Ok(place) => {
                 let dispatches = self.dispatches(arriving, place);
-                self.answer(Took::Held, arriving.number, dispatches)
+                self.answer(Took::Held, arriving.head.number, dispatches)
             }
-            Err(took) => self.answer(took, arriving.number, 0),
+            Err(took) => self.answer(took, arriving.head.number, 0),
         }
     }
 
@@ -341,9 +341,9 @@ impl Incoming {
     {
         if arriving.reliable {
             let start = arriving.start();
-            fragment_in_window(self.front, start, arriving.number).then_some(start)
+            fragment_in_window(self.front, start, arriving.head.number).then_some(start)
         } else {
-            in_window(self.front, arriving.number).then_some(arriving.number)
+            in_window(self.front, arriving.head.number).then_some(arriving.head.number)
         }
     }
 

@@ -5,9 +5,10 @@
 //! `unreliable`, `fragment`, `unreliable_fragment`: the first outcome that applies, `took`, and the receiver after it,
 //! `held`; every other outcome changes nothing, `unchanged`; Memory comes only where the command would be held, `memory`),
 //! `foresee` (outcome, whether the window lets it be acknowledged, how many packets it dispatches), `take_in` (what was
-//! foreseen to be held is, and is not looked at again), `held`, `pop`, `clear`, `open`. Laws: as many turns as packets are held are enough to dispatch all that is due (`turns_suffice`), and what was
-//! dispatched before makes no difference (`earlier_dispatches_do_not_matter`); what comes in sequence never has the flags 2
-//! of an unsequenced packet (`sequenced_has_other_flags`).
+//! foreseen to be held is, and is not looked at again), `held`, `pop`, `clear`, `open`; and `Arriving::of` (which sequenced
+//! data command a command is). Laws: as many turns as packets are held are enough to dispatch all that is due
+//! (`turns_suffice`), and what was dispatched before makes no difference (`earlier_dispatches_do_not_matter`); what comes in
+//! sequence never has the flags 2 of an unsequenced packet (`sequenced_has_other_flags`).
 //! Only tested, in `check_numbers` and `check_peer`: that calls succeed with ample memory, and the worked scripts of one channel.
 #![tactic(auto)]
 
@@ -19,6 +20,7 @@ mod releasing;
 mod storing;
 mod took;
 
+pub use arriving::Arriving;
 pub use incoming::Incoming;
 pub use laws::{earlier_dispatches_do_not_matter, sequenced_has_other_flags, turns_suffice};
 pub use took::{Foresight, Took};

@@ -1,4 +1,4 @@
-use Rattle.std.proofs.Common.{◌++◌, [], ◌∷◌, cond, ap, sym, ◌∙◌}
+use Rattle.std.proofs.Common.{◌++◌, [], ◌∷◌, cond, ap, ◌∙◌}
 use Rattle.std.specs.Prelude.{not}
 use Rattle.enet_receiver.specs.Foresight.{new_end}
 use Rattle.enet_inbox.proofs.Keeping.{one_opened, same_ok}

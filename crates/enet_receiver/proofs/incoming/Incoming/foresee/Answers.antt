@@ -17,7 +17,7 @@ returns-in-Ok c =
     let d = data_command c.in-Some.arriving in
     c.answer.ensures
     ∙ foreseen_held e d c.args.full c.dispatches-dispatches.result c.in-Ok.ensures.held.0 (c.dispatches-dispatches.ensures c.args.full c.in-Ok.ensures.held.0)
-    ∙ ap (λ (o : Option DataCommand). foreseen e o c.args.full) c.in-Some.ensures
+    ∙ ap (λ (o : Option DataCommand). foreseen e o c.args.full) c.in-Some.ensures.data
 
 pub returns-in-Err : goal.returns-in-Err
 returns-in-Err c =
@@ -25,4 +25,4 @@ returns-in-Err c =
     let d = data_command c.in-Some.arriving in
     c.answer-in-Err.ensures
     ∙ foreseen_other e d c.args.full c.in-Err.took c.in-Err.ensures.other c.in-Err.ensures.known.0
-    ∙ ap (λ (o : Option DataCommand). foreseen e o c.args.full) c.in-Some.ensures
+    ∙ ap (λ (o : Option DataCommand). foreseen e o c.args.full) c.in-Some.ensures.data

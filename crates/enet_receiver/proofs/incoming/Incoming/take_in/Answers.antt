@@ -11,7 +11,7 @@ keep-requires-clause-short c =
     let d = data_command c.in-Some.arriving in
     let own : IsOwn c.args.self.now d c.own_place.result = own_command c.args.self.now d (c.requires.0) c.own_place.result
     (subst (λ (e : ReceivingEnd). e.receiver.front < 65536) c.self.view_is c.self.invariant.wire) (omega arith) c.own_place.ensures
-    (ap (λ (o : Option DataCommand). outcome_for c.args.self.now o c.requires.0) c.in-Some.ensures ∙ c.requires.1) in
+    (ap (λ (o : Option DataCommand). outcome_for c.args.self.now o c.requires.0) c.in-Some.ensures.data ∙ c.requires.1) in
     let short = own.short in
     let most : c.args.self.now.max_packet < 2 ^ 32 = subst (λ (e : ReceivingEnd). e.max_packet < 2 ^ 32) c.self.view_is c.self.invariant.packet in
     omega arith
@@ -21,20 +21,20 @@ keep-requires-clause-admitted c =
     let d = data_command c.in-Some.arriving in
     (own_command c.args.self.now d c.requires.0 c.own_place.result
     (subst (λ (e : ReceivingEnd). e.receiver.front < 65536) c.self.view_is c.self.invariant.wire) (omega arith) c.own_place.ensures
-    (ap (λ (o : Option DataCommand). outcome_for c.args.self.now o c.requires.0) c.in-Some.ensures ∙ c.requires.1)).admitted
+    (ap (λ (o : Option DataCommand). outcome_for c.args.self.now o c.requires.0) c.in-Some.ensures.data ∙ c.requires.1)).admitted
 
 pub keep-requires-clause-inside : goal.keep-requires-clause-inside
 keep-requires-clause-inside c =
     let d = data_command c.in-Some.arriving in
     (own_command c.args.self.now d c.requires.0 c.own_place.result
     (subst (λ (e : ReceivingEnd). e.receiver.front < 65536) c.self.view_is c.self.invariant.wire) (omega arith) c.own_place.ensures
-    (ap (λ (o : Option DataCommand). outcome_for c.args.self.now o c.requires.0) c.in-Some.ensures ∙ c.requires.1)).inside
+    (ap (λ (o : Option DataCommand). outcome_for c.args.self.now o c.requires.0) c.in-Some.ensures.data ∙ c.requires.1)).inside
 
 pub returns-clause-taken : goal.returns-clause-taken
 returns-clause-taken c = λ taken full held.
     let d = data_command c.in-Some.arriving in
-    let held_d : outcome_for c.args.self.now (Some (data_command c.in-Some.arriving)) full ≡ Held = ap (λ (o : Option DataCommand). outcome_for c.args.self.now o full) c.in-Some.ensures ∙ held in
+    let held_d : outcome_for c.args.self.now (Some (data_command c.in-Some.arriving)) full ≡ Held = ap (λ (o : Option DataCommand). outcome_for c.args.self.now o full) c.in-Some.ensures.data ∙ held in
     let own : IsOwn c.args.self.now (data_command c.in-Some.arriving) c.own_place.result = own_command c.args.self.now d full c.own_place.result
     (subst (λ (e : ReceivingEnd). e.receiver.front < 65536) c.self.view_is c.self.invariant.wire) (omega arith) c.own_place.ensures held_d in
     c.keep.ensures.kept taken ∙ kept_is c.args.self.now d full c.own_place.result held_d own
-    ∙ ap (λ (o : Option DataCommand). after_command c.args.self.now o full) c.in-Some.ensures
+    ∙ ap (λ (o : Option DataCommand). after_command c.args.self.now o full) c.in-Some.ensures.data
