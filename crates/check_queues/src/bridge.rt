@@ -6,10 +6,12 @@ ghost use Rattle.enet_submit.specs.Words.{IsSeatOf, IsDrainOf};
 use bytes::Bytes;
 use enet_bridge::{Desk, MemorySink, MemorySource, Pumped, QueueSource, Sink, Source};
 use enet_submit::{Drain, Order, Seat, Submission, SubmitQueue};
-use enet_types::{Addr, Event, PeerRef};
-use enet_wire::MioWire;
-use std::alloc::Global;
+use enet_types::{Addr, Event, PeerRef, Refusal};
+use enet_wire::{Bell, MioWire};
+use std::alloc::{AllocError, Global};
 use std::collections::VecDeque;
+use std::net::Net;
+use std::sync::{Arc, Wait};
 use std::test::Fail;
 
 const PEER: PeerRef = PeerRef {
@@ -41,26 +43,48 @@ fn info_of(event: Option<Event>) -> Option<u32> {
     }
 }
 
-#[test]
-fn a_source_in_memory(rt: HostRuntime) -> Result<(), Fail> {
-    let mut left = VecDeque::new(rt.alloc());
+// The number of the next submission.
+fn next<R: Wait, S: Source>(rt: &R, source: &mut S) -> Option<u32> {
+    match source.next(rt) {
+        Some(submission) => Some(submission.number),
+        None => None,
+    }
+}
+
+// A source of the submissions 4 and 9.
+fn source(alloc: Global) -> Result<MemorySource, AllocError> {
+    let mut left = VecDeque::new(alloc);
     left.push_back(submission(4))?;
     left.push_back(submission(9))?;
-    let mut source = MemorySource::new(left);
-    let first = source.next(&rt).map(|x| x.number);
-    let second = source.next(&rt).map(|x| x.number);
-    assert_eq!(rt; (first, second), (Some(4), Some(9)));
-    assert!(rt; source.next(&rt).is_none());
+    Ok(MemorySource::new(left))
+}
+
+#[test]
+fn a_source_in_memory(rt: HostRuntime) -> Result<(), Fail> {
+    let mut source = source(rt.alloc())?;
+    let numbers = [
+        next(&rt, &mut source),
+        next(&rt, &mut source),
+        next(&rt, &mut source),
+    ];
+    assert!(rt; numbers == [Some(4), Some(9), None]);
     Ok(())
+}
+
+// Puts a Connect. The word that comes back where there is no room.
+fn put<R: Wait>(rt: &R, sink: &mut MemorySink, info: u32) -> Result<(), Option<u32>> {
+    match sink.put(rt, connect(info)) {
+        Ok(()) => Ok(()),
+        Err(back) => Err(info_of(Some(back))),
+    }
 }
 
 #[test]
 fn a_sink_in_memory(rt: HostRuntime) {
     let mut sink = MemorySink::new(rt.alloc(), 1);
-    assert!(rt; sink.put(&rt, connect(3)).is_ok());
-    let back = sink.put(&rt, connect(5));
-    assert_eq!(rt; info_of(back.err()), Some(5));
-    assert_eq!(rt; info_of(sink.take()), Some(3));
+    let puts = [put(&rt, &mut sink, 3), put(&rt, &mut sink, 5)];
+    assert!(rt; puts == [Ok(()), Err(Some(5))]);
+    assert!(rt; info_of(sink.take()) == Some(3));
     assert!(rt; sink.take().is_none());
 }
 
@@ -73,22 +97,54 @@ fn one_place(alloc: Global) -> Option<(SubmitQueue, Seat, Drain)>
     Some((queue, seat, drain))
 }
 
-#[test]
-fn a_desk_waits_for_room(rt: HostRuntime) -> Result<(), Fail> {
+// What a desk answers to `submit`, how many orders it keeps, and which number the source gives then.
+type Pumping = (Pumped, usize, Option<u32>);
+
+fn pump<R: Wait>(rt: &R, desk: &mut Desk<'_>, source: &mut QueueSource<'_>) -> Pumping {
+    let pumped = desk.submit(rt);
+    (pumped, desk.len(), next(rt, source))
+}
+
+fn ask(desk: &mut Desk<'_>) -> Result<(), Refusal> {
+    desk.ask(submission(0).order)
+}
+
+// Two orders at a desk whose queue has one place.
+fn two_orders<R: Wait>(
+    rt: &R,
+    desk: &mut Desk<'_>,
+    source: &mut QueueSource<'_>,
+) -> Result<[Pumping; 2], Refusal> {
+    ask(desk)?;
+    ask(desk)?;
+    Ok([pump(rt, desk, source), pump(rt, desk, source)])
+}
+
+// The same, and what the source gives after both.
+fn through_one_place<R: Wait>(
+    rt: &R,
+    alloc: Global,
+    bell: &Bell,
+) -> Option<([Pumping; 2], Option<u32>)> {
+    let (queue, seat, drain) = one_place(alloc)?;
+    let mut source = QueueSource::new(&queue, drain, bell);
+    let mut desk = Desk::new(alloc, &queue, seat, bell);
+    let pumpings = two_orders(rt, &mut desk, &mut source).ok()?;
+    Some((pumpings, next(rt, &mut source)))
+}
+
+fn bell<R: Net + AllocGlobal>(rt: &R) -> Result<Arc<Bell, Global>, Refusal> {
     let here = Addr {
         ip: 0x7f00_0001,
         port: 0,
     };
-    let bell = MioWire::bind(&rt, here)?.bell()?;
-    let (queue, seat, drain) = one_place(rt.alloc()).ok_or("open")?;
-    let mut source = QueueSource::new(&queue, drain, &bell);
-    let mut desk = Desk::new(rt.alloc(), &queue, seat, &bell);
-    desk.ask(submission(0).order)?;
-    desk.ask(submission(0).order)?;
-    assert_eq!(rt; (desk.submit(&rt), desk.len()), (Pumped::Full, 1));
-    assert_eq!(rt; source.next(&rt).map(|x| x.number), Some(0));
-    assert_eq!(rt; (desk.submit(&rt), desk.len()), (Pumped::All, 0));
-    assert_eq!(rt; source.next(&rt).map(|x| x.number), Some(1));
-    assert!(rt; source.next(&rt).is_none());
+    MioWire::bind(rt, here)?.bell()
+}
+
+#[test]
+fn a_desk_waits_for_room(rt: HostRuntime) -> Result<(), Fail> {
+    let bell = bell(&rt)?;
+    let pumpings = [(Pumped::Full, 1, Some(0)), (Pumped::All, 0, Some(1))];
+    assert!(rt; through_one_place(&rt, rt.alloc(), &bell) == Some((pumpings, None)));
     Ok(())
 }

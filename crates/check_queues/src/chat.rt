@@ -38,8 +38,17 @@ fn three(alloc: Global) -> Result<Table, Refusal> {
     Ok(table)
 }
 
+fn disconnect(slot: u16) -> Event {
+    Event::Disconnect {
+        peer: peer(slot),
+        info: 0,
+    }
+}
+
 // An order to send `hi`: the peer's slot, the channel and the flags.
-fn told(order: &Order) -> Option<(u16, u8, u8)> {
+type Sent = (u16, u8, u8);
+
+fn told(order: &Order) -> Option<Sent> {
     match order {
         Order::Submit {
             peer,
@@ -51,35 +60,55 @@ fn told(order: &Order) -> Option<(u16, u8, u8)> {
     }
 }
 
-fn is_two(orders: &[Order], first: (u16, u8, u8), second: (u16, u8, u8)) -> bool {
+fn is_two(orders: &[Order], first: Sent, second: Sent) -> bool {
     match orders {
         [a, b] => told(a) == Some(first) && told(b) == Some(second),
         _ => false,
     }
 }
 
+// What the relay makes of a packet of peer 1.
+fn orders_of(alloc: Global, table: &Table, channel: u8) -> Result<Vec<Order>, Refusal> {
+    relay_step(alloc, table, &chat(1, channel))
+}
+
+// Whether these are the two orders that it makes of one on this channel.
+fn makes_two(
+    alloc: Global,
+    table: &Table,
+    channel: u8,
+    first: Sent,
+    second: Sent,
+) -> Result<bool, Refusal> {
+    let orders = orders_of(alloc, table, channel)?;
+    Ok(is_two(orders.as_slice(), first, second))
+}
+
+fn makes_none(alloc: Global, table: &Table, channel: u8) -> Result<bool, Refusal> {
+    let orders = orders_of(alloc, table, channel)?;
+    Ok(orders.is_empty())
+}
+
 #[test]
 fn relay_to_the_others(rt: HostRuntime) -> Result<(), Fail> {
     let table = three(rt.alloc())?;
-    let orders = relay_step(rt.alloc(), &table, &chat(1, 0))?;
-    assert!(rt; is_two(orders.as_slice(), (0, 0, 1), (2, 0, 1)));
-    let orders = relay_step(rt.alloc(), &table, &chat(1, 1))?;
-    assert!(rt; is_two(orders.as_slice(), (0, 1, 0), (2, 1, 0)));
-    let orders = relay_step(rt.alloc(), &table, &chat(1, 2))?;
-    assert!(rt; orders.is_empty());
+    assert!(rt; makes_two(rt.alloc(), &table, 0, (0, 0, 1), (2, 0, 1))?);
+    assert!(rt; makes_two(rt.alloc(), &table, 1, (0, 1, 0), (2, 1, 0))?);
+    assert!(rt; makes_none(rt.alloc(), &table, 2)?);
     Ok(())
+}
+
+// Peer 2 connects once more, and peer 0 goes and comes back.
+fn change(table: &mut Table) -> Result<(), Refusal> {
+    table.note(&connect(2))?;
+    table.note(&disconnect(0))?;
+    table.note(&connect(0))
 }
 
 #[test]
 fn peers_come_once_and_go(rt: HostRuntime) -> Result<(), Fail> {
     let mut table = three(rt.alloc())?;
-    table.note(&connect(2))?;
-    table.note(&Event::Disconnect {
-        peer: peer(0),
-        info: 0,
-    })?;
-    table.note(&connect(0))?;
-    let orders = relay_step(rt.alloc(), &table, &chat(1, 0))?;
-    assert!(rt; is_two(orders.as_slice(), (2, 0, 1), (0, 0, 1)));
+    change(&mut table)?;
+    assert!(rt; makes_two(rt.alloc(), &table, 0, (2, 0, 1), (0, 0, 1))?);
     Ok(())
 }

@@ -36,13 +36,14 @@ fn last(queue: &EventQueue, takers: &mut Vec<Taker>) -> Option<Taker>
 
 // The helpers below say no more than whose poster and takers they are, which keeps the proofs of the tests short.
 
-// Posts a Connect. The number that it has, or why it is refused and the word that comes back.
-fn post<R: Wait>(
-    rt: &R,
-    queue: &EventQueue,
-    poster: &mut Poster,
-    info: u32,
-) -> Result<u64, (Refusal, Option<u32>)>
+// The number that an event has, or why it is refused and the word that comes back.
+type Posted = Result<u64, (Refusal, Option<u32>)>;
+
+// The number and the word of an event.
+type Taken = Option<(u64, Option<u32>)>;
+
+// Posts a Connect.
+fn post<R: Wait>(rt: &R, queue: &EventQueue, poster: &mut Poster, info: u32) -> Posted
     requires { poster.old.queue ≡ queue.now.id }
     ensures { poster.new.queue ≡ poster.old.queue }
 {
@@ -52,8 +53,8 @@ fn post<R: Wait>(
     }
 }
 
-// The number and the word of the oldest event.
-fn take<R: Wait>(rt: &R, queue: &EventQueue, taker: &mut Taker) -> Option<(u64, Option<u32>)>
+// Takes the oldest event.
+fn take<R: Wait>(rt: &R, queue: &EventQueue, taker: &mut Taker) -> Taken
     requires { taker.old.queue ≡ queue.now.id }
     ensures { taker.new.queue ≡ taker.old.queue }
 {
@@ -101,62 +102,106 @@ fn settle_two(
     }
 }
 
+// A queue of one place with two takers.
+fn two_takers(alloc: Global) -> Option<(EventQueue, Poster, Taker, Taker)>
+    ensures poster { IfSome result (λ r. r.1.queue ≡ r.0.id) }
+    ensures zero { IfSome result (λ r. r.2.queue ≡ r.0.id) }
+    ensures one { IfSome result (λ r. r.3.queue ≡ r.0.id) }
+{
+    let (queue, poster, mut takers) = EventQueue::open(alloc, 1, 2).ok()?;
+    let one = last(&queue, &mut takers)?;
+    let zero = last(&queue, &mut takers)?;
+    Some((queue, poster, zero, one))
+}
+
+// What two posts of the words 5 and 6 are answered.
+fn post_two<R: Wait>(rt: &R, queue: &EventQueue, poster: &mut Poster) -> [Posted; 2]
+    requires { poster.old.queue ≡ queue.now.id }
+    ensures { poster.new.queue ≡ poster.old.queue }
+{
+    [post(rt, queue, poster, 5), post(rt, queue, poster, 6)]
+}
+
+// The takers' indices, what is posted and what the takers 1 and 0 then take, and what that comes to.
+type Played = ((u8, u8), [Posted; 2], [Taken; 2], (u64, u64, u64));
+
+fn played<R: Wait>(rt: &R, alloc: Global) -> Option<Played> {
+    let (queue, mut poster, mut zero, mut one) = two_takers(alloc)?;
+    let indices = (zero.index(), one.index());
+    let posted = post_two(rt, &queue, &mut poster);
+    let taken = [take(rt, &queue, &mut one), take(rt, &queue, &mut zero)];
+    let account = settle_two(alloc, &queue, poster, zero, one)?;
+    Some((indices, posted, taken, account))
+}
+
 #[test]
 fn event_queue_by_hand(rt: HostRuntime) {
-    let Ok((queue, mut poster, mut takers)) = EventQueue::open(rt.alloc(), 1, 2) else {
-        panic!(rt; "not opened");
-    };
-    let mut one = last(&queue, &mut takers).expect(&rt, "no taker 1");
-    let mut zero = last(&queue, &mut takers).expect(&rt, "no taker 0");
-    assert!(rt; zero.index() == 0 && one.index() == 1);
-    assert!(rt; post(&rt, &queue, &mut poster, 5) == Ok(0));
-    assert!(rt; post(&rt, &queue, &mut poster, 6) == Err((Refusal::Full, Some(6))));
-    assert!(rt; take(&rt, &queue, &mut one) == Some((0, Some(5))));
-    assert!(rt; take(&rt, &queue, &mut zero).is_none());
-    let account = settle_two(rt.alloc(), &queue, poster, zero, one);
-    assert!(rt; account == Some((1, 0, 1)));
+    let posted = [Ok(0), Err((Refusal::Full, Some(6)))];
+    let taken = [Some((0, Some(5))), None];
+    assert!(rt; played(&rt, rt.alloc()) == Some(((0, 1), posted, taken, (1, 0, 1))));
+}
+
+// Takes the one event by the one taker; the queue is settled once the taker is there too.
+fn take_and_settle<R: Wait>(
+    rt: &R,
+    queue: &EventQueue,
+    poster: Poster,
+    mut takers: Vec<Taker>,
+) -> Option<bool>
+    requires poster { poster.queue ≡ queue.now.id }
+    requires takers { All (λ t. t.queue ≡ queue.now.id) takers.items }
+{
+    let mut zero = last(queue, &mut takers)?;
+    take(rt, queue, &mut zero)?;
+    let (poster, mut takers) = still_held(queue, poster, takers)?;
+    takers.push(zero).ok()?;
+    Some(queue.settle(poster, takers).is_ok())
+}
+
+// Posts one event, with which the queue isn't settled yet.
+fn settled_late<R: Wait>(rt: &R, alloc: Global) -> Option<bool> {
+    let (queue, mut poster, takers) = EventQueue::open(alloc, 2, 1).ok()?;
+    post(rt, &queue, &mut poster, 5).ok()?;
+    let (poster, takers) = still_held(&queue, poster, takers)?;
+    take_and_settle(rt, &queue, poster, takers)
 }
 
 #[test]
 fn settled_once_all_is_taken(rt: HostRuntime) {
-    let Ok((queue, mut poster, takers)) = EventQueue::open(rt.alloc(), 2, 1) else {
-        panic!(rt; "not opened");
-    };
-    assert!(rt; post(&rt, &queue, &mut poster, 5) == Ok(0));
-    let Some((poster, mut takers)) = still_held(&queue, poster, takers) else {
-        panic!(rt; "settled too early");
-    };
-    let mut zero = last(&queue, &mut takers).expect(&rt, "no taker 0");
-    assert!(rt; take(&rt, &queue, &mut zero).is_some());
-    let Some((poster, mut takers)) = still_held(&queue, poster, takers) else {
-        panic!(rt; "settled without the taker");
-    };
-    assert!(rt; takers.push(zero).is_ok());
-    assert!(rt; queue.settle(poster, takers).is_ok());
+    assert!(rt; settled_late(&rt, rt.alloc()) == Some(true));
+}
+
+// Why a queue of this capacity with so many takers isn't opened.
+fn refusal(alloc: Global, capacity: u32, takers: u32) -> Option<Refusal> {
+    EventQueue::open(alloc, capacity, takers).err()
 }
 
 #[test]
 fn sizes_out_of_range(rt: HostRuntime) {
-    for (capacity, takers) in [(0, 2), (65_537, 2), (1, 0), (1, 17)] {
-        let why = EventQueue::open(rt.alloc(), capacity, takers).err();
-        assert!(rt;
-            why == Some(Refusal::BadConfig),
-            "at {capacity} and {takers}"
-        );
+    let bad = Some(Refusal::BadConfig);
+    let rows = [
+        (0, 2, bad),
+        (65_537, 2, bad),
+        (1, 0, bad),
+        (1, 17, bad),
+        (1, 1, None),
+        (65_536, 16, None),
+    ];
+    for (capacity, takers, wanted) in rows {
+        let why = refusal(rt.alloc(), capacity, takers);
+        assert!(rt; why == wanted, "at {capacity} and {takers}");
     }
-    for (capacity, takers) in [(1, 1), (65_536, 16)] {
-        assert!(rt;
-            EventQueue::open(rt.alloc(), capacity, takers).is_ok(),
-            "at {capacity} and {takers}"
-        );
-    }
+}
+
+// Whether a queue of four takers is settled at once.
+fn settled_at_once(alloc: Global) -> Result<bool, Refusal> {
+    let (queue, poster, takers) = EventQueue::open(alloc, 8, 4)?;
+    Ok(queue.settle(poster, takers).is_ok())
 }
 
 // `rt try --test --fail-alloc N` with N from 1 to 5 refuses each growth of `open` in turn.
 #[test]
 fn opens_or_lacks_memory(rt: HostRuntime) {
-    match EventQueue::open(rt.alloc(), 8, 4) {
-        Ok((queue, poster, takers)) => assert!(rt; queue.settle(poster, takers).is_ok()),
-        Err(why) => assert!(rt; why == Refusal::Memory),
-    }
+    let settled = settled_at_once(rt.alloc());
+    assert!(rt; settled == Ok(true) || settled == Err(Refusal::Memory));
 }

@@ -142,20 +142,26 @@ fn part(
     Ok((takers, all))
 }
 
-// What one poster of so many events and four takers come to: the account, and all that was taken, by number.
-fn one_round<R: Threads + Wait + Sync>(
-    rt: &R,
-    alloc: Global,
-    count: u32,
-) -> Option<(Account, Vec<(u64, u32)>)> {
+// The account of a queue, and all that was taken, by number.
+type Round = (Account, Vec<(u64, u32)>);
+
+fn settle(alloc: Global, queue: &EventQueue, poster: Poster, taken: Vec<Taken>) -> Option<Round>
+    requires poster { poster.queue ≡ queue.now.id }
+    requires taken { All (λ r. r.0.queue ≡ queue.now.id) taken.items }
+{
+    let (takers, mut all) = part(alloc, queue, taken).ok()?;
+    all.sort().ok()?;
+    let account = queue.settle(poster, takers).ok()?;
+    Some((account, all))
+}
+
+// What one poster of so many events and four takers come to.
+fn one_round<R: Threads + Wait + Sync>(rt: &R, alloc: Global, count: u32) -> Option<Round> {
     let (queue, poster, takers) = EventQueue::open(alloc, 64, 4).ok()?;
     let Ok((poster, taken)) = exchange(rt, alloc, &queue, poster, takers, count) else {
         return None;
     };
-    let (takers, mut all) = part(alloc, &queue, taken).ok()?;
-    all.sort().ok()?;
-    let account = queue.settle(poster, takers).ok()?;
-    Some((account, all))
+    settle(alloc, &queue, poster, taken)
 }
 
 // Whether the numbers count up from 0, each beside the word of the same value.

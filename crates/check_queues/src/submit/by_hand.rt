@@ -9,7 +9,6 @@ use enet_submit::{Account, Drain, Finished, Order, Seat, SubmitQueue, Ticket};
 use enet_types::{DisconnectMode, PeerRef};
 use std::alloc::{AllocError, Global};
 use std::sync::Wait;
-use std::test::Fail;
 
 const PEER: PeerRef = PeerRef {
     slot: 3,
@@ -17,7 +16,7 @@ const PEER: PeerRef = PeerRef {
 };
 
 // Three orders, one of each kind.
-#[derive(Clone, Copy, Debug, PartialEq, Eq)]
+#[derive(Clone, Copy, PartialEq, Eq)]
 enum Which {
     X,
     Y,
@@ -26,7 +25,7 @@ enum Which {
 }
 
 // What a call answered.
-#[derive(Clone, Copy, Debug, PartialEq, Eq)]
+#[derive(Clone, Copy, PartialEq, Eq)]
 enum Answer {
     Told(Ticket),
     Refused(Refusal, Which),
@@ -132,16 +131,72 @@ fn both(
     Ok(finished)
 }
 
+// What submissions of both seats and a take are answered on a queue of one place.
+fn play<R: Wait>(
+    rt: &R,
+    queue: &SubmitQueue,
+    zero: &mut Seat,
+    one: &mut Seat,
+    drain: &mut Drain,
+) -> [Answer; 5]
+    requires seats { IsSeatOf queue.now zero.old × IsSeatOf queue.now one.old }
+    requires drain { IsDrainOf queue.now drain.old }
+    ensures seats { IsSeatOf queue.now zero.new × IsSeatOf queue.now one.new }
+    ensures drain { IsDrainOf queue.now drain.new }
+{
+    [
+        submit(rt, queue, zero, Which::X),
+        submit(rt, queue, one, Which::Y),
+        take(rt, queue, drain),
+        submit(rt, queue, one, Which::Y),
+        submit(rt, queue, zero, Which::Z),
+    ]
+}
+
+// The drain and the seats, where they come back since an order is still held or a seat is missing.
+fn still_held(
+    queue: &SubmitQueue,
+    drain: Drain,
+    finished: Vec<Finished>,
+) -> Option<(Drain, Vec<Finished>)>
+    requires drain { IsDrainOf queue.now drain }
+    requires finished { All (IsFinishedOf queue.now) finished.items }
+    ensures drain { IfSome result (λ r. IsDrainOf queue.now r.0) }
+    ensures finished { IfSome result (λ r. All (IsFinishedOf queue.now) r.1.items) }
+{
+    match queue.settle(drain, finished) {
+        Err((Refusal::StillHeld, drain, finished)) => Some((drain, finished)),
+        _ => None,
+    }
+}
+
+// Takes what is still held, and settles.
+fn take_and_settle<R: Wait>(
+    rt: &R,
+    queue: &SubmitQueue,
+    drain: Drain,
+    finished: Vec<Finished>,
+) -> Option<(Answer, Account)>
+    requires drain { IsDrainOf queue.now drain }
+    requires finished { All (IsFinishedOf queue.now) finished.items }
+{
+    let (mut drain, finished) = still_held(queue, drain, finished)?;
+    let rest = take(rt, queue, &mut drain);
+    let account = queue.settle(drain, finished).ok()?;
+    Some((rest, account))
+}
+
+// What the calls are answered, the order that is still held then, and the account.
+fn played<R: Wait>(rt: &R, alloc: Global) -> Option<([Answer; 5], (Answer, Account))> {
+    let (queue, mut zero, mut one, mut drain) = two_seats(alloc)?;
+    let answers = play(rt, &queue, &mut zero, &mut one, &mut drain);
+    let finished = both(alloc, &queue, zero, one).ok()?;
+    let settled = take_and_settle(rt, &queue, drain, finished)?;
+    Some((answers, settled))
+}
+
 #[test]
-fn submit_queue_by_hand(rt: HostRuntime) -> Result<(), Fail> {
-    let (queue, mut zero, mut one, mut drain) = two_seats(rt.alloc()).ok_or("open")?;
-    let answers = [
-        submit(&rt, &queue, &mut zero, Which::X),
-        submit(&rt, &queue, &mut one, Which::Y),
-        take(&rt, &queue, &mut drain),
-        submit(&rt, &queue, &mut one, Which::Y),
-        submit(&rt, &queue, &mut zero, Which::Z),
-    ];
+fn submit_queue_by_hand(rt: HostRuntime) {
     let expected = [
         Answer::Told(Ticket { seat: 0, number: 0 }),
         Answer::Refused(Refusal::Full, Which::Y),
@@ -149,20 +204,8 @@ fn submit_queue_by_hand(rt: HostRuntime) -> Result<(), Fail> {
         Answer::Told(Ticket { seat: 1, number: 0 }),
         Answer::Refused(Refusal::SeatSpent, Which::Z),
     ];
-    assert_eq!(rt; answers, expected);
-
-    let finished = both(rt.alloc(), &queue, zero, one)?;
-    let Err((why, mut drain, finished)) = queue.settle(drain, finished) else {
-        panic!(rt; "settled while an order is held");
-    };
-    let rest = take(&rt, &queue, &mut drain);
-    assert_eq!(rt;
-        (why, rest),
-        (Refusal::StillHeld, Answer::Taken(1, 0, Which::Y))
-    );
-    let account = queue.settle(drain, finished).ok().ok_or("not settled")?;
-    assert_eq!(rt; account, account_of(1, 1));
-    Ok(())
+    let settled = (Answer::Taken(1, 0, Which::Y), account_of(1, 1));
+    assert!(rt; played(&rt, rt.alloc()) == Some((expected, settled)));
 }
 
 fn account_of(zero: u32, one: u32) -> Account {
@@ -175,60 +218,82 @@ fn account_of(zero: u32, one: u32) -> Account {
     }
 }
 
+// Settles without the seats, which doesn't go, and then with them. The account.
+fn settle_late(
+    alloc: Global,
+    queue: &SubmitQueue,
+    zero: Seat,
+    one: Seat,
+    drain: Drain,
+) -> Option<Account>
+    requires seats { IsSeatOf queue.now zero × IsSeatOf queue.now one }
+    requires drain { IsDrainOf queue.now drain }
+{
+    let (drain, _) = still_held(queue, drain, Vec::new(alloc))?;
+    let finished = both(alloc, queue, zero, one).ok()?;
+    queue.settle(drain, finished).ok()
+}
+
+// The seats' numbers, what an empty queue gives, and the account where the seats were missing at first.
+fn without_orders<R: Wait>(rt: &R, alloc: Global) -> Option<(u8, u8, Answer, Account)> {
+    let (queue, zero, one, mut drain) = two_seats(alloc)?;
+    let nothing = take(rt, &queue, &mut drain);
+    let (first, second) = (zero.number(), one.number());
+    let account = settle_late(alloc, &queue, zero, one, drain)?;
+    Some((first, second, nothing, account))
+}
+
 #[test]
-fn a_seat_is_missing(rt: HostRuntime) -> Result<(), Fail> {
-    let (queue, zero, one, mut drain) = two_seats(rt.alloc()).ok_or("open")?;
-    let nothing = take(&rt, &queue, &mut drain);
-    assert_eq!(rt;
-        (zero.number(), one.number(), nothing),
-        (0, 1, Answer::Nothing)
-    );
-    let Err((why, drain, _)) = queue.settle(drain, Vec::new(rt.alloc())) else {
-        panic!(rt; "settled without the seats");
-    };
-    assert_eq!(rt; why, Refusal::StillHeld);
-    let finished = both(rt.alloc(), &queue, zero, one)?;
-    let account = queue.settle(drain, finished).ok().ok_or("not settled")?;
-    assert_eq!(rt; account, account_of(0, 0));
-    Ok(())
+fn a_seat_is_missing(rt: HostRuntime) {
+    let expected = (0, 1, Answer::Nothing, account_of(0, 0));
+    assert!(rt; without_orders(&rt, rt.alloc()) == Some(expected));
+}
+
+// Why a queue isn't opened.
+fn refusal(alloc: Global, capacity: u32, seats: u32, per_seat: u32) -> Option<Refusal> {
+    SubmitQueue::open(alloc, capacity, seats, per_seat).err()
 }
 
 #[test]
 fn numbers_out_of_range(rt: HostRuntime) {
-    let refused = [(0, 2, 1), (65_537, 2, 1), (8, 0, 1), (8, 17, 1), (8, 2, 0)];
-    for (capacity, seats, per_seat) in refused {
-        let why = SubmitQueue::open(rt.alloc(), capacity, seats, per_seat).err();
-        assert_eq!(rt;
-            why,
-            Some(Refusal::BadConfig),
-            "at {capacity} {seats} {per_seat}"
-        );
+    let bad = Some(Refusal::BadConfig);
+    let rows = [
+        (0, 2, 1, bad),
+        (65_537, 2, 1, bad),
+        (8, 0, 1, bad),
+        (8, 17, 1, bad),
+        (8, 2, 0, bad),
+        (1, 1, 1, None),
+        (65_536, 16, u32::MAX, None),
+    ];
+    for (capacity, seats, per_seat, wanted) in rows {
+        let why = refusal(rt.alloc(), capacity, seats, per_seat);
+        assert!(rt; why == wanted, "at {capacity} {seats} {per_seat}");
     }
-    for (capacity, seats, per_seat) in [(1, 1, 1), (65_536, 16, u32::MAX)] {
-        let opened = SubmitQueue::open(rt.alloc(), capacity, seats, per_seat).is_ok();
-        assert!(rt; opened, "at {capacity} {seats} {per_seat}");
-    }
+}
+
+// What the first submission to a queue and a take are answered.
+fn first_order<R: Wait>(rt: &R, alloc: Global) -> Option<[Answer; 2]> {
+    let (queue, mut zero, _, mut drain) = two_seats(alloc)?;
+    Some([
+        submit(rt, &queue, &mut zero, Which::X),
+        take(rt, &queue, &mut drain),
+    ])
 }
 
 // Run also with each allocation refused in turn: an opening that finds no memory says so and loses nothing, and the next
 // one gives a queue that serves.
 #[test]
-fn an_opening_without_memory(rt: HostRuntime) -> Result<(), Fail> {
-    if let Err(why) = SubmitQueue::open(rt.alloc(), 4, 16, 1) {
-        assert_eq!(rt; why, Refusal::Memory);
-    }
-    let opened = two_seats(rt.alloc());
-    let Some((queue, mut zero, _, mut drain)) = opened.or_else(|| two_seats(rt.alloc())) else {
-        panic!(rt; "refused twice");
+fn an_opening_without_memory(rt: HostRuntime) {
+    let why = refusal(rt.alloc(), 4, 16, 1);
+    assert!(rt; why.is_none() || why == Some(Refusal::Memory));
+    let answers = match first_order(&rt, rt.alloc()) {
+        Some(answers) => Some(answers),
+        None => first_order(&rt, rt.alloc()),
     };
-    let answers = [
-        submit(&rt, &queue, &mut zero, Which::X),
-        take(&rt, &queue, &mut drain),
-    ];
     let expected = [
         Answer::Told(Ticket { seat: 0, number: 0 }),
         Answer::Taken(0, 0, Which::X),
     ];
-    assert_eq!(rt; answers, expected);
-    Ok(())
+    assert!(rt; answers == Some(expected));
 }

@@ -1,7 +1,8 @@
 //! A socket's wire and a UDP socket of std on 127.0.0.1.
 
 use enet_types::{Addr, Refusal};
-use enet_wire::{MioWire, Wire};
+use enet_wire::{Bell, MioWire, Wire};
+use std::io;
 use std::net::{Ipv4Addr, Net, SocketAddr, UdpSocket};
 use std::sync::Wait;
 use std::test::Fail;
@@ -31,46 +32,110 @@ fn next<W: Wire, R: Wait + Clock>(
     Err(Refusal::WireFault)
 }
 
+// A UDP socket of std whose reads end after ten seconds.
+fn far_socket<R: Net + AllocGlobal>(rt: &R) -> io::Result<UdpSocket> {
+    let far = UdpSocket::bind(rt, SocketAddr::from((Ipv4Addr::LOCALHOST, 0)))?;
+    far.set_read_timeout(Some(Duration::from_millis(10_000)))?;
+    Ok(far)
+}
+
+// Whether `hello` comes to a socket. It answers `yes`.
+fn hears_hello(far: &UdpSocket) -> io::Result<bool> {
+    let mut read = [0u8; 16];
+    let (len, from) = far.recv_from(&mut read)?;
+    far.send_to(b"yes", from)?;
+    Ok(read.get(..len) == Some(b"hello".as_slice()))
+}
+
+// Whether the answer comes from this port, and then nothing.
+fn hears_yes<R: Wait + Clock>(rt: &R, wire: &mut MioWire, port: u16) -> Result<bool, Refusal> {
+    let mut buf = [0u8; 4096];
+    let (from, len) = next(rt, wire, &mut buf)?;
+    let is_yes = from == Addr { ip: HERE, port } && buf.get(..len) == Some(b"yes".as_slice());
+    Ok(is_yes && wire.recv(&mut buf)?.is_none())
+}
+
 #[test]
 fn datagrams_through_the_socket(rt: HostRuntime) -> Result<(), Fail> {
     let mut wire = bound(&rt)?;
-    let far = UdpSocket::bind(&rt, SocketAddr::from((Ipv4Addr::LOCALHOST, 0)))?;
-    far.set_read_timeout(Some(Duration::from_millis(10_000)))?;
+    let far = far_socket(&rt)?;
     let port = far.local_addr()?.port();
-    assert_eq!(rt; wire.send(Addr { ip: HERE, port }, b"hello"), Ok(true));
-    let mut read = [0u8; 16];
-    let (len, from) = far.recv_from(&mut read)?;
-    assert_eq!(rt; len, 5);
-    assert!(rt; read[..5] == b"hello"[..]);
-    far.send_to(b"yes", from)?;
-    let mut buf = [0u8; 4096];
-    assert_eq!(rt;
-        next(&rt, &mut wire, &mut buf)?,
-        (Addr { ip: HERE, port }, 3)
-    );
-    assert!(rt; buf[..3] == b"yes"[..]);
-    assert_eq!(rt; wire.recv(&mut buf), Ok(None));
-    assert_eq!(rt; wire.failures(), 0);
+    assert!(rt; wire.send(Addr { ip: HERE, port }, b"hello") == Ok(true));
+    assert!(rt; hears_hello(&far)?);
+    assert!(rt; hears_yes(&rt, &mut wire, port)?);
+    assert!(rt; wire.failures() == 0);
     Ok(())
+}
+
+// Whether a datagram to this address is lost.
+fn is_lost(wire: &mut MioWire, to: Addr) -> bool {
+    wire.send(to, b"x") == Ok(false)
 }
 
 #[test]
 fn a_bad_destination_loses_the_datagram(rt: HostRuntime) -> Result<(), Fail> {
     let mut wire = bound(&rt)?;
     for (ip, port) in [(HERE, 0), (0xffff_ffff, 47001), (0xc000_0201, 47001)] {
-        assert_eq!(rt; wire.send(Addr { ip, port }, b"x"), Ok(false));
+        assert!(rt; is_lost(&mut wire, Addr { ip, port }));
     }
-    assert_eq!(rt; wire.failures(), 0);
+    assert!(rt; wire.failures() == 0);
     Ok(())
+}
+
+// Why a wire isn't bound to the port of this socket.
+fn why_not_bound<R: Net + AllocGlobal>(rt: &R, there: &UdpSocket) -> io::Result<Option<Refusal>> {
+    let port = there.local_addr()?.port();
+    Ok(MioWire::bind(rt, Addr { ip: HERE, port }).err())
 }
 
 #[test]
 fn an_address_that_is_taken(rt: HostRuntime) -> Result<(), Fail> {
-    let there = UdpSocket::bind(&rt, SocketAddr::from((Ipv4Addr::LOCALHOST, 0)))?;
-    let port = there.local_addr()?.port();
-    let why = MioWire::bind(&rt, Addr { ip: HERE, port }).err();
-    assert_eq!(rt; why, Some(Refusal::WireFault));
+    let there = far_socket(&rt)?;
+    assert!(rt; why_not_bound(&rt, &there)? == Some(Refusal::WireFault));
     Ok(())
+}
+
+// What a wire's waits told, and the milliseconds that passed at most and at least.
+#[derive(Clone, Copy)]
+struct Spent {
+    told: u64,
+    most: u128,
+    least: u128,
+}
+
+// Rings and waits for 20 milliseconds or more. The milliseconds that the wire told.
+fn wait_often<R: Wait + Clock>(
+    rt: &R,
+    wire: &mut MioWire,
+    bell: &Bell,
+    began: Instant,
+) -> Option<u64> {
+    let mut told = 0u64;
+    for _ in 0..100_000u32 {
+        if began.elapsed(rt).ok()?.as_millis() >= 20 {
+            break;
+        }
+        bell.ring();
+        told = told.saturating_add(u64::from(wire.wait(rt).ok()?));
+    }
+    Some(told)
+}
+
+// The same after a first wait of no time, and before a last one.
+fn spend<R: Wait + Clock>(rt: &R, wire: &mut MioWire, bell: &Bell) -> Option<Spent> {
+    let before = Instant::now(rt).ok()?;
+    if wire.wait(rt) != Ok(0) {
+        return None;
+    }
+    let began = Instant::now(rt).ok()?;
+    let told = wait_often(rt, wire, bell, began)?;
+    let ended = Instant::now(rt).ok()?;
+    let last = wire.wait(rt).ok()?;
+    Some(Spent {
+        told: told.saturating_add(u64::from(last)),
+        most: before.elapsed(rt).ok()?.as_millis(),
+        least: ended.duration_since(began).as_millis(),
+    })
 }
 
 // The milliseconds of many short waits are those that passed, though most waits take less than one.
@@ -78,22 +143,9 @@ fn an_address_that_is_taken(rt: HostRuntime) -> Result<(), Fail> {
 fn milliseconds_add_up(rt: HostRuntime) -> Result<(), Fail> {
     let mut wire = bound(&rt)?;
     let bell = wire.bell()?;
-    let before = Instant::now(&rt)?;
-    assert_eq!(rt; wire.wait(&rt)?, 0);
-    let began = Instant::now(&rt)?;
-    let mut told = 0u64;
-    for _ in 0..100_000u32 {
-        if began.elapsed(&rt)?.as_millis() >= 20 {
-            break;
-        }
-        bell.ring();
-        told = told.saturating_add(u64::from(wire.wait(&rt)?));
-    }
-    let ended = Instant::now(&rt)?;
-    told = told.saturating_add(u64::from(wire.wait(&rt)?));
-    let most = before.elapsed(&rt)?.as_millis();
-    let least = ended.duration_since(began).as_millis();
-    assert!(rt; u128::from(told) <= most);
-    assert!(rt; u128::from(told).saturating_add(1) >= least);
+    let spent = spend(&rt, &mut wire, &bell).ok_or("a wait or the clock failed")?;
+    let told = u128::from(spent.told);
+    assert!(rt; told <= spent.most);
+    assert!(rt; told.saturating_add(1) >= spent.least);
     Ok(())
 }
