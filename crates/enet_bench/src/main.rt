@@ -12,10 +12,10 @@ mod peer;
 mod traffic;
 
 use crate::coming::Coming;
-use crate::peer::{Order, Submission, Times};
+use crate::peer::{Order, Submission};
 use anyhow::{Context, Result};
 use std::alloc::Global;
-use std::rt::Clock;
+use std::rt::{Clock, Env};
 use std::sync::Wait;
 use std::thread::Threads;
 use std::time::Instant;
@@ -26,19 +26,56 @@ const DEFAULT: u32 = 1_000_000;
 /// How many thousands of commands or packets pile up at a peer.
 const THOUSANDS: u32 = 100;
 
+/// What the command line asks for.
+#[derive(Clone, Copy)]
+enum Asked {
+    /// So many orders through a submit queue, timed or not.
+    Orders { count: u32, timed: bool },
+    /// What piles up at a peer.
+    Peer,
+}
+
 fn main(rt: HostRuntime) -> Result<()> {
-    let mut args = env::args(&rt)?.skip(1);
-    let orders = match args.next() {
-        Some(text) if text.as_str() == "peer" => return pile_up(&rt, rt.alloc()),
-        Some(text) => text
-            .as_str()
-            .parse::<u32>()
-            .context("not a number of orders")?,
-        None => DEFAULT,
-    };
+    match read_words(&rt)? {
+        Asked::Orders { count, timed } => send_all(&rt, rt.alloc(), count, timed),
+        Asked::Peer => pile_up(&rt, rt.alloc()),
+    }
+}
+
+fn read_words<R: Env + AllocGlobal>(rt: &R) -> Result<Asked> {
+    let mut args = env::args(rt)?.skip(1);
+    let first = args.next();
     let timed = args.next().is_some();
+    match first {
+        Some(text) => read(text.as_str(), timed),
+        None => read_none(),
+    }
+}
+
+/// Without words.
+fn read_none() -> Result<Asked> {
+    Ok(Asked::Orders {
+        count: DEFAULT,
+        timed: false,
+    })
+}
+
+/// With this first word, and a second or not.
+fn read(text: &str, timed: bool) -> Result<Asked> {
+    if text == "peer" {
+        return Ok(Asked::Peer);
+    }
+    let count = text.parse::<u32>().context("not a number of orders")?;
+    Ok(Asked::Orders { count, timed })
+}
+
+/// Sends so many orders from one seat, and then from four.
+fn send_all<R>(rt: &R, alloc: Global, orders: u32, timed: bool) -> Result<()>
+where
+    R: Threads + Wait + Clock + Print + Sync,
+{
     for seats in [1, 4] {
-        measure(&rt, rt.alloc(), seats, orders / seats, timed)?;
+        measure(rt, alloc, seats, orders / seats, timed)?;
     }
     Ok(())
 }
@@ -48,14 +85,19 @@ where
     R: Threads + Wait + Clock + Print + Sync,
 {
     let start = Instant::now(rt)?;
-    let account = traffic::run(rt, alloc, seats, per_seat)?;
-    let elapsed = start.elapsed(rt)?;
-    let total = account.total;
+    let total = traffic::run(rt, alloc, seats, per_seat)?.total;
+    let micros = start.elapsed(rt)?.as_micros();
     println!(rt; "seats {seats} orders {total}")?;
     if timed {
-        let per_second = traffic::rate(total, elapsed.as_micros());
-        println!(rt; "{per_second} a second")?;
+        print_rate(rt, total, micros)?;
     }
+    Ok(())
+}
+
+/// Prints how many in a second so many in so many microseconds are.
+fn print_rate<R: Print>(rt: &R, total: u64, micros: u128) -> Result<()> {
+    let per_second = traffic::rate(total, micros);
+    println!(rt; "{per_second} a second")?;
     Ok(())
 }
 
@@ -63,10 +105,14 @@ fn pile_up<R: Clock + Print>(rt: &R, alloc: Global) -> Result<()> {
     receive_all(rt, alloc)?;
     submit_all(rt, alloc)?;
     for order in [Order::FirstToLast, Order::LastToFirst, Order::Drawn] {
-        let times = peer::time_acknowledgements(rt, alloc, order)?;
-        print_times(rt, times)?;
-        println!(rt; "acknowledgements {order:?}")?;
+        acknowledge(rt, alloc, order)?;
     }
+    Ok(())
+}
+
+fn acknowledge<R: Clock + Print>(rt: &R, alloc: Global, order: Order) -> Result<()> {
+    let times = peer::time_acknowledgements(rt, alloc, order)?;
+    println!(rt; "{times}: acknowledgements {order:?}")?;
     Ok(())
 }
 
@@ -81,30 +127,28 @@ fn receive_all<R: Clock + Print>(rt: &R, alloc: Global) -> Result<()> {
         Coming::PassedOver,
     ];
     for what in all {
-        let times = peer::time_commands(rt, alloc, what, THOUSANDS)?;
-        print_times(rt, times)?;
-        println!(rt; "received {what:?}")?;
+        receive(rt, alloc, what, THOUSANDS)?;
     }
     // Its unreliable numbers are used up after 60,000 commands.
-    let times = peer::time_commands(rt, alloc, Coming::BeforeFragments, 60)?;
-    print_times(rt, times)?;
-    println!(rt; "received BeforeFragments")?;
+    receive(rt, alloc, Coming::BeforeFragments, 60)
+}
+
+fn receive<R: Clock + Print>(rt: &R, alloc: Global, what: Coming, thousands: u32) -> Result<()> {
+    let times = peer::time_commands(rt, alloc, what, thousands)?;
+    println!(rt; "{times}: received {what:?}")?;
     Ok(())
 }
 
 fn submit_all<R: Clock + Print>(rt: &R, alloc: Global) -> Result<()> {
     for (flags, len) in [(1, 0), (1, 600), (0, 0), (8, 600), (2, 0)] {
-        let times = peer::time_submissions(rt, alloc, Submission { flags, len }, THOUSANDS)?;
-        print_times(rt, times)?;
-        println!(rt; "submitted with flags {flags}, {len} bytes")?;
+        submit(rt, alloc, Submission { flags, len })?;
     }
     Ok(())
 }
 
-fn print_times<R: Print>(rt: &R, times: Times) -> Result<()> {
-    let first = times.first;
-    let last = times.last;
-    let percent = times.percent();
-    print!(rt; "first 1000 in {first} ns, last 1000 in {last} ns, {percent} %: ")?;
+fn submit<R: Clock + Print>(rt: &R, alloc: Global, what: Submission) -> Result<()> {
+    let times = peer::time_submissions(rt, alloc, what, THOUSANDS)?;
+    let Submission { flags, len } = what;
+    println!(rt; "{times}: submitted with flags {flags}, {len} bytes")?;
     Ok(())
 }

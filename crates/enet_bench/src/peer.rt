@@ -7,6 +7,7 @@ use enet_codec::{Command, Head};
 use enet_connect::Terms;
 use enet_peer::{Limits, Peer, PeerState};
 use std::alloc::Global;
+use std::fmt;
 use std::rt::Clock;
 use std::time::Instant;
 
@@ -24,9 +25,33 @@ pub struct Times {
 }
 
 impl Times {
+    fn none() -> Times {
+        Times { first: 0, last: 0 }
+    }
+
+    /// The thousand of this number took so many nanoseconds.
+    fn add(&mut self, batch: u32, nanos: u128) {
+        self.last = nanos;
+        if batch == 0 {
+            self.first = nanos;
+        }
+    }
+
     /// How many hundredths of the first thousand's time the last took.
     pub fn percent(&self) -> u128 {
         self.last.saturating_mul(100) / self.first.max(1)
+    }
+}
+
+impl fmt::Display for Times {
+    fn fmt<W: fmt::Write>(&self, f: &mut fmt::Formatter<W>) -> fmt::Result {
+        let first = self.first;
+        let last = self.last;
+        let percent = self.percent();
+        write!(
+            f,
+            "first 1000 in {first} ns, last 1000 in {last} ns, {percent} %"
+        )
     }
 }
 
@@ -55,24 +80,26 @@ pub fn time_commands<R: Clock>(
     thousands: u32,
 ) -> Result<Times> {
     let mut peer = joined(alloc)?;
-    if what == Coming::PassedOver {
-        leave_later(&mut peer)?;
-    }
     receive_all(rt, &mut peer, what, thousands.min(100))
 }
 
 /// The times of so many thousands of commands.
 fn receive_all<R: Clock>(rt: &R, peer: &mut Peer, what: Coming, thousands: u32) -> Result<Times> {
-    let mut times = Times { first: 0, last: 0 };
+    if what == Coming::PassedOver {
+        leave_later(peer)?;
+    }
+    let mut times = Times::none();
     for batch in 0..thousands {
-        let start = Instant::now(rt)?;
-        receive(peer, what, batch)?;
-        times.last = start.elapsed(rt)?.as_nanos();
-        if batch == 0 {
-            times.first = times.last;
-        }
+        times.add(batch, receive_timed(rt, peer, what, batch)?);
     }
     Ok(times)
+}
+
+/// How long a thousand commands take, in nanoseconds.
+fn receive_timed<R: Clock>(rt: &R, peer: &mut Peer, what: Coming, batch: u32) -> Result<u128> {
+    let start = Instant::now(rt)?;
+    receive(peer, what, batch)?;
+    Ok(start.elapsed(rt)?.as_nanos())
 }
 
 /// The times of so many thousands of packets that are submitted to one peer and not put out.
@@ -95,16 +122,29 @@ fn submit_all<R: Clock>(
     thousands: u32,
 ) -> Result<Times> {
     let body = Bytes::copy_from_slice(alloc, &[0; 4096][..what.len.min(4096)])?;
-    let mut times = Times { first: 0, last: 0 };
+    submit_batches(rt, peer, what.flags, &body, thousands)
+}
+
+/// The times of so many thousands of packets of one body.
+fn submit_batches<R: Clock>(
+    rt: &R,
+    peer: &mut Peer,
+    flags: u8,
+    body: &Bytes,
+    thousands: u32,
+) -> Result<Times> {
+    let mut times = Times::none();
     for batch in 0..thousands {
-        let start = Instant::now(rt)?;
-        submit(peer, what.flags, &body)?;
-        times.last = start.elapsed(rt)?.as_nanos();
-        if batch == 0 {
-            times.first = times.last;
-        }
+        times.add(batch, submit_timed(rt, peer, flags, body)?);
     }
     Ok(times)
+}
+
+/// How long a thousand packets of one body take, in nanoseconds.
+fn submit_timed<R: Clock>(rt: &R, peer: &mut Peer, flags: u8, body: &Bytes) -> Result<u128> {
+    let start = Instant::now(rt)?;
+    submit(peer, flags, body)?;
+    Ok(start.elapsed(rt)?.as_nanos())
 }
 
 /// The times of the acknowledgements of 8,192 empty reliable packets: the first thousand and the last.
@@ -116,14 +156,17 @@ pub fn time_acknowledgements<R: Clock>(rt: &R, alloc: Global, order: Order) -> R
 /// Sends the packets, and times their acknowledgements.
 fn acknowledge_all<R: Clock>(rt: &R, peer: &mut Peer, order: Order) -> Result<Times> {
     send_all(peer)?;
-    let start = Instant::now(rt)?;
-    acknowledge(peer, order, 0, BATCH)?;
-    let first = start.elapsed(rt)?.as_nanos();
+    let first = acknowledge_timed(rt, peer, order, 0)?;
     acknowledge(peer, order, BATCH, SPAN - BATCH)?;
-    let start = Instant::now(rt)?;
-    acknowledge(peer, order, SPAN - BATCH, SPAN)?;
-    let last = start.elapsed(rt)?.as_nanos();
+    let last = acknowledge_timed(rt, peer, order, SPAN - BATCH)?;
     Ok(Times { first, last })
+}
+
+/// How long the acknowledgements of the thousand places from this one on take, in nanoseconds.
+fn acknowledge_timed<R: Clock>(rt: &R, peer: &mut Peer, order: Order, from: u32) -> Result<u128> {
+    let start = Instant::now(rt)?;
+    acknowledge(peer, order, from, from.saturating_add(BATCH))?;
+    Ok(start.elapsed(rt)?.as_nanos())
 }
 
 /// A connected peer of one channel with ample limits.
@@ -149,11 +192,25 @@ fn joined(alloc: Global) -> Result<Peer> {
     Ok(Peer::joined(alloc, 0, terms, limits)?)
 }
 
+/// Submits a packet on channel 0. An error where it is refused.
+fn submit_one(peer: &mut Peer, flags: u8, body: Bytes) -> Result<()> {
+    match peer.submit(0, flags, body) {
+        Ok(()) => Ok(()),
+        Err((why, _body)) => bail!("{why}"),
+    }
+}
+
+/// Has a command come. An error where it is stopped. No clause says what it does: callers would carry that along.
+fn receive_one(peer: &mut Peer, command: &Command<'_>) -> Result<()> {
+    match peer.command(0, Some(0), command) {
+        Ok(()) => Ok(()),
+        Err(stop) => bail!("{stop}"),
+    }
+}
+
 /// Has the peer wait for an acknowledgement before it disconnects, so that data is passed over.
 fn leave_later(peer: &mut Peer) -> Result<()> {
-    if let Err((why, _body)) = peer.submit(0, 1, Bytes::new()) {
-        bail!("{why}");
-    }
+    submit_one(peer, 1, Bytes::new())?;
     peer.disconnect_later(0)?;
     if peer.state() != PeerState::DisconnectLater {
         bail!("the peer disconnects at once");
@@ -164,10 +221,8 @@ fn leave_later(peer: &mut Peer) -> Result<()> {
 /// A thousand commands come.
 fn receive(peer: &mut Peer, what: Coming, batch: u32) -> Result<()> {
     for i in 0..BATCH {
-        let command = command(what, batch.saturating_mul(BATCH).saturating_add(i));
-        if let Err(stop) = peer.command(0, Some(0), &command) {
-            bail!("{stop}");
-        }
+        let place = batch.saturating_mul(BATCH).saturating_add(i);
+        receive_one(peer, &command(what, place))?;
     }
     Ok(())
 }
@@ -175,9 +230,7 @@ fn receive(peer: &mut Peer, what: Coming, batch: u32) -> Result<()> {
 /// A thousand packets of one body are submitted.
 fn submit(peer: &mut Peer, flags: u8, body: &Bytes) -> Result<()> {
     for _ in 0..BATCH {
-        if let Err((why, _body)) = peer.submit(0, flags, body.clone()?) {
-            bail!("{why}");
-        }
+        submit_one(peer, flags, body.clone()?)?;
     }
     Ok(())
 }
@@ -185,37 +238,41 @@ fn submit(peer: &mut Peer, flags: u8, body: &Bytes) -> Result<()> {
 /// Sends as many empty reliable packets as may wait for their acknowledgement.
 fn send_all(peer: &mut Peer) -> Result<()> {
     for _ in 0..SPAN {
-        if let Err((why, _body)) = peer.submit(0, 1, Bytes::new()) {
-            bail!("{why}");
-        }
+        submit_one(peer, 1, Bytes::new())?;
     }
+    put_out(peer);
+    Ok(())
+}
+
+/// Puts out all that waits, at most so many datagrams.
+fn put_out(peer: &mut Peer) {
     let mut buf = [0; 4096];
     for _ in 0..SPAN {
         if peer.emit(0, &mut buf).is_none() {
-            return Ok(());
+            return;
         }
     }
-    Ok(())
 }
 
 /// The acknowledgements of these places in the order come.
 fn acknowledge(peer: &mut Peer, order: Order, from: u32, to: u32) -> Result<()> {
     for i in from..to {
-        let command = Command::Acknowledge {
-            head: Head {
-                acknowledge: false,
-                unsequenced: false,
-                channel: 0,
-                number: 0,
-            },
-            received_number: number_at(order, i),
-            received_time: 0,
-        };
-        if let Err(stop) = peer.command(0, Some(0), &command) {
-            bail!("{stop}");
-        }
+        receive_one(peer, &acknowledgement(number_at(order, i)))?;
     }
     Ok(())
+}
+
+fn acknowledgement(received_number: u16) -> Command<'static> {
+    Command::Acknowledge {
+        head: Head {
+            acknowledge: false,
+            unsequenced: false,
+            channel: 0,
+            number: 0,
+        },
+        received_number,
+        received_time: 0,
+    }
 }
 
 /// The number of the command that is acknowledged at a place: of 1 to 8,192 each once.

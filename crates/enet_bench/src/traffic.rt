@@ -20,10 +20,7 @@ pub fn run<R: Threads + Wait + Sync>(
     seats: u32,
     per_seat: u32,
 ) -> Result<Account> {
-    let (queue, seats, drain) = match SubmitQueue::open(alloc, CAPACITY, seats, per_seat) {
-        Ok(opened) => opened,
-        Err(why) => bail!("{}", why.label()),
-    };
+    let (queue, seats, drain) = SubmitQueue::open(alloc, CAPACITY, seats, per_seat)?;
     let all = u64::from(per_seat).saturating_mul(seats.len() as u64);
     let queue = &queue;
     let (drain, finished) = thread::join(
@@ -37,9 +34,16 @@ pub fn run<R: Threads + Wait + Sync>(
             ensures { IfOk result (λ v. All (IsFinishedOf queue.entry.now) v.items) }
         { submit_in_threads(rt, queue, seats, per_seat) },
     );
-    match queue.settle(drain, finished?) {
+    settle(queue, drain, finished?)
+}
+
+fn settle(queue: &SubmitQueue, drain: Drain, finished: Vec<Finished>) -> Result<Account>
+    requires drain { IsDrainOf queue.now drain }
+    requires finished { All (IsFinishedOf queue.now) finished.items }
+{
+    match queue.settle(drain, finished) {
         Ok(account) => Ok(account),
-        Err((why, _, _)) => bail!("{}", why.label()),
+        Err((why, _, _)) => bail!("{why}"),
     }
 }
 
