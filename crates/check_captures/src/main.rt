@@ -35,12 +35,15 @@ fn main(rt: HostRuntime) -> Result<()> {
 /// Reads and writes the datagrams of each file. An error at the first that differs.
 fn run<R: Files + Print + AllocGlobal>(rt: &R) -> Result<()> {
     for name in FILES {
-        let captured = read(rt, name)?;
-        let count = spelling::count(rt.alloc(), captured.as_str()).context(name)?;
-        println!(rt;
-            "{name}: {count} datagrams, read as their remarks say and written byte for byte"
-        )?;
+        run_file(rt, name)?;
     }
+    Ok(())
+}
+
+fn run_file<R: Files + Print + AllocGlobal>(rt: &R, name: &'static str) -> Result<()> {
+    let captured = read(rt, name)?;
+    let count = spelling::count(rt.alloc(), captured.as_str()).context(name)?;
+    println!(rt; "{name}: {count} datagrams, read as their remarks say and written byte for byte")?;
     Ok(())
 }
 

@@ -91,7 +91,23 @@ pub fn payload_len(command: &Command<'_>) -> usize
 
 /// The name of a command, its channel and its number.
 fn push_head(text: &mut String, command: &Command<'_>) -> Result<(), AllocError> {
-    let (name, head) = match *command {
+    let (name, head) = named(command);
+    write!(text, "; {name} ch ")?;
+    push_channel(text, head.channel)?;
+    let number = head.number;
+    write!(text, " n {number}")
+}
+
+fn push_channel(text: &mut String, channel: u8) -> Result<(), AllocError> {
+    match channel {
+        0xFF => text.push_str("FF"),
+        channel => write!(text, "{channel}"),
+    }
+}
+
+/// The name of a command, and its head.
+fn named(command: &Command<'_>) -> (&'static str, Head) {
+    match *command {
         Command::Acknowledge { head, .. } => ("ACKNOWLEDGE", head),
         Command::Connect { head, .. } => ("CONNECT", head),
         Command::VerifyConnect { head, .. } => ("VERIFY_CONNECT", head),
@@ -104,14 +120,7 @@ fn push_head(text: &mut String, command: &Command<'_>) -> Result<(), AllocError>
         Command::BandwidthLimit { head, .. } => ("BANDWIDTH_LIMIT", head),
         Command::ThrottleConfigure { head, .. } => ("THROTTLE_CONFIGURE", head),
         Command::SendUnreliableFragment { head, .. } => ("SEND_UNRELIABLE_FRAGMENT", head),
-    };
-    write!(text, "; {name} ch ")?;
-    match head.channel {
-        0xFF => text.push_str("FF")?,
-        channel => write!(text, "{channel}")?,
     }
-    let number = head.number;
-    write!(text, " n {number}")
 }
 
 fn push_disconnect(text: &mut String, head: Head, info: u32) -> Result<(), AllocError> {
@@ -155,30 +164,38 @@ fn push_offer(text: &mut String, offer: &Offer) -> Result<(), AllocError> {
 }
 
 fn push_terms(text: &mut String, terms: &Verify) -> Result<(), AllocError> {
-    let Verify {
-        outgoing_peer,
-        incoming_session,
-        outgoing_session,
-        mtu,
-        window,
-        channels,
-        incoming_bandwidth,
-        outgoing_bandwidth,
-        throttle_interval,
-        acceleration,
-        deceleration,
-        connect_id,
-    } = *terms;
-    write!(text, " slot {outgoing_peer}")?;
+    push_slot(text, terms)?;
+    push_sizes(text, terms)?;
+    push_throttle(text, terms)
+}
+
+/// The slot and the sessions.
+fn push_slot(text: &mut String, terms: &Verify) -> Result<(), AllocError> {
+    let slot = terms.outgoing_peer;
+    let incoming = terms.incoming_session;
+    let outgoing = terms.outgoing_session;
     write!(
         text,
-        " in-session {incoming_session:02x} out-session {outgoing_session:02x}"
-    )?;
+        " slot {slot} in-session {incoming:02x} out-session {outgoing:02x}"
+    )
+}
+
+/// The mtu, the window, the channels and the bandwidths.
+fn push_sizes(text: &mut String, terms: &Verify) -> Result<(), AllocError> {
+    let mtu = terms.mtu;
+    let window = terms.window;
+    let channels = terms.channels;
     write!(text, " mtu {mtu} window {window} channels {channels}")?;
-    write!(text, " bw {incoming_bandwidth}/{outgoing_bandwidth}")?;
-    write!(
-        text,
-        " throttle {throttle_interval}/{acceleration}/{deceleration}"
-    )?;
-    write!(text, " id {connect_id:08x}")
+    let incoming = terms.incoming_bandwidth;
+    let outgoing = terms.outgoing_bandwidth;
+    write!(text, " bw {incoming}/{outgoing}")
+}
+
+/// The throttle's numbers and the connect id.
+fn push_throttle(text: &mut String, terms: &Verify) -> Result<(), AllocError> {
+    let interval = terms.throttle_interval;
+    let up = terms.acceleration;
+    let down = terms.deceleration;
+    let id = terms.connect_id;
+    write!(text, " throttle {interval}/{up}/{down} id {id:08x}")
 }
