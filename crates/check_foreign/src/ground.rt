@@ -1,7 +1,8 @@
 //! A host with three connected peers.
 
+use crate::client::{connect, next_event, put_out, receive};
+use crate::fault::Fault;
 use crate::told::Told;
-use anyhow::{Result, bail};
 use enet_host::{HostCore, Totals};
 use enet_types::{Addr, Config, Event};
 use std::alloc::Global;
@@ -11,14 +12,7 @@ const SLOTS: [u16; 3] = [0, 1, 2];
 
 const FREE_SLOT: u16 = 3;
 
-/// A client's CONNECT for four channels.
-const OFFER: [u8; 52] = [
-    0x8f, 0xff, 0, 0, 0x82, 0xff, 0, 1, 0, 0, 0xff, 0xff, 0, 0, 0x05, 0x70, 0, 1, 0, 0, 0, 0, 0, 4,
-    0, 0, 0, 0, 0, 0, 0, 0, 0, 0, 0x13, 0x88, 0, 0, 0, 2, 0, 0, 0, 2, 1, 2, 3, 4, 0, 0, 0, 7,
-];
-
-/// The acknowledgement of a server's VERIFY_CONNECT, behind its header.
-const ACKNOWLEDGEMENT: [u8; 8] = [0x01, 0xff, 0, 1, 0, 1, 0, 0];
+const CHANNELS: u8 = 4;
 
 /// A reliable packet `hi` as number 1 of channel 3, and how the host acknowledges it.
 const PACKET: [u8; 12] = [0x80, 0, 0, 0, 0x86, 3, 0, 1, 0, 2, b'h', b'i'];
@@ -58,45 +52,89 @@ fn address(slot: u16) -> Addr {
     }
 }
 
-/// A host with connected peers in slots 0 to 2.
-fn open(alloc: Global) -> Result<HostCore> {
-    let config = Config {
+fn config() -> Config {
+    Config {
         max_packet: 65_536,
         max_waiting: 1_048_576,
-        ..Config::standard(4, 4)
-    };
-    let mut host = HostCore::open(alloc, config)?;
-    for slot in SLOTS {
-        connect(&mut host, slot);
+        ..Config::standard(4, CHANNELS)
     }
+}
+
+fn opened(alloc: Global) -> Result<HostCore, Fault> {
+    match HostCore::open(alloc, config()) {
+        Ok(host) => Ok(host),
+        Err(_) => Err(Fault::NotOpened),
+    }
+}
+
+fn connect_all(host: &mut HostCore) {
+    for slot in SLOTS {
+        connect(host, address(slot), slot, CHANNELS);
+    }
+}
+
+/// A host with connected peers in slots 0 to 2.
+fn open(alloc: Global) -> Result<HostCore, Fault> {
+    let mut host = opened(alloc)?;
+    connect_all(&mut host);
     Ok(host)
 }
 
-/// A client connects to a slot.
-fn connect(host: &mut HostCore, slot: u16) {
-    let from = address(slot);
-    host.receive(from, &OFFER);
+/// What is told of the peers of slots 1 and 2, which have just connected.
+fn others(host: &HostCore) -> Result<(Told, Told), Fault> {
+    let second = Told::of(host, 1);
+    let third = Told::of(host, 2);
+    if second.is_fresh(address(1)) && third.is_fresh(address(2)) {
+        Ok((second, third))
+    } else {
+        Err(Fault::NotConnected)
+    }
+}
+
+/// The slot of the peer that an event is told of.
+fn slot_of(event: &Event) -> Result<u16, Fault> {
+    match event {
+        Event::Connect { peer, .. }
+        | Event::Receive { peer, .. }
+        | Event::Disconnect { peer, .. } => Ok(peer.slot),
+        Event::Refused { .. } => Err(Fault::Order),
+    }
+}
+
+/// The packet `hi` to the peer of a slot.
+fn packet_to(slot: u16) -> [u8; 12] {
+    let mut datagram = PACKET;
+    if let Some(low) = datagram.get_mut(1) {
+        *low = slot.to_be_bytes()[1];
+    }
+    datagram
+}
+
+/// Whether the next event is the packet `hi` of a slot.
+fn tells_packet(host: &mut HostCore, slot: u16) -> bool {
+    match next_event(host) {
+        Some(Event::Receive { peer, packet }) => {
+            peer.slot == slot && packet.body.as_slice() == b"hi".as_slice()
+        }
+        _ => false,
+    }
+}
+
+/// Whether the peer of a slot puts out the acknowledgement of that packet.
+fn answers(host: &mut HostCore, slot: u16) -> bool {
     let mut buf = [0; 4_096];
-    let _ = host.service(&mut buf);
-    let mut answer = [0; 10];
-    for (to, from) in answer.iter_mut().zip(slot.to_be_bytes().iter()) {
-        *to = *from;
+    match put_out(host, &mut buf) {
+        Some((peer, to, len)) => {
+            peer.slot == slot && to == address(slot) && buf.get(..len) == Some(&ANSWER[..])
+        }
+        None => false,
     }
-    for (to, from) in answer.iter_mut().skip(2).zip(ACKNOWLEDGEMENT.iter()) {
-        *to = *from;
-    }
-    host.receive(from, &answer);
-    let _ = host.next_event();
 }
 
 impl Ground {
-    pub(crate) fn open(alloc: Global) -> Result<Ground> {
+    pub(crate) fn open(alloc: Global) -> Result<Ground, Fault> {
         let host = open(alloc)?;
-        let second = Told::of(&host, 1);
-        let third = Told::of(&host, 2);
-        if !second.is_fresh(address(1)) || !third.is_fresh(address(2)) {
-            bail!("the peers are not connected");
-        }
+        let (second, third) = others(&host)?;
         Ok(Ground {
             alloc,
             host,
@@ -110,21 +148,32 @@ impl Ground {
     /// A datagram comes from the address of slot 0's peer. An error where another peer has changed, or the host's totals
     /// aren't what came and went. The host is opened anew where slot 0's peer is not connected any more, or the free slot was
     /// given out.
-    pub(crate) fn take(&mut self, datagram: &[u8]) -> Result<()> {
+    pub(crate) fn take(&mut self, datagram: &[u8]) -> Result<(), Fault> {
         self.taken = self.taken.saturating_add(1);
-        self.host.receive(address(0), datagram);
+        receive(&mut self.host, address(0), datagram);
         self.count_in(datagram.len());
         self.empty()?;
-        if Told::of(&self.host, 1) != self.second || Told::of(&self.host, 2) != self.third {
-            bail!("a peer of another slot changed by datagram {}", self.taken);
-        }
-        if self.host.totals() != self.totals {
-            bail!("the totals are wrong after datagram {}", self.taken);
-        }
-        if !Told::of(&self.host, 0).is_connected() || !Told::of(&self.host, FREE_SLOT).is_nobody() {
+        self.compare()?;
+        if self.is_used_up() {
             self.go_on()?;
         }
         Ok(())
+    }
+
+    /// An error where another peer has changed, or the totals are wrong.
+    fn compare(&self) -> Result<(), Fault> {
+        if Told::of(&self.host, 1) != self.second || Told::of(&self.host, 2) != self.third {
+            return Err(Fault::OtherChanged(self.taken));
+        }
+        if self.host.totals() != self.totals {
+            return Err(Fault::Totals(self.taken));
+        }
+        Ok(())
+    }
+
+    /// Whether slot 0's peer is not connected any more, or the free slot was given out.
+    fn is_used_up(&self) -> bool {
+        !Told::of(&self.host, 0).is_connected() || !Told::of(&self.host, FREE_SLOT).is_nobody()
     }
 
     /// A datagram of so many bytes came.
@@ -141,30 +190,26 @@ impl Ground {
 
     /// Takes all events and puts out all that waits, and takes what that makes: an acknowledged DISCONNECT ends a peer. An
     /// error where one of these is another peer's.
-    fn empty(&mut self) -> Result<()> {
+    fn empty(&mut self) -> Result<(), Fault> {
         self.take_events()?;
         self.put_out()?;
         self.take_events()
     }
 
-    fn take_events(&mut self) -> Result<()> {
+    fn take_events(&mut self) -> Result<(), Fault> {
         for _ in 0..MOST {
-            let slot = match self.host.next_event() {
-                None => break,
-                Some(Event::Connect { peer, .. }) => peer.slot,
-                Some(Event::Receive { peer, .. }) => peer.slot,
-                Some(Event::Disconnect { peer, .. }) => peer.slot,
-                Some(Event::Refused { .. }) => bail!("a host told of an order"),
+            let Some(event) = next_event(&mut self.host) else {
+                break;
             };
-            self.is_own(slot)?;
+            self.is_own(slot_of(&event)?)?;
         }
         Ok(())
     }
 
-    fn put_out(&mut self) -> Result<()> {
+    fn put_out(&mut self) -> Result<(), Fault> {
         let mut buf = [0; 4_096];
         for _ in 0..MOST {
-            let Some((peer, _, len)) = self.host.service(&mut buf) else {
+            let Some((peer, _, len)) = put_out(&mut self.host, &mut buf) else {
                 break;
             };
             self.count_out(len);
@@ -174,51 +219,35 @@ impl Ground {
     }
 
     /// An error where the slot is that of one of the peers that nothing came for.
-    fn is_own(&self, slot: u16) -> Result<()> {
+    fn is_own(&self, slot: u16) -> Result<(), Fault> {
         if slot == 1 || slot == 2 {
-            bail!("something came of slot {slot} by datagram {}", self.taken);
+            return Err(Fault::OtherTold(self.taken));
         }
         Ok(())
     }
 
     /// The peers of the other slots go on: each takes in a packet, the first of its channel, and acknowledges it. Afterwards
     /// the host is opened anew.
-    pub(crate) fn go_on(&mut self) -> Result<()> {
-        for slot in [1u16, 2] {
-            self.goes_on(slot)?;
-        }
+    pub(crate) fn go_on(&mut self) -> Result<(), Fault> {
+        self.goes_on(1)?;
+        self.goes_on(2)?;
         self.host = open(self.alloc)?;
         self.totals = AT_FIRST;
         if self.host.totals() != self.totals {
-            bail!("the totals of a new host are wrong");
+            return Err(Fault::Totals(self.taken));
         }
         Ok(())
     }
 
-    fn goes_on(&mut self, slot: u16) -> Result<()> {
-        let mut datagram = PACKET;
-        if let Some(low) = datagram.get_mut(1) {
-            *low = slot.to_be_bytes()[1];
-        }
-        let received = self.host.receive(address(slot), &datagram);
+    fn goes_on(&mut self, slot: u16) -> Result<(), Fault> {
+        let received = receive(&mut self.host, address(slot), &packet_to(slot));
         if received.handled != 1 || received.stop.is_some() {
-            bail!("slot {slot} takes no packet after datagram {}", self.taken);
+            return Err(Fault::NotTaken(self.taken));
         }
-        let is_packet = match self.host.next_event() {
-            Some(Event::Receive { peer, packet }) => peer.slot == slot
-                && packet.body.as_slice() == b"hi".as_slice(),
-            _ => false,
-        };
-        let mut buf = [0; 4_096];
-        let is_answered = match self.host.service(&mut buf) {
-            Some((peer, to, len)) => {
-                peer.slot == slot && to == address(slot) && buf.get(..len) == Some(&ANSWER[..])
-            }
-            None => false,
-        };
-        if !is_packet || !is_answered {
-            bail!("slot {slot} does not go on after datagram {}", self.taken);
+        if tells_packet(&mut self.host, slot) && answers(&mut self.host, slot) {
+            Ok(())
+        } else {
+            Err(Fault::NotGoneOn(self.taken))
         }
-        Ok(())
     }
 }

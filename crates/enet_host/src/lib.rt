@@ -12,7 +12,7 @@
 //! `set_bandwidth` are one change on each slot; once a second the outgoing bandwidth is shared out among the connected peers.
 //! A slot whose peer is free keeps its sessions and has the next generation (`vacated`), so no slot of any host holds a peer
 //! that is free (`HostCore::keeps`). Want of memory, of which no clause can say when it comes, changes nothing.
-//! Only tested, by `check_hosts`, `check_foreign` and `check_crowd`: that calls succeed with ample memory, worked scripts,
+//! Only tested, by `check_hosts` and `check_foreign`: that calls succeed with ample memory, worked scripts,
 //! captured files, foreign bytes.
 #![tactic(auto)]
 
