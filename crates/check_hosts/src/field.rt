@@ -4,11 +4,14 @@ use crate::bytes_text::{push_bytes, read_bytes};
 use crate::fault::{Fault, UNREADABLE};
 use crate::seen::{HOSTS, SeenHost};
 use crate::setting::read_config;
-use crate::telling::{push_done, push_event, push_received, push_terms, push_told, push_totals};
+use crate::telling::{
+    push_done, push_event, push_peer, push_received, push_sent, push_state, push_terms, push_told,
+    push_totals,
+};
 use crate::words::{Words, address_of, letter_of};
 use bytes::Bytes;
 use enet_host::HostCore;
-use enet_types::Refusal;
+use enet_types::{PeerRef, Refusal};
 use std::alloc::Global;
 
 /// More than any script has.
@@ -27,6 +30,54 @@ struct Sent {
     from: u8,
     start: usize,
     end: usize,
+}
+
+/// What a submission comes to.
+fn submitted(
+    host: &mut HostCore,
+    peer: PeerRef,
+    channel: u8,
+    flags: u8,
+    body: Bytes,
+) -> Result<(), Refusal> {
+    match host.submit(peer, channel, flags, body) {
+        Ok(()) => Ok(()),
+        Err((why, _body)) => Err(why),
+    }
+}
+
+fn set_bandwidth(
+    host: &mut HostCore,
+    words: &mut Words<'_>,
+    text: &mut String,
+) -> Result<(), Fault> {
+    let incoming = words.number()?;
+    let outgoing = words.number()?;
+    push_done(text, host.set_bandwidth(incoming, outgoing))
+}
+
+fn set_ping(host: &mut HostCore, words: &mut Words<'_>, text: &mut String) -> Result<(), Fault> {
+    let peer = words.peer()?;
+    let ms = words.number()?;
+    push_done(text, host.set_ping_interval(peer, ms))
+}
+
+/// The numbers of the throttle, or those of timeouts.
+fn set_three(
+    host: &mut HostCore,
+    name: &str,
+    words: &mut Words<'_>,
+    text: &mut String,
+) -> Result<(), Fault> {
+    let peer = words.peer()?;
+    let first = words.number()?;
+    let second = words.number()?;
+    let third = words.number()?;
+    let outcome = match name {
+        "throttle" => host.throttle_configure(peer, first, second, third),
+        _ => host.set_timeout(peer, first, second, third),
+    };
+    push_done(text, outcome)
 }
 
 /// The hosts of a script, A first, and all datagrams that they put out.
@@ -76,7 +127,8 @@ impl Field {
     /// A refusal's answer is its number and name.
     pub(crate) fn run(&mut self, command: &str, text: &mut String) -> Result<(), Fault> {
         let mut words = Words::of(command);
-        match words.word()? {
+        let name = words.word()?;
+        match name {
             "open" => self.open(&mut words, text),
             "joined" => self.joined(&mut words, text),
             "connect" => self.connect(&mut words, text),
@@ -85,12 +137,24 @@ impl Field {
             "drain" => self.drain(&mut words, text),
             "deliver" => self.deliver(&mut words, text),
             "receive" => self.receive(&mut words, text),
-            "take" => self.take(&mut words, text),
-            "tick" => self.tick(&mut words, text),
-            "ask" | "now" | "later" => self.leave(command, &mut words, text),
-            "bandwidth" | "throttle" | "ping" | "timeout" => self.set(command, &mut words, text),
-            "body" | "totals" => self.tell(command, &mut words, text),
-            "state" | "terms" | "told" => self.tell_peer(command, &mut words, text),
+            _ => self.run_other(name, &mut words, text),
+        }
+    }
+
+    /// The commands of events, time, settings, and of what a host tells.
+    fn run_other(
+        &mut self,
+        name: &str,
+        words: &mut Words<'_>,
+        text: &mut String,
+    ) -> Result<(), Fault> {
+        match name {
+            "take" => self.take(words, text),
+            "tick" => self.tick(words, text),
+            "ask" | "now" | "later" => self.leave(name, words, text),
+            "bandwidth" | "throttle" | "ping" | "timeout" => self.set(name, words, text),
+            "body" | "totals" => self.tell(name, words, text),
+            "state" | "terms" | "told" => self.tell_peer(name, words, text),
             _ => Err(UNREADABLE),
         }
     }
@@ -103,30 +167,29 @@ impl Field {
     fn open(&mut self, words: &mut Words<'_>, text: &mut String) -> Result<(), Fault> {
         words.letter()?;
         let config = read_config(words)?;
-        let opened = HostCore::open(self.alloc, config);
-        self.add(opened, text)
+        push_done(text, self.add(HostCore::open(self.alloc, config))?)
     }
 
     fn joined(&mut self, words: &mut Words<'_>, text: &mut String) -> Result<(), Fault> {
         words.letter()?;
         let other = words.address()?;
         let config = read_config(words)?;
-        let opened = HostCore::joined(self.alloc, config, other);
-        self.add(opened, text)
+        push_done(text, self.add(HostCore::joined(self.alloc, config, other))?)
     }
 
-    /// Adds a host where it was opened.
-    fn add(&mut self, opened: Result<HostCore, Refusal>, text: &mut String) -> Result<(), Fault> {
-        let outcome = match opened {
-            Ok(host) => {
-                if self.hosts.push(host).is_err() {
-                    return Err(Fault::OwnMemory);
-                }
-                Ok(())
-            }
-            Err(why) => Err(why),
-        };
-        push_done(text, outcome)
+    /// Adds a host where it was opened, else tells why it wasn't.
+    fn add(&mut self, opened: Result<HostCore, Refusal>) -> Result<Result<(), Refusal>, Fault> {
+        match opened {
+            Ok(host) => self.add_host(host),
+            Err(why) => Ok(Err(why)),
+        }
+    }
+
+    fn add_host(&mut self, host: HostCore) -> Result<Result<(), Refusal>, Fault> {
+        match self.hosts.push(host) {
+            Ok(()) => Ok(Ok(())),
+            Err(_) => Err(Fault::OwnMemory),
+        }
     }
 
     fn connect(&mut self, words: &mut Words<'_>, text: &mut String) -> Result<(), Fault> {
@@ -135,15 +198,7 @@ impl Field {
         let channels = words.byte()?;
         let info = words.number()?;
         let id = words.hex()?;
-        match self.host(from)?.connect(to, channels, info, id) {
-            Ok(peer) => {
-                let slot = peer.slot;
-                let generation = peer.generation;
-                write!(text, "peer {slot}.{generation}")?;
-                Ok(())
-            }
-            Err(why) => push_done(text, Err(why)),
-        }
+        push_peer(text, self.host(from)?.connect(to, channels, info, id))
     }
 
     fn submit(&mut self, words: &mut Words<'_>, text: &mut String) -> Result<(), Fault> {
@@ -151,10 +206,15 @@ impl Field {
         let peer = words.peer()?;
         let channel = words.byte()?;
         let flags = words.byte()?;
-        let bytes = read_bytes(self.alloc, words.word()?)?;
-        let body = Bytes::from_vec(bytes).map_err(|_| Fault::OwnMemory)?;
-        let outcome = self.host(from)?.submit(peer, channel, flags, body);
-        push_done(text, outcome.map_err(|refused| refused.0))
+        let body = self.body(words.word()?)?;
+        let host = self.host(from)?;
+        push_done(text, submitted(host, peer, channel, flags, body))
+    }
+
+    /// The bytes that a word writes, as a packet's.
+    fn body(&self, word: &str) -> Result<Bytes, Fault> {
+        let bytes = read_bytes(self.alloc, word)?;
+        Bytes::from_vec(bytes).map_err(|_| Fault::OwnMemory)
     }
 
     /// One datagram is put out.
@@ -167,11 +227,7 @@ impl Field {
         };
         let datagram = buf.get(..len).unwrap_or(&[]);
         self.keep(from, datagram)?;
-        let slot = peer.slot;
-        let generation = peer.generation;
-        let letter = letter_of(to);
-        write!(text, "{slot}.{generation} {letter} ")?;
-        push_bytes(text, datagram)?;
+        push_sent(text, peer, letter_of(to), datagram)?;
         Ok(())
     }
 
@@ -238,19 +294,14 @@ impl Field {
         push_done(text, Ok(()))
     }
 
-    fn leave(
-        &mut self,
-        command: &str,
-        words: &mut Words<'_>,
-        text: &mut String,
-    ) -> Result<(), Fault> {
+    fn leave(&mut self, name: &str, words: &mut Words<'_>, text: &mut String) -> Result<(), Fault> {
         let host = words.letter()?;
         let peer = words.peer()?;
         let info = words.number()?;
         let host = self.host(host)?;
-        let outcome = if command.starts_with("ask") {
+        let outcome = if name == "ask" {
             host.disconnect(peer, info)
-        } else if command.starts_with("now") {
+        } else if name == "now" {
             host.disconnect_now(peer, info)
         } else {
             host.disconnect_later(peer, info)
@@ -258,43 +309,20 @@ impl Field {
         push_done(text, outcome)
     }
 
-    fn set(
-        &mut self,
-        command: &str,
-        words: &mut Words<'_>,
-        text: &mut String,
-    ) -> Result<(), Fault> {
+    fn set(&mut self, name: &str, words: &mut Words<'_>, text: &mut String) -> Result<(), Fault> {
         let host = words.letter()?;
-        if command.starts_with("bandwidth") {
-            let incoming = words.number()?;
-            let outgoing = words.number()?;
-            return push_done(text, self.host(host)?.set_bandwidth(incoming, outgoing));
-        }
-        let peer = words.peer()?;
-        let first = words.number()?;
-        if command.starts_with("ping") {
-            return push_done(text, self.host(host)?.set_ping_interval(peer, first));
-        }
-        let second = words.number()?;
-        let third = words.number()?;
         let host = self.host(host)?;
-        let outcome = if command.starts_with("throttle") {
-            host.throttle_configure(peer, first, second, third)
-        } else {
-            host.set_timeout(peer, first, second, third)
-        };
-        push_done(text, outcome)
+        match name {
+            "bandwidth" => set_bandwidth(host, words, text),
+            "ping" => set_ping(host, words, text),
+            _ => set_three(host, name, words, text),
+        }
     }
 
     /// What a host tells of itself.
-    fn tell(
-        &mut self,
-        command: &str,
-        words: &mut Words<'_>,
-        text: &mut String,
-    ) -> Result<(), Fault> {
+    fn tell(&mut self, name: &str, words: &mut Words<'_>, text: &mut String) -> Result<(), Fault> {
         let host = self.host(words.letter()?)?;
-        if command.starts_with("totals") {
+        if name == "totals" {
             push_totals(text, host.totals())?;
             return Ok(());
         }
@@ -308,22 +336,17 @@ impl Field {
     /// What a host tells of a peer.
     fn tell_peer(
         &mut self,
-        command: &str,
+        name: &str,
         words: &mut Words<'_>,
         text: &mut String,
     ) -> Result<(), Fault> {
         let host = words.letter()?;
         let peer = words.peer()?;
         let host = self.host(host)?;
-        if command.starts_with("state") {
-            match host.state(peer) {
-                Some(state) => write!(text, "{state:?}")?,
-                None => text.push_str("none")?,
-            }
-        } else if command.starts_with("terms") {
-            push_terms(text, host.terms(peer))?;
-        } else {
-            push_told(text, host, peer)?;
+        match name {
+            "state" => push_state(text, host.state(peer))?,
+            "terms" => push_terms(text, host.terms(peer))?,
+            _ => push_told(text, host, peer)?,
         }
         Ok(())
     }

@@ -25,12 +25,12 @@ mod words;
 
 use fault::Fault;
 use scarce::SCARCE;
-use script::run_script;
+use script::{Account, run_script};
 use std::alloc::Global;
-use std::fs;
 use std::io::Read;
 use std::process::ExitCode;
 use std::rt::Files;
+use std::{fs, io};
 
 /// The scripts in files.
 const SCRIPTS: [&str; 22] = [
@@ -135,12 +135,18 @@ fn run_text<R: Print + AllocGlobal>(rt: &R, name: &str, text: &str) -> Result<()
     let alloc = rt.alloc();
     let mut seen = String::with_capacity(alloc, script::LONGEST_ANSWER)?;
     let outcome = run_script(alloc, text, &mut seen);
+    tell(rt, name, outcome, seen.as_str())
+}
+
+/// Prints how a script ended, whose last answer this is.
+fn tell<R: Print>(
+    rt: &R,
+    name: &str,
+    outcome: Result<Account, Fault>,
+    seen: &str,
+) -> Result<(), Fault> {
     let told = match outcome {
-        Ok(account) => {
-            let steps = account.steps;
-            let repeated = account.repeated;
-            println!(rt; "{name}: {steps} steps: as expected, {repeated} growths refused")
-        }
+        Ok(account) => tell_account(rt, name, account),
         Err(Fault::Differs(line)) => println!(rt; "{name}: line {line}: {seen} differs"),
         Err(Fault::Unreadable(line)) => println!(rt; "{name}: line {line} can't be read"),
         Err(_) => Ok(()),
@@ -149,4 +155,10 @@ fn run_text<R: Print + AllocGlobal>(rt: &R, name: &str, text: &str) -> Result<()
         return Err(Fault::Io);
     }
     outcome.map(|_| ())
+}
+
+fn tell_account<R: Print>(rt: &R, name: &str, account: Account) -> io::Result<()> {
+    let steps = account.steps;
+    let repeated = account.repeated;
+    println!(rt; "{name}: {steps} steps: as expected, {repeated} growths refused")
 }

@@ -19,6 +19,10 @@ pub(crate) struct Account {
 /// Runs a script. Where it ends early, `seen` is the last answer.
 pub(crate) fn run_script(alloc: Global, text: &str, seen: &mut String) -> Result<Account, Fault> {
     let mut field = Field::new(alloc)?;
+    run_lines(&mut field, text, seen)
+}
+
+fn run_lines(field: &mut Field, text: &str, seen: &mut String) -> Result<Account, Fault> {
     let mut account = Account {
         steps: 0,
         repeated: 0,
@@ -26,19 +30,21 @@ pub(crate) fn run_script(alloc: Global, text: &str, seen: &mut String) -> Result
     let mut line = 0u32;
     for step in text.lines() {
         line = line.wrapping_add(1);
-        let Some((command, wanted)) = step.split_once(" = ") else {
-            if !is_passed_over(step) {
-                return Err(Fault::Unreadable(line));
-            }
-            continue;
-        };
-        if !step.starts_with('#') {
-            let repeated = run_step(&mut field, command, wanted, line, seen)?;
+        if !is_passed_over(step) {
+            let repeated = run_line(field, step, line, seen)?;
             account.steps = account.steps.wrapping_add(1);
             account.repeated = account.repeated.wrapping_add(u32::from(repeated));
         }
     }
     Ok(account)
+}
+
+/// Takes the step of a line. Whether it was refused for want of memory and repeated.
+fn run_line(field: &mut Field, step: &str, line: u32, seen: &mut String) -> Result<bool, Fault> {
+    match step.split_once(" = ") {
+        Some((command, wanted)) => run_step(field, command, wanted, line, seen),
+        None => Err(Fault::Unreadable(line)),
+    }
 }
 
 /// A remark, or nothing.

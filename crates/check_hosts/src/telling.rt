@@ -4,6 +4,7 @@ use crate::bytes_text::push_bytes;
 use crate::fault::Fault;
 use enet_connect::Terms;
 use enet_host::{HostCore, Totals};
+use enet_peer::PeerState;
 use enet_types::{Event, Packet, PeerRef, Received, Refusal};
 use std::alloc::AllocError;
 
@@ -14,6 +15,32 @@ pub(crate) fn push_done(text: &mut String, outcome: Result<(), Refusal>) -> Resu
         Err(why) => text.push_str(why.label())?,
     }
     Ok(())
+}
+
+/// The peer of an offer that was made, or a refusal.
+pub(crate) fn push_peer(text: &mut String, made: Result<PeerRef, Refusal>) -> Result<(), Fault> {
+    match made {
+        Ok(peer) => {
+            let slot = peer.slot;
+            let generation = peer.generation;
+            write!(text, "peer {slot}.{generation}")?;
+            Ok(())
+        }
+        Err(why) => push_done(text, Err(why)),
+    }
+}
+
+/// A datagram that was put out: of which peer, to the host of which letter, and its bytes.
+pub(crate) fn push_sent(
+    text: &mut String,
+    peer: PeerRef,
+    to: char,
+    datagram: &[u8],
+) -> Result<(), AllocError> {
+    let slot = peer.slot;
+    let generation = peer.generation;
+    write!(text, "{slot}.{generation} {to} ")?;
+    push_bytes(text, datagram)
 }
 
 pub(crate) fn push_received(text: &mut String, received: Received) -> Result<(), AllocError> {
@@ -52,11 +79,25 @@ fn push_packet(text: &mut String, peer: PeerRef, packet: &Packet) -> Result<(), 
     push_bytes(text, packet.body.as_slice())
 }
 
+/// A state, or `none`.
+pub(crate) fn push_state(text: &mut String, state: Option<PeerState>) -> Result<(), AllocError> {
+    match state {
+        Some(state) => write!(text, "{state:?}"),
+        None => text.push_str("none"),
+    }
+}
+
 /// Terms, or `none`.
 pub(crate) fn push_terms(text: &mut String, terms: Option<Terms>) -> Result<(), AllocError> {
     let Some(terms) = terms else {
         return text.push_str("none");
     };
+    push_sizes(text, &terms)?;
+    push_rest(text, &terms)
+}
+
+/// The slot, the channels, the mtu and the window.
+fn push_sizes(text: &mut String, terms: &Terms) -> Result<(), AllocError> {
     let slot = terms.slot;
     let channels = terms.channels;
     let mtu = terms.mtu;
@@ -64,7 +105,11 @@ pub(crate) fn push_terms(text: &mut String, terms: Option<Terms>) -> Result<(), 
     write!(
         text,
         "slot {slot} channels {channels} mtu {mtu} window {window}"
-    )?;
+    )
+}
+
+/// The sessions, the throttle and the connect id.
+fn push_rest(text: &mut String, terms: &Terms) -> Result<(), AllocError> {
     let incoming = terms.incoming_session;
     let outgoing = terms.outgoing_session;
     write!(text, " sessions {incoming} {outgoing}")?;
