@@ -12,13 +12,19 @@ pub const CONNECT_AGAIN: &[u8] =
 const VERIFY_AGAIN: &[u8] =
     b"9000000083ff00010000010100000570000100000000000200000000000000000000138800000002000000020000000a";
 
+const NAMES: [(&str, &[u8]); 4] = [
+    ("connect", CONNECT),
+    ("verify", VERIFY),
+    ("connect-again", CONNECT_AGAIN),
+    ("verify-again", VERIFY_AGAIN),
+];
+
 /// The datagram that a name stands for, or the text itself.
 pub fn named(text: &[u8]) -> &[u8] {
-    match text {
-        b"connect" => CONNECT,
-        b"verify" => VERIFY,
-        b"connect-again" => CONNECT_AGAIN,
-        b"verify-again" => VERIFY_AGAIN,
-        _ => text,
+    for (name, datagram) in &NAMES {
+        if name.as_bytes() == text {
+            return datagram;
+        }
     }
+    text
 }

@@ -32,18 +32,19 @@ fn main(rt: HostRuntime) -> ExitCode {
 /// Runs the trials, and prints what came of them. Whether all went as expected.
 fn run<R: Print + Input + AllocGlobal>(rt: &R) -> Result<bool> {
     let text = io::read_to_string(rt.alloc(), rt.reader())?;
-    match run_all(rt.alloc(), text.as_str()) {
+    let outcome = run_all(rt.alloc(), text.as_str());
+    tell(rt, &outcome)?;
+    Ok(outcome.is_as_expected())
+}
+
+fn tell<R: Print>(rt: &R, outcome: &Outcome) -> io::Result<()> {
+    match outcome {
         Outcome::AsExpected { trials, answers } => {
-            println!(rt; "{trials} trials, {answers} answers, as expected")?;
-            Ok(true)
+            println!(rt; "{trials} trials, {answers} answers, as expected")
         }
-        Outcome::Differs { line, seen } => {
-            println!(rt; "line {line} is answered by {seen}")?;
-            Ok(false)
-        }
+        Outcome::Differs { line, seen } => println!(rt; "line {line} is answered by {seen}"),
         Outcome::CannotBeRead { line } => {
-            println!(rt; "line {line} can't be read, or there is no memory")?;
-            Ok(false)
+            println!(rt; "line {line} can't be read, or there is no memory")
         }
     }
 }

@@ -26,6 +26,12 @@ pub struct Scene {
     pub now: u32,
 }
 
+/// The first word of a text, a name, and what stands behind it.
+pub fn name_word(text: &[u8]) -> Option<(&str, &[u8])> {
+    let (name, rest) = word(text)?;
+    Some((str::from_utf8(name).ok()?, rest))
+}
+
 /// Up to three numbers; those that aren't there are 0.
 fn numbers(text: &[u8]) -> Option<[u32; 3]> {
     let mut numbers = [0; 3];
@@ -70,21 +76,18 @@ impl Scene {
     /// - `ask INFO`, `now INFO`, `later INFO`: the disconnects. `state`. `terms`: mtu, window and the other end's incoming bandwidth.
     /// - `bandwidth INCOMING OUTGOING`, `throttle INTERVAL ACCELERATION DECELERATION`, `limit LIMIT`, `pings MS`,
     ///   `timeout LIMIT MINIMUM MAXIMUM`: settings.
-    pub fn act(&mut self, alloc: Global, name: &[u8], rest: &[u8]) -> Option<String> {
+    pub fn act(&mut self, alloc: Global, name: &str, rest: &[u8]) -> Option<String> {
         match name {
-            b"deliver" => self.deliver(alloc, rest),
-            b"turn" => self.turn(alloc),
-            b"drain" => self.drain(alloc),
-            b"run" => self.run(alloc, numbers(rest)?[0]),
-            b"ticks" => self.ticks(alloc, numbers(rest)?[0]),
-            b"take" => self.take(alloc),
-            b"submit" => self.submit(alloc, rest),
-            b"zeros" => self.zeros(alloc, numbers(rest)?),
-            b"state" => {
-                let state = self.peer.state();
-                format!(in alloc; "{state:?}").ok()
-            }
-            b"terms" => self.terms(alloc),
+            "deliver" => self.deliver(alloc, rest),
+            "turn" => self.turn(alloc),
+            "drain" => self.drain(alloc),
+            "run" => self.run(alloc, numbers(rest)?[0]),
+            "ticks" => self.ticks(alloc, numbers(rest)?[0]),
+            "take" => self.take(alloc),
+            "submit" => self.submit(alloc, rest),
+            "zeros" => self.zeros(alloc, numbers(rest)?),
+            "state" => self.state(alloc),
+            "terms" => self.terms(alloc),
             _ => {
                 let outcome = self.call(name, numbers(rest)?)?;
                 outcome_text(alloc, outcome)
@@ -93,30 +96,41 @@ impl Scene {
     }
 
     /// A disconnect, a setting, or time that passes.
-    fn call(&mut self, name: &[u8], numbers: [u32; 3]) -> Option<Result<(), Refusal>> {
+    fn call(&mut self, name: &str, numbers: [u32; 3]) -> Option<Result<(), Refusal>> {
         let [first, second, third] = numbers;
         match name {
-            b"ask" => return Some(self.peer.disconnect(first)),
-            b"now" => return Some(self.peer.disconnect_now(first)),
-            b"later" => return Some(self.peer.disconnect_later(first)),
-            b"tick" => self.tick(first),
-            b"bandwidth" => {
-                self.peer.reserve().ok()?;
-                self.peer.bandwidth(first, second);
-            }
-            b"throttle" => {
-                self.peer.reserve().ok()?;
-                if self.peer.state() != PeerState::Connected {
-                    return None;
-                }
-                self.peer.throttle_configure(first, second, third);
-            }
-            b"limit" => self.peer.throttle_limit(first),
-            b"pings" => self.peer.ping_interval(first),
-            b"timeout" => self.peer.timeout(first, second, third),
+            "ask" => return Some(self.peer.disconnect(first)),
+            "now" => return Some(self.peer.disconnect_now(first)),
+            "later" => return Some(self.peer.disconnect_later(first)),
+            "tick" => self.tick(first),
+            "bandwidth" => self.bandwidth(first, second)?,
+            "throttle" => self.throttle(first, second, third)?,
+            "limit" => self.peer.throttle_limit(first),
+            "pings" => self.peer.ping_interval(first),
+            "timeout" => self.peer.timeout(first, second, third),
             _ => return None,
         }
         Some(Ok(()))
+    }
+
+    fn state(&self, alloc: Global) -> Option<String> {
+        let state = self.peer.state();
+        format!(in alloc; "{state:?}").ok()
+    }
+
+    fn bandwidth(&mut self, incoming: u32, outgoing: u32) -> Option<()> {
+        self.peer.reserve().ok()?;
+        self.peer.bandwidth(incoming, outgoing);
+        Some(())
+    }
+
+    fn throttle(&mut self, interval: u32, up: u32, down: u32) -> Option<()> {
+        self.peer.reserve().ok()?;
+        if self.peer.state() != PeerState::Connected {
+            return None;
+        }
+        self.peer.throttle_configure(interval, up, down);
+        Some(())
     }
 
     fn tick(&mut self, ms: u32) {

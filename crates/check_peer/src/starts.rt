@@ -1,11 +1,11 @@
 //! Peers to start with.
 
 use crate::datagrams::{CONNECT, CONNECT_AGAIN};
-use crate::scene::Scene;
+use crate::scene::{Scene, name_word};
 use enet_codec::{Command, Offer, read_command, read_header};
 use enet_connect::{Server, Terms};
 use enet_peer::{Limits, Peer};
-use enet_script::{bytes_word, end, u32_word, word};
+use enet_script::{bytes_word, end, u32_word};
 use std::alloc::Global;
 
 /// What a client's first connection asks for.
@@ -48,20 +48,44 @@ const LIMITS: Limits = Limits {
 /// - `client`, `client-again`: asks for the first connection, or for the second one. `server`, `server-again`: answers it.
 /// - the name of a state: a peer in this state.
 pub fn start(alloc: Global, text: &[u8]) -> Option<Scene> {
-    let (opening, calls) = match text {
-        b"Free" => ("client", "ask 3"),
-        b"Connecting" => ("client", "state"),
-        b"Answering" => ("server", "state"),
-        b"Connected" => ("joined", "state"),
-        b"DisconnectLater" => ("joined", "submit 0 1 71,later 3"),
-        b"Disconnecting" => ("joined", "ask 3"),
-        b"AckDisconnect" => ("joined", "deliver 8000000084ff000100000003"),
-        b"Ended" => ("joined", "deliver 000084ff000100000003"),
-        b"Parting" => ("joined", "now 3"),
-        _ => return opened(alloc, text),
-    };
+    match way_to(text) {
+        Some(way) => come_to(alloc, way, text),
+        None => opened(alloc, text),
+    }
+}
+
+/// How a peer comes to a state: the state's name, what the peer starts as, and the calls after that.
+type Way = (&'static str, &'static str, &'static str);
+
+const WAYS: [Way; 9] = [
+    ("Free", "client", "ask 3"),
+    ("Connecting", "client", "state"),
+    ("Answering", "server", "state"),
+    ("Connected", "joined", "state"),
+    ("DisconnectLater", "joined", "submit 0 1 71,later 3"),
+    ("Disconnecting", "joined", "ask 3"),
+    (
+        "AckDisconnect",
+        "joined",
+        "deliver 8000000084ff000100000003",
+    ),
+    ("Ended", "joined", "deliver 000084ff000100000003"),
+    ("Parting", "joined", "now 3"),
+];
+
+fn way_to(state: &[u8]) -> Option<Way> {
+    for way in &WAYS {
+        if way.0.as_bytes() == state {
+            return Some(*way);
+        }
+    }
+    None
+}
+
+fn come_to(alloc: Global, way: Way, state: &[u8]) -> Option<Scene> {
+    let (_, opening, calls) = way;
     let mut scene = opened(alloc, opening.as_bytes())?;
-    if comes_to(alloc, &mut scene, calls, text) == Some(true) {
+    if comes_to(alloc, &mut scene, calls, state) == Some(true) {
         Some(scene)
     } else {
         None
@@ -71,23 +95,31 @@ pub fn start(alloc: Global, text: &[u8]) -> Option<Scene> {
 /// Makes the calls. Whether the peer is in the state of this name then; None where one can't be made.
 fn comes_to(alloc: Global, scene: &mut Scene, calls: &str, state: &[u8]) -> Option<bool> {
     for call in calls.split(',') {
-        let (name, rest) = word(call.as_bytes())?;
+        let (name, rest) = name_word(call.as_bytes())?;
         let _answer = scene.act(alloc, name, rest)?;
     }
-    Some(scene.act(alloc, b"state", &[])?.as_bytes() == state)
+    Some(scene.act(alloc, "state", &[])?.as_bytes() == state)
 }
 
 fn opened(alloc: Global, text: &[u8]) -> Option<Scene> {
-    let (name, rest) = word(text)?;
-    let peer = match name {
-        b"joined" => joined(alloc, rest)?,
-        b"client" => Peer::connecting(alloc, 0, OFFER, LIMITS).ok()?,
-        b"client-again" => Peer::connecting(alloc, 0, OFFER_AGAIN, LIMITS).ok()?,
-        b"server" => server(alloc, CONNECT, 0xFF)?,
-        b"server-again" => server(alloc, CONNECT_AGAIN, 0)?,
-        _ => return None,
-    };
+    let (name, rest) = name_word(text)?;
+    let peer = peer_of(alloc, name, rest)?;
     Some(Scene { peer, now: 0 })
+}
+
+fn peer_of(alloc: Global, name: &str, rest: &[u8]) -> Option<Peer> {
+    match name {
+        "joined" => joined(alloc, rest),
+        "client" => connecting(alloc, OFFER),
+        "client-again" => connecting(alloc, OFFER_AGAIN),
+        "server" => server(alloc, CONNECT, 0xFF),
+        "server-again" => server(alloc, CONNECT_AGAIN, 0),
+        _ => None,
+    }
+}
+
+fn connecting(alloc: Global, offer: Offer) -> Option<Peer> {
+    Peer::connecting(alloc, 0, offer, LIMITS).ok()
 }
 
 fn joined(alloc: Global, text: &[u8]) -> Option<Peer> {

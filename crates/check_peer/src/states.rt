@@ -26,7 +26,7 @@ fn push_call_in(alloc: Global, told: &mut String, state: &[u8], call: &str) -> O
 }
 
 fn push_call(alloc: Global, told: &mut String, scene: &mut Scene, call: &str) -> Option<()> {
-    let refusal = match scene.act(alloc, call.as_bytes(), b"5")?.as_str() {
+    let refusal = match scene.act(alloc, call, b"5")?.as_str() {
         "ok" => "",
         "E3 NotConnected" => "E3 ",
         _ => "another answer ",

@@ -1,10 +1,10 @@
 //! Running trials.
 
 use crate::datagrams::named;
-use crate::scene::Scene;
+use crate::scene::{Scene, name_word};
 use crate::starts::start;
 use crate::states;
-use enet_script::{u32_word, word};
+use enet_script::u32_word;
 use std::alloc::Global;
 
 /// What came of trials. Lines are counted from 1.
@@ -15,6 +15,15 @@ pub enum Outcome {
     Differs { line: u32, seen: String },
     /// This line can't be read, or there was no memory for it.
     CannotBeRead { line: u32 },
+}
+
+impl Outcome {
+    pub fn is_as_expected(&self) -> bool {
+        match self {
+            Outcome::AsExpected { .. } => true,
+            _ => false,
+        }
+    }
 }
 
 /// What came of one line.
@@ -54,9 +63,14 @@ fn run_line(alloc: Global, scene: &mut Option<Scene>, text: &str) -> Option<Step
     if text.is_empty() || text.starts_with('#') {
         return Some(Step::PassedOver);
     }
-    if let Some(text) = text.strip_prefix("peer ") {
-        return begin(alloc, scene, text.as_bytes());
+    match text.strip_prefix("peer ") {
+        Some(text) => begin(alloc, scene, text.as_bytes()),
+        None => run_call(alloc, scene, text),
     }
+}
+
+/// Runs the line of a call.
+fn run_call(alloc: Global, scene: &mut Option<Scene>, text: &str) -> Option<Step> {
     let (call, expected) = text.split_once(" = ").unwrap_or((text, "ok"));
     let seen = answer(alloc, scene, call.as_bytes())?;
     if seen.as_bytes() == named(expected.as_bytes()) {
@@ -74,11 +88,11 @@ fn begin(alloc: Global, scene: &mut Option<Scene>, text: &[u8]) -> Option<Step> 
 
 /// The answer to a call: of the trial's peer, or of peers of its own.
 fn answer(alloc: Global, scene: &mut Option<Scene>, call: &[u8]) -> Option<String> {
-    let (name, rest) = word(call)?;
+    let (name, rest) = name_word(call)?;
     match name {
-        b"disconnects" => states::disconnects(alloc, rest),
-        b"commands" => states::commands(alloc, rest),
-        b"times" => times(alloc, scene.as_mut()?, rest),
+        "disconnects" => states::disconnects(alloc, rest),
+        "commands" => states::commands(alloc, rest),
+        "times" => times(alloc, scene.as_mut()?, rest),
         _ => scene.as_mut()?.act(alloc, name, rest),
     }
 }
@@ -86,10 +100,10 @@ fn answer(alloc: Global, scene: &mut Option<Scene>, call: &[u8]) -> Option<Strin
 /// `times COUNT CALL`: makes the call so many times. Answers what the last one answers.
 fn times(alloc: Global, scene: &mut Scene, text: &[u8]) -> Option<String> {
     let (count, rest) = u32_word(text)?;
-    let (name, rest) = word(rest)?;
-    let mut last = None;
-    for _ in 0..count {
-        last = Some(scene.act(alloc, name, rest)?);
+    let (name, rest) = name_word(rest)?;
+    let before = count.checked_sub(1)?;
+    for _ in 0..before {
+        scene.act(alloc, name, rest)?;
     }
-    last
+    scene.act(alloc, name, rest)
 }
