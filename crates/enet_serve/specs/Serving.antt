@@ -1,5 +1,5 @@
 -- What a server does in a shift.
-use Rattle.std.specs.Prelude.{◌≡◌, List, [], ◌++◌, length, Option, None}
+use Rattle.std.specs.Prelude.{◌≡◌, List, [], ◌++◌, Option, None}
 use Rattle.std.specs.List.{All}
 use Rattle.enet_types.specs.declared.event.PeerRef.{PeerRef}
 use Rattle.enet_types.specs.declared.event.Event.{Event}
@@ -9,12 +9,11 @@ use Rattle.enet_host.specs.Host.{Host}
 use Rattle.enet_host.specs.Opening.{opened}
 use Rattle.enet_bridge.specs.Ends.{orders}
 use Rattle.enet_turn.specs.declared.report.Report.{Report}
-use Rattle.enet_turn.specs.Hosting.{Ticks, Obeys, Hears, Gives, Tells}
 use Rattle.enet_turn.specs.Queues.{given, accepted}
-use Rattle.enet_turn.specs.Run.{Round, Rounds, IsSound, all_gave, all_puts, total}
+use Rattle.enet_turn.specs.Run.{Round, IsSound, all_gave, all_puts, total}
 use Rattle.enet_chat.specs.Relaying.{noted_all, relayed_all}
-use Rattle.enet_serve.specs.declared.shift.Shift.{Shift}
-use Rattle.enet_serve.specs.declared.shift.Shift.TheVariants.{Turns, Time}
+use Rattle.enet_shift.specs.declared.shift.Shift.{Shift}
+use Rattle.enet_shift.specs.Shifts.{Lasts, TakesTurns}
 use Rattle.enet_serve.specs.declared.server.Server.{Server}
 use Rattle.enet_serve.specs.declared.server.Settings.{Settings}
 
@@ -45,15 +44,6 @@ pub record IsOpened (settings : Settings) (server : Server) : Type 0 where
   pub orders : orders_of server ≡ []
 
 -- ---- a shift
--- how many turns it has: as many as it was told; where it was told a time, that isn't said
-abbrev pub Lasts : Shift → List Round → Type 0
-Lasts (Turns n) rounds = length rounds ≡ n
-Lasts (Time length) rounds = Unit {0}
-
--- turns of a service over our host, one after another, each with the host and the event that waits
-abbrev pub TakesTurns : Host × Option Event → List Round → Host × Option Event → Type 0
-TakesTurns old rounds new = Rounds Ticks Obeys Hears Gives Tells old rounds new
-
 -- From one shift to the next. In none of its turns the wire failed, and the report is their sums. The events that the turns put are
 -- expanded behind those that waited, once and in order, or wait; the orders that they give over the peers come behind those that
 -- waited and were handed to the turns, once and in order, or wait

@@ -1,19 +1,16 @@
 //! A server over the service: one thread takes the service's turns, another relays chat.
 //!
 //! Proved: a shift ([`Server::serve`], `Serves`) is turns of the service, as many as were asked for where a number was, in none of
-//! which the wire failed, and its report their sums. Each event that the turns told was expanded by the rule of the relay, once and in order, or waits for
-//! the next shift; each order that the events gave was handed to a turn, once and in order, or waits, too. So nothing is lost or
-//! doubled between the threads, nor from one shift to the next. A server opens with the standard host of its settings, with nothing
-//! waiting ([`Server::open`]).
+//! which the wire failed, and its report their sums. Each event that the turns told was expanded by the rule of the relay, once and in
+//! order, or waits for the next shift; each order that the events gave was handed to a turn, once and in order, or waits, too. So
+//! nothing is lost or doubled between the threads, nor from one shift to the next. A server opens with the standard host of its
+//! settings, with nothing waiting ([`Server::open`]).
 //! Only tested, by scripts over `enet_relay`: what real clients get, that a shift ends, at which address a server listens, and that the
-//! queues settle (no E16). Neither: what a network gives, and when; which refusal is answered; what `present` shows.
+//! queues settle (no E16). Neither: what a network gives, and when; what `present` shows.
 #![tactic(auto)]
 
-mod queues;
 mod server;
-mod settling;
-mod shift;
 mod threads;
 
+pub use enet_shift::Shift;
 pub use server::{Server, Settings};
-pub use shift::Shift;

@@ -1,16 +1,15 @@
 //! A server: a service thread, and a thread that relays.
 ghost use Rattle.std.specs.Prelude.{IfOk};
 ghost use Rattle.enet_serve.specs.Serving.{Serves};
-ghost use Rattle.enet_serve.specs.Threads.{AreNew, CanSettle, IsLeft};
+ghost use Rattle.enet_serve.specs.Threads.{CanSettle, IsLeft};
+ghost use Rattle.enet_shift.specs.Shifts.{AreNew};
 
-use crate::queues::Queues;
-use crate::settling::{settle_events, untaken};
-use crate::shift::Shift;
-use crate::threads::{Kept, RelayEnds, ServiceEnds, Shared, Turned, run_threads};
+use crate::threads::{Kept, RelayEnds, run_threads};
 use enet_chat::{Parts, Table};
 use enet_events::EventQueue;
 use enet_host::HostCore;
 use enet_service::{Bell, MioWire, Report, Service, TakerBell};
+use enet_shift::{Queues, ServiceEnds, Shared, Shift, Turned, settle_events, untaken};
 use enet_submit::SubmitQueue;
 use enet_types::{Addr, Config, Refusal};
 use std::alloc::Global;
@@ -116,45 +115,37 @@ fn run_shift<R: Threads + Wait + Clock + Sync>(
     requires { AreNew queues }
     ensures { IfOk result (λ r. Serves server shift r.0 r.1) }
 {
-    let Server {
-        alloc,
-        room,
-        wire,
-        service,
-        kept,
-    } = server;
-    let Queues {
-        orders,
-        seat,
-        drain,
-        events,
-        poster,
-        taker,
-    } = queues;
+    let relay = RelayEnds {
+        alloc: server.alloc,
+        seat: queues.seat,
+        taker: queues.taker,
+        kept: server.kept,
+    };
+    let service = ServiceEnds {
+        wire: server.wire,
+        service: server.service,
+        drain: queues.drain,
+        poster: queues.poster,
+        shift,
+    };
     let shared = Shared {
-        queue: &orders,
-        events: &events,
+        queue: &queues.orders,
+        events: &queues.events,
         bell,
         taker_bell: &TakerBell::new(),
         ended: &AtomicBool::new(false),
-        present,
     };
-    let relay = RelayEnds {
-        alloc,
-        seat,
-        taker,
-        kept,
-    };
-    let service = ServiceEnds {
-        wire,
-        service,
-        drain,
-        poster,
-        shift,
-    };
-    let (relayed, turned) = run_threads(rt, shared, relay, service);
+    let (relayed, turned) = run_threads(rt, shared, present, relay, service);
     let turned = turned?;
-    after_shift(rt, alloc, room, &orders, &events, relayed?, turned)
+    after_shift(
+        rt,
+        server.alloc,
+        server.room,
+        &queues.orders,
+        &queues.events,
+        relayed?,
+        turned,
+    )
 }
 
 // The server as the two threads left it. The orders that the service didn't take stand before those that found no room.

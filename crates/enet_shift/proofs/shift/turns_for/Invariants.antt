@@ -1,8 +1,8 @@
 use Rattle.std.proofs.Common.{◌≡◌, List}
 use Rattle.enet_turn.specs.Queues.{queue_of, drain_of, poster_of}
 use Rattle.enet_turn.specs.Run.{Round}
-use Rattle.enet_serve.specs.Threads.{Spell}
-use Rattle.enet_serve.proofs.shift.turns_for.Given as goal
+use Rattle.enet_shift.specs.Shifts.{Spell}
+use Rattle.enet_shift.proofs.shift.turns_for.Given as goal
 
 abbrev pub invariant-loop : goal.invariant-loop
 invariant-loop g l =

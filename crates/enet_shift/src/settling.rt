@@ -11,7 +11,7 @@ use std::collections::VecDeque;
 use std::sync::Wait;
 
 /// Settles the event queue: its only taker took all that was posted. E16 where it didn't, E1 for want of memory.
-pub(crate) fn settle_events(
+pub fn settle_events(
     alloc: Global,
     events: &EventQueue,
     poster: Poster,
@@ -33,7 +33,7 @@ pub(crate) fn settle_events(
 
 /// The orders that the only seat submitted and the drain didn't take, in order. E16 where the queue has others still, E1 for want
 /// of memory.
-pub(crate) fn untaken<R: Wait>(
+pub fn untaken<R: Wait>(
     rt: &R,
     alloc: Global,
     queue: &SubmitQueue,

@@ -1,9 +1,8 @@
 //! How long a service takes turns.
-ghost use Rattle.std.specs.Prelude.{◌≡◌, List, length, IfOk};
+ghost use Rattle.std.specs.Prelude.{◌≡◌, ◌≤◌, List, length, IfOk};
 ghost use Rattle.enet_turn.specs.Run.{Round as OneTurn};
 ghost use Rattle.enet_turn.specs.Queues.{queue_of, drain_of, poster_of};
-ghost use Rattle.enet_serve.specs.Serving.{Lasts};
-ghost use Rattle.enet_serve.specs.Threads.{Spell};
+ghost use Rattle.enet_shift.specs.Shifts.{Lasts, Spell};
 
 use enet_host::HostCore;
 use enet_service::{MioWire, QueueSink, QueueSource, Report, Service, run_between_queues};
@@ -41,7 +40,7 @@ pub(crate) fn take_turns<R: Wait + Clock>(
 {
     match shift {
         Shift::Turns(turns) => turns_of(rt, service, wire, source, sink, turns),
-        Shift::Time(length) => turns_for(rt, service, wire, source, sink, length),
+        Shift::Time(time) => turns_for(rt, service, wire, source, sink, time),
     }
 }
 
@@ -72,10 +71,10 @@ fn turns_for<R: Wait + Clock>(
     wire: &mut MioWire,
     source: &mut QueueSource<'_>,
     sink: &mut QueueSink<'_>,
-    length: Duration,
+    time: Duration,
 ) -> Result<Report, Refusal>
     ensures queue { queue_of source.new ≡ queue_of source.old }
-    ensures turns { IfOk result (λ report. (rounds : List OneTurn)
+    ensures turns { IfOk result (λ report. (rounds : List OneTurn) × (1 ≤ length rounds)
         × Spell (service.old.host, service.old.waiting) (drain_of source.old) (poster_of sink.old) rounds
         (service.new.host, service.new.waiting) (drain_of source.new) (poster_of sink.new) report) }
 {
@@ -84,7 +83,7 @@ fn turns_for<R: Wait + Clock>(
     for _ in rt.forever() {
         let report = turns_of(rt, service, wire, source, sink, TURNS_AT_ONCE)?;
         total = total.and(report);
-        if has_passed(rt, &start, length) {
+        if has_passed(rt, &start, time) {
             return Ok(total);
         }
     }
@@ -92,12 +91,12 @@ fn turns_for<R: Wait + Clock>(
 }
 
 // Where the clock can't be read, no time passes.
-fn has_passed<R: Clock>(rt: &R, start: &io::Result<Instant>, length: Duration) -> bool {
+fn has_passed<R: Clock>(rt: &R, start: &io::Result<Instant>, time: Duration) -> bool {
     let Ok(start) = start else {
         return false;
     };
     match start.elapsed(rt) {
-        Ok(elapsed) => elapsed >= length,
+        Ok(elapsed) => elapsed >= time,
         Err(_) => false,
     }
 }

@@ -1,7 +1,8 @@
-use Rattle.std.proofs.Common.{List, [], ◌++◌, refl, ◌∙◌}
+use Rattle.std.proofs.Common.{List, [], ◌++◌, refl, ◌∙◌, arith}
+use Rattle.std.proofs.lemmas.List.{length-append}
 use Rattle.enet_turn.specs.Run.{Round}
-use Rattle.enet_serve.proofs.Spells.{no_turn, further}
-use Rattle.enet_serve.proofs.shift.turns_for.Goals as goal
+use Rattle.enet_shift.proofs.Spells.{no_turn, further}
+use Rattle.enet_shift.proofs.shift.turns_for.Goals as goal
 
 pub loop-init : goal.loop-init
 loop-init g c = (refl, [], no_turn _ _ _ _ c.nothing-total.ensures)
@@ -19,4 +20,4 @@ pub returns-then-has_passed-clause-turns : goal.returns-then-has_passed-clause-t
 returns-then-has_passed-clause-turns g c =
     let before : List Round = c.loop.invariant.1 in
     let more : List Round = c.in_ok-report.ensures.turns.0 in
-    (before ++ more, further _ _ _ _ _ _ _ _ _ before more _ _ _ c.loop.invariant.2 c.in_ok-report.ensures.turns.2 c.and-total.ensures)
+    (before ++ more, omega (arith, length-append before more, c.in_ok-report.ensures.turns.1), further _ _ _ _ _ _ _ _ _ before more _ _ _ c.loop.invariant.2 c.in_ok-report.ensures.turns.2 c.and-total.ensures)

@@ -10,6 +10,7 @@ use Rattle.enet_types.specs.declared.event.Event.{Event}
 use Rattle.enet_submit.specs.declared.order.Submission.{Submission}
 use Rattle.enet_submit.specs.declared.token.Drain.{Drain}
 use Rattle.enet_submit.specs.Words.{taken}
+use Rattle.enet_events.specs.declared.numbered.Numbered.{Numbered}
 use Rattle.enet_events.specs.Words.{PosterState}
 use Rattle.enet_host.specs.Host.{Host}
 use Rattle.enet_turn.specs.declared.report.Report.{Report}
@@ -18,8 +19,11 @@ use Rattle.enet_turn.specs.Queues.{given, accepted}
 use Rattle.enet_turn.specs.Run.{Round, IsSound, all_gave, all_puts, total}
 use Rattle.enet_turn.proofs.PhaseSteps.{chain_more}
 use Rattle.enet_turn.proofs.Reporting.{same_report}
-use Rattle.enet_chat.specs.Relaying.{events}
-use Rattle.enet_serve.specs.Threads.{Spell}
+use Rattle.enet_shift.specs.Shifts.{Spell}
+
+-- events without their numbers
+abbrev events : List Numbered → List Event
+events numbered = map (λ x. x.event) numbered
 
 sum_of_both : (f : Round → ℕ) (xs ys : List Round) (a b : ℕ) → a ≡ stopped (sum_by f xs) → b ≡ stopped (sum_by f ys) → stopped (a + b) ≡ stopped (sum_by f (xs ++ ys))
 sum_of_both f xs ys a b ea eb = omega (arith, sum_by-append f xs ys, ea, eb)

@@ -10,21 +10,21 @@ use std::alloc::Global;
 
 /// Both queues with their ends.
 #[derive(Drop)]
-pub(crate) struct Queues {
-    pub(crate) orders: SubmitQueue,
-    pub(crate) seat: Seat,
-    pub(crate) drain: Drain,
-    pub(crate) events: EventQueue,
-    pub(crate) poster: Poster,
-    pub(crate) taker: Taker,
+pub struct Queues {
+    pub orders: SubmitQueue,
+    pub seat: Seat,
+    pub drain: Drain,
+    pub events: EventQueue,
+    pub poster: Poster,
+    pub taker: Taker,
 }
 
 impl Queues {
     ghost use Rattle.std.specs.Prelude.{IfOk};
-    ghost use Rattle.enet_serve.specs.Threads.{AreNew};
+    ghost use Rattle.enet_shift.specs.Shifts.{AreNew};
 
-    /// Queues of so many places each, in which nothing was put.
-    pub(crate) fn open(alloc: Global, room: u32) -> Result<Queues, Refusal>
+    /// Queues of so many places each, in which nothing was put. E8 where the places are out of 1 to 65,536, E1 for want of memory.
+    pub fn open(alloc: Global, room: u32) -> Result<Queues, Refusal>
         ensures { IfOk result AreNew }
     {
         let (orders, seats, drain) = SubmitQueue::open(alloc, room, 1, u32::MAX)?;

@@ -1,6 +1,6 @@
 use Rattle.std.proofs.Common.{List}
 use Rattle.enet_turn.specs.Run.{Round}
-use Rattle.enet_serve.proofs.shift.turns_of.Goals as goal
+use Rattle.enet_shift.proofs.shift.turns_of.Goals as goal
 
 pub returns-in-Ok-clause-turns : goal.returns-in-Ok-clause-turns
 returns-in-Ok-clause-turns g c =
