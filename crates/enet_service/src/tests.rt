@@ -4,12 +4,13 @@ mod failing;
 mod gate;
 mod loopback;
 
-use crate::{HostCore, MemorySource, Report, Service};
+use crate::{Fault, HostCore, MemorySink, MemorySource, Report, Service, Wire};
 use bytes::Bytes;
 use enet_submit::{Order, Submission};
 use enet_types::{Addr, Config, PeerRef, Refusal};
 use std::alloc::{AllocError, Global};
 use std::collections::VecDeque;
+use std::sync::Wait;
 
 // The other end of a joined host.
 const FAR: Addr = Addr {
@@ -50,6 +51,46 @@ fn source(alloc: Global, orders: Vec<Order>) -> Result<MemorySource, AllocError>
         number = number.saturating_add(1);
     }
     Ok(MemorySource::new(left))
+}
+
+// A joined host's service between its orders and its events.
+#[derive(Drop)]
+struct Stand {
+    source: MemorySource,
+    sink: MemorySink,
+    service: Service<HostCore>,
+}
+
+// A host with these orders, and room for so many events.
+fn stand_of(alloc: Global, orders: Vec<Order>, room: usize) -> Option<Stand> {
+    let source = source(alloc, orders).ok()?;
+    Some(Stand {
+        source,
+        sink: MemorySink::new(alloc, room),
+        service: joined(alloc).ok()?,
+    })
+}
+
+// A turn of so many milliseconds. No clause says what it does: the tests would carry it along.
+fn turn<R: Wait, W: Wire>(
+    rt: &R,
+    wire: &mut W,
+    stand: &mut Stand,
+    ms: u32,
+) -> Result<Report, Fault> {
+    let Stand {
+        source,
+        sink,
+        service,
+    } = stand;
+    service.turn(rt, wire, source, sink, ms)
+}
+
+fn wire_fault(report: Report) -> Result<Report, Fault> {
+    Err(Fault {
+        why: Refusal::WireFault,
+        report,
+    })
 }
 
 fn done(orders: u32, received: u32, sent: u32, lost: u32, events: u32) -> Report {

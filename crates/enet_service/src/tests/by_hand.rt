@@ -1,11 +1,15 @@
 //! Turns and runs over memory, by hand.
 
-use super::{FAR, PEER, done, joined, packet, source};
-use crate::{Fault, MemorySink, MemoryWire, Sink, Step, Told, Wire, run};
+use super::{FAR, PEER, Stand, done, packet, stand_of, turn, wire_fault};
+use crate::{Fault, MemorySink, MemoryWire, Report, Sink, Step, Told, Wire, run};
 use bytes::Bytes;
+use enet_submit::Order;
 use enet_types::{Event, PeerRef, Refusal};
+use std::alloc::{AllocError, Global};
 use std::collections::VecDeque;
+use std::sync::Wait;
 use std::test::Fail;
+use std::time::Clock;
 
 const HELLO: &[u8] = b"\x80\x00\x00\x64\x86\x00\x00\x01\x00\x05hello";
 
@@ -41,101 +45,135 @@ fn is_hello(event: Option<Event>) -> bool {
     }
 }
 
+// A wire on which these steps come to pass.
+fn wire(alloc: Global, steps: Vec<Step>) -> Result<MemoryWire, AllocError> {
+    let mut script = VecDeque::new(alloc);
+    for step in steps {
+        script.push_back(step)?;
+    }
+    Ok(MemoryWire::new(alloc, script))
+}
+
+// No orders, and room for nine events.
+fn without_orders(alloc: Global) -> Option<Stand> {
+    stand_of(alloc, Vec::new(alloc), 9)
+}
+
+// A turn in which the wire fails behind a datagram, and the next one, which goes on.
+fn goes_on_after_a_fault<R: Wait>(rt: &R, wire: &mut MemoryWire, stand: &mut Stand) -> bool {
+    turn(rt, wire, stand, 0) == wire_fault(done(0, 1, 0, 0, 0))
+        && turn(rt, wire, stand, 0) == Ok(done(0, 0, 1, 0, 1))
+        && last_sent(wire) == Some(ACKNOWLEDGED)
+        && is_hello(stand.sink.take())
+}
+
 #[test]
 fn wire_fault_in_a_turn(rt: HostRuntime) -> Result<(), Fail> {
-    let mut script = VecDeque::new(rt.alloc());
-    script.push_back(datagram(HELLO))?;
-    script.push_back(Step::Fault)?;
-    let mut wire = MemoryWire::new(rt.alloc(), script);
-    let mut source = source(rt.alloc(), Vec::new(rt.alloc()))?;
-    let mut sink = MemorySink::new(rt.alloc(), 9);
-    let mut service = joined(rt.alloc())?;
-    let turn = service.turn(&rt, &mut wire, &mut source, &mut sink, 0);
-    let fault = Fault {
-        why: Refusal::WireFault,
-        report: done(0, 1, 0, 0, 0),
-    };
-    assert_eq!(rt; turn, Err(fault));
-    let turn = service.turn(&rt, &mut wire, &mut source, &mut sink, 0);
-    assert_eq!(rt; turn, Ok(done(0, 0, 1, 0, 1)));
-    assert!(rt; last_sent(&wire) == Some(ACKNOWLEDGED));
-    assert!(rt; is_hello(sink.take()));
+    let steps = vec![in rt.alloc(); datagram(HELLO), Step::Fault]?;
+    let mut wire = wire(rt.alloc(), steps)?;
+    let mut stand = without_orders(rt.alloc()).ok_or("memory")?;
+    assert!(rt; goes_on_after_a_fault(&rt, &mut wire, &mut stand));
     Ok(())
+}
+
+// A turn whose send blocks, and one half a second later, which sends again.
+fn sends_again<R: Wait>(rt: &R, wire: &mut MemoryWire, stand: &mut Stand) -> bool {
+    turn(rt, wire, stand, 0) == Ok(done(1, 0, 0, 1, 0))
+        && turn(rt, wire, stand, 500) == Ok(done(0, 0, 1, 0, 0))
+        && last_sent(wire) == Some(RESENT)
 }
 
 #[test]
 fn a_send_that_blocks(rt: HostRuntime) -> Result<(), Fail> {
-    let mut script = VecDeque::new(rt.alloc());
-    script.push_back(Step::Block)?;
-    let mut wire = MemoryWire::new(rt.alloc(), script);
+    let steps = vec![in rt.alloc(); Step::Block]?;
+    let mut wire = wire(rt.alloc(), steps)?;
     let orders = vec![in rt.alloc(); packet(PEER, Bytes::from_static(b"a"))]?;
-    let mut source = source(rt.alloc(), orders)?;
-    let mut sink = MemorySink::new(rt.alloc(), 9);
-    let mut service = joined(rt.alloc())?;
-    let turn = service.turn(&rt, &mut wire, &mut source, &mut sink, 0);
-    assert_eq!(rt; turn, Ok(done(1, 0, 0, 1, 0)));
-    let turn = service.turn(&rt, &mut wire, &mut source, &mut sink, 500);
-    assert_eq!(rt; turn, Ok(done(0, 0, 1, 0, 0)));
-    assert!(rt; last_sent(&wire) == Some(RESENT));
+    let mut stand = stand_of(rt.alloc(), orders, 9).ok_or("memory")?;
+    assert!(rt; sends_again(&rt, &mut wire, &mut stand));
     Ok(())
 }
 
-#[test]
-fn an_event_that_waits(rt: HostRuntime) -> Result<(), Fail> {
+// A packet to nobody, and one to the peer.
+fn two_packets(alloc: Global) -> Result<Vec<Order>, AllocError> {
     let nobody = PeerRef {
         slot: 5,
         generation: 0,
     };
-    let orders = vec![in rt.alloc();
+    let orders = vec![in alloc;
         packet(nobody, Bytes::from_static(b"x")),
         packet(PEER, Bytes::from_static(b"a")),
     ]?;
-    let mut wire = MemoryWire::new(rt.alloc(), VecDeque::new(rt.alloc()));
-    let mut source = source(rt.alloc(), orders)?;
-    let mut sink = MemorySink::new(rt.alloc(), 1);
-    let first = Event::Connect {
+    Ok(orders)
+}
+
+// Puts an event where the one place for events is.
+fn fill<R: Wait>(rt: &R, sink: &mut MemorySink) -> bool {
+    let event = Event::Connect {
         peer: PEER,
         info: 0,
     };
-    assert!(rt; sink.put(&rt, first).is_ok());
-    let mut service = joined(rt.alloc())?;
-    let turn = service.turn(&rt, &mut wire, &mut source, &mut sink, 0);
-    assert_eq!(rt; turn, Ok(done(1, 0, 0, 0, 0)));
-    let turn = service.turn(&rt, &mut wire, &mut source, &mut sink, 0);
-    assert_eq!(rt; turn, Ok(done(0, 0, 0, 0, 0)));
-    assert!(rt; sink.take().is_some());
-    let turn = service.turn(&rt, &mut wire, &mut source, &mut sink, 0);
-    assert_eq!(rt; turn, Ok(done(1, 0, 1, 0, 1)));
-    let refused = match sink.take() {
+    sink.put(rt, event).is_ok()
+}
+
+// The refused order: its seat, its number and why.
+fn refused(event: Option<Event>) -> Option<(u8, u32, Refusal)> {
+    match event {
         Some(Event::Refused { seat, number, why }) => Some((seat, number, why)),
         _ => None,
-    };
-    assert_eq!(rt; refused, Some((3, 0, Refusal::NoSuchPeer)));
+    }
+}
+
+// Two turns with no room for the event, and one after room was made.
+fn waits_for_room<R: Wait>(rt: &R, wire: &mut MemoryWire, stand: &mut Stand) -> bool {
+    fill(rt, &mut stand.sink)
+        && turn(rt, wire, stand, 0) == Ok(done(1, 0, 0, 0, 0))
+        && turn(rt, wire, stand, 0) == Ok(done(0, 0, 0, 0, 0))
+        && stand.sink.take().is_some()
+        && turn(rt, wire, stand, 0) == Ok(done(1, 0, 1, 0, 1))
+        && refused(stand.sink.take()) == Some((3, 0, Refusal::NoSuchPeer))
+}
+
+#[test]
+fn an_event_that_waits(rt: HostRuntime) -> Result<(), Fail> {
+    let mut wire = wire(rt.alloc(), Vec::new(rt.alloc()))?;
+    let mut stand = stand_of(rt.alloc(), two_packets(rt.alloc())?, 1).ok_or("memory")?;
+    assert!(rt; waits_for_room(&rt, &mut wire, &mut stand));
     Ok(())
+}
+
+// A run of three turns.
+fn three_turns<R: Wait + Clock>(
+    rt: &R,
+    wire: &mut MemoryWire,
+    stand: &mut Stand,
+) -> Result<Report, Fault> {
+    let Stand {
+        source,
+        sink,
+        service,
+    } = stand;
+    run(rt, service, wire, source, sink, 3)
+}
+
+// Two datagrams, each in a turn of its own.
+fn two_datagrams(alloc: Global) -> Result<Vec<Step>, AllocError> {
+    let steps = vec![in alloc;
+        Step::Wait { ms: 7 },
+        datagram(HELLO),
+        Step::Wait { ms: 9 },
+        datagram(BYE),
+    ]?;
+    Ok(steps)
 }
 
 #[test]
 fn a_run_and_its_faults(rt: HostRuntime) -> Result<(), Fail> {
-    let mut script = VecDeque::new(rt.alloc());
-    script.push_back(Step::Wait { ms: 7 })?;
-    script.push_back(datagram(HELLO))?;
-    script.push_back(Step::Wait { ms: 9 })?;
-    script.push_back(datagram(BYE))?;
-    let mut wire = MemoryWire::new(rt.alloc(), script);
-    let mut source = source(rt.alloc(), Vec::new(rt.alloc()))?;
-    let mut sink = MemorySink::new(rt.alloc(), 9);
-    let mut service = joined(rt.alloc())?;
-    let sums = run(&rt, &mut service, &mut wire, &mut source, &mut sink, 3);
-    assert_eq!(rt; sums, Ok(done(0, 2, 2, 0, 2)));
-    let mut script = VecDeque::new(rt.alloc());
-    script.push_back(Step::Fault)?;
-    let mut wire = MemoryWire::new(rt.alloc(), script);
-    let fault = Fault {
-        why: Refusal::WireFault,
-        report: done(0, 0, 0, 0, 0),
-    };
-    let sums = run(&rt, &mut service, &mut wire, &mut source, &mut sink, 3);
-    assert_eq!(rt; sums, Err(fault));
-    assert_eq!(rt; wire.failures(), 1);
+    let mut first = wire(rt.alloc(), two_datagrams(rt.alloc())?)?;
+    let mut second = wire(rt.alloc(), vec![in rt.alloc(); Step::Fault]?)?;
+    let mut stand = without_orders(rt.alloc()).ok_or("memory")?;
+    assert!(rt; three_turns(&rt, &mut first, &mut stand) == Ok(done(0, 2, 2, 0, 2)));
+    let sums = three_turns(&rt, &mut second, &mut stand);
+    assert!(rt; sums == wire_fault(done(0, 0, 0, 0, 0)));
+    assert!(rt; second.failures() == 1);
     Ok(())
 }

@@ -1,12 +1,12 @@
 //! A turn with three datagrams in and three out, in which each call of the wire fails in its turn, and each send blocks.
 
-use super::{FAR, PEER, done, joined, packet, source};
-use crate::{Fault, MemorySink, Report, Wire};
+use super::{FAR, PEER, Stand, done, packet, stand_of, turn, wire_fault};
+use crate::{Fault, Report, Wire};
 use bytes::Bytes;
+use enet_submit::Order;
 use enet_types::{Addr, Refusal};
-use std::alloc::Global;
+use std::alloc::{AllocError, Global};
 use std::sync::Wait;
-use std::test::Fail;
 use std::time::Clock;
 
 // Three packets so long that each goes in a datagram of its own, and the byte that each is made of.
@@ -121,30 +121,31 @@ type Seen = (
     [u8; 3],
 );
 
-fn two_turns<R: Wait>(rt: &R, alloc: Global, mut wire: FailingWire) -> Result<Seen, Fail> {
+fn two_turns<R: Wait>(rt: &R, wire: &mut FailingWire, stand: &mut Stand) -> Seen {
+    let first = turn(rt, wire, stand, 0);
+    let went = wire.went;
+    let second = turn(rt, wire, stand, 0);
+    (first, went, second, wire.went)
+}
+
+// To send the three packets.
+fn orders(alloc: Global) -> Result<Vec<Order>, AllocError> {
     let orders = vec![in alloc;
         packet(PEER, Bytes::from_static(&LONG[0])),
         packet(PEER, Bytes::from_static(&LONG[1])),
         packet(PEER, Bytes::from_static(&LONG[2])),
     ]?;
-    let mut source = source(alloc, orders)?;
-    let mut sink = MemorySink::new(alloc, 9);
-    let mut service = joined(alloc)?;
-    let first = service.turn(rt, &mut wire, &mut source, &mut sink, 0);
-    let went = wire.went;
-    let second = service.turn(rt, &mut wire, &mut source, &mut sink, 0);
-    Ok((first, went, second, wire.went))
+    Ok(orders)
 }
 
-fn fault(report: Report) -> Result<Report, Fault> {
-    Err(Fault {
-        why: Refusal::WireFault,
-        report,
-    })
+fn seen<R: Wait>(rt: &R, alloc: Global, fails_at: u32, blocks_at: u32) -> Option<Seen> {
+    let mut wire = wire(fails_at, blocks_at);
+    let mut stand = stand_of(alloc, orders(alloc).ok()?, 9)?;
+    Some(two_turns(rt, &mut wire, &mut stand))
 }
 
 #[test]
-fn each_call_fails_in_its_turn(rt: HostRuntime) -> Result<(), Fail> {
+fn each_call_fails_in_its_turn(rt: HostRuntime) {
     let rows = [
         (done(3, 0, 0, 0, 0), *b"---", done(0, 3, 3, 0, 3), *b"abc"),
         (done(3, 1, 0, 0, 0), *b"---", done(0, 2, 3, 0, 3), *b"abc"),
@@ -157,22 +158,23 @@ fn each_call_fails_in_its_turn(rt: HostRuntime) -> Result<(), Fail> {
     let mut call = 0u32;
     for (first, went, second, after) in rows {
         call = call.saturating_add(1);
-        let seen = two_turns(&rt, rt.alloc(), wire(call, 0))?;
-        assert!(rt; seen == (fault(first), went, Ok(second), after));
+        let wanted = (wire_fault(first), went, Ok(second), after);
+        assert!(rt;
+            seen(&rt, rt.alloc(), call, 0) == Some(wanted),
+            "call {call}"
+        );
     }
-    let seen = two_turns(&rt, rt.alloc(), wire(8, 0))?;
-    let all = (
-        Ok(done(3, 3, 3, 0, 3)),
-        *b"abc",
-        fault(done(0, 0, 0, 0, 0)),
-        *b"abc",
-    );
-    assert!(rt; seen == all);
-    Ok(())
 }
 
 #[test]
-fn each_send_blocks_in_its_turn(rt: HostRuntime) -> Result<(), Fail> {
+fn the_call_behind_a_turn_fails(rt: HostRuntime) {
+    let first = Ok(done(3, 3, 3, 0, 3));
+    let second = wire_fault(done(0, 0, 0, 0, 0));
+    assert!(rt; seen(&rt, rt.alloc(), 8, 0) == Some((first, *b"abc", second, *b"abc")));
+}
+
+#[test]
+fn each_send_blocks_in_its_turn(rt: HostRuntime) {
     let rows = [
         (done(3, 3, 0, 1, 3), *b"---", done(0, 0, 2, 0, 0), *b"bc-"),
         (done(3, 3, 1, 1, 3), *b"a--", done(0, 0, 1, 0, 0), *b"ac-"),
@@ -181,8 +183,10 @@ fn each_send_blocks_in_its_turn(rt: HostRuntime) -> Result<(), Fail> {
     let mut send = 0u32;
     for (first, went, second, after) in rows {
         send = send.saturating_add(1);
-        let seen = two_turns(&rt, rt.alloc(), wire(0, send))?;
-        assert!(rt; seen == (Ok(first), went, Ok(second), after));
+        let wanted = (Ok(first), went, Ok(second), after);
+        assert!(rt;
+            seen(&rt, rt.alloc(), 0, send) == Some(wanted),
+            "send {send}"
+        );
     }
-    Ok(())
 }

@@ -1,13 +1,14 @@
 //! A game thread gets on while the service is inside its wire: no lock stands round host and queues.
-ghost use Rattle.std.specs.Prelude.{IfSome};
+ghost use Rattle.std.specs.Prelude.{◌≡◌, IfSome};
 ghost use Rattle.enet_submit.specs.Words.{IsSeatOf, IsDrainOf};
 
 use super::{FAR, PEER, done, joined, packet};
 use crate::{
-    Bell, Desk, Inbox, MioWire, QueueSink, QueueSource, Report, TakerBell, Wire, run_between_queues,
+    Bell, Desk, HostCore, Inbox, MioWire, QueueSink, QueueSource, Report, Service, TakerBell, Wire,
+    run_between_queues,
 };
 use bytes::Bytes;
-use enet_events::EventQueue;
+use enet_events::{EventQueue, Poster, Taker};
 use enet_submit::{Drain, Seat, SubmitQueue};
 use enet_types::{Addr, Refusal};
 use std::alloc::Global;
@@ -29,6 +30,17 @@ struct Gate {
     submitted: AtomicBool,
     sending: AtomicBool,
     taken: AtomicBool,
+}
+
+impl Gate {
+    fn new() -> Gate {
+        Gate {
+            receiving: AtomicBool::new(false),
+            submitted: AtomicBool::new(false),
+            sending: AtomicBool::new(false),
+            taken: AtomicBool::new(false),
+        }
+    }
 }
 
 fn comes(flag: &AtomicBool) -> bool {
@@ -117,6 +129,27 @@ fn one_seat(alloc: Global) -> Option<(SubmitQueue, Seat, Drain)>
     Some((queue, seat, drain))
 }
 
+// A queue of one taker.
+fn one_taker(alloc: Global) -> Option<(EventQueue, Poster, Taker)>
+    ensures poster { IfSome result (λ r. r.1.queue ≡ r.0.id) }
+    ensures taker { IfSome result (λ r. r.2.queue ≡ r.0.id) }
+{
+    let (queue, poster, mut takers) = EventQueue::open(alloc, 9, 1).ok()?;
+    let taker = takers.pop()?;
+    Some((queue, poster, taker))
+}
+
+// Two turns between the queues.
+fn two_turns<R: Wait + Clock>(
+    rt: &R,
+    service: &mut Service<HostCore>,
+    wire: &mut GateWire<'_>,
+    source: &mut QueueSource<'_>,
+    sink: &mut QueueSink<'_>,
+) -> Option<Report> {
+    run_between_queues(rt, service, wire, source, sink, 2).ok()
+}
+
 // Two turns of a joined host between the queues: their report, and how often the wire's wait for the game thread was heard.
 fn serve<R: Wait + Clock>(
     rt: &R,
@@ -133,40 +166,43 @@ fn serve<R: Wait + Clock>(
         failures: 0,
     };
     let mut service = joined(alloc).ok()?;
-    let sums = run_between_queues(rt, &mut service, &mut wire, &mut source, &mut sink, 2);
-    Some((sums.ok()?, wire.passed))
+    let report = two_turns(rt, &mut service, &mut wire, &mut source, &mut sink)?;
+    Some((report, wire.passed))
 }
 
 // Whether the game thread played through, and what the service did meanwhile.
-fn both<R: Threads + Wait + Clock + Sync>(
+type Both = (bool, Option<(Report, u32)>);
+
+fn side_by_side<R: Threads + Wait + Clock + Sync>(
     rt: &R,
     alloc: Global,
-    bell: &Bell,
-) -> Option<(bool, Option<(Report, u32)>)> {
-    let taker_bell = TakerBell::new();
-    let taker_bell = &taker_bell;
-    let (orders, seat, drain) = one_seat(alloc)?;
-    let orders = &orders;
-    let (events, poster, mut takers) = EventQueue::open(alloc, 9, 1).ok()?;
-    let events = &events;
-    let taker = takers.pop()?;
-    let gate = Gate {
-        receiving: AtomicBool::new(false),
-        submitted: AtomicBool::new(false),
-        sending: AtomicBool::new(false),
-        taken: AtomicBool::new(false),
-    };
+    game: (Desk<'_>, Inbox<'_>),
+    service: (QueueSource<'_>, QueueSink<'_>),
+) -> Both {
+    let gate = Gate::new();
     let gate = &gate;
-    let desk = Desk::new(alloc, orders, seat, bell);
-    let inbox = Inbox::new(events, taker);
-    let source = QueueSource::new(orders, drain, bell);
-    let sink = QueueSink::new(events, poster, taker_bell);
-    let (played, served) = thread::join(
+    let (desk, inbox) = game;
+    let (source, sink) = service;
+    thread::join(
         rt,
         move || play(rt, gate, desk, inbox),
         move || serve(rt, alloc, gate, source, sink),
+    )
+}
+
+fn both<R: Threads + Wait + Clock + Sync>(rt: &R, alloc: Global, bell: &Bell) -> Option<Both> {
+    let taker_bell = TakerBell::new();
+    let (orders, seat, drain) = one_seat(alloc)?;
+    let (events, poster, taker) = one_taker(alloc)?;
+    let game = (
+        Desk::new(alloc, &orders, seat, bell),
+        Inbox::new(&events, taker),
     );
-    Some((played, served))
+    let service = (
+        QueueSource::new(&orders, drain, bell),
+        QueueSink::new(&events, poster, &taker_bell),
+    );
+    Some(side_by_side(rt, alloc, game, service))
 }
 
 #[test]
@@ -177,6 +213,6 @@ fn gate_submit_during_recv(rt: HostRuntime) -> Result<(), Fail> {
     };
     let bell = MioWire::bind(&rt, here)?.bell()?;
     let done = done(1, 1, 2, 0, 1);
-    assert_eq!(rt; both(&rt, rt.alloc(), &bell), Some((true, Some((done, 2)))));
+    assert!(rt; both(&rt, rt.alloc(), &bell) == Some((true, Some((done, 2)))));
     Ok(())
 }
