@@ -76,10 +76,10 @@ fn connect_handshake(rt: HostRuntime) {
     let server = server_that_had(0xFF);
     let verify = verify_with(0, 0x0102_0304);
     let terms = Some(terms_with(0, 0x0102_0304));
-    assert_eq!(rt; verification(&offer, &server), verify);
-    assert_eq!(rt; answer(&offer, &server), terms);
-    assert_eq!(rt; confirm(&offer, &verify), terms);
-    assert_eq!(rt; asked_terms(&offer).slot, 0xFFF);
+    assert!(rt; verification(&offer, &server) == verify);
+    assert!(rt; answer(&offer, &server) == terms);
+    assert!(rt; confirm(&offer, &verify) == terms);
+    assert!(rt; asked_terms(&offer).slot == 0xFFF);
 }
 
 // The second connection of the same slots: the client names the sessions that its slot had, and another connect id.
@@ -95,10 +95,10 @@ fn connect_again(rt: HostRuntime) {
     let server = server_that_had(0);
     let verify = verify_with(1, 0xA);
     let terms = Some(terms_with(1, 0xA));
-    assert_eq!(rt; verification(&offer, &server), verify);
-    assert_eq!(rt; answer(&offer, &server), terms);
-    assert_eq!(rt; confirm(&offer, &verify), terms);
-    assert_eq!(rt; confirm(&offer, &verify_with(0, 0x0102_0304)), None);
+    assert!(rt; verification(&offer, &server) == verify);
+    assert!(rt; answer(&offer, &server) == terms);
+    assert!(rt; confirm(&offer, &verify) == terms);
+    assert!(rt; confirm(&offer, &verify_with(0, 0x0102_0304)) == None);
 }
 
 #[test]
@@ -111,10 +111,6 @@ fn sessions_in_turn(rt: HostRuntime) {
         (3, 0xFF, 0),
         (3, 0, 1),
     ] {
-        assert_eq!(rt;
-            next_session(received, held),
-            next,
-            "{received} after {held}"
-        );
+        assert!(rt; next_session(received, held) == next);
     }
 }
