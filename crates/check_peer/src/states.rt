@@ -59,15 +59,29 @@ pub fn commands(alloc: Global, text: &[u8]) -> Option<String> {
     let mut told = String::new(alloc);
     let mut before = "";
     for command in COMMANDS {
-        let mut text = String::new(alloc);
-        text.push_str(str::from_utf8(header).ok()?).ok()?;
-        text.push_str(command).ok()?;
-        let (datagram, _) = bytes_word(alloc, text.as_bytes()).ok()??;
         told.push_str(before).ok()?;
-        push_arrival_in(alloc, &mut told, state, datagram.as_slice())?;
+        push_command_in(alloc, &mut told, state, header, command)?;
         before = " ";
     }
     Some(told)
+}
+
+/// A command behind a header, in hex.
+fn datagram_text(alloc: Global, header: &[u8], command: &str) -> Option<String> {
+    let header = str::from_utf8(header).ok()?;
+    format!(in alloc; "{header}{command}").ok()
+}
+
+fn push_command_in(
+    alloc: Global,
+    told: &mut String,
+    state: &[u8],
+    header: &[u8],
+    command: &str,
+) -> Option<()> {
+    let text = datagram_text(alloc, header, command)?;
+    let (datagram, _) = bytes_word(alloc, text.as_bytes()).ok()??;
+    push_arrival_in(alloc, told, state, datagram.as_slice())
 }
 
 fn push_arrival_in(alloc: Global, told: &mut String, state: &[u8], datagram: &[u8]) -> Option<()> {
