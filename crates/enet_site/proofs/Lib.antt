@@ -1,0 +1,8 @@
+pub mod MarkLemmas
+pub mod Bounds
+pub mod Places
+pub mod Ends
+pub mod Fresh
+pub mod Reading
+pub mod Noting
+pub mod Refusing

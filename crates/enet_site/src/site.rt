@@ -1,0 +1,121 @@
+//! A host in a network, at its address.
+
+ghost use Rattle.std.specs.Prelude.{◌≡◌, ℕ, [], ◌∷◌, true, false, IfOk, IfErr, OnOk, OnErr, Some, slice_get};
+ghost use Rattle.std.specs.Option.{option_copied, option_map};
+ghost use Rattle.enet_types.specs.Config.{is_in_range};
+ghost use Rattle.enet_host.specs.Opening.{opened, joined};
+ghost use Rattle.enet_network.specs.Headline.{submitted_at, taken_at, events_at};
+ghost use Rattle.enet_network.specs.Network.{end_of, delivery_refusal};
+ghost use Rattle.enet_network.specs.World.{joined_end};
+ghost use Rattle.enet_site.specs.Turning.{TurnsAt};
+
+use crate::delivery::refusal_of;
+use crate::end;
+use crate::records::Records;
+use crate::turn::turn;
+use enet_host::HostCore;
+use enet_types::{Addr, Config, Event, Packet, Refusal};
+use std::alloc::Global;
+use std::marker::Model;
+
+/// A host at its address, with all that is kept of it: the datagrams that it put out, and its ends of connections, each with
+/// what its user submitted and took and how far its numbers have come.
+#[derive(Drop)]
+pub struct Site {
+    address: Addr,
+    host: HostCore,
+    records: Records,
+}
+
+impl Model for Site {
+    ghost use Rattle.enet_network.specs.Network.{Site};
+    ghost use Rattle.enet_site.specs.Records.{site, AreOwned};
+    ghost use Rattle.std.specs.Coded.{codes};
+    ghost use Rattle.enet_inbox.specs.Codes.{inbox_code};
+
+    ghost Value = { Site };
+
+    ghost coded = { Prim.hlevel (codes, inbox_code) };
+
+    ghost view = { λ s. site s.address s.host s.records };
+
+    ghost invariant = { λ s. AreOwned s.host s.records.ends };
+}
+
+impl Site {
+    /// A host with these settings at this address, whose slots are all free. E8 where a number of the settings is out of its
+    /// range, E1 where memory is refused.
+    pub fn open(alloc: Global, address: Addr, config: Config) -> Result<Site, Refusal>
+        ensures out_of_range { is_in_range config ≡ false → result ≡ Err Refusal.BadConfig }
+        ensures in_range { is_in_range config ≡ true → IfErr result (λ why. why ≡ Refusal.Memory) }
+        ensures fresh { IfOk result (λ s. s ≡ record { address = address; host = opened config; log = []; ends = [] }) }
+    {
+        Ok(Site {
+            address,
+            host: HostCore::open(alloc, config)?,
+            records: Records::open(alloc),
+        })
+    }
+
+    /// A host with these settings at this address, which is connected from the start, by connection 0, to slot 0 of the host at
+    /// the address `far`. E8 and E1 as by `open`.
+    pub fn joined(alloc: Global, address: Addr, config: Config, far: Addr) -> Result<Site, Refusal>
+        ensures out_of_range { is_in_range config ≡ false → result ≡ Err Refusal.BadConfig }
+        ensures in_range { is_in_range config ≡ true → IfErr result (λ why. why ≡ Refusal.Memory) }
+        ensures fresh { IfOk result (λ s. s ≡ record { address = address; host = joined config far; log = []; ends = joined_end ∷ [] }) }
+    {
+        Ok(Site {
+            address,
+            host: HostCore::joined(alloc, config, far)?,
+            records: Records::joined(alloc)?,
+        })
+    }
+
+    /// The host may put out one datagram, which gets the site's next number, from 0; None where it has nothing to send. `far`
+    /// is the other host. E1 where memory is refused, with nothing changed.
+    pub fn turn(&mut self, alloc: Global, far: &Site) -> Result<Option<u64>, Refusal>
+        ensures memory { IfErr result (λ why. why ≡ Refusal.Memory) }
+        ensures unchanged { OnErr result (self.new ≡ self.old) }
+        ensures turns { IfOk result (λ sent. TurnsAt far.now sent self.old self.new) }
+    {
+        turn(&mut self.host, &mut self.records, &far.records, alloc)
+    }
+
+    /// The first refusal but want of memory that datagram `k` of the host `from` meets here, if there is one: E13 where `from`
+    /// has put out fewer, E12 where it is of an earlier connection, E11 where a command of it is more than 32,768 late.
+    pub fn delivery_refusal(&self, from: &Site, k: u64) -> Option<Refusal>
+        ensures { result ≡ delivery_refusal from.now self.now (slice_get from.now.log k) }
+    {
+        refusal_of(&self.host, &self.records, from.address, &from.records, k)
+    }
+
+    /// The bytes of a datagram that the host put out, or None where it has put out fewer.
+    pub fn datagram(&self, k: u64) -> Option<&[u8]>
+        ensures { option_copied result ≡ option_map (λ d. d.text) (slice_get self.now.log k) }
+    {
+        let datagram = self.records.logged(k)?;
+        Some(&datagram.text)
+    }
+
+    /// What the user of this end of a connection submitted on a channel, in order; empty where there is no such connection or
+    /// channel.
+    pub fn submitted(&self, connection: u64, channel: u8) -> &[Packet]
+        ensures { result.now ≡ submitted_at channel (end_of connection self.now.ends) }
+    {
+        end::submitted(&self.records.ends, connection, channel)
+    }
+
+    /// What the user of this end of a connection took of a channel, in order.
+    pub fn taken(&self, connection: u64, channel: u8) -> &[Packet]
+        ensures { result.now ≡ taken_at channel (end_of connection self.now.ends) }
+    {
+        end::taken(&self.records.ends, connection, channel)
+    }
+
+    /// The events that the user of this end of a connection took, in order.
+    pub fn events(&self, connection: u64) -> &[Event]
+        ensures { result.now ≡ events_at (end_of connection self.now.ends) }
+    {
+        end::events(&self.records.ends, connection)
+    }
+}

@@ -1,0 +1,62 @@
+//! A host may put out a datagram, which is logged.
+
+ghost use Rattle.std.specs.Prelude.{◌≡◌, ◌+◌, ◌≤◌, [], vec_len, vec_capacity, IfSome, IfNone, IfOk, IfErr, OnErr};
+ghost use Rattle.enet_site.specs.Records.{AreOwned};
+ghost use Rattle.enet_site.specs.Turning.{Rests, Gives, Turns};
+
+use crate::marks::MAX_COMMANDS;
+use crate::records::{Records, note};
+use enet_host::HostCore;
+use enet_types::{Addr, PeerRef, Refusal};
+use std::alloc::Global;
+
+/// The greatest length of a datagram, in bytes.
+const MAX_DATAGRAM: usize = 4096;
+
+/// The bytes of the host's next datagram, put into a vector that has room for them: whose it is and where it goes.
+fn emit(host: &mut HostCore, room: Vec<u8>) -> Option<(PeerRef, Addr, Vec<u8>)>
+    requires empty { room.items ≡ [] }
+    requires room { vec_len room + 4096 ≤ vec_capacity room }
+    ensures none { IfNone result (Rests host.old host.new) }
+    ensures gives { IfSome result (λ gave. Gives host.old gave.0 gave.1 gave.2.items host.new) }
+{
+    let mut buf = [0; MAX_DATAGRAM];
+    let (name, to, len) = host.service(&mut buf)?;
+    let mut text = room;
+    let _ = text.extend_from_slice(&buf[..len]);
+    text.shrink_to_fit();
+    Some((name, to, text))
+}
+
+/// The host may put out a datagram, which gets the next number. `far` is what is kept of the other host. E1 where memory is
+/// refused, with nothing changed.
+pub(crate) fn turn(
+    host: &mut HostCore,
+    own: &mut Records,
+    far: &Records,
+    alloc: Global,
+) -> Result<Option<u64>, Refusal>
+    requires { AreOwned host.old own.old.ends }
+    ensures memory { IfErr result (λ why. why ≡ Refusal.Memory) }
+    ensures host { OnErr result (host.new ≡ host.old) }
+    ensures unchanged { OnErr result (own.new ≡ own.old) }
+    ensures turns { IfOk result (λ sent. Turns far.now.ends sent host.old own.old host.new own.new) }
+{
+    let Ok(room) = Vec::with_capacity(alloc, MAX_DATAGRAM) else {
+        return Err(Refusal::Memory);
+    };
+    let Ok(marks) = Vec::with_capacity(alloc, MAX_COMMANDS) else {
+        return Err(Refusal::Memory);
+    };
+    let log = &mut own.log;
+    if log.reserve(1).is_err() {
+        return Err(Refusal::Memory);
+    }
+    let Some((name, to, text)) = emit(host, room) else {
+        return Ok(None);
+    };
+    let number = log.len() as u64;
+    let datagram = note(&mut own.ends, &far.ends, name, to, text, marks);
+    log.push_reserved(datagram);
+    Ok(Some(number))
+}
