@@ -18,42 +18,61 @@ pub enum WorldEvent {
     /// The user of a side asks for a connection to the other side, with a connect id: E8, E7, E1. Accepted ones number the
     /// connections from 0.
     Connect {
+        /// The side whose user asks.
         side: Side,
+        /// How many channels it asks for; 0 is refused.
         channels: u8,
+        /// A word for the other side's user.
         info: u32,
+        /// The connect id.
         word: u32,
     },
     /// The user of a side submits a packet to a peer: E2, E3, E4, E5, E1.
     Submit {
+        /// The side whose user submits.
         side: Side,
+        /// Its peer.
         peer: PeerRef,
+        /// Below the peer's number of channels.
         channel: u8,
+        /// RELIABLE 1, UNSEQUENCED 2, UNRELIABLE_FRAGMENT 8; others are ignored.
         flags: u8,
+        /// The packet's bytes.
         body: Bytes,
     },
     /// The network brings a side datagram `k` of the other side, from 0: E13, E12, E11, E1.
     Deliver {
+        /// The side to which the datagram comes.
         side: Side,
+        /// Its number among those that the other side has put out.
         k: u64,
     },
     /// A side may put out one datagram, which gets the side's next number: E1.
     Turn {
+        /// The side that may put a datagram out.
         side: Side,
     },
     /// The clock of a side goes on by so many milliseconds, at most 60,000.
     Tick {
+        /// The side whose clock goes on.
         side: Side,
+        /// Milliseconds; more than 60,000 count as 60,000.
         ms: u32,
     },
     /// The user of a side takes its next event: E1.
     Take {
+        /// The side whose user takes.
         side: Side,
     },
     /// The user of a side ends a connection, with a word for the other's user: E2, E3.
     Disconnect {
+        /// The side whose user ends the connection.
         side: Side,
+        /// Its peer.
         peer: PeerRef,
+        /// At once, by asking the other side, or later.
         how: DisconnectMode,
+        /// A word for the other side's user.
         info: u32,
     },
 }
