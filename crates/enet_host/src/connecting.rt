@@ -49,7 +49,7 @@ impl Slot {
     {
         self.address = address;
         self.emitted = 0;
-        self.peer = Some(peer);
+        self.hold(Some(peer));
     }
 
     /// Gives the slot to a peer that is connected from the start. E1 where memory is refused, with nothing changed.

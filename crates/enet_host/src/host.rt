@@ -7,7 +7,7 @@ ghost use Rattle.enet_host.specs.Host.{Keeps, KeepsRest};
 ghost use Rattle.enet_host.specs.Opening.{opened, joined, Opens, Connects};
 ghost use Rattle.enet_host.specs.Receiving.{Receives};
 ghost use Rattle.enet_host.specs.Serving.{Serves};
-ghost use Rattle.enet_host.specs.Ticking.{ticked};
+ghost use Rattle.enet_host.specs.Ticking.{ticked, clock_after};
 ghost use Rattle.enet_host.specs.Calls.{with_bandwidth, Takes, Shows};
 ghost use Rattle.enet_host.specs.Calls as calls;
 
@@ -30,6 +30,13 @@ const LONGEST_TICK: u32 = 60_000;
 
 /// How many milliseconds pass at least between two moments at which the bandwidth is shared out (our profile).
 const SHARING_INTERVAL: u32 = 1000;
+
+/// The clock after so many milliseconds, of which a minute counts at most.
+fn clock_after(clock: u32, ms: u32) -> u32
+    ensures { result ≡ clock_after clock ms }
+{
+    clock.wrapping_add(ms.min(LONGEST_TICK))
+}
 
 /// A host of ENet 1.3 without a socket. It has a fixed number of slots, each of which is free or holds one peer; contracts see
 /// it as a `Host`: its settings, clock and totals, and what each slot holds. Times are in milliseconds.
@@ -176,7 +183,7 @@ impl HostCore {
     pub fn tick(&mut self, ms: u32)
         ensures { self.new ≡ ticked self.old ms }
     {
-        self.start.clock = self.start.clock.wrapping_add(ms.min(LONGEST_TICK));
+        self.start.clock = clock_after(self.start.clock, ms);
         tick_all(&mut self.slots, self.start.clock);
         if elapsed(self.start.clock, self.shared_at) >= SHARING_INTERVAL {
             self.shared_at = self.start.clock;

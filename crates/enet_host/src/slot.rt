@@ -4,7 +4,7 @@ ghost use Rattle.std.specs.Prelude.{◌≡◌, is_some};
 ghost use Rattle.enet_host.specs.Host.{changed, with_generation, peer_in, name_of};
 ghost use Rattle.enet_host.specs.Opening.{unused_slot, is_available};
 ghost use Rattle.enet_host.specs.Receiving.{is_connection};
-ghost use Rattle.enet_host.specs.Shown.{shown};
+ghost use Rattle.enet_host.specs.Shown.{shown, peer_shown};
 
 use crate::receiving::is_deaf;
 use enet_peer::{Peer, PeerState};
@@ -65,7 +65,14 @@ impl Slot {
         self.generation = self.generation.saturating_add(1);
         self.incoming_session = terms.incoming_session;
         self.outgoing_session = terms.outgoing_session;
-        self.peer = None;
+        self.hold(None);
+    }
+
+    /// From now on it holds this peer, or none.
+    pub fn hold(&mut self, peer: Option<Peer>)
+        ensures { shown self.new ≡ record (shown self.old) { peer = peer_shown peer } }
+    {
+        self.peer = peer;
     }
 
     /// Whether it holds a connection with this address and connect id, which takes something in.
