@@ -1,3 +1,4 @@
+use Rattle.std.proofs.Common.{rules}
 use Rattle.enet_types.specs.declared.event.DisconnectMode.TheVariants as mode
 use Rattle.enet_host.specs.Calls.{leaving}
 use Rattle.enet_host.specs.Shown.{all_shown}
@@ -9,3 +10,6 @@ invariant_of-self c =
     keeps-after c.self.inside.start.config.peers c.self.inside.start.config.generations c.self.inside.service_from c.self.inside.event_from c.self.inside.service_from c.self.inside.event_from c.self.inside.slots.items c.disconnect.new.slots.items c.self.invariant
     c.disconnect.ensures.count c.self.invariant.service c.self.invariant.event
     (does-held (all_shown c.self.inside.slots.items) (all_shown c.disconnect.new.slots.items) c.args.peer (leaving mode.Now c.args.info) c.disconnect.result c.self.invariant.held c.disconnect.ensures.does)
+
+pub returns-clause-disconnects : goal.returns-clause-disconnects
+returns-clause-disconnects c = search rules

@@ -1,3 +1,5 @@
+use Rattle.std.proofs.Common.{arith}
+use Rattle.std.proofs.lemmas.Grind.{common_steps}
 use Rattle.enet_host.specs.Shown.{all_shown}
 use Rattle.enet_host.proofs.Holding.{keeps-after, served-held, passed-held}
 use Rattle.enet_host.proofs.host.HostCore.service.Goals as goal
@@ -13,3 +15,6 @@ invariant_of-self-2 c =
     keeps-after c.self.inside.start.config.peers c.self.inside.start.config.generations c.self.inside.service_from c.self.inside.event_from c.slot_after-self-inside.result c.self.inside.event_from c.self.inside.slots.items c.serve.new.slots.items c.self.invariant
     c.serve.ensures.count c.slot_after-self-inside.ensures.within c.self.invariant.event
     (served-held _ _ (all_shown c.self.inside.slots.items) (all_shown c.serve.new.slots.items) _ _ _ _ c.self.invariant.held c.in-Some.ensures.gives)
+
+pub returns-clause-serves : goal.returns-clause-serves
+returns-clause-serves c = grind (arith, common_steps)
