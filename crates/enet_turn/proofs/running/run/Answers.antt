@@ -1,4 +1,4 @@
-use Rattle.std.proofs.Common.{◌≡◌, ◌+◌, List, [], ◌∷◌, ◌++◌, Bool, Option, true, false, refl, subst, sym, ◌∙◌, inl, arith}
+use Rattle.std.proofs.Common.{◌≡◌, ◌+◌, List, [], ◌∷◌, ◌++◌, Bool, Option, true, false, refl, subst, sym, ◌∙◌, inl, arith, rules}
 use Rattle.std.proofs.lemmas.List.{length-append}
 use Rattle.std.proofs.lemmas.List.Elements.{All-nil, All-push}
 use Rattle.std.proofs.lemmas.Result.{err_from_is_err_and}
@@ -55,3 +55,6 @@ returns-in_err-report-clause-run g c =
       told_more _ _ _ _ _ _ _ rounds r inv.4 inv.5 c.in-Ok.ensures.told waited turn.3,
       rw (out.1, out.2) (inl (record { before = rounds; last = r; in_order = refl; sound = inv.6; within = omega (arith, inv.7); failed = refl; told = turn.8 })),
     )
+
+pub returns-clause-run : goal.returns-clause-run
+returns-clause-run c = search rules

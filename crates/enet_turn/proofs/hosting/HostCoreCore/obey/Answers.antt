@@ -1,4 +1,4 @@
-use Rattle.std.proofs.Common.{Some, None, Ok, Err, refl, sym, subst}
+use Rattle.std.proofs.Common.{Some, None, Ok, Err, refl, sym, subst, rules}
 use Rattle.enet_submit.specs.declared.order.Order.{Order}
 use Rattle.enet_turn.specs.Hosting.{Obeys}
 use Rattle.enet_turn.proofs.hosting.HostCoreCore.obey.Goals as goal
@@ -13,3 +13,6 @@ returns-in-Err c =
     let refused = c.in-Err.ensures.submits in
     subst (λ (order : Order). Obeys c.args.self.now order (Some c.in-Err.why) c.submit.new.self) (sym c.in-Submit.is)
     (Err c.in-Err.why, (refused.0, refused.2), c.in-Err.ensures.rest, refl)
+
+pub returns-in-Later : goal.returns-in-Later
+returns-in-Later c = search rules

@@ -1,0 +1,5 @@
+use Rattle.std.proofs.Common.{rules}
+use Rattle.enet_peer.proofs.peer.Peer.throttle.Goals as goal
+
+pub returns : goal.returns
+returns c = search rules
