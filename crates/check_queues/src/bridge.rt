@@ -105,18 +105,14 @@ fn pump<R: Wait>(rt: &R, desk: &mut Desk<'_>, source: &mut QueueSource<'_>) -> P
     (pumped, desk.len(), next(rt, source))
 }
 
-fn ask(desk: &mut Desk<'_>) -> Result<(), Refusal> {
-    desk.ask(submission(0).order)
-}
-
 // Two orders at a desk whose queue has one place.
 fn two_orders<R: Wait>(
     rt: &R,
     desk: &mut Desk<'_>,
     source: &mut QueueSource<'_>,
 ) -> Result<[Pumping; 2], Refusal> {
-    ask(desk)?;
-    ask(desk)?;
+    desk.ask(submission(0).order)?;
+    desk.ask(submission(0).order)?;
     Ok([pump(rt, desk, source), pump(rt, desk, source)])
 }
 

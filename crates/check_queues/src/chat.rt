@@ -67,12 +67,7 @@ fn is_two(orders: &[Order], first: Sent, second: Sent) -> bool {
     }
 }
 
-// What the relay makes of a packet of peer 1.
-fn orders_of(alloc: Global, table: &Table, channel: u8) -> Result<Vec<Order>, Refusal> {
-    relay_step(alloc, table, &chat(1, channel))
-}
-
-// Whether these are the two orders that it makes of one on this channel.
+// Whether these are the two orders that the relay makes of a packet of peer 1 on this channel.
 fn makes_two(
     alloc: Global,
     table: &Table,
@@ -80,12 +75,12 @@ fn makes_two(
     first: Sent,
     second: Sent,
 ) -> Result<bool, Refusal> {
-    let orders = orders_of(alloc, table, channel)?;
+    let orders = relay_step(alloc, table, &chat(1, channel))?;
     Ok(is_two(orders.as_slice(), first, second))
 }
 
 fn makes_none(alloc: Global, table: &Table, channel: u8) -> Result<bool, Refusal> {
-    let orders = orders_of(alloc, table, channel)?;
+    let orders = relay_step(alloc, table, &chat(1, channel))?;
     Ok(orders.is_empty())
 }
 

@@ -114,21 +114,16 @@ fn two_takers(alloc: Global) -> Option<(EventQueue, Poster, Taker, Taker)>
     Some((queue, poster, zero, one))
 }
 
-// What two posts of the words 5 and 6 are answered.
-fn post_two<R: Wait>(rt: &R, queue: &EventQueue, poster: &mut Poster) -> [Posted; 2]
-    requires { poster.old.queue ≡ queue.now.id }
-    ensures { poster.new.queue ≡ poster.old.queue }
-{
-    [post(rt, queue, poster, 5), post(rt, queue, poster, 6)]
-}
-
 // The takers' indices, what is posted and what the takers 1 and 0 then take, and what that comes to.
 type Played = ((u8, u8), [Posted; 2], [Taken; 2], (u64, u64, u64));
 
 fn played<R: Wait>(rt: &R, alloc: Global) -> Option<Played> {
     let (queue, mut poster, mut zero, mut one) = two_takers(alloc)?;
     let indices = (zero.index(), one.index());
-    let posted = post_two(rt, &queue, &mut poster);
+    let posted = [
+        post(rt, &queue, &mut poster, 5),
+        post(rt, &queue, &mut poster, 6),
+    ];
     let taken = [take(rt, &queue, &mut one), take(rt, &queue, &mut zero)];
     let account = settle_two(alloc, &queue, poster, zero, one)?;
     Some((indices, posted, taken, account))

@@ -50,11 +50,6 @@ fn receives(wire: &mut MemoryWire) -> bool {
         && wire.recv(&mut buf) == Ok(None)
 }
 
-// What two sends are answered.
-fn send_two(wire: &mut MemoryWire) -> [Result<bool, Refusal>; 2] {
-    [wire.send(FAR, b"x"), wire.send(FAR, b"x")]
-}
-
 // How long two waits take, how many calls have failed then, and how long the next wait takes.
 type Waits = ([Result<u32, Refusal>; 2], u64, Result<u32, Refusal>);
 
@@ -68,7 +63,8 @@ fn wait_on<R: Wait + Clock>(rt: &R, wire: &mut MemoryWire) -> Waits {
 fn wire_in_memory_by_hand(rt: HostRuntime) -> Result<(), Fail> {
     let mut wire = MemoryWire::new(rt.alloc(), script(rt.alloc())?);
     assert!(rt; receives(&mut wire));
-    assert!(rt; send_two(&mut wire) == [Ok(false), Ok(true)]);
+    let sends = [wire.send(FAR, b"x"), wire.send(FAR, b"x")];
+    assert!(rt; sends == [Ok(false), Ok(true)]);
     assert!(rt; wait_on(&rt, &mut wire) == ([Ok(7), Err(Refusal::WireFault)], 1, Ok(0)));
     assert!(rt; letters(wire.told()) == *b"cnbwtt");
     Ok(())

@@ -67,16 +67,11 @@ fn datagrams_through_the_socket(rt: HostRuntime) -> Result<(), Fail> {
     Ok(())
 }
 
-// Whether a datagram to this address is lost.
-fn is_lost(wire: &mut MioWire, to: Addr) -> bool {
-    wire.send(to, b"x") == Ok(false)
-}
-
 #[test]
 fn a_bad_destination_loses_the_datagram(rt: HostRuntime) -> Result<(), Fail> {
     let mut wire = bound(&rt)?;
     for (ip, port) in [(HERE, 0), (0xffff_ffff, 47001), (0xc000_0201, 47001)] {
-        assert!(rt; is_lost(&mut wire, Addr { ip, port }));
+        assert!(rt; wire.send(Addr { ip, port }, b"x") == Ok(false));
     }
     assert!(rt; wire.failures() == 0);
     Ok(())
