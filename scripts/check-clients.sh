@@ -1,6 +1,7 @@
 #!/usr/bin/env bash
 # Clients of the reference library talk through a relay, in the scenarios of clients/client.c: first straight, then by way of
-# clients/proxy.c, which drops, repeats and reorders datagrams. Each scenario has a relay of its own, and all run side by side:
+# clients/proxy.c, which drops, repeats and reorders datagrams; and a crowd of them (clients/crowd.c) straight, where each queue of the
+# relay has 64 places, so that both are full at once and neither thread may wait for the other. Each scenario has a relay of its own, and all run side by side:
 # `check-clients.sh [PROGRAM]`. PROGRAM is the built `enet_relay`, by default the one that `rt ci`, or `rt run` in crates/enet_relay,
 # leaves; `reference` stands for the relay of clients/server.c, which tells whether the clients themselves are right. Prints what
 # failed, and as last line 'N passed, M failed'; the status is 1 where one failed. It ends within 4 minutes.
@@ -20,7 +21,9 @@ fail() {
 attempt() (
     words=()
     [ "$program" = reference ] && words+=(reference)
-    (relay "$program" "$5" "$4" "$room") > /dev/null 2> "$room/$1.relay" &
+    places=65536
+    [ "$2" = crowd ] && places=64
+    (relay "$program" "$5" "$4" "$room" "$places") > /dev/null 2> "$room/$1.relay" &
     relay=$!
     proxy=
     to=$5
@@ -31,7 +34,11 @@ attempt() (
         proxy=$!
     fi
     trap 'kill $relay $proxy 2> /dev/null; wait $relay $proxy 2> /dev/null' EXIT
-    timeout 110 "$room/client" "$to" "$2" "$3" "${words[@]}" 2> "$room/$1.client"
+    if [ "$2" = crowd ]; then
+        timeout 110 "$room/crowd" "$to" "$3" 2 2> "$room/$1.client"
+    else
+        timeout 110 "$room/client" "$to" "$2" "$3" "${words[@]}" 2> "$room/$1.client"
+    fi
     status=$?
     [ "$status" -eq 0 ] || echo "status $status: $(head -c 2000 "$room/$1.client")"
     kill -0 "$relay" 2> /dev/null || { echo "the relay ended: $(head -c 400 "$room/$1.relay")"; status=1; }
@@ -50,17 +57,22 @@ scenario() {
     esac
 }
 
+# Starts the scenario $1 with $2 clients and a relay of $3 slots, straight or lossy ($4).
+start() {
+    free_port
+    local first=$port
+    free_port
+    names+=("$1-$2-$4")
+    scenario "$1-$2-$4" "$1" "$2" "$3" "$first" "$port" "${#names[@]}" &
+}
+
 # Each scenario: its name, the clients, the slots.
 all() {
-    local number=0 name clients slots way
+    local name clients slots way
+    start crowd 300 300 straight
     for way in straight lossy; do
         while read -r name clients slots; do
-            number=$((number + 1))
-            free_port
-            local first=$port
-            free_port
-            names+=("$name-$clients-$way")
-            scenario "$name-$clients-$way" "$name" "$clients" "$slots" "$first" "$port" "$number" &
+            start "$name" "$clients" "$slots" "$way"
         done << 'END'
 talk 1 8
 talk 2 8

@@ -24,6 +24,7 @@ pub struct ServeOptions {
     pub address: Addr,
     pub peers: u16,
     pub channels: u8,
+    pub room: u32,
     pub length: Length,
 }
 
@@ -84,6 +85,7 @@ fn serve_command<'a>(alloc: Global) -> Result<Command<'a>, AllocError> {
         .arg(address(alloc))?
         .arg(peers(alloc))?
         .arg(channels(alloc))?
+        .arg(room(alloc))?
         .arg(turns(alloc))?
         .arg(forever(alloc)?)
 }
@@ -111,6 +113,14 @@ fn channels<'a>(alloc: Global) -> Arg<'a> {
     number8(alloc, "channels", 1, 255)
         .help("How many channels a client is granted at most")
         .default_value("2")
+}
+
+fn room<'a>(alloc: Global) -> Arg<'a> {
+    Arg::new(alloc, "room")
+        .long("room")
+        .help("How many places each of the two queues between its threads has")
+        .value_parser(value_parser!(u32).range(1..=65_536))
+        .default_value("65536")
 }
 
 fn forever<'a>(alloc: Global) -> Result<Arg<'a>, AllocError> {
@@ -163,6 +173,7 @@ fn serve_options(found: &ArgMatches<'_>) -> Option<ServeOptions> {
         address: Addr { ip, port },
         peers: found.get_one::<u16>("peers")?,
         channels: found.get_one::<u8>("channels")?,
+        room: found.get_one::<u32>("room")?,
         length,
     })
 }

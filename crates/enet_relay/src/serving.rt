@@ -11,9 +11,6 @@ use std::sync::atomic::Ordering::SeqCst;
 use std::thread::Threads;
 use std::time::Duration;
 
-/// How many places each queue of the server has.
-const ROOM: u32 = 65_536;
-
 /// Totals are told once in so many seconds.
 const BETWEEN_TOTALS: u64 = 60;
 
@@ -26,7 +23,7 @@ where
         address: options.address,
         peers: options.peers,
         channels: options.channels,
-        room: ROOM,
+        room: options.room,
     };
     let server = Server::open(rt, settings)?;
     match options.length {

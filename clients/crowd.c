@@ -1,0 +1,120 @@
+// crowd PORT CLIENTS PACKETS: that many clients of the reference library at the relay at PORT of 127.0.0.1. Once all are connected, each
+// sends that many reliable packets on channel 0, all at once, so that each packet gives the relay an order for each other client.
+// Status 0 where every client got every packet of every other one, each sender's in order; else it is told on standard error what went
+// wrong, with status 2 where a client lost its connection or packets came too late, and status 1 where anything else is amiss.
+#include <enet/enet.h>
+#include <poll.h>
+
+#include "common.h"
+
+enum { MOST = 400, CHANNELS = 2, MTU = 1392 };
+
+// What hasn't come after so many seconds is too late.
+static const double LIMIT = 60;
+
+typedef struct Message {
+    uint16_t sender, number;
+} Message;
+
+typedef struct Client {
+    ENetHost *host;
+    ENetPeer *peer;
+    int got;
+    uint16_t next[MOST]; // of each sender, the number that must come next
+} Client;
+
+static Client clients[MOST];
+static int count, packets, joined, complete;
+
+static _Noreturn void too_late(const char *what)
+{
+    fprintf(stderr, "crowd: %s; %d of %d clients joined, %d have all\n", what, joined, count, complete);
+    exit(2);
+}
+
+static void join(int id, const ENetAddress *relay)
+{
+    Client *client = &clients[id];
+    client->host = enet_host_create(NULL, 1, CHANNELS, 0, 0);
+    if (client->host == NULL)
+        give_up("crowd: client %d has no socket", id);
+    client->host->mtu = MTU;
+    client->peer = enet_host_connect(client->host, relay, CHANNELS, 0);
+    if (client->peer == NULL)
+        give_up("crowd: client %d can't connect", id);
+}
+
+static void talk(int id)
+{
+    for (int number = 0; number < packets; number++) {
+        Message message = { .sender = (uint16_t)id, .number = (uint16_t)number };
+        ENetPacket *packet = enet_packet_create(&message, sizeof message, ENET_PACKET_FLAG_RELIABLE);
+        if (packet == NULL || enet_peer_send(clients[id].peer, 0, packet) != 0)
+            give_up("crowd: a packet isn't taken");
+    }
+}
+
+static void arrived(int id, enet_uint8 channel, const ENetPacket *packet)
+{
+    Client *client = &clients[id];
+    Message message;
+    if (channel != 0 || packet->dataLength != sizeof message)
+        give_up("crowd: client %d got %zu bytes on channel %d", id, packet->dataLength, channel);
+    memcpy(&message, packet->data, sizeof message);
+    if (message.sender >= count || message.sender == id)
+        give_up("crowd: client %d got a packet of sender %d", id, message.sender);
+    if (message.number != client->next[message.sender] || message.number >= packets)
+        give_up("crowd: client %d got number %d of sender %d where %d comes next", id, message.number, message.sender,
+            client->next[message.sender]);
+    client->next[message.sender]++;
+    if (++client->got == packets * (count - 1))
+        complete++;
+}
+
+static void service(int id)
+{
+    ENetEvent event;
+    while (enet_host_service(clients[id].host, &event, 0) > 0) {
+        if (event.type == ENET_EVENT_TYPE_CONNECT)
+            joined++;
+        if (event.type == ENET_EVENT_TYPE_DISCONNECT)
+            too_late("a client lost its connection");
+        if (event.type == ENET_EVENT_TYPE_RECEIVE) {
+            arrived(id, event.channelID, event.packet);
+            enet_packet_destroy(event.packet);
+        }
+    }
+}
+
+// Serves all clients until `*those` of them are as many as `wanted`.
+static void until(const int *those, int wanted, double end)
+{
+    struct pollfd sockets[MOST];
+    for (int id = 0; id < count; id++)
+        sockets[id] = (struct pollfd){ .fd = clients[id].host->socket, .events = POLLIN };
+    while (*those < wanted) {
+        if (now() > end)
+            too_late("time is over");
+        poll(sockets, (nfds_t)count, 5);
+        for (int id = 0; id < count; id++)
+            service(id);
+    }
+}
+
+int main(int words_count, char **words)
+{
+    ENetAddress relay = { .port = (enet_uint16)number_of(words_count, words, 1, 1, 65535) };
+    count = (int)number_of(words_count, words, 2, 2, MOST);
+    packets = (int)number_of(words_count, words, 3, 1, 1000);
+    double end = now() + LIMIT;
+    if (enet_initialize() != 0)
+        give_up("crowd: the library can't be used");
+    enet_address_set_host_ip(&relay, "127.0.0.1");
+    for (int id = 0; id < count; id++)
+        join(id, &relay);
+    until(&joined, count, end);
+    for (int id = 0; id < count; id++)
+        talk(id);
+    until(&complete, count, end);
+    return 0;
+}
