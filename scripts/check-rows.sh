@@ -110,6 +110,8 @@ serve --port 47001 --peers 4096
 serve --port 47001 --channels 0
 serve --port 47001 --channels 256
 serve --port 47001 --turns 1000001
+serve --port 47001 --room 0
+serve --port 47001 --room 65537
 serve --port 47001 --turns -1
 serve --port 47001 --turns 2 --forever
 serve --port 47001 --address localhost
@@ -133,45 +135,6 @@ services() {
     kill "$first"
     wait "$first" 2> "$room/gone"
     [ ! -s "$room/first" ] && [ ! -s "$room/first.err" ] || fail forever "it wrote: $(head -c 200 "$room/first" "$room/first.err")"
-}
-
-command_lines() {
-    local words
-    while IFS= read -r words; do
-        # shellcheck disable=SC2086
-        command_line "bad: $words" 2 'bad command line' /dev/null "$room/out" $words
-    done << 'END'
-serve
-serve --port 0
-serve --port 65536
-serve --port 47001 --peers 0
-serve --port 47001 --peers 4096
-serve --port 47001 --channels 0
-serve --port 47001 --channels 256
-serve --port 47001 --turns 1000001
-serve --port 47001 --turns -1
-serve --port 47001 --turns 2 --forever
-serve --port 47001 --address localhost
-serve --port 47001 --address 127.0.0.1.1
-END
-}
-
-services() {
-    service_line serve-two-turns 0 '' 'served 2 received 0 sent 0' serve --port 47001 --turns 2
-    service_line serve-no-turn 0 '' 'served 0 received 0 sent 0' serve --port 47001 --turns 0 --address 127.0.0.1
-    "$program" serve --port 47002 --turns 2000 > "$room/first" &
-    local first=$!
-    sleep 1
-    service_line port-taken 1 'E14 WireFault' '' serve --port 47002 --turns 2
-    kill "$first"
-    wait "$first" 2> "$room/err"
-    "$program" serve --port 47002 --forever > "$room/out" 2> "$room/err" &
-    first=$!
-    sleep 2
-    kill -0 "$first" 2> "$room/gone" || fail forever 'it ended by itself'
-    kill "$first"
-    wait "$first" 2> "$room/gone"
-    [ ! -s "$room/out" ] && [ ! -s "$room/err" ] || fail forever "it wrote: $(head -c 200 "$room/out" "$room/err")"
 }
 
 command_lines() {
