@@ -1,10 +1,11 @@
 #!/usr/bin/env bash
 # Clients of the reference library talk through a relay, in the scenarios of clients/client.c: first straight, then by way of
 # clients/proxy.c, which drops, repeats and reorders datagrams; and a crowd of them (clients/crowd.c) straight, where each queue of the
-# relay has 64 places, so that both are full at once and neither thread may wait for the other. Each scenario has a relay of its own, and all run side by side:
-# `check-clients.sh [PROGRAM]`. PROGRAM is the built `enet_relay`, by default the one that `rt ci`, or `rt run` in crates/enet_relay,
-# leaves; `reference` stands for the relay of clients/server.c, which tells whether the clients themselves are right. Prints what
-# failed, and as last line 'N passed, M failed'; the status is 1 where one failed. It ends within 4 minutes.
+# relay has 64 places, so that both are full at once and neither thread may wait for the other. Clients of `demo` visit a server of the
+# reference library. Each scenario has a server of its own, and all run side by side: `check-clients.sh [PROGRAM]`. PROGRAM is the
+# built `enet_relay`, by default the one that `rt ci`, or `rt run` in crates/enet_relay, leaves; `reference` stands for the relay of
+# clients/server.c, which tells whether the clients themselves are right. Prints what failed, and as last line 'N passed, M failed';
+# the status is 1 where one failed. It ends within 4 minutes.
 cd "$(dirname "$0")/.." || exit 1
 . scripts/clients.sh
 program=${1:-crates/enet_relay/out/enet_relay}
@@ -66,10 +67,27 @@ start() {
     scenario "$1-$2-$4" "$1" "$2" "$3" "$first" "$port" "${#names[@]}" &
 }
 
+# Clients of ours at a server of the reference library: the three packets of each come back to it.
+visit() {
+    "$room/server" "$1" 2 2 echo 2> "$room/visit.server" &
+    local server=$!
+    timeout 110 "$program" demo --clients 2 --port "$1" --turns 1000 > "$room/visit.out" 2> "$room/visit.err"
+    local status=$?
+    kill "$server"
+    if [ "$status" -ne 0 ] || [ "$(<"$room/visit.out")" != $'client 0 got 3\nclient 1 got 3\ndemo done' ]; then
+        echo "status $status: $(head -c 400 "$room/visit.out" "$room/visit.err" "$room/visit.server")" > "$room/visit"
+    fi
+}
+
 # Each scenario: its name, the clients, the slots.
 all() {
     local name clients slots way
     start crowd 300 300 straight
+    if [ "$program" != reference ]; then
+        free_port
+        names+=(visit)
+        visit "$port" &
+    fi
     for way in straight lossy; do
         while read -r name clients slots; do
             start "$name" "$clients" "$slots" "$way"

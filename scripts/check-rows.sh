@@ -3,7 +3,8 @@
 # to standard output with NAME.out, to standard error with NAME.err (no such file: nothing) and its status with NAME.status
 # (no such file: 0). A long script and its output are made by NAME.awk. A script that is listed and missing fails. Each line of
 # unreadable-lines.txt, whose escapes are printf's, is the second of a script, and the first that can't be read. Each short script
-# that makes a pair is also run by `check_memory` as one list of events, in one call. Command lines are tried too. The last line is
+# that makes a pair is also run by `check_memory` as one list of events, in one call. Command lines are tried too; those of `demo` take
+# ports 47100 to 47108. The last line is
 # 'N passed, M failed'; the status is 1 where one fails. The programs are those that `rt ci`, or `rt run` in crates/enet_relay and
 # crates/check_memory, leaves; another `enet_relay` can be named as argument.
 cd "$(dirname "$0")/.." || exit 1
@@ -74,7 +75,7 @@ command_line() {
     passed=$((passed + 1))
 }
 
-# A command line of `serve`: its name here, the wanted status, standard error and standard output, and its words.
+# A command line of `serve` or `demo`: its name here, the wanted status, standard error and standard output, and its words.
 service_line() {
     local name=$1 wanted=$2 err=$3 out=$4
     shift 4
@@ -116,6 +117,10 @@ serve --port 47001 --turns -1
 serve --port 47001 --turns 2 --forever
 serve --port 47001 --address localhost
 serve --port 47001 --address 127.0.0.1.1
+demo --clients 0
+demo --clients 9
+demo --turns 1000001
+demo --port 0
 END
 }
 
@@ -137,10 +142,37 @@ services() {
     [ ! -s "$room/first" ] && [ ! -s "$room/first.err" ] || fail forever "it wrote: $(head -c 200 "$room/first" "$room/first.err")"
 }
 
+# What `demo` prints with $1 clients of which each got $2 packets, and the last word $3.
+demo_prints() {
+    local client
+    for ((client = 0; client < $1; client++)); do
+        echo "client $client got $2"
+    done
+    echo "demo $3"
+}
+
+# Each client chats once the server has all of them for peers, so each gets three packets of each other one, whichever came first.
+demonstrations() {
+    local clients
+    for clients in 1 2 8; do
+        service_line "demo-$clients" 0 '' "$(demo_prints "$clients" $((3 * (clients - 1))) done)" demo --clients "$clients" --turns 1000
+    done
+    service_line demo-no-turn 3 '' "$(demo_prints 2 0 late)" demo --turns 0
+    port=47100
+    start_service --turns 1000000
+    service_line demo-server-port-taken 1 'E14 WireFault' '' demo
+    kill "$first"
+    wait "$first" 2> "$room/gone"
+    port=47102
+    start_service --turns 1000000
+    service_line demo-client-port-taken 1 'E14 WireFault' '' demo
+    kill "$first"
+    wait "$first" 2> "$room/gone"
+}
+
 command_lines() {
     command_line no-subcommand 2 'bad command line' /dev/null "$room/out"
     command_line unknown-subcommand 2 'bad command line' /dev/null "$room/out" frob
-    command_line demo-does-not-exist-yet 2 'bad command line' /dev/null "$room/out" demo
     refused_command_lines
     command_line a-word-too-many 2 'bad command line' /dev/null "$room/out" lab frob
     command_line help 0 '' /dev/null "$room/out" --help
@@ -162,6 +194,7 @@ else
     unreadable_lines
     command_lines
     services
+    demonstrations
 fi
 echo "$passed passed, $failed failed"
 [ "$failed" -eq 0 ]

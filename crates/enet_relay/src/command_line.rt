@@ -28,6 +28,15 @@ pub struct ServeOptions {
     pub length: Length,
 }
 
+/// What `demo` was told.
+#[derive(Clone, Copy, Debug, PartialEq, Eq)]
+pub struct DemoOptions {
+    pub clients: u8,
+    pub turns: u32,
+    /// The port of the server that is there; None where one is to be started.
+    pub port: Option<u16>,
+}
+
 /// What the program is to do.
 #[derive(Clone, Copy, Debug, PartialEq, Eq)]
 pub enum Task {
@@ -35,6 +44,7 @@ pub enum Task {
     Nothing,
     Lab,
     Serve(ServeOptions),
+    Demo(DemoOptions),
 }
 
 /// Reads the command line. `--help` is answered here.
@@ -71,11 +81,14 @@ fn command<'a>(alloc: Global) -> Result<Command<'a>, AllocError> {
         "Runs a script from standard input and writes one answer per line",
     );
     Command::new(alloc, "enet_relay")
-        .about("Hosts of ENet 1.3: a lab for two of them, and a server that relays chat")
+        .about(
+            "Hosts of ENet 1.3: a lab for two of them, a server that relays chat, and a demonstration of it",
+        )
         .disable_help_subcommand(true)
         .subcommand_required(true)
         .subcommand(lab)?
-        .subcommand(serve_command(alloc)?)
+        .subcommand(serve_command(alloc)?)?
+        .subcommand(demo_command(alloc)?)
 }
 
 fn serve_command<'a>(alloc: Global) -> Result<Command<'a>, AllocError> {
@@ -90,10 +103,29 @@ fn serve_command<'a>(alloc: Global) -> Result<Command<'a>, AllocError> {
         .arg(forever(alloc)?)
 }
 
+fn demo_command<'a>(alloc: Global) -> Result<Command<'a>, AllocError> {
+    Command::new(alloc, "demo")
+        .about("Runs a server and its clients in one process, on 127.0.0.1")
+        .arg(clients(alloc))?
+        .arg(server_port(alloc))?
+        .arg(turns(alloc))
+}
+
+fn clients<'a>(alloc: Global) -> Arg<'a> {
+    number8(alloc, "clients", 1, 8)
+        .help("How many clients there are")
+        .default_value("2")
+}
+
 fn port<'a>(alloc: Global) -> Arg<'a> {
     number16(alloc, "port", 1, 65_535)
         .help("The UDP port to listen at")
         .required(true)
+}
+
+fn server_port<'a>(alloc: Global) -> Arg<'a> {
+    number16(alloc, "port", 1, 65_535)
+        .help("The UDP port of a server that is there, of the reference library too; without it one is started")
 }
 
 fn address<'a>(alloc: Global) -> Arg<'a> {
@@ -134,7 +166,7 @@ fn forever<'a>(alloc: Global) -> Result<Arg<'a>, AllocError> {
 fn turns<'a>(alloc: Global) -> Arg<'a> {
     Arg::new(alloc, "turns")
         .long("turns")
-        .help("How many turns the service takes")
+        .help("How many turns each service takes")
         .value_parser(value_parser!(u32).range(0..=1_000_000))
         .default_value("1000")
 }
@@ -157,6 +189,7 @@ fn task_of(found: &ArgMatches<'_>) -> Option<Task> {
     match name {
         "lab" => Some(Task::Lab),
         "serve" => Some(Task::Serve(serve_options(found)?)),
+        "demo" => Some(Task::Demo(demo_options(found)?)),
         _ => None,
     }
 }
@@ -175,5 +208,13 @@ fn serve_options(found: &ArgMatches<'_>) -> Option<ServeOptions> {
         channels: found.get_one::<u8>("channels")?,
         room: found.get_one::<u32>("room")?,
         length,
+    })
+}
+
+fn demo_options(found: &ArgMatches<'_>) -> Option<DemoOptions> {
+    Some(DemoOptions {
+        clients: found.get_one::<u8>("clients")?,
+        turns: found.get_one::<u32>("turns")?,
+        port: found.get_one::<u16>("port"),
     })
 }

@@ -1,19 +1,22 @@
 //! The program `enet_relay`. `enet_relay lab` runs a script of what happens to two hosts, `enet_relay serve` relays chat between
-//! real ENet clients.
+//! real ENet clients, and `enet_relay demo` shows a server with clients in one process.
 //!
-//! Proved: that it is safe; what a shift of the server did is said by `enet_serve`, and how a script of the lab is answered by
-//! `enet_lab`. Only tested, by scripts/check-rows.sh: the scripts of scripts/rows; the command lines `--help`, no subcommand, an unknown
-//! one, a word too many, and those of `serve` with numbers out of range; what `serve` prints; an input that can't be read, an output
-//! that can't be written, a port that is taken. By scripts/check-clients.sh: what clients of the reference library get from `serve`.
+//! Proved: that it is safe; what a shift of the server did is said by `enet_serve`, what came of each client of the demonstration by
+//! `enet_demo`, and how a script of the lab is answered by `enet_lab`. Only tested, by scripts/check-rows.sh: the scripts of
+//! scripts/rows; the command lines `--help`, no subcommand, an unknown one, a word too many, and those of `serve` with numbers out of
+//! range; what `serve` prints; an input that can't be read, an output that can't be written, a port that is taken. By
+//! scripts/check-clients.sh: what clients of the reference library get from `serve`, and those of `demo` from a server of that library.
 //! By hand alone: want of memory (`E1 Memory`, status 1), and the line of totals of `serve --forever`.
 //! Neither: that `serve` ends, since threads may wait.
 #![tactic(auto)]
 
 mod command_line;
+mod demonstrating;
 mod failure;
 mod serving;
 
 use command_line::{Task, read_task};
+use demonstrating::demonstrate;
 use enet_lab::lab;
 use failure::Failure;
 use serving::serve;
@@ -24,7 +27,10 @@ use std::rt::{Clock, Env};
 use std::sync::Wait;
 use std::thread::Threads;
 
-fn run<R>(rt: &R) -> Result<(), Failure>
+/// The status where a client of the demonstration was late.
+const LATE: u8 = 3;
+
+fn run<R>(rt: &R) -> Result<ExitCode, Failure>
 where
     R: Env + Input + Print + Eprint + AllocGlobal + Threads + Wait + Net + Clock + Sync,
 {
@@ -34,13 +40,18 @@ where
             lab(rt.alloc(), &mut rt.reader(), &mut io::writer(rt)).map_err(Failure::Lab)?;
         }
         Task::Serve(options) => serve(rt, options)?,
+        Task::Demo(options) => {
+            if !demonstrate(rt, options)? {
+                return Ok(ExitCode::from(LATE));
+            }
+        }
     }
-    Ok(())
+    Ok(ExitCode::SUCCESS)
 }
 
 fn main(rt: HostRuntime) -> ExitCode {
     match run(&rt) {
-        Ok(()) => ExitCode::SUCCESS,
+        Ok(status) => status,
         Err(failure) => {
             let _ = eprintln!(rt; "{failure}");
             ExitCode::from(failure.status())

@@ -1,9 +1,10 @@
 -- What a server does in a shift.
-use Rattle.std.specs.Prelude.{◌≡◌, List, [], ◌++◌, Option, None}
+use Rattle.std.specs.Prelude.{◌≡◌, Bool, List, [], ◌++◌, Option, None}
 use Rattle.std.specs.List.{All}
 use Rattle.enet_types.specs.declared.event.PeerRef.{PeerRef}
 use Rattle.enet_types.specs.declared.event.Event.{Event}
 use Rattle.enet_types.specs.Config.{standard_config}
+use Rattle.enet_types.specs.Config as configs
 use Rattle.enet_submit.specs.declared.order.Order.{Order}
 use Rattle.enet_host.specs.Host.{Host}
 use Rattle.enet_host.specs.Opening.{opened}
@@ -34,6 +35,10 @@ backlog_of server = server.kept.backlog.items
 
 abbrev pub orders_of : Server → List Order
 orders_of server = server.kept.orders.items
+
+-- whether there are hosts with these numbers of peers and channels
+abbrev pub is_in_range : Settings → Bool
+is_in_range settings = configs.is_in_range (standard_config settings.peers settings.channels)
 
 -- a fresh host of these settings, and nothing that waits
 pub record IsOpened (settings : Settings) (server : Server) : Type 0 where

@@ -44,15 +44,17 @@ pub struct Server {
 }
 
 impl Server {
-    ghost use Rattle.std.specs.Prelude.{◌≡◌, IfOk};
-    ghost use Rattle.enet_serve.specs.Serving.{Serves, IsOpened, host_of};
+    ghost use Rattle.std.specs.Prelude.{◌≡◌, ◌⊎◌, true, false, IfOk, IfErr, Err};
+    ghost use Rattle.enet_serve.specs.Serving.{Serves, IsOpened, is_in_range, host_of};
 
     /// A server at this address, with no peer.
     ///
     /// E8 where `peers` or `channels` is out of its range (`room` is tested by [`Server::serve`]), E14 where the address can't be had,
     /// E1 for want of memory.
     pub fn open<R: Net + AllocGlobal>(rt: &R, settings: Settings) -> Result<Server, Refusal>
-        ensures { IfOk result (IsOpened settings) }
+        ensures out_of_range { is_in_range settings ≡ false → result ≡ Err Refusal.BadConfig }
+        ensures in_range { is_in_range settings ≡ true → IfErr result (λ why. (why ≡ Refusal.WireFault) ⊎ (why ≡ Refusal.Memory)) }
+        ensures opened { IfOk result (IsOpened settings) }
     {
         let alloc = rt.alloc();
         let host = HostCore::open(alloc, Config::standard(settings.peers, settings.channels))?;
