@@ -10,7 +10,7 @@ use std::collections::VecDeque;
 use std::sync::Wait;
 
 /// How far the orders that wait went.
-#[derive(Clone, Copy, Debug, PartialEq, Eq)]
+#[derive(Clone, Copy, PartialEq, Eq)]
 pub enum Pumped {
     /// All were submitted.
     All,

@@ -55,7 +55,7 @@ pub struct Parts {
 }
 
 /// What a step of the relay found to do.
-#[derive(Clone, Copy, Debug, PartialEq, Eq)]
+#[derive(Clone, Copy)]
 enum Found {
     /// An event was taken or expanded.
     Work,

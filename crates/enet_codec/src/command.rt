@@ -1,7 +1,7 @@
 //! The commands of a datagram.
 
 /// What each command begins with: four bytes on the wire.
-#[derive(Clone, Copy, Debug, PartialEq, Eq)]
+#[derive(Clone, Copy)]
 pub struct Head {
     /// ACKNOWLEDGE: the sender asks for an acknowledgement.
     pub acknowledge: bool,
@@ -14,7 +14,7 @@ pub struct Head {
 }
 
 /// The fields of CONNECT: what a client offers to a server.
-#[derive(Clone, Copy, Debug, PartialEq, Eq)]
+#[derive(Clone, Copy)]
 pub struct Offer {
     /// The client's slot, to which the server sends from then on.
     pub outgoing_peer: u16,
@@ -46,7 +46,7 @@ pub struct Offer {
 }
 
 /// The fields of VERIFY_CONNECT: what a server grants to a client.
-#[derive(Clone, Copy, Debug, PartialEq, Eq)]
+#[derive(Clone, Copy, PartialEq, Eq)]
 pub struct Verify {
     /// The server's slot, to which the client sends from then on.
     pub outgoing_peer: u16,
@@ -75,7 +75,7 @@ pub struct Verify {
 }
 
 /// Where a fragment stands in its packet.
-#[derive(Clone, Copy, Debug, PartialEq, Eq)]
+#[derive(Clone, Copy)]
 pub struct Fragment {
     /// The number of the packet's first fragment: its reliable number, or the unreliable number that all of them share.
     pub start: u16,
@@ -91,7 +91,7 @@ pub struct Fragment {
 
 /// A command of ENet 1.3. A payload lies in the datagram that the command was read from; its length is a field of 16 bits
 /// on the wire, so a payload has at most 65,535 bytes.
-#[derive(Clone, Copy, Debug, PartialEq, Eq)]
+#[derive(Clone, Copy)]
 pub enum Command<'a> {
     /// Command 1: a command with ACKNOWLEDGE came. Channel and number of the head are those of that command.
     Acknowledge {

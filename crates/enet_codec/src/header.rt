@@ -1,7 +1,7 @@
 //! The header of a datagram.
 
 /// What a datagram begins with. On the wire it is one 16-bit word, and with SENT_TIME a second one.
-#[derive(Clone, Copy, Debug, PartialEq, Eq)]
+#[derive(Clone, Copy)]
 pub struct Header {
     /// The slot of the peer at the receiver: 0 to 4,095. 4,095 (0xFFF) says that the sender doesn't know it yet.
     pub peer: u16,

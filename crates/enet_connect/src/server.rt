@@ -10,7 +10,7 @@ use enet_codec::{Offer, Verify};
 use enet_throttle::window_of;
 
 /// A server's slot and settings, by which it answers a CONNECT.
-#[derive(Clone, Copy, Debug, PartialEq, Eq)]
+#[derive(Clone, Copy)]
 pub struct Server {
     /// The slot that the client gets.
     pub slot: u16,

@@ -11,7 +11,7 @@ use enet_rtt::Transmission;
 const CHANNEL: u8 = 0xFF;
 
 /// What one end tells the other of the connection itself.
-#[derive(Clone, Copy, Debug, PartialEq, Eq)]
+#[derive(Clone, Copy)]
 pub enum Control {
     Connect(Offer),
     VerifyConnect(Verify),
@@ -38,14 +38,14 @@ pub enum Control {
 }
 
 /// A command with its number.
-#[derive(Clone, Copy, Debug, PartialEq, Eq)]
+#[derive(Clone, Copy)]
 pub struct Numbered {
     pub number: u16,
     pub control: Control,
 }
 
 /// A command that was sent and is not acknowledged yet.
-#[derive(Clone, Copy, Debug, PartialEq, Eq)]
+#[derive(Clone, Copy)]
 pub struct SentControl {
     pub command: Numbered,
     /// How it was sent so far.

@@ -17,7 +17,7 @@ use std::collections::VecDeque;
 use std::marker::Model;
 
 /// What `next_due` did.
-#[derive(Clone, Copy, Debug, PartialEq, Eq)]
+#[derive(Clone, Copy)]
 pub enum Written {
     /// A command was written, which ends before `past`.
     Sent { past: usize },

@@ -31,7 +31,7 @@ const MOST: u8 = 8;
 const ROOM: u32 = 1_024;
 
 /// What is shown.
-#[derive(Clone, Copy, Debug, PartialEq, Eq)]
+#[derive(Clone, Copy)]
 pub struct Demonstration {
     /// How many clients there are: 1 to 8.
     pub clients: u8,

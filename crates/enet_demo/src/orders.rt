@@ -17,7 +17,7 @@ pub(crate) const CHANNELS: u8 = 2;
 const SEED: u64 = 0x656e_6574;
 
 /// A client, by its number, and where the server is.
-#[derive(Clone, Copy, Debug, PartialEq, Eq)]
+#[derive(Clone, Copy)]
 pub(crate) struct Plan {
     /// 0 to 9.
     pub(crate) number: u8,

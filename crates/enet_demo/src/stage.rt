@@ -3,7 +3,7 @@
 use enet_types::{Event, PeerRef};
 
 /// How far a client has come.
-#[derive(Clone, Copy, Debug, PartialEq, Eq)]
+#[derive(Clone, Copy)]
 pub(crate) enum Stage {
     /// It has no connection yet.
     Alone,
@@ -38,6 +38,6 @@ impl Stage {
     pub(crate) fn is_connected(self) -> bool
         ensures { result ≡ is_some (peer_of self) }
     {
-        self != Stage::Alone
+        !matches!(self, Stage::Alone)
     }
 }

@@ -6,7 +6,7 @@ ghost use Rattle.enet_events.specs.Words.{taken_by, taken_below, AllBack, AreCou
 use crate::token::Taker;
 
 /// How many events were taken.
-#[derive(Clone, Copy, Debug, PartialEq, Eq)]
+#[derive(Clone, Copy)]
 pub struct Account {
     /// By all takers together: as many as were posted.
     pub total: u64,

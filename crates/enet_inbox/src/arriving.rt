@@ -8,7 +8,7 @@ use enet_codec::{Command, Head, Stop};
 use enet_receiver::{Foresight, Incoming, Took};
 
 /// What becomes of a data command that nothing stops, as it is handed on to the call that takes it in.
-#[derive(Clone, Copy, Debug, PartialEq, Eq)]
+#[derive(Clone, Copy, PartialEq, Eq)]
 pub struct Foreseen {
     /// Whether it may be acknowledged, if it asks for it.
     pub acknowledged: bool,

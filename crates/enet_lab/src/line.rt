@@ -6,7 +6,7 @@ use enet_world::{Side, WorldEvent};
 use std::alloc::{AllocError, Global};
 
 /// What a line says.
-#[derive(Debug, Drop)]
+#[derive(Drop)]
 pub enum Line {
     /// Nothing: the line is empty, or has spaces alone, or begins with `#`.
     PassedOver,

@@ -4,7 +4,7 @@ use bytes::Bytes;
 use enet_types::{DisconnectMode, Event, PeerRef, Received};
 
 /// One of the two sides.
-#[derive(Clone, Copy, Debug, PartialEq, Eq)]
+#[derive(Clone, Copy)]
 pub enum Side {
     /// The host at 10.0.0.1 port 7001.
     A,
@@ -13,7 +13,7 @@ pub enum Side {
 }
 
 /// What happens in a world. The refusals that it can meet are named in the order in which they are tested.
-#[derive(Debug, Drop)]
+#[derive(Drop)]
 pub enum WorldEvent {
     /// The user of a side asks for a connection to the other side, with a connect id: E8, E7, E1. Accepted ones number the
     /// connections from 0.
@@ -78,7 +78,7 @@ pub enum WorldEvent {
 }
 
 /// What a step answers.
-#[derive(Debug, Drop)]
+#[derive(Drop)]
 pub enum Answer {
     /// The peer that was made.
     Peer(PeerRef),

@@ -1,7 +1,7 @@
 //! What is kept of the commands of a datagram that was put out, to tell later whether one of them is late.
 
 /// What a command is to the test for lateness.
-#[derive(Clone, Copy, Debug, PartialEq, Eq)]
+#[derive(Clone, Copy)]
 pub enum MarkKind {
     /// Sequenced data.
     Data,
@@ -12,7 +12,7 @@ pub enum MarkKind {
 }
 
 /// A command that has a number: each but unsequenced data.
-#[derive(Clone, Copy, Debug)]
+#[derive(Clone, Copy)]
 pub struct Mark {
     /// What the command is.
     pub kind: MarkKind,

@@ -19,7 +19,7 @@ use enet_throttle::Throttle;
 use std::collections::VecDeque;
 
 /// Where a datagram stands that is being filled.
-#[derive(Clone, Copy, Debug, PartialEq, Eq)]
+#[derive(Clone, Copy)]
 pub struct Progress {
     /// Where the next command goes.
     pub at: usize,

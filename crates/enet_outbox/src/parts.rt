@@ -4,7 +4,7 @@ use bytes::Bytes;
 use enet_control::Control;
 
 /// An acknowledgement that waits to be put out.
-#[derive(Clone, Copy, Debug, PartialEq, Eq)]
+#[derive(Clone, Copy)]
 pub struct Acknowledgement {
     pub channel: u8,
     pub number: u16,
@@ -22,7 +22,7 @@ pub struct Unsequenced {
 }
 
 /// What sending goes by.
-#[derive(Clone, Copy, Debug, PartialEq, Eq)]
+#[derive(Clone, Copy)]
 pub struct Pace {
     /// The clock, in milliseconds.
     pub now: u32,
@@ -35,7 +35,7 @@ pub struct Pace {
 }
 
 /// To whom a datagram goes.
-#[derive(Clone, Copy, Debug, PartialEq, Eq)]
+#[derive(Clone, Copy)]
 pub struct Destination {
     /// The other end's slot; 0xFFF before it is known.
     pub slot: u16,
@@ -44,7 +44,7 @@ pub struct Destination {
 }
 
 /// What an acknowledgement matched.
-#[derive(Clone, Copy, Debug, PartialEq, Eq)]
+#[derive(Clone, Copy)]
 pub enum Matched {
     /// No sent command.
     Nothing,

@@ -25,7 +25,7 @@ pub enum PeerState {
 }
 
 /// What a host allows a peer.
-#[derive(Clone, Copy, Debug, PartialEq, Eq)]
+#[derive(Clone, Copy)]
 pub struct Limits {
     /// The greatest packet that is taken in or submitted, in bytes: 1 to 33,554,432.
     pub max_packet: u32,
@@ -38,7 +38,7 @@ pub struct Limits {
 }
 
 /// What a peer tells its user.
-#[derive(Debug, Drop)]
+#[derive(Drop)]
 pub enum PeerEvent {
     /// The connection stands. `info` is the word that the connecting end gave, at that end itself 0.
     Connect { info: u32 },

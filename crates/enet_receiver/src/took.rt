@@ -2,7 +2,7 @@
 
 /// What became of a command: the first that applies of `Bad`, `Outside`, `Again`, `Waiting`, `Memory` and `Held`, a fragment that
 /// contradicts earlier pieces being `Bad` only inside the window. All but `Held` leave the receiver as it was.
-#[derive(Clone, Copy, Debug, PartialEq, Eq)]
+#[derive(Clone, Copy, PartialEq, Eq)]
 pub enum Took {
     /// It was taken in, and what it completed was dispatched.
     Held,
@@ -20,7 +20,7 @@ pub enum Took {
 }
 
 /// What a command would do, with ample memory.
-#[derive(Clone, Copy, Debug, PartialEq, Eq)]
+#[derive(Clone, Copy, PartialEq, Eq)]
 pub struct Foresight {
     /// Its outcome.
     pub took: Took,

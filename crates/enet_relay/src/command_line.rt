@@ -10,7 +10,7 @@ use std::rt::Env;
 use std::{env, io};
 
 /// How long `serve` serves.
-#[derive(Clone, Copy, Debug, PartialEq, Eq)]
+#[derive(Clone, Copy)]
 pub enum Length {
     /// So many turns.
     Turns(u32),
@@ -19,7 +19,7 @@ pub enum Length {
 }
 
 /// What `serve` was told.
-#[derive(Clone, Copy, Debug, PartialEq, Eq)]
+#[derive(Clone, Copy)]
 pub struct ServeOptions {
     pub address: Addr,
     pub peers: u16,
@@ -29,7 +29,7 @@ pub struct ServeOptions {
 }
 
 /// What `demo` was told.
-#[derive(Clone, Copy, Debug, PartialEq, Eq)]
+#[derive(Clone, Copy)]
 pub struct DemoOptions {
     pub clients: u8,
     pub turns: u32,
@@ -38,7 +38,7 @@ pub struct DemoOptions {
 }
 
 /// What the program is to do.
-#[derive(Clone, Copy, Debug, PartialEq, Eq)]
+#[derive(Clone, Copy)]
 pub enum Task {
     /// The help was printed, and nothing is left to do.
     Nothing,

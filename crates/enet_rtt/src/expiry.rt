@@ -7,7 +7,7 @@ use crate::clock::elapsed;
 
 /// How long a peer may leave a command unacknowledged before it has timed out (ENet 1.3's timeout limit, minimum and
 /// maximum).
-#[derive(Clone, Copy, Debug, PartialEq, Eq)]
+#[derive(Clone, Copy, PartialEq, Eq)]
 pub struct Patience {
     /// The minimum ends the peer only once 2^(attempts - 1) is this number or more.
     pub limit: u32,
@@ -18,7 +18,7 @@ pub struct Patience {
 }
 
 /// What is to be done with a sent command that is not acknowledged.
-#[derive(Clone, Copy, Debug, PartialEq, Eq)]
+#[derive(Clone, Copy, PartialEq, Eq)]
 pub enum Expiry {
     /// Nothing: its timeout has not passed.
     No,

@@ -6,7 +6,7 @@ ghost use Rattle.enet_rtt.specs.Timing.{fresh, after_sample, timeout, StaysWithi
 use std::marker::Model;
 
 /// The estimate of a peer's round trip: its time and its variance, in milliseconds. It begins at 500 and 0.
-#[derive(Clone, Copy, Debug, PartialEq, Eq)]
+#[derive(Clone, Copy)]
 pub struct Timing {
     round_trip: u32,
     variance: u32,

@@ -7,7 +7,7 @@ use crate::clock::elapsed;
 use crate::expiry::{Expiry, Patience, expired};
 
 /// How a command that is not acknowledged yet was sent so far. Times are in milliseconds.
-#[derive(Clone, Copy, Debug, PartialEq, Eq)]
+#[derive(Clone, Copy)]
 pub struct Transmission {
     /// When it was first sent, by the clock.
     pub first: u32,

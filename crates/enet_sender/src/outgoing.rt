@@ -24,7 +24,7 @@ use std::collections::VecDeque;
 use std::marker::Model;
 
 /// How a written command is carried.
-#[derive(Clone, Copy, Debug, PartialEq, Eq)]
+#[derive(Clone, Copy)]
 pub enum Kind {
     /// A reliable command.
     Reliable,
@@ -35,7 +35,7 @@ pub enum Kind {
 }
 
 /// What `next_due` did.
-#[derive(Clone, Copy, Debug, PartialEq, Eq)]
+#[derive(Clone, Copy)]
 pub enum Due {
     /// A command was written, which ends before `past`; `added` payload bytes are new in transit.
     Sent { past: usize, added: u32, kind: Kind },
@@ -46,7 +46,7 @@ pub enum Due {
 }
 
 /// What a sender still has.
-#[derive(Clone, Copy, Debug, PartialEq, Eq)]
+#[derive(Clone, Copy)]
 pub struct Left {
     /// Whether a packet is queued.
     pub packets: bool,

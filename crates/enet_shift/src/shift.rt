@@ -16,7 +16,7 @@ use std::time::{Duration, Instant};
 const TURNS_AT_ONCE: u64 = 64;
 
 /// How long a service takes turns.
-#[derive(Clone, Copy, Debug, PartialEq, Eq)]
+#[derive(Clone, Copy)]
 pub enum Shift {
     /// So many turns.
     Turns(u64),

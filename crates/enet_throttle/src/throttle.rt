@@ -9,7 +9,7 @@ use std::marker::Model;
 /// from 31 on.
 /// Samples of the round trip move it, between 0 and its limit, which is at most 32. It remembers the lowest round trip and
 /// the highest variance of an interval.
-#[derive(Clone, Copy, Debug, PartialEq, Eq)]
+#[derive(Clone, Copy)]
 pub struct Throttle {
     value: u32,
     limit: u32,

@@ -10,7 +10,7 @@ use crate::host::Core;
 use enet_wire::Wire;
 
 /// How many datagrams came, and whether the wire failed then.
-#[derive(Clone, Copy, Debug, PartialEq, Eq)]
+#[derive(Clone, Copy)]
 pub struct Heard {
     pub received: u32,
     pub failed: bool,

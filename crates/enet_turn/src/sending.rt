@@ -10,7 +10,7 @@ use crate::host::Core;
 use enet_wire::Wire;
 
 /// How many datagrams were sent and lost, and whether the wire failed then.
-#[derive(Clone, Copy, Debug, PartialEq, Eq)]
+#[derive(Clone, Copy)]
 pub struct Sent {
     pub sent: u32,
     pub lost: u32,

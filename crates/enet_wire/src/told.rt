@@ -4,7 +4,7 @@ use bytes::Bytes;
 use enet_types::Addr;
 
 /// What one call of a wire did. A call that failed isn't told; the wire counts it.
-#[derive(Debug, Drop)]
+#[derive(Drop)]
 pub enum Told {
     /// `recv` gave a datagram.
     Came { from: Addr, bytes: Bytes },
@@ -19,7 +19,7 @@ pub enum Told {
 }
 
 /// One step of the script of a wire in memory. Each waits for the call that it is meant for.
-#[derive(Debug, Drop)]
+#[derive(Drop)]
 pub enum Step {
     /// `recv` gives this datagram; of a longer one its first 4,096 bytes.
     Datagram { from: Addr, bytes: Bytes },

@@ -18,7 +18,7 @@ pub(crate) const MAX_COMMANDS: usize = 32;
 const LATEST: u128 = 32_768;
 
 /// What a command is to the test for lateness.
-#[derive(Clone, Copy, Debug, PartialEq, Eq)]
+#[derive(Clone, Copy)]
 pub(crate) enum MarkKind {
     /// Sequenced data.
     Data,
@@ -29,7 +29,7 @@ pub(crate) enum MarkKind {
 }
 
 /// What is kept of a command of a datagram.
-#[derive(Clone, Copy, Debug)]
+#[derive(Clone, Copy)]
 pub(crate) struct Mark {
     pub kind: MarkKind,
     /// The channel of the command, or of the command that it acknowledges.
