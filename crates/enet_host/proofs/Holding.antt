@@ -152,7 +152,7 @@ passes-held now s t None old e = subst IsHeld (sym e) old
 passes-held now s t (Some p) old n = subst IsHeld (sym n.left) (peer-held s n.after)
 
 -- two slots have the same place in turn only if they are the same
-turns-apart : (n from i j : ℕ) → i < n → j < n → turn_of n from i ≡ turn_of n from j → i ≡ j
+pub turns-apart : (n from i j : ℕ) → i < n → j < n → turn_of n from i ≡ turn_of n from j → i ≡ j
 turns-apart n from i j a b e = grind (arith, nat_tests)
 
 turned-held : (now from count gave len : ℕ) (buf : List ℕ) (i : ℕ) (s t : SlotState) → i < count → gave < count → IsHeld s → InTurn now from count gave len buf i s t → IsHeld t

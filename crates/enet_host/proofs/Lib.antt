@@ -7,3 +7,4 @@ pub mod Asking
 pub mod Serving
 pub mod Telling
 pub mod Holding
+pub mod Foretold

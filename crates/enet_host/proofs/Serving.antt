@@ -1,12 +1,13 @@
 -- One slot is asked for a datagram, or gives an event.
 use Rattle.std.proofs.Common.{◌≡◌, ℕ, ◌<◌, false, Option, Some, None, IfSome, IfNone, List, length, slice_get, slice_set, get_or, refl, sym, ap, subst, ◌∙◌}
 use Rattle.enet_types.specs.declared.event.Event.{Event}
+use Rattle.enet_types.specs.declared.packet.Packet.{Packet}
 use Rattle.enet_peer.specs.Peering.{Peering}
 use Rattle.enet_host.specs.declared.slot.Slot.{Slot}
 use Rattle.enet_host.specs.Host.{SlotState, name_of}
 use Rattle.enet_host.specs.Serving.{Gives, HasNothing, Passes, passes_by}
-use Rattle.enet_host.specs.Calls.{tells, peer_body, GivesEvent}
-use Rattle.enet_host.specs.Shown.{shown, all_shown, SlotGives, SlotPasses, SlotGivesEvent, SlotIsMute, SlotShows}
+use Rattle.enet_host.specs.Calls.{tells, GivesEvent}
+use Rattle.enet_host.specs.Shown.{shown, peer_packet, all_shown, SlotGives, SlotPasses, SlotGivesEvent, SlotIsMute, SlotIsNamed, SlotShows}
 use Rattle.enet_host.proofs.Slots.{get-shown, set-shown}
 
 pub passes-of : (now : ℕ) (s t : SlotState) (p : Peering) → s.peer ≡ Some p → HasNothing now s t p → Passes now s t
@@ -59,6 +60,14 @@ pub slot-is-mute : (xs : List Slot) (n number : ℕ) (x y : Slot) (r : Option Ev
 slot-is-mute xs n number x y None e inside read mute = record { slot = shown x; there = at-number xs n number x e inside read; mute = mute.0 }
 slot-is-mute xs n number x y (Some event) e inside read mute = mute
 
-pub slot-shows : (xs : List Slot) (n number : ℕ) (x : Slot) (body : Option (List ℕ)) → n ≡ number → n < length xs → x ≡ get_or xs n x
-    → body ≡ peer_body (shown x).peer → SlotShows (all_shown xs) number body
-slot-shows xs n number x body e inside read shows = record { slot = shown x; there = at-number xs n number x e inside read; shows = shows }
+pub slot-shows : (xs : List Slot) (n number : ℕ) (x : Slot) (packet : Option Packet) → n ≡ number → n < length xs → x ≡ get_or xs n x
+    → packet ≡ peer_packet (shown x).peer → SlotShows (all_shown xs) number packet
+slot-shows xs n number x packet e inside read shows = record { slot = shown x; there = at-number xs n number x e inside read; shows = shows }
+
+pub slot-is-named : (xs : List Slot) (n number : ℕ) (x : Slot) → n ≡ number → n < length xs → x ≡ get_or xs n x
+    → SlotIsNamed (all_shown xs) number (name_of number (shown (get_or xs n x)))
+slot-is-named xs n number x e inside read = record {
+  slot = shown x;
+  there = at-number xs n number x e inside read;
+  named = ap (λ (s : Slot). name_of number (shown s)) (sym read);
+}

@@ -1,5 +1,5 @@
 -- What a user's calls make of a host.
-use Rattle.std.specs.Prelude.{◌≡◌, ◌⊎◌, ℕ, Bool, true, false, if◌then◌else◌, Option, Some, None, Result, Ok, Err, List, length, map, is_some, is_ok, slice_set}
+use Rattle.std.specs.Prelude.{◌≡◌, ℕ, Bool, true, false, if◌then◌else◌, Option, Some, None, Result, Ok, Err, List, length, map, is_some, is_ok, slice_set}
 use Rattle.enet_types.specs.declared.address.Addr.{Addr}
 use Rattle.enet_types.specs.declared.event.DisconnectMode.{DisconnectMode}
 use Rattle.enet_types.specs.declared.event.DisconnectMode.TheVariants.{Now, Ask, Later}
@@ -146,16 +146,3 @@ pub record TakesOne (old : Host) (event : Event) (new : Host) : Type 0 where
 abbrev pub Takes : Option Event → Host → Host → Type 0
 Takes None old new = HoldsNowhere tells old.slots × (new ≡ old)
 Takes (Some event) old new = TakesOne old event new
-
--- the body that it would hand out
-abbrev pub peer_body : Option Peering → Option (List ℕ)
-peer_body None = None
-peer_body (Some p) = peers.next_body p
-
-pub record ShowsFirst (h : Host) (body : Option (List ℕ)) : Type 0 where
-  pub from : ℕ
-  pub first : IsFirst tells h.slots h.event_from from
-  pub shows : body ≡ peer_body first.slot.peer
-
-abbrev pub Shows : Host → Option (List ℕ) → Type 0
-Shows h body = (HoldsNowhere tells h.slots × (body ≡ None)) ⊎ ShowsFirst h body

@@ -3,6 +3,8 @@ use Rattle.std.specs.Prelude.{Result, ◌≡◌, ◌≤◌, ◌<◌, IsTrue, len
 use Rattle.enet_peer.specs.Peered.{Peered}
 use Rattle.enet_peer.specs.Peering.{Peering}
 use Rattle.enet_peer.specs.Calls.{is_connected}
+use Rattle.enet_peer.specs.Next.{next_packet}
+use Rattle.enet_types.specs.declared.packet.Packet.{Packet}
 use Rattle.enet_types.specs.declared.refusal.Refusal.{Refusal}
 use Rattle.enet_host.specs.declared.calls.Setting.{Setting}
 use Rattle.enet_host.specs.declared.calls.Setting.TheVariants.{PingInterval, Timeout}
@@ -12,7 +14,7 @@ use Rattle.enet_types.specs.declared.event.PeerRef.{PeerRef}
 use Rattle.enet_types.specs.declared.event.Event.{Event}
 use Rattle.enet_host.specs.Host.{SlotState, HoldsNoFree, name_of, greatest}
 use Rattle.enet_host.specs.Serving.{Gives, Passes}
-use Rattle.enet_host.specs.Calls.{tells, peer_body, GivesEvent, pinging, waiting}
+use Rattle.enet_host.specs.Calls.{tells, GivesEvent, pinging, waiting}
 
 abbrev pub peer_shown : Option Peered → Option Peering
 peer_shown None = None
@@ -80,11 +82,22 @@ pub record SlotIsMute (slots : List SlotState) (i : ℕ) : Type 0 where
   pub there : slice_get slots i ≡ Some slot
   pub mute : tells slot ≡ false
 
--- slot i shows this body
-pub record SlotShows (slots : List SlotState) (i : ℕ) (body : Option (List ℕ)) : Type 0 where
+-- slot i has a peer of this name, or its next peer gets it
+pub record SlotIsNamed (slots : List SlotState) (i : ℕ) (name : PeerRef) : Type 0 where
   pub slot : SlotState
   pub there : slice_get slots i ≡ Some slot
-  pub shows : body ≡ peer_body slot.peer
+  pub named : name ≡ name_of i slot
+
+-- the packet that the next event of a slot's peer hands out
+abbrev pub peer_packet : Option Peering → Option Packet
+peer_packet None = None
+peer_packet (Some p) = next_packet p
+
+-- slot i shows this packet
+pub record SlotShows (slots : List SlotState) (i : ℕ) (packet : Option Packet) : Type 0 where
+  pub slot : SlotState
+  pub there : slice_get slots i ≡ Some slot
+  pub shows : packet ≡ peer_packet slot.peer
 
 -- what a setting changes of a peer
 abbrev pub set_by : Setting → Peering → Result Peering Refusal

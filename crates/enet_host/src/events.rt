@@ -2,15 +2,14 @@
 
 ghost use Rattle.std.specs.Prelude.{◌≡◌, ◌<◌, false, length, IfSome, IfNone};
 ghost use Rattle.std.specs.Option.{option_copied};
-ghost use Rattle.enet_host.specs.Calls.{tells, event_of, peer_body, GivesEvent};
+ghost use Rattle.enet_host.specs.Calls.{tells, event_of, GivesEvent};
 ghost use Rattle.enet_host.specs.Turns.{IsFirst, HoldsNowhere};
-ghost use Rattle.enet_host.specs.Shown.{shown, all_shown, SlotGivesEvent, SlotIsMute, SlotShows};
+ghost use Rattle.enet_host.specs.Shown.{shown, peer_packet, all_shown, SlotGivesEvent, SlotIsMute, SlotIsNamed, SlotShows};
 
 use crate::service::slot_after;
 use crate::slot::Slot;
-use bytes::Bytes;
 use enet_peer::PeerEvent;
-use enet_types::{Event, PeerRef};
+use enet_types::{Event, Packet, PeerRef};
 
 /// An event of a peer, as the host tells it.
 fn event_of(peer: PeerRef, event: PeerEvent) -> Event
@@ -53,12 +52,12 @@ impl Slot {
         Some(event_of(name, event))
     }
 
-    /// The body that its peer's next event hands out.
-    fn next_body(&self) -> Option<&Bytes>
-        ensures { option_copied result ≡ peer_body (shown self.now).peer }
+    /// The packet that its peer's next event hands out.
+    fn next_packet(&self) -> Option<&Packet>
+        ensures { option_copied result ≡ peer_packet (shown self.now).peer }
     {
         match &self.peer {
-            Some(peer) => peer.next_body(),
+            Some(peer) => peer.next_packet(),
             None => None,
         }
     }
@@ -93,10 +92,21 @@ pub(crate) fn take_from(slots: &mut Vec<Slot>, number: u16) -> Option<Event>
     slot.take(number)
 }
 
-/// The body that a slot's next event hands out.
-pub(crate) fn body_of(slots: &[Slot], number: u16) -> Option<&Bytes>
+/// The packet that a slot's next event hands out.
+pub(crate) fn packet_of(slots: &[Slot], number: u16) -> Option<&Packet>
     requires { number < length slots.now }
     ensures { SlotShows (all_shown slots.now) number (option_copied result) }
 {
-    slots[usize::from(number)].next_body()
+    slots[usize::from(number)].next_packet()
+}
+
+/// The name of a slot's peer, or of its next one.
+pub(crate) fn name_at(slots: &[Slot], number: u16) -> PeerRef
+    requires { number < length slots.now }
+    ensures { SlotIsNamed (all_shown slots.now) number result }
+{
+    PeerRef {
+        slot: number,
+        generation: slots[usize::from(number)].generation,
+    }
 }
