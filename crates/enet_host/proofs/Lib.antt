@@ -1,5 +1,4 @@
 pub mod Slots
-pub mod Changes
 pub mod Offering
 pub mod Hearing
 pub mod Turning

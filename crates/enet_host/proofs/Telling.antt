@@ -1,9 +1,11 @@
 -- The first slot in turn tells its event.
 use Rattle.std.proofs.Common.{◌≡◌, ℕ, List, length, slice_get, ap₂, subst}
 use Rattle.enet_types.specs.declared.event.Event.{Event}
-use Rattle.enet_host.specs.Host.{Host, SlotState}
+use Rattle.enet_slot.specs.Slot.{SlotState}
+use Rattle.enet_host.specs.Host.{Host}
 use Rattle.enet_host.specs.Turns.{IsFirst, slot_after}
-use Rattle.enet_host.specs.Calls.{tells, GivesEvent, TakesOne}
+use Rattle.enet_slot.specs.Calls.{tells, GivesEvent}
+use Rattle.enet_host.specs.Calls.{TakesOne}
 use Rattle.enet_host.specs.Shown.{SlotGivesEvent}
 use Rattle.enet_host.proofs.Asking.{some-same}
 

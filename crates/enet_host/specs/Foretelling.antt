@@ -7,23 +7,18 @@ use Rattle.enet_types.specs.declared.event.Event.TheVariants as events
 use Rattle.enet_types.specs.declared.event.PeerRef.{PeerRef}
 use Rattle.enet_types.specs.declared.packet.Packet.{Packet}
 use Rattle.enet_types.specs.declared.refusal.Refusal.{Refusal}
-use Rattle.enet_types.specs.declared.refusal.Refusal.TheVariants.{NoSuchPeer}
-use Rattle.enet_peer.specs.Peering.{Peering}
-use Rattle.enet_peer.specs.Calls as peers
-use Rattle.enet_host.specs.Host.{Host, SlotState, named, name_of}
+use Rattle.enet_slot.specs.Slot.{SlotState, name_of}
+use Rattle.enet_slot.specs.Calls.{tells, refused_in}
+use Rattle.enet_host.specs.Host.{Host, named}
 use Rattle.enet_host.specs.Turns.{IsFirst}
 use Rattle.enet_host.specs.Opening.{available}
-use Rattle.enet_host.specs.Calls.{tells, Takes}
+use Rattle.enet_host.specs.Calls.{Takes}
 
 -- the name that the next peer gets: that of the lowest slot that is free and has a generation left
 abbrev pub next_name : Config → List SlotState → Option PeerRef
 next_name c slots = option_and_then (λ i. option_map (name_of i) (slice_get slots i)) (available c slots)
 
--- the first refusal but want of memory that a submission of so many bytes meets
-abbrev pub refused_in : ℕ → ℕ → Option Peering → Option Refusal
-refused_in channel len None = Some NoSuchPeer
-refused_in channel len (Some p) = peers.submission_refusal p channel len
-
+-- the first refusal but want of memory that a submission of so many bytes meets at the peer of this name
 abbrev pub submission_refusal : List SlotState → PeerRef → ℕ → ℕ → Option Refusal
 submission_refusal slots name channel len = refused_in channel len (named slots name)
 

@@ -1,67 +1,14 @@
 //! What a host tells its user.
 
-ghost use Rattle.std.specs.Prelude.{◌≡◌, ◌<◌, false, length, IfSome, IfNone};
+ghost use Rattle.std.specs.Prelude.{◌≡◌, ◌<◌, length, IfSome, IfNone};
 ghost use Rattle.std.specs.Option.{option_copied};
-ghost use Rattle.enet_host.specs.Calls.{tells, event_of, GivesEvent};
+ghost use Rattle.enet_slot.specs.Calls.{tells};
 ghost use Rattle.enet_host.specs.Turns.{IsFirst, HoldsNowhere};
-ghost use Rattle.enet_host.specs.Shown.{shown, peer_packet, all_shown, SlotGivesEvent, SlotIsMute, SlotIsNamed, SlotShows};
+ghost use Rattle.enet_host.specs.Shown.{all_shown, SlotGivesEvent, SlotIsMute, SlotIsNamed, SlotShows};
 
 use crate::service::slot_after;
-use crate::slot::Slot;
-use enet_peer::PeerEvent;
+use enet_slot::Slot;
 use enet_types::{Event, Packet, PeerRef};
-
-/// An event of a peer, as the host tells it.
-fn event_of(peer: PeerRef, event: PeerEvent) -> Event
-    ensures { result ≡ event_of peer event }
-{
-    match event {
-        PeerEvent::Connect { info } => Event::Connect { peer, info },
-        PeerEvent::Receive { packet } => Event::Receive { peer, packet },
-        PeerEvent::Disconnect { info } => Event::Disconnect { peer, info },
-    }
-}
-
-impl Slot {
-    /// Whether its peer has an event.
-    fn tells(&self) -> bool
-        ensures { result ≡ tells (shown self.now) }
-    {
-        match &self.peer {
-            Some(peer) => peer.has_event(),
-            None => false,
-        }
-    }
-
-    /// The next event of its peer.
-    fn take(&mut self, number: u16) -> Option<Event>
-        ensures gives { IfSome result (λ event. GivesEvent number event (shown self.old) (shown self.new)) }
-        ensures none { IfNone result ((tells (shown self.old) ≡ false) × (shown self.new ≡ shown self.old)) }
-    {
-        let name = PeerRef {
-            slot: number,
-            generation: self.generation,
-        };
-        let Some(peer) = &mut self.peer else {
-            return None;
-        };
-        let Some(event) = peer.next_event() else {
-            return None;
-        };
-        self.let_go();
-        Some(event_of(name, event))
-    }
-
-    /// The packet that its peer's next event hands out.
-    fn next_packet(&self) -> Option<&Packet>
-        ensures { option_copied result ≡ peer_packet (shown self.now).peer }
-    {
-        match &self.peer {
-            Some(peer) => peer.next_packet(),
-            None => None,
-        }
-    }
-}
 
 /// The first slot in turn that has an event.
 pub(crate) fn first_telling(slots: &[Slot], peers: u16, from: u16) -> Option<u16>
@@ -107,6 +54,6 @@ pub(crate) fn name_at(slots: &[Slot], number: u16) -> PeerRef
 {
     PeerRef {
         slot: number,
-        generation: slots[usize::from(number)].generation,
+        generation: slots[usize::from(number)].generation(),
     }
 }

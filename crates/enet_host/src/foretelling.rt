@@ -3,7 +3,7 @@
 ghost use Rattle.std.specs.Prelude.{◌≡◌, IfSome, IfNone};
 ghost use Rattle.std.specs.Option.{option_copied};
 ghost use Rattle.enet_host.specs.Turns.{HoldsNowhere};
-ghost use Rattle.enet_host.specs.Calls.{tells};
+ghost use Rattle.enet_slot.specs.Calls.{tells};
 ghost use Rattle.enet_host.specs.Foretelling.{next_name, teller_of, packet_of, body_of, Foretells, IsTeller};
 
 use crate::connecting::lowest_available;

@@ -10,15 +10,15 @@ ghost use Rattle.enet_host.specs.Ticking.{ticked, clock_after};
 ghost use Rattle.enet_host.specs.Calls.{with_bandwidth, Takes};
 ghost use Rattle.enet_host.specs.Calls as calls;
 
-use crate::connecting::{Question, connect};
+use crate::connecting::connect;
 use crate::events::{first_telling, take_from};
-use crate::opening::{Start, unused_slots};
+use crate::opening::unused_slots;
 use crate::receiving::receive;
 use crate::service::{serve, slot_after};
 use crate::sharing::{set_bandwidth, share_out, tick_all};
-use crate::slot::Slot;
 use crate::totals::Totals;
 use enet_rtt::elapsed;
+use enet_slot::{Question, Slot, Start};
 use enet_types::{Addr, Config, Event, PeerRef, Received, Refusal};
 use std::alloc::Global;
 use std::marker::Model;

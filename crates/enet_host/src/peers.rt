@@ -8,14 +8,16 @@ ghost use Rattle.enet_outbox.specs.Outbox.{transit_of};
 ghost use Rattle.enet_sender.specs.Carriage.{Packet};
 ghost use Rattle.enet_host.specs.Host.{KeepsRest, named, slot_named};
 ghost use Rattle.enet_host.specs.Foretelling.{submission_refusal, refusal_of};
-ghost use Rattle.enet_host.specs.Calls.{address_named, Submits, Does, DoesWithMemory, on_named, submission, leaving, throttling, pinging, waiting};
+ghost use Rattle.enet_slot.specs.Calls.{Submits, Does, DoesWithMemory, submission, leaving, throttling, pinging, waiting};
+ghost use Rattle.enet_host.specs.Calls.{address_named, on_named};
 
-use crate::calls::{self, Setting};
+use crate::calls;
 use crate::host::HostCore;
 use crate::totals::Totals;
 use bytes::Bytes;
 use enet_connect::Terms;
 use enet_peer::{PeerState, RoundTrip};
+use enet_slot::Setting;
 use enet_types::{Addr, DisconnectMode, PeerRef, Refusal};
 
 impl HostCore {

@@ -1,8 +1,8 @@
 use Rattle.std.proofs.Common.{List, subst}
-use Rattle.enet_host.specs.declared.slot.Slot.{Slot}
+use Rattle.enet_slot.specs.declared.slot.Slot.{Slot}
 use Rattle.enet_host.specs.Host.{Host}
 use Rattle.enet_host.specs.Turns.{IsFirst}
-use Rattle.enet_host.specs.Calls.{tells}
+use Rattle.enet_slot.specs.Calls.{tells}
 use Rattle.enet_host.specs.Foretelling.{teller_of}
 use Rattle.enet_host.specs.Shown.{all_shown, SlotIsNamed}
 use Rattle.enet_host.proofs.Foretold.{is-teller, foretells-teller}

@@ -1,9 +1,9 @@
 use Rattle.std.proofs.Common.{List, subst}
 use Rattle.std.specs.Option.{option_copied}
-use Rattle.enet_host.specs.declared.slot.Slot.{Slot}
+use Rattle.enet_slot.specs.declared.slot.Slot.{Slot}
 use Rattle.enet_host.specs.Host.{Host}
 use Rattle.enet_host.specs.Turns.{IsFirst, HoldsNowhere}
-use Rattle.enet_host.specs.Calls.{tells}
+use Rattle.enet_slot.specs.Calls.{tells}
 use Rattle.enet_host.specs.Foretelling.{packet_of}
 use Rattle.enet_host.specs.Shown.{all_shown, SlotShows}
 use Rattle.enet_host.proofs.Foretold.{foretells-nothing, foretells-packet}
