@@ -11,7 +11,7 @@ use crate::telling::{
 use crate::words::{Words, address_of, letter_of};
 use bytes::Bytes;
 use enet_host::HostCore;
-use enet_types::{PeerRef, Refusal};
+use enet_types::{Event, PeerRef, Refusal};
 use std::alloc::Global;
 
 /// More than any script has.
@@ -30,6 +30,21 @@ struct Sent {
     from: u8,
     start: usize,
     end: usize,
+}
+
+/// Writes that a host foretold something else than what came, so that the answer isn't the wanted one.
+fn push_otherwise(text: &mut String) -> Result<(), Fault> {
+    text.push_str("foretold otherwise: ")?;
+    Ok(())
+}
+
+/// Whose event it is, and how long the packet is that it hands out.
+fn seen_in(event: &Event) -> (Option<PeerRef>, Option<usize>) {
+    match event {
+        Event::Connect { peer, .. } | Event::Disconnect { peer, .. } => (Some(*peer), None),
+        Event::Receive { peer, packet } => (Some(*peer), Some(packet.body.len())),
+        Event::Refused { .. } => (None, None),
+    }
 }
 
 /// What a submission comes to.
@@ -198,7 +213,13 @@ impl Field {
         let channels = words.byte()?;
         let info = words.number()?;
         let id = words.hex()?;
-        push_peer(text, self.host(from)?.connect(to, channels, info, id))
+        let host = self.host(from)?;
+        let foretold = host.next_peer();
+        let made = host.connect(to, channels, info, id);
+        if made.is_ok() && made.ok() != foretold {
+            push_otherwise(text)?;
+        }
+        push_peer(text, made)
     }
 
     fn submit(&mut self, words: &mut Words<'_>, text: &mut String) -> Result<(), Fault> {
@@ -208,7 +229,12 @@ impl Field {
         let flags = words.byte()?;
         let body = self.body(words.word()?)?;
         let host = self.host(from)?;
-        push_done(text, submitted(host, peer, channel, flags, body))
+        let foretold = host.submission_refusal(peer, channel, body.len());
+        let outcome = submitted(host, peer, channel, flags, body);
+        if outcome != Err(Refusal::Memory) && outcome.err() != foretold {
+            push_otherwise(text)?;
+        }
+        push_done(text, outcome)
     }
 
     /// The bytes that a word writes, as a packet's.
@@ -280,10 +306,19 @@ impl Field {
     }
 
     fn take(&mut self, words: &mut Words<'_>, text: &mut String) -> Result<(), Fault> {
-        match self.host(words.letter()?)?.next_event() {
-            Some(event) => push_event(text, &event)?,
-            None => text.push_str("none")?,
+        let host = self.host(words.letter()?)?;
+        let foretold = (host.next_event_of(), host.next_packet().map(|q| q.body.len()));
+        let Some(event) = host.next_event() else {
+            if foretold != (None, None) {
+                push_otherwise(text)?;
+            }
+            text.push_str("none")?;
+            return Ok(());
+        };
+        if foretold != seen_in(&event) {
+            push_otherwise(text)?;
         }
+        push_event(text, &event)?;
         Ok(())
     }
 

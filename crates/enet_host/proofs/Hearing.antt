@@ -7,10 +7,11 @@ use Rattle.enet_types.specs.declared.event.Received.{Received}
 use Rattle.enet_types.specs.declared.stop.Stop.{Stop}
 use Rattle.enet_peer.specs.Peering.{Peering}
 use Rattle.enet_datagram.specs.Heading.{IsRead}
-use Rattle.enet_host.specs.declared.slot.Slot.{Slot}
-use Rattle.enet_host.specs.Host.{SlotState}
-use Rattle.enet_host.specs.Opening.{is_vacant}
-use Rattle.enet_host.specs.Receiving.{Arrives, Hears, heard, no_peer, refused_by, refused_by_slot, refused_by_peer}
+use Rattle.enet_slot.specs.declared.slot.Slot.{Slot}
+use Rattle.enet_slot.specs.Slot.{SlotState}
+use Rattle.enet_slot.specs.Giving.{is_vacant}
+use Rattle.enet_slot.specs.Hearing.{Hears, no_peer, refused_by_slot, refused_by_peer}
+use Rattle.enet_host.specs.Receiving.{Arrives, heard, refused_by}
 use Rattle.enet_host.specs.Shown.{shown, all_shown}
 use Rattle.enet_host.proofs.Slots.{get-shown, set-shown}
 

@@ -19,17 +19,23 @@ use Rattle.enet_peer.specs.Peering.{Peering}
 use Rattle.enet_peer.specs.Peering as peers
 use Rattle.enet_peer.specs.Calls.{is_connected, with_throttle_limit}
 use Rattle.enet_peer.specs.Calls as calls
-use Rattle.enet_host.specs.declared.slot.Slot.{Slot}
+use Rattle.enet_slot.specs.declared.slot.Slot.{Slot}
 use Rattle.enet_host.specs.Shown.{shown, all_shown, KeepsHost, SlotGivesEvent}
 use Rattle.enet_host.proofs.Slots.{set-shown, length-shown}
-use Rattle.enet_host.specs.Host.{greatest, Host, SlotState, HoldsNoFree, with_peer, with_peer_in, with_changed, changed, with_generation, limits_of}
-use Rattle.enet_host.specs.Opening.{unused_slot, joined, joined_terms, given, offer_from, server_from, asking, answering, Connects, no_channel, no_slot, no_memory, asks}
+use Rattle.enet_slot.specs.Giving.{limits_of}
+use Rattle.enet_slot.specs.Slot.{greatest, SlotState, with_peer, with_peer_in, with_changed, changed}
+use Rattle.enet_host.specs.Host.{Host, HoldsNoFree, with_generation}
+use Rattle.enet_slot.specs.Giving.{unused_slot, joined_terms, given, offer_from, server_from, asking, answering}
+use Rattle.enet_host.specs.Opening.{joined, Connects, no_channel, no_slot, no_memory, asks}
 use Rattle.enet_host.specs.Receiving as receiving
 use Rattle.enet_host.specs.Receiving.{Offers, Arrives}
-use Rattle.enet_host.specs.Serving.{Gives, passes_by, InTurn, GivesInTurn, AllPass}
+use Rattle.enet_slot.specs.Serving.{Gives, passes_by}
+use Rattle.enet_host.specs.Serving.{InTurn, GivesInTurn, AllPass}
 use Rattle.enet_host.specs.Turns.{turn_of}
-use Rattle.enet_host.specs.Ticking.{clock_after, is_standing, limit_for, with_limit, shared, with_time, is_due, ticked}
-use Rattle.enet_host.specs.Calls.{kept, on_peer_in, put_back, on_slot, on_named, Submits, Does, DoesWithMemory, GivesEvent}
+use Rattle.enet_slot.specs.Sharing.{is_standing, limit_for, with_limit, shared}
+use Rattle.enet_host.specs.Ticking.{clock_after, with_time, is_due, ticked}
+use Rattle.enet_slot.specs.Calls.{kept, on_peer_in, Submits, Does, DoesWithMemory, GivesEvent}
+use Rattle.enet_host.specs.Calls.{put_back, on_slot, on_named}
 
 -- a slot doesn't hold a free peer
 abbrev pub IsHeld : SlotState → Type 0
@@ -152,7 +158,7 @@ passes-held now s t None old e = subst IsHeld (sym e) old
 passes-held now s t (Some p) old n = subst IsHeld (sym n.left) (peer-held s n.after)
 
 -- two slots have the same place in turn only if they are the same
-turns-apart : (n from i j : ℕ) → i < n → j < n → turn_of n from i ≡ turn_of n from j → i ≡ j
+pub turns-apart : (n from i j : ℕ) → i < n → j < n → turn_of n from i ≡ turn_of n from j → i ≡ j
 turns-apart n from i j a b e = grind (arith, nat_tests)
 
 turned-held : (now from count gave len : ℕ) (buf : List ℕ) (i : ℕ) (s t : SlotState) → i < count → gave < count → IsHeld s → InTurn now from count gave len buf i s t → IsHeld t

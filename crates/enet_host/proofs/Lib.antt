@@ -1,5 +1,4 @@
 pub mod Slots
-pub mod Changes
 pub mod Offering
 pub mod Hearing
 pub mod Turning
@@ -7,3 +6,4 @@ pub mod Asking
 pub mod Serving
 pub mod Telling
 pub mod Holding
+pub mod Foretold

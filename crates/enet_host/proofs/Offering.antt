@@ -8,10 +8,12 @@ use Rattle.enet_types.specs.declared.event.Received.{Received}
 use Rattle.enet_types.specs.declared.refusal.Refusal.{Refusal}
 use Rattle.enet_types.specs.declared.refusal.Refusal.TheVariants.{Memory}
 use Rattle.enet_types.specs.declared.stop.Stop.TheVariants as stop
-use Rattle.enet_host.specs.declared.slot.Slot.{Slot}
-use Rattle.enet_host.specs.Host.{SlotState, name_of}
-use Rattle.enet_host.specs.Opening.{available, asking, answering, Connects, no_memory, asks}
-use Rattle.enet_host.specs.Receiving.{Offers, offer_refused, is_known, handled_one, stopped}
+use Rattle.enet_slot.specs.declared.slot.Slot.{Slot}
+use Rattle.enet_slot.specs.Slot.{SlotState, name_of}
+use Rattle.enet_slot.specs.Giving.{asking, answering}
+use Rattle.enet_host.specs.Opening.{available, Connects, no_memory, asks}
+use Rattle.enet_slot.specs.Hearing.{stopped}
+use Rattle.enet_host.specs.Receiving.{Offers, offer_refused, is_known, handled_one}
 use Rattle.enet_host.specs.Receiving as receiving
 use Rattle.enet_host.specs.Shown.{shown, all_shown}
 use Rattle.enet_host.proofs.Slots.{get-shown, set-shown, same-shown}

@@ -1,16 +1,13 @@
 -- One slot is asked for a datagram, or gives an event.
-use Rattle.std.proofs.Common.{◌≡◌, ℕ, ◌<◌, false, Option, Some, None, IfSome, IfNone, List, length, slice_get, slice_set, get_or, refl, sym, ap, subst, ◌∙◌}
+use Rattle.std.proofs.Common.{◌≡◌, ℕ, ◌<◌, false, Option, Some, None, IfSome, IfNone, List, length, slice_get, slice_set, get_or, ap, subst, ◌∙◌}
+use Rattle.enet_types.specs.declared.address.Addr.{Addr}
 use Rattle.enet_types.specs.declared.event.Event.{Event}
-use Rattle.enet_peer.specs.Peering.{Peering}
-use Rattle.enet_host.specs.declared.slot.Slot.{Slot}
-use Rattle.enet_host.specs.Host.{SlotState, name_of}
-use Rattle.enet_host.specs.Serving.{Gives, HasNothing, Passes, passes_by}
-use Rattle.enet_host.specs.Calls.{tells, peer_body, GivesEvent}
-use Rattle.enet_host.specs.Shown.{shown, all_shown, SlotGives, SlotPasses, SlotGivesEvent, SlotIsMute, SlotShows}
+use Rattle.enet_types.specs.declared.packet.Packet.{Packet}
+use Rattle.enet_slot.specs.declared.slot.Slot.{Slot}
+use Rattle.enet_slot.specs.Serving.{Gives, Passes}
+use Rattle.enet_slot.specs.Calls.{tells, peer_packet, GivesEvent}
+use Rattle.enet_host.specs.Shown.{shown, all_shown, SlotGives, SlotPasses, SlotGivesEvent, SlotIsMute, SlotIsNamed, SlotShows}
 use Rattle.enet_host.proofs.Slots.{get-shown, set-shown}
-
-pub passes-of : (now : ℕ) (s t : SlotState) (p : Peering) → s.peer ≡ Some p → HasNothing now s t p → Passes now s t
-passes-of now s t p held h = subst (λ (o : Option Peering). passes_by now s t o) (sym held) h
 
 -- slot n of the vector is slot `number`
 pub at-number : (xs : List Slot) (n number : ℕ) (x : Slot) → n ≡ number → n < length xs → x ≡ get_or xs n x → slice_get (all_shown xs) number ≡ Some (shown x)
@@ -29,15 +26,15 @@ slot-passes now xs n number x y e inside read passes = record {
   after = set-number xs n number y e;
 }
 
-pub slot-gives : (now len : ℕ) (buf : List ℕ) (xs : List Slot) (n number : ℕ) (x y : Slot) → n ≡ number → n < length xs → x ≡ get_or xs n x
-    → Gives now len buf (shown x) (shown y)
-    → SlotGives now (all_shown xs) number (name_of number (shown x)) x.address len buf (all_shown (slice_set xs n y))
-slot-gives now len buf xs n number x y e inside read gives = record {
+pub slot-gives : (now len g : ℕ) (address : Addr) (buf : List ℕ) (xs : List Slot) (n number : ℕ) (x y : Slot) → n ≡ number → n < length xs → x ≡ get_or xs n x
+    → g ≡ (shown x).generation → address ≡ (shown x).address → Gives now len buf (shown x) (shown y)
+    → SlotGives now (all_shown xs) number (record { slot = number; generation = g }) address len buf (all_shown (slice_set xs n y))
+slot-gives now len g address buf xs n number x y e inside read named addressed gives = record {
   slot = shown x;
   left = shown y;
   there = at-number xs n number x e inside read;
-  named = refl;
-  addressed = refl;
+  named = ap (λ (m : ℕ). record { slot = number; generation = m }) named;
+  addressed = addressed;
   gives = gives;
   after = set-number xs n number y e;
 }
@@ -59,6 +56,14 @@ pub slot-is-mute : (xs : List Slot) (n number : ℕ) (x y : Slot) (r : Option Ev
 slot-is-mute xs n number x y None e inside read mute = record { slot = shown x; there = at-number xs n number x e inside read; mute = mute.0 }
 slot-is-mute xs n number x y (Some event) e inside read mute = mute
 
-pub slot-shows : (xs : List Slot) (n number : ℕ) (x : Slot) (body : Option (List ℕ)) → n ≡ number → n < length xs → x ≡ get_or xs n x
-    → body ≡ peer_body (shown x).peer → SlotShows (all_shown xs) number body
-slot-shows xs n number x body e inside read shows = record { slot = shown x; there = at-number xs n number x e inside read; shows = shows }
+pub slot-shows : (xs : List Slot) (n number : ℕ) (x : Slot) (packet : Option Packet) → n ≡ number → n < length xs → x ≡ get_or xs n x
+    → packet ≡ peer_packet (shown x).peer → SlotShows (all_shown xs) number packet
+slot-shows xs n number x packet e inside read shows = record { slot = shown x; there = at-number xs n number x e inside read; shows = shows }
+
+pub slot-is-named : (xs : List Slot) (n number : ℕ) (x : Slot) (g : ℕ) → n ≡ number → n < length xs → x ≡ get_or xs n x → g ≡ (shown x).generation
+    → SlotIsNamed (all_shown xs) number (record { slot = number; generation = g })
+slot-is-named xs n number x g e inside read is = record {
+  slot = shown x;
+  there = at-number xs n number x e inside read;
+  named = ap (λ (m : ℕ). record { slot = number; generation = m }) is;
+}

@@ -7,6 +7,7 @@ use Rattle.std.proofs.lemmas.List.Edits.{map_over_more}
 use Rattle.std.proofs.lemmas.List.Sums.{sum_by-append}
 use Rattle.std.specs.List.{position, prefix_len, list_any, count_by}
 use Rattle.std.proofs.Math.Seq.{map-set_same}
+use Rattle.std.specs.Int.{from_bool}
 use Rattle.std.specs.Option.{option_map}
 use Rattle.std.proofs.lemmas.Option.{slice_get-map, slice_get_read}
 use Rattle.enet_types.specs.declared.event.PeerRef.{PeerRef}
@@ -14,10 +15,13 @@ use Rattle.enet_types.specs.declared.refusal.Refusal.{Refusal}
 use Rattle.enet_types.specs.declared.refusal.Refusal.TheVariants.{Memory}
 use Rattle.enet_sender.specs.Carriage.{Packet}
 use Rattle.enet_peer.specs.Peering.{Peering}
-use Rattle.enet_host.specs.declared.slot.Slot.{Slot}
-use Rattle.enet_host.specs.Host.{SlotState, slot_named, with_generation}
-use Rattle.enet_host.specs.Calls.{on_peer, on_slot, on_named, put_back, Does, DoesWithMemory, Submits, IsRefusedBy}
-use Rattle.enet_host.specs.Shown.{shown, all_shown, HasRoom}
+use Rattle.enet_slot.specs.declared.slot.Slot.{Slot}
+use Rattle.enet_slot.specs.Slot.{SlotState}
+use Rattle.enet_host.specs.Host.{slot_named, with_generation}
+use Rattle.enet_slot.specs.Calls.{on_peer, Does, DoesWithMemory, Submits, IsRefusedBy}
+use Rattle.enet_host.specs.Calls.{on_slot, on_named, put_back}
+use Rattle.enet_slot.specs.Slotted.{HasRoom}
+use Rattle.enet_host.specs.Shown.{shown, all_shown}
 
 -- slot i as it is shown
 pub get-shown : (xs : List Slot) (i : ℕ) (x : Slot) → i < length xs → x ≡ get_or xs i x → slice_get (all_shown xs) i ≡ Some (shown x)
@@ -169,6 +173,10 @@ pub later-more : (all xs : List Slot) (i : ℕ) (y : Slot) → ((k : ℕ) (x : S
 later-more all xs i y later k x past = get_or-set_other xs i k y x (omega arith) ∙ later k x (omega arith)
 
 -- a count goes on by one slot
+pub one-if : (b : Bool) → from_bool b ≡ (if b then 1 else 0)
+one-if true = refl
+one-if false = refl
+
 pub at-most-one : (b : Bool) → (if b then 1 else 0) ≤ 1
 at-most-one true = omega arith
 at-most-one false = omega arith

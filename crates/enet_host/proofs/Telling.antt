@@ -1,10 +1,12 @@
 -- The first slot in turn tells its event.
-use Rattle.std.proofs.Common.{◌≡◌, ℕ, inr, Option, List, length, slice_get, ap, ap₂, subst, ◌∙◌}
+use Rattle.std.proofs.Common.{◌≡◌, ℕ, List, length, slice_get, ap₂, subst}
 use Rattle.enet_types.specs.declared.event.Event.{Event}
-use Rattle.enet_host.specs.Host.{Host, SlotState}
+use Rattle.enet_slot.specs.Slot.{SlotState}
+use Rattle.enet_host.specs.Host.{Host}
 use Rattle.enet_host.specs.Turns.{IsFirst, slot_after}
-use Rattle.enet_host.specs.Calls.{tells, peer_body, GivesEvent, TakesOne, Shows}
-use Rattle.enet_host.specs.Shown.{SlotGivesEvent, SlotShows}
+use Rattle.enet_slot.specs.Calls.{tells, GivesEvent}
+use Rattle.enet_host.specs.Calls.{TakesOne}
+use Rattle.enet_host.specs.Shown.{SlotGivesEvent}
 use Rattle.enet_host.proofs.Asking.{some-same}
 
 -- `v` is what was seen of the host before
@@ -20,9 +22,3 @@ takes-at v old after i n event same first g next =
       gives = subst (λ (s : SlotState). GivesEvent i event s g.left) is g.gives;
       rest = ap₂ (λ (ss : List SlotState) (m : ℕ). record v { slots = ss; event_from = m }) g.after next;
     })
-
-pub shows-at : (v old : Host) (i : ℕ) (body : Option (List ℕ)) → v ≡ old → IsFirst tells v.slots v.event_from i → SlotShows v.slots i body → Shows old body
-shows-at v old i body same first s =
-    let is : s.slot ≡ first.slot = some-same (slice_get v.slots i) s.slot first.slot s.there first.there in
-    subst (λ (h : Host). Shows h body) same
-    (inr (record { from = i; first = first; shows = s.shows ∙ ap (λ (t : SlotState). peer_body t.peer) is }))

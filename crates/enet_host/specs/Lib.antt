@@ -5,4 +5,5 @@ pub mod Receiving
 pub mod Serving
 pub mod Ticking
 pub mod Calls
+pub mod Foretelling
 pub mod Shown

@@ -1,39 +1,13 @@
 -- A host puts out a datagram.
-use Rattle.std.specs.Prelude.{◌≡◌, ℕ, ◌+◌, ◌<◌, min, Option, Some, None, List, length, slice_get}
+use Rattle.std.specs.Prelude.{◌≡◌, ℕ, ◌<◌, Option, Some, None, List, length, slice_get}
 use Rattle.enet_types.specs.declared.address.Addr.{Addr}
 use Rattle.enet_types.specs.declared.event.PeerRef.{PeerRef}
-use Rattle.enet_peer.specs.Peering.{Peering}
-use Rattle.enet_peer.specs.Calls.{PutsOut}
+use Rattle.enet_slot.specs.Slot.{SlotState, name_of}
+use Rattle.enet_slot.specs.Serving.{Gives, Passes}
 use Rattle.enet_host.specs.declared.totals.Totals.{Totals}
-use Rattle.enet_host.specs.Host.{Host, SlotState, with_peer, name_of, greatest}
+use Rattle.enet_host.specs.Host.{Host}
 use Rattle.enet_host.specs.Turns.{turn_of, slot_after}
 use Rattle.enet_host.specs.Receiving.{added}
-
-abbrev pub with_emitted : SlotState → ℕ → SlotState
-with_emitted s len = record s { emitted = min (s.emitted + len) greatest }
-
--- the peer of a slot puts out a datagram of this length
-pub record Gives (now len : ℕ) (buf : List ℕ) (s t : SlotState) : Type 0 where
-  pub peer : Peering
-  pub after : Peering
-  pub held : s.peer ≡ Some peer
-  pub puts : PutsOut now (Some len) peer after buf
-  pub left : t ≡ with_peer (with_emitted s len) after
-
--- the peer of a slot is asked and has nothing to put out; it may still go on
-pub record HasNothing (now : ℕ) (s t : SlotState) (p : Peering) : Type 0 where
-  pub after : Peering
-  pub buf : List ℕ
-  pub puts : PutsOut now None p after buf
-  pub left : t ≡ with_peer s after
-
--- a slot is asked in vain: it is free, or its peer has nothing to put out
-abbrev pub passes_by : ℕ → SlotState → SlotState → Option Peering → Type 0
-passes_by now s t None = t ≡ s
-passes_by now s t (Some p) = HasNothing now s t p
-
-abbrev pub Passes : ℕ → SlotState → SlotState → Type 0
-Passes now s t = passes_by now s t s.peer
 
 -- what became of slot i, where slot `gave` gave a datagram of this length: those before it in turn were asked in vain, those
 -- after it are as they were

@@ -1,43 +1,20 @@
 -- A slot of the code as the contracts of the host's calls see it.
-use Rattle.std.specs.Prelude.{Result, ◌≡◌, ◌≤◌, ◌<◌, IsTrue, length, ℕ, false, Option, Some, None, List, map, slice_get, slice_set}
-use Rattle.enet_peer.specs.Peered.{Peered}
-use Rattle.enet_peer.specs.Peering.{Peering}
-use Rattle.enet_peer.specs.Calls.{is_connected}
-use Rattle.enet_types.specs.declared.refusal.Refusal.{Refusal}
-use Rattle.enet_host.specs.declared.calls.Setting.{Setting}
-use Rattle.enet_host.specs.declared.calls.Setting.TheVariants.{PingInterval, Timeout}
-use Rattle.enet_host.specs.declared.slot.Slot.{Slot}
+use Rattle.std.specs.Prelude.{◌≡◌, ◌≤◌, ◌<◌, length, ℕ, false, Option, Some, List, map, slice_get, slice_set}
 use Rattle.enet_types.specs.declared.address.Addr.{Addr}
 use Rattle.enet_types.specs.declared.event.PeerRef.{PeerRef}
 use Rattle.enet_types.specs.declared.event.Event.{Event}
-use Rattle.enet_host.specs.Host.{SlotState, HoldsNoFree, name_of, greatest}
-use Rattle.enet_host.specs.Serving.{Gives, Passes}
-use Rattle.enet_host.specs.Calls.{tells, peer_body, GivesEvent, pinging, waiting}
-
-abbrev pub peer_shown : Option Peered → Option Peering
-peer_shown None = None
-peer_shown (Some p) = Some p.peer
+use Rattle.enet_types.specs.declared.packet.Packet.{Packet}
+use Rattle.enet_slot.specs.declared.slot.Slot.{Slot}
+use Rattle.enet_slot.specs.Slot.{SlotState, name_of, greatest}
+use Rattle.enet_slot.specs.Serving.{Gives, Passes}
+use Rattle.enet_slot.specs.Calls.{tells, peer_packet, GivesEvent}
+use Rattle.enet_host.specs.Host.{HoldsNoFree}
 
 abbrev pub shown : Slot → SlotState
-shown s = record {
-  generation = s.generation;
-  address = s.address;
-  incoming_session = s.incoming_session;
-  outgoing_session = s.outgoing_session;
-  emitted = s.emitted;
-  peer = peer_shown s.peer;
-}
+shown s = s.slot
 
 abbrev pub all_shown : List Slot → List SlotState
 all_shown slots = map shown slots
-
--- a connected peer has room for one command of channel 0xFF
-abbrev pub peer_has_room : Option Peered → Type 0
-peer_has_room None = Unit {0}
-peer_has_room (Some p) = IsTrue (is_connected p.peer.state) → 1 ≤ p.room
-
-abbrev pub HasRoom : Slot → Type 0
-HasRoom s = peer_has_room s.peer
 
 -- what the fields of a host keep
 pub record KeepsHost (peers generations service_from event_from : ℕ) (slots : List Slot) : Type 0 where
@@ -80,13 +57,14 @@ pub record SlotIsMute (slots : List SlotState) (i : ℕ) : Type 0 where
   pub there : slice_get slots i ≡ Some slot
   pub mute : tells slot ≡ false
 
--- slot i shows this body
-pub record SlotShows (slots : List SlotState) (i : ℕ) (body : Option (List ℕ)) : Type 0 where
+-- slot i has a peer of this name, or its next peer gets it
+pub record SlotIsNamed (slots : List SlotState) (i : ℕ) (name : PeerRef) : Type 0 where
   pub slot : SlotState
   pub there : slice_get slots i ≡ Some slot
-  pub shows : body ≡ peer_body slot.peer
+  pub named : name ≡ name_of i slot
 
--- what a setting changes of a peer
-abbrev pub set_by : Setting → Peering → Result Peering Refusal
-set_by (PingInterval ms) = pinging ms
-set_by (Timeout limit minimum maximum) = waiting limit minimum maximum
+-- slot i shows this packet
+pub record SlotShows (slots : List SlotState) (i : ℕ) (packet : Option Packet) : Type 0 where
+  pub slot : SlotState
+  pub there : slice_get slots i ≡ Some slot
+  pub shows : packet ≡ peer_packet slot.peer

@@ -1,6 +1,6 @@
 -- Slots in turn.
 use Rattle.std.specs.Prelude.{◌≡◌, ℕ, ◌+◌, ◌-◌, ◌<◌, Bool, true, false, nat_lt, if◌then◌else◌, Some, List, length, slice_get}
-use Rattle.enet_host.specs.Host.{SlotState}
+use Rattle.enet_slot.specs.Slot.{SlotState}
 
 -- how many of n slots come before slot i, where slot `from` is first and slot 0 comes after the last
 abbrev pub turn_of : ℕ → ℕ → ℕ → ℕ

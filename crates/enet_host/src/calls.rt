@@ -2,27 +2,16 @@
 
 ghost use Rattle.std.specs.Prelude.{◌≡◌, ◌<◌, length, is_some, IsTrue, IfSome, IfNone, None, Some};
 ghost use Rattle.std.specs.Option.{option_copied};
-ghost use Rattle.enet_host.specs.Calls.{address_named, address_of, on_peer, on_named, Submits, Does, DoesWithMemory, submission, leaving, throttling};
+ghost use Rattle.enet_slot.specs.Calls.{Submits, Does, DoesWithMemory, submission, leaving, throttling, set_by};
+ghost use Rattle.enet_slot.specs.Slotted.{peer_shown};
+ghost use Rattle.enet_host.specs.Calls.{address_named, on_named};
 ghost use Rattle.enet_host.specs.Host.{named, slot_named};
-ghost use Rattle.enet_host.specs.Shown.{shown, peer_shown, all_shown, set_by};
+ghost use Rattle.enet_host.specs.Shown.{all_shown};
 
-use crate::slot::Slot;
 use bytes::Bytes;
-use enet_peer::{Peer, PeerState};
+use enet_peer::Peer;
+use enet_slot::{Setting, Slot};
 use enet_types::{Addr, DisconnectMode, PeerRef, Refusal};
-
-/// What a user may set of a peer in any state. Times are in milliseconds.
-#[derive(Clone, Copy)]
-pub(crate) enum Setting {
-    PingInterval {
-        ms: u32,
-    },
-    Timeout {
-        limit: u32,
-        minimum: u32,
-        maximum: u32,
-    },
-}
 
 /// The place of the slot of this name, where it has this generation.
 fn place_of(slots: &[Slot], name: PeerRef) -> Option<usize>
@@ -32,7 +21,7 @@ fn place_of(slots: &[Slot], name: PeerRef) -> Option<usize>
 {
     let place = usize::from(name.slot);
     match slots.get(place) {
-        Some(slot) if slot.generation == name.generation => Some(place),
+        Some(slot) if slot.generation() == name.generation => Some(place),
         _ => None,
     }
 }
@@ -42,80 +31,7 @@ pub(crate) fn peer_of(slots: &[Slot], name: PeerRef) -> Option<&Peer>
     ensures { peer_shown (option_copied result) ≡ named (all_shown slots.now) name }
 {
     let place = place_of(slots, name)?;
-    match &slots[place].peer {
-        Some(peer) => Some(peer),
-        None => None,
-    }
-}
-
-impl Slot {
-    /// Submits a packet to its peer.
-    fn submit(&mut self, channel: u8, flags: u8, body: Bytes) -> Result<(), (Refusal, Bytes)>
-        ensures { Submits result (record { flags = flags; body = body }) (on_peer (shown self.old) (submission channel (record { flags = flags; body = body }))) (shown self.old) (shown self.new) }
-    {
-        let Some(peer) = &mut self.peer else {
-            return Err((Refusal::NoSuchPeer, body));
-        };
-        peer.submit(channel, flags, body)?;
-        self.let_go();
-        Ok(())
-    }
-
-    /// Ends the connection in this way.
-    fn leave(&mut self, mode: DisconnectMode, info: u32) -> Result<(), Refusal>
-        ensures { Does result (on_peer (shown self.old) (leaving mode info)) (shown self.old) (shown self.new) }
-    {
-        let Some(peer) = &mut self.peer else {
-            return Err(Refusal::NoSuchPeer);
-        };
-        match mode {
-            DisconnectMode::Now => peer.disconnect_now(info)?,
-            DisconnectMode::Ask => peer.disconnect(info)?,
-            DisconnectMode::Later => peer.disconnect_later(info)?,
-        }
-        self.let_go();
-        Ok(())
-    }
-
-    /// Sets its peer's throttle.
-    fn configure(
-        &mut self,
-        interval: u32,
-        acceleration: u32,
-        deceleration: u32,
-    ) -> Result<(), Refusal>
-        ensures { DoesWithMemory result (on_peer (shown self.old) (throttling interval acceleration deceleration)) (shown self.old) (shown self.new) }
-    {
-        let Some(peer) = &mut self.peer else {
-            return Err(Refusal::NoSuchPeer);
-        };
-        if peer.state() != PeerState::Connected {
-            return Err(Refusal::NotConnected);
-        }
-        peer.reserve()?;
-        peer.throttle_configure(interval, acceleration, deceleration);
-        self.let_go();
-        Ok(())
-    }
-
-    /// Sets something of its peer.
-    fn set(&mut self, setting: Setting) -> Result<(), Refusal>
-        ensures { Does result (on_peer (shown self.old) (set_by setting)) (shown self.old) (shown self.new) }
-    {
-        let Some(peer) = &mut self.peer else {
-            return Err(Refusal::NoSuchPeer);
-        };
-        match setting {
-            Setting::PingInterval { ms } => peer.ping_interval(ms),
-            Setting::Timeout {
-                limit,
-                minimum,
-                maximum,
-            } => peer.timeout(limit, minimum, maximum),
-        }
-        self.let_go();
-        Ok(())
-    }
+    slots[place].peer()
 }
 
 /// Submits a packet to the peer of this name.
@@ -184,5 +100,5 @@ pub(crate) fn address_of(slots: &[Slot], name: PeerRef) -> Option<Addr>
     ensures { result ≡ address_named (all_shown slots.now) name }
 {
     peer_of(slots, name)?;
-    Some(slots[usize::from(name.slot)].address)
+    Some(slots[usize::from(name.slot)].address())
 }

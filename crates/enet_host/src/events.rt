@@ -1,68 +1,14 @@
 //! What a host tells its user.
 
-ghost use Rattle.std.specs.Prelude.{◌≡◌, ◌<◌, false, length, IfSome, IfNone};
+ghost use Rattle.std.specs.Prelude.{◌≡◌, ◌<◌, length, IfSome, IfNone};
 ghost use Rattle.std.specs.Option.{option_copied};
-ghost use Rattle.enet_host.specs.Calls.{tells, event_of, peer_body, GivesEvent};
+ghost use Rattle.enet_slot.specs.Calls.{tells};
 ghost use Rattle.enet_host.specs.Turns.{IsFirst, HoldsNowhere};
-ghost use Rattle.enet_host.specs.Shown.{shown, all_shown, SlotGivesEvent, SlotIsMute, SlotShows};
+ghost use Rattle.enet_host.specs.Shown.{all_shown, SlotGivesEvent, SlotIsMute, SlotIsNamed, SlotShows};
 
 use crate::service::slot_after;
-use crate::slot::Slot;
-use bytes::Bytes;
-use enet_peer::PeerEvent;
-use enet_types::{Event, PeerRef};
-
-/// An event of a peer, as the host tells it.
-fn event_of(peer: PeerRef, event: PeerEvent) -> Event
-    ensures { result ≡ event_of peer event }
-{
-    match event {
-        PeerEvent::Connect { info } => Event::Connect { peer, info },
-        PeerEvent::Receive { packet } => Event::Receive { peer, packet },
-        PeerEvent::Disconnect { info } => Event::Disconnect { peer, info },
-    }
-}
-
-impl Slot {
-    /// Whether its peer has an event.
-    fn tells(&self) -> bool
-        ensures { result ≡ tells (shown self.now) }
-    {
-        match &self.peer {
-            Some(peer) => peer.has_event(),
-            None => false,
-        }
-    }
-
-    /// The next event of its peer.
-    fn take(&mut self, number: u16) -> Option<Event>
-        ensures gives { IfSome result (λ event. GivesEvent number event (shown self.old) (shown self.new)) }
-        ensures none { IfNone result ((tells (shown self.old) ≡ false) × (shown self.new ≡ shown self.old)) }
-    {
-        let name = PeerRef {
-            slot: number,
-            generation: self.generation,
-        };
-        let Some(peer) = &mut self.peer else {
-            return None;
-        };
-        let Some(event) = peer.next_event() else {
-            return None;
-        };
-        self.let_go();
-        Some(event_of(name, event))
-    }
-
-    /// The body that its peer's next event hands out.
-    fn next_body(&self) -> Option<&Bytes>
-        ensures { option_copied result ≡ peer_body (shown self.now).peer }
-    {
-        match &self.peer {
-            Some(peer) => peer.next_body(),
-            None => None,
-        }
-    }
-}
+use enet_slot::Slot;
+use enet_types::{Event, Packet, PeerRef};
 
 /// The first slot in turn that has an event.
 pub(crate) fn first_telling(slots: &[Slot], peers: u16, from: u16) -> Option<u16>
@@ -93,10 +39,21 @@ pub(crate) fn take_from(slots: &mut Vec<Slot>, number: u16) -> Option<Event>
     slot.take(number)
 }
 
-/// The body that a slot's next event hands out.
-pub(crate) fn body_of(slots: &[Slot], number: u16) -> Option<&Bytes>
+/// The packet that a slot's next event hands out.
+pub(crate) fn packet_of(slots: &[Slot], number: u16) -> Option<&Packet>
     requires { number < length slots.now }
     ensures { SlotShows (all_shown slots.now) number (option_copied result) }
 {
-    slots[usize::from(number)].next_body()
+    slots[usize::from(number)].next_packet()
+}
+
+/// The name of a slot's peer, or of its next one.
+pub(crate) fn name_at(slots: &[Slot], number: u16) -> PeerRef
+    requires { number < length slots.now }
+    ensures { SlotIsNamed (all_shown slots.now) number result }
+{
+    PeerRef {
+        slot: number,
+        generation: slots[usize::from(number)].generation(),
+    }
 }

@@ -1,26 +1,24 @@
 //! A host, and what it does with slots, datagrams and time.
 
 ghost use Rattle.std.specs.Prelude.{◌≡◌, ◌<◌, ◌≤◌, length, IsTrue, IfSome, IfOk, IfErr, OnOk, OnErr};
-ghost use Rattle.std.specs.Option.{option_copied};
 ghost use Rattle.enet_types.specs.Config.{is_in_range};
 ghost use Rattle.enet_host.specs.Host.{Keeps, KeepsRest};
 ghost use Rattle.enet_host.specs.Opening.{opened, joined, Opens, Connects};
 ghost use Rattle.enet_host.specs.Receiving.{Receives};
 ghost use Rattle.enet_host.specs.Serving.{Serves};
 ghost use Rattle.enet_host.specs.Ticking.{ticked, clock_after};
-ghost use Rattle.enet_host.specs.Calls.{with_bandwidth, Takes, Shows};
+ghost use Rattle.enet_host.specs.Calls.{with_bandwidth, Takes};
 ghost use Rattle.enet_host.specs.Calls as calls;
 
-use crate::connecting::{Question, connect};
-use crate::events::{body_of, first_telling, take_from};
-use crate::opening::{Start, unused_slots};
+use crate::connecting::connect;
+use crate::events::{first_telling, take_from};
+use crate::opening::unused_slots;
 use crate::receiving::receive;
 use crate::service::{serve, slot_after};
 use crate::sharing::{set_bandwidth, share_out, tick_all};
-use crate::slot::Slot;
 use crate::totals::Totals;
-use bytes::Bytes;
 use enet_rtt::elapsed;
+use enet_slot::{Question, Slot, Start};
 use enet_types::{Addr, Config, Event, PeerRef, Received, Refusal};
 use std::alloc::Global;
 use std::marker::Model;
@@ -219,15 +217,5 @@ impl HostCore {
         };
         self.event_from = slot_after(self.start.config.peers, slot);
         Some(event)
-    }
-
-    /// The body of the packet that `next_event` would hand out; None where that would be no packet.
-    pub fn next_body(&self) -> Option<&Bytes>
-        ensures { Shows self.now (option_copied result) }
-    {
-        let Some(slot) = first_telling(&self.slots, self.start.config.peers, self.event_from) else {
-            return None;
-        };
-        body_of(&self.slots, slot)
     }
 }

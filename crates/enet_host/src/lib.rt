@@ -1,17 +1,19 @@
 //! A host of ENet 1.3 without a socket: datagrams, calls and time go in, datagrams and events come out.
 //!
-//! A host has a fixed number of slots, each of which is free or holds one peer. Times are in milliseconds, bandwidths in bytes
-//! per second.
+//! A host has a fixed number of slots (`enet_slot`), each of which is free or holds one peer. Times are in milliseconds,
+//! bandwidths in bytes per second.
 //!
 //! Proved, each call exactly by small definitions over the slots: one that names a peer is that peer's call on the one slot of
 //! that number and generation (`on_named`), with E2 where there is none, and leaves all else as it was (`rest`). `receive` is
 //! `Arrives`: the tests of a datagram in their order, a stranger's offer, which takes the lowest slot that is free and has a
 //! generation left, or the commands of a datagram at the one slot that its header names. `service` asks slot after slot,
 //! beginning after the one served last, up to the first that gives a datagram, and names its peer as it was before
-//! (`GivesInTurn`); `next_event` and `next_body` go by the first slot in turn that has an event (`IsFirst`). `tick` and
+//! (`GivesInTurn`); `next_event` goes by the first slot in turn that has an event (`IsFirst`), and `next_event_of`,
+//! `next_packet` and `next_body` say of the event that it gives whose it is and what it hands out (`Foretells`). `next_peer`
+//! is the name that an accepted connection gets, `submission_refusal` the refusal of `submit` but E1. `tick` and
 //! `set_bandwidth` are one change on each slot; once a second the outgoing bandwidth is shared out among the connected peers.
-//! A slot whose peer is free keeps its sessions and has the next generation (`vacated`), so no slot of any host holds a peer
-//! that is free (`HostCore::keeps`). Want of memory, of which no clause can say when it comes, changes nothing.
+//! No slot of any host holds a peer that is free (`HostCore::keeps`). Want of memory, of which no clause can say when it comes,
+//! changes nothing.
 //! Only tested, by `check_hosts` and `check_foreign`: that calls succeed with ample memory, worked scripts,
 //! captured files, foreign bytes.
 #![tactic(auto)]
@@ -19,13 +21,13 @@
 mod calls;
 mod connecting;
 mod events;
+mod foretelling;
 mod host;
 mod opening;
 mod peers;
 mod receiving;
 mod service;
 mod sharing;
-mod slot;
 mod totals;
 
 pub use enet_connect::Terms;

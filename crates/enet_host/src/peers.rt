@@ -5,15 +5,19 @@ ghost use Rattle.std.specs.Prelude.{◌≡◌, length};
 ghost use Rattle.std.specs.Option.{option_map};
 ghost use Rattle.enet_types.specs.declared.event.DisconnectMode.TheVariants.{Now, Ask, Later};
 ghost use Rattle.enet_outbox.specs.Outbox.{transit_of};
+ghost use Rattle.enet_sender.specs.Carriage.{Packet};
 ghost use Rattle.enet_host.specs.Host.{KeepsRest, named, slot_named};
-ghost use Rattle.enet_host.specs.Calls.{address_named, Submits, Does, DoesWithMemory, on_named, submission, leaving, throttling, pinging, waiting};
+ghost use Rattle.enet_host.specs.Foretelling.{submission_refusal, refusal_of};
+ghost use Rattle.enet_slot.specs.Calls.{Submits, Does, DoesWithMemory, submission, leaving, throttling, pinging, waiting};
+ghost use Rattle.enet_host.specs.Calls.{address_named, on_named};
 
-use crate::calls::{self, Setting};
+use crate::calls;
 use crate::host::HostCore;
 use crate::totals::Totals;
 use bytes::Bytes;
 use enet_connect::Terms;
 use enet_peer::{PeerState, RoundTrip};
+use enet_slot::Setting;
 use enet_types::{Addr, DisconnectMode, PeerRef, Refusal};
 
 impl HostCore {
@@ -33,6 +37,18 @@ impl HostCore {
         ensures rest { KeepsRest self.old self.new }
     {
         calls::submit(&mut self.slots, peer, channel, flags, body)
+    }
+
+    /// The first refusal but want of memory that a packet of so many bytes meets on a channel of this peer: E2, E3, E4 or E5;
+    /// None where there is none.
+    pub fn submission_refusal(&self, peer: PeerRef, channel: u8, len: usize) -> Option<Refusal>
+        ensures refusal { result ≡ submission_refusal self.now.slots peer channel len }
+        ensures agrees { (q : Packet) → length q.body ≡ len → result ≡ refusal_of (on_named self.now.slots peer (submission channel q)) }
+    {
+        let Some(peer) = calls::peer_of(&self.slots, peer) else {
+            return Some(Refusal::NoSuchPeer);
+        };
+        peer.submission_refusal(channel, len)
     }
 
     /// Disconnects with a word for the other end's user: all that is held, queued or unacknowledged is dropped, and a reliable

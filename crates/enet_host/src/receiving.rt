@@ -1,18 +1,16 @@
 //! A datagram comes to a host.
 
-ghost use Rattle.std.specs.Prelude.{◌≡◌, ◌<◌, ◌≤◌, false, length, slice_get, Some, IfSome, IfNone};
+ghost use Rattle.std.specs.Prelude.{◌≡◌, ◌<◌, ◌≤◌, length, IfNone};
 ghost use Rattle.std.specs.List.{list_any};
-ghost use Rattle.enet_host.specs.Opening.{is_vacant};
-ghost use Rattle.enet_host.specs.Receiving.{is_deaf, stopped, refused_by_slot, refused_by, offer_refused, is_connection, is_known, Hears, Offers, Arrives};
+ghost use Rattle.enet_slot.specs.Hearing.{stopped, is_connection};
+ghost use Rattle.enet_host.specs.Receiving.{refused_by, offer_refused, is_known, Offers, Arrives};
 ghost use Rattle.enet_host.specs.Shown.{shown, all_shown};
 
 use crate::connecting::lowest_available;
-use crate::opening::Start;
-use crate::slot::Slot;
 use enet_codec::Header;
 use enet_connect::Offer;
-use enet_datagram::{obey, read_heading, read_offer};
-use enet_peer::PeerState;
+use enet_datagram::{read_heading, read_offer};
+use enet_slot::{Slot, Start};
 use enet_types::{Addr, Received, Stop};
 
 /// The peer id in the header of one who has no peer yet (ENet 1.3).
@@ -33,52 +31,6 @@ const HANDLED_ONE: Received = Received {
     handled: 1,
     stop: None,
 };
-
-/// Whether a peer in this state takes no datagram in.
-pub(crate) fn is_deaf(state: PeerState) -> bool
-    ensures { result ≡ is_deaf state }
-{
-    matches!(
-        state,
-        PeerState::Free | PeerState::Ended | PeerState::Parting
-    )
-}
-
-impl Slot {
-    /// Why it takes a datagram of this session from an address not in: S3 where it is free or its peer takes nothing in, S4
-    /// where the peer is at another address, S5 where its session is another; that isn't tested
-    /// before the other end's slot is known.
-    fn refused_by(&self, from: Addr, session: u8) -> Option<Stop>
-        ensures { result ≡ refused_by_slot from session (Some (shown self.now)) }
-    {
-        let Some(peer) = &self.peer else {
-            return Some(Stop::UnknownPeer);
-        };
-        if is_deaf(peer.state()) {
-            return Some(Stop::UnknownPeer);
-        }
-        if self.address != from {
-            return Some(Stop::WrongAddress);
-        }
-        let terms = peer.terms();
-        if terms.slot != NO_PEER && session != terms.incoming_session {
-            return Some(Stop::WrongSession);
-        }
-        None
-    }
-
-    /// The commands of a datagram come to its peer.
-    fn hear(&mut self, now: u32, sent: Option<u16>, commands: &[u8]) -> Received
-        ensures { is_vacant (shown self.old).peer ≡ false → Hears now sent commands.now (shown self.old) result (shown self.new) }
-    {
-        let Some(peer) = &mut self.peer else {
-            return stopped(Stop::UnknownPeer);
-        };
-        let answer = obey(peer, now, sent, commands);
-        self.let_go();
-        answer
-    }
-}
 
 /// Why a datagram with this header isn't taken in by the slot that it names.
 fn refused_by(slots: &[Slot], from: Addr, header: &Header) -> Option<Stop>

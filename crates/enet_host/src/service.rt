@@ -1,11 +1,11 @@
 //! A host puts out a datagram.
 
-ghost use Rattle.std.specs.Prelude.{◌≡◌, ◌<◌, ◌≤◌, length, slice_get, Some, None, IfSome, IfNone};
-ghost use Rattle.enet_host.specs.Serving.{Gives, Passes, GivesInTurn, AllPass};
+ghost use Rattle.std.specs.Prelude.{◌≡◌, ◌<◌, ◌≤◌, length, IfSome, IfNone};
+ghost use Rattle.enet_host.specs.Serving.{GivesInTurn, AllPass};
 ghost use Rattle.enet_host.specs.Turns.{slot_after};
-ghost use Rattle.enet_host.specs.Shown.{shown, all_shown, SlotGives, SlotPasses};
+ghost use Rattle.enet_host.specs.Shown.{all_shown, SlotGives, SlotPasses};
 
-use crate::slot::Slot;
+use enet_slot::Slot;
 use enet_types::{Addr, PeerRef};
 
 /// The slot after one of so many; after the last comes slot 0.
@@ -15,26 +15,6 @@ pub(crate) fn slot_after(peers: u16, slot: u16) -> u16
     ensures within { result < peers }
 {
     if slot + 1 < peers { slot + 1 } else { 0 }
-}
-
-impl Slot {
-    /// Asks its peer, if there is one, for a datagram at the time `now`.
-    fn serve(&mut self, now: u32, buf: &mut [u8; 4096]) -> Option<usize>
-        ensures gives { IfSome result (λ len. Gives now len buf.new (shown self.old) (shown self.new)) }
-        ensures passes { IfNone result (Passes now (shown self.old) (shown self.new)) }
-        ensures fits { IfSome result (λ len. len ≤ 4096) }
-    {
-        let Some(peer) = &mut self.peer else {
-            return None;
-        };
-        let Some(len) = peer.emit(now, buf) else {
-            self.let_go();
-            return None;
-        };
-        self.emitted = self.emitted.saturating_add(len as u32);
-        self.let_go();
-        Some(len)
-    }
 }
 
 /// Asks a slot for a datagram at the time `now`: the slot's peer as it was named before, where it goes, and its length.
@@ -53,9 +33,9 @@ fn serve_slot(
     let slot = &mut slots[usize::from(number)];
     let name = PeerRef {
         slot: number,
-        generation: slot.generation,
+        generation: slot.generation(),
     };
-    let address = slot.address;
+    let address = slot.address();
     let Some(len) = slot.serve(now, buf) else {
         return None;
     };

@@ -1,82 +1,16 @@
 //! What a moment brings to all slots, and what the host's bandwidths do to them.
 
-ghost use Rattle.std.specs.Prelude.{◌≡◌, ◌≤◌, if◌then◌else◌, map, length, All, OnOk, OnErr, IfErr};
+ghost use Rattle.std.specs.Prelude.{◌≡◌, ◌≤◌, map, length, All, OnOk, OnErr, IfErr};
 ghost use Rattle.std.specs.List.{count_by};
 ghost use Rattle.enet_peer.specs.Peering.{Peering};
 ghost use Rattle.enet_peer.specs.Calls as peers;
-ghost use Rattle.enet_host.specs.Host.{changed};
-ghost use Rattle.enet_host.specs.Ticking.{is_standing, shared};
-ghost use Rattle.enet_host.specs.Shown.{shown, all_shown, HasRoom};
+ghost use Rattle.enet_slot.specs.Slot.{changed};
+ghost use Rattle.enet_slot.specs.Sharing.{is_standing, shared};
+ghost use Rattle.enet_slot.specs.Slotted.{HasRoom};
+ghost use Rattle.enet_host.specs.Shown.{all_shown};
 
-use crate::slot::Slot;
-use enet_peer::PeerState;
-use enet_throttle::{budget_of, limit_of};
+use enet_slot::Slot;
 use enet_types::Refusal;
-
-impl Slot {
-    /// Time has come to `now`.
-    fn tick(&mut self, now: u32)
-        ensures { shown self.new ≡ changed (λ (p : Peering). peers.ticked p now) (shown self.old) }
-    {
-        if let Some(peer) = &mut self.peer {
-            peer.tick(now);
-            self.let_go();
-        }
-    }
-
-    /// Whether its connection stands.
-    fn is_standing(&self) -> bool
-        ensures { result ≡ is_standing (shown self.now) }
-    {
-        match &self.peer {
-            Some(peer) => peer.state() == PeerState::Connected,
-            None => false,
-        }
-    }
-
-    /// 1 where its connection stands, else 0.
-    fn standing(&self) -> u32
-        ensures { result ≡ (if is_standing (shown self.now) then 1 else 0) }
-    {
-        if self.is_standing() { 1 } else { 0 }
-    }
-
-    /// Limits a connected peer's throttle to its share of the host's outgoing bandwidth among so many connected peers.
-    fn share(&mut self, outgoing: u32, standing: u32)
-        ensures { shown self.new ≡ shared outgoing standing (shown self.old) }
-    {
-        if let Some(peer) = &mut self.peer {
-            if peer.state() == PeerState::Connected {
-                let budget = budget_of(outgoing, standing, peer.other_incoming());
-                peer.throttle_limit(limit_of(self.emitted, budget));
-            }
-        }
-        self.emitted = 0;
-    }
-
-    /// Makes room for one command of channel 0xFF of a connected peer. E1 where memory is refused.
-    fn reserve(&mut self) -> Result<(), Refusal>
-        ensures unchanged { shown self.new ≡ shown self.old }
-        ensures room { OnOk result (HasRoom self.new) }
-        ensures memory { IfErr result (λ why. why ≡ Refusal.Memory) }
-    {
-        match &mut self.peer {
-            Some(peer) => peer.reserve(),
-            None => Ok(()),
-        }
-    }
-
-    /// Sets its peer's bandwidths; a connected one is told, for which there must be room.
-    fn set_bandwidth(&mut self, incoming: u32, outgoing: u32)
-        requires { HasRoom self.old }
-        ensures { shown self.new ≡ changed (λ (p : Peering). peers.with_bandwidth p incoming outgoing) (shown self.old) }
-    {
-        if let Some(peer) = &mut self.peer {
-            peer.bandwidth(incoming, outgoing);
-            self.let_go();
-        }
-    }
-}
 
 /// Time has come to `now` at each slot.
 pub(crate) fn tick_all(slots: &mut Vec<Slot>, now: u32)
@@ -95,7 +29,7 @@ fn count_standing(slots: &[Slot]) -> u32
 {
     let mut count: u32 = 0;
     for slot in slots {
-        count += slot.standing();
+        count += u32::from(slot.is_standing());
     }
     count
 }

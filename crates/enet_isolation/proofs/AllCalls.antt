@@ -5,7 +5,8 @@ use Rattle.enet_types.specs.declared.event.PeerRef.{PeerRef}
 use Rattle.enet_peer.specs.declared.parts.PeerState.{PeerState}
 use Rattle.enet_peer.specs.declared.parts.PeerState.TheVariants as state
 use Rattle.enet_peer.specs.Peering.{Peering}
-use Rattle.enet_host.specs.Host.{Host, SlotState, slot_named, named, greatest}
+use Rattle.enet_slot.specs.Slot.{SlotState, greatest}
+use Rattle.enet_host.specs.Host.{Host, slot_named, named}
 use Rattle.enet_isolation.specs.Calls.{Call, Steps}
 use Rattle.enet_isolation.specs.Deeds.{Deed, AllAlone}
 use Rattle.enet_isolation.specs.Falling.{Fell, fell_in, fell_to, FellAll, counted}

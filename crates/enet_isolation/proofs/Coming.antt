@@ -19,7 +19,7 @@ use Rattle.enet_peer.specs.Endings.{is_later}
 use Rattle.enet_peer.specs.Arrivals.{Outcome, stopped, answered, answered_at, is_answered_in, by_answer, by_arrival, on_data, by_body, obeyed, is_connect, is_allowed, on_acknowledge, on_verify_in, on_disconnect_in, on_bandwidth, on_throttle, Stops, wants_memory}
 use Rattle.std.specs.Prelude.{is_some}
 use Rattle.enet_datagram.specs.Handling.{Handles, nothing_left, no_command, stops, goes_on, one_more, counted}
-use Rattle.enet_host.specs.Host.{greatest}
+use Rattle.enet_slot.specs.Slot.{greatest}
 use Rattle.enet_isolation.specs.Deeds.{AllAlone}
 use Rattle.enet_isolation.specs.Falling.{AreSpelled, comings}
 

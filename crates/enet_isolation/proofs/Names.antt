@@ -6,7 +6,8 @@ use Rattle.enet_types.specs.declared.event.PeerRef.{PeerRef}
 use Rattle.enet_peer.specs.declared.parts.PeerState.{PeerState}
 use Rattle.enet_peer.specs.declared.parts.PeerState.TheVariants as state
 use Rattle.enet_peer.specs.Peering.{Peering}
-use Rattle.enet_host.specs.Host.{Host, SlotState, with_peer, vacated, with_generation, slot_named, peer_in, named, greatest}
+use Rattle.enet_slot.specs.Slot.{SlotState, with_peer, vacated, greatest}
+use Rattle.enet_host.specs.Host.{Host, with_generation, slot_named, peer_in, named}
 use Rattle.enet_isolation.specs.Calls.{Call, Acts}
 use Rattle.enet_isolation.specs.Calls as call
 use Rattle.enet_isolation.specs.Falling.{fell_in, fell_to, Begins, asks, answers, counted}

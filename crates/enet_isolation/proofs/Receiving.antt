@@ -20,10 +20,13 @@ use Rattle.enet_codec.proofs.HeaderLaws.{one_header}
 use Rattle.enet_codec.proofs.Laws.{one_spelling}
 use Rattle.enet_peer.specs.Peering.{Peering}
 use Rattle.enet_datagram.specs.Heading.{IsRead, IsOffer}
-use Rattle.enet_host.specs.Host.{Host, SlotState, with_peer, name_of}
-use Rattle.enet_host.specs.Opening.{is_vacant, is_available, available, asking, answering, Connects}
+use Rattle.enet_slot.specs.Slot.{SlotState, with_peer, name_of}
+use Rattle.enet_host.specs.Host.{Host}
+use Rattle.enet_slot.specs.Giving.{is_vacant, is_available, asking, answering}
+use Rattle.enet_host.specs.Opening.{available, Connects}
 use Rattle.enet_host.specs.Opening as opening
-use Rattle.enet_host.specs.Receiving.{no_peer, is_known, Offers, Arrives, handled_one, stopped}
+use Rattle.enet_slot.specs.Hearing.{no_peer, stopped}
+use Rattle.enet_host.specs.Receiving.{is_known, Offers, Arrives, handled_one}
 use Rattle.enet_host.specs.Receiving as receiving
 use Rattle.enet_isolation.specs.Calls.{Call}
 use Rattle.enet_isolation.specs.Calls as call

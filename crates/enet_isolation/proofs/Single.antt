@@ -5,8 +5,10 @@ use Rattle.std.specs.List.{slice_get}
 use Rattle.enet_types.specs.declared.event.PeerRef.{PeerRef}
 use Rattle.enet_types.specs.declared.refusal.Refusal.{Refusal}
 use Rattle.enet_peer.specs.Peering.{Peering}
-use Rattle.enet_host.specs.Host.{Host, SlotState, with_peer, with_generation}
-use Rattle.enet_host.specs.Calls.{kept, on_peer_in, put_back, on_slot, on_named}
+use Rattle.enet_slot.specs.Slot.{SlotState, with_peer}
+use Rattle.enet_host.specs.Host.{Host, with_generation}
+use Rattle.enet_slot.specs.Calls.{kept, on_peer_in}
+use Rattle.enet_host.specs.Calls.{put_back, on_slot, on_named}
 use Rattle.enet_host.specs.Opening.{available}
 use Rattle.enet_isolation.specs.Calls.{Call}
 use Rattle.enet_isolation.specs.Calls as call

@@ -3,7 +3,7 @@ use Rattle.std.proofs.Common.{◌≡◌, ◌≢◌, ℕ, refl, sym, ap, ◌∙�
 use Rattle.enet_peer.specs.declared.parts.PeerState.{PeerState}
 use Rattle.enet_peer.specs.declared.parts.PeerState.TheVariants as state
 use Rattle.enet_peer.specs.Peering.{Peering}
-use Rattle.enet_host.specs.Host.{SlotState, with_peer, with_peer_in, vacated}
+use Rattle.enet_slot.specs.Slot.{SlotState, with_peer, with_peer_in, vacated}
 use Rattle.enet_isolation.specs.Law.{with_emitted}
 
 emitted-in : (st : PeerState) (s : SlotState) (q : Peering) (n : ℕ) → with_peer_in st (with_emitted s n) q ≡ with_emitted (with_peer_in st s q) n

@@ -6,8 +6,10 @@ use Rattle.enet_peer.specs.declared.parts.PeerState.TheVariants as state
 use Rattle.enet_peer.specs.Peering.{Peering}
 use Rattle.enet_peer.specs.Calls.{is_connected, with_throttle_limit}
 use Rattle.enet_peer.specs.Calls as peers
-use Rattle.enet_host.specs.Host.{Host, SlotState, with_peer, with_changed, changed}
-use Rattle.enet_host.specs.Ticking.{clock_after, is_standing, limit_for, with_limit, shared, with_time, is_due, ticked}
+use Rattle.enet_slot.specs.Slot.{SlotState, with_peer, with_changed, changed}
+use Rattle.enet_host.specs.Host.{Host}
+use Rattle.enet_slot.specs.Sharing.{is_standing, limit_for, with_limit, shared}
+use Rattle.enet_host.specs.Ticking.{clock_after, with_time, is_due, ticked}
 use Rattle.enet_connection.specs.Steps as setting
 use Rattle.enet_isolation.specs.Calls.{Call}
 use Rattle.enet_isolation.specs.Calls as call

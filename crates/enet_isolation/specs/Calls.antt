@@ -13,7 +13,8 @@ use Rattle.enet_host.specs.Opening.{Connects}
 use Rattle.enet_host.specs.Receiving.{Receives}
 use Rattle.enet_host.specs.Serving.{Serves}
 use Rattle.enet_host.specs.Ticking.{ticked}
-use Rattle.enet_host.specs.Calls.{Submits, Does, DoesWithMemory, Takes, on_named, submission, leaving, throttling, pinging, waiting, with_bandwidth}
+use Rattle.enet_slot.specs.Calls.{Submits, Does, DoesWithMemory, submission, leaving, throttling, pinging, waiting}
+use Rattle.enet_host.specs.Calls.{Takes, on_named, with_bandwidth}
 
 -- whether a call without a result was refused, and why
 abbrev pub Done : Type 0

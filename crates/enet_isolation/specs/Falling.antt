@@ -17,11 +17,15 @@ use Rattle.enet_peer.specs.Peering.{Peering}
 use Rattle.enet_peer.specs.Calls.{is_connected}
 use Rattle.enet_peer.specs.Calls as peers
 use Rattle.enet_datagram.specs.Heading.{IsUnreadable, IsRead, IsOffer}
-use Rattle.enet_host.specs.Host.{Host, SlotState, slot_named, name_of, greatest}
-use Rattle.enet_host.specs.Opening.{available, asking, answering}
+use Rattle.enet_slot.specs.Slot.{SlotState, name_of, greatest}
+use Rattle.enet_host.specs.Host.{Host, slot_named}
+use Rattle.enet_slot.specs.Giving.{asking, answering}
+use Rattle.enet_host.specs.Opening.{available}
 use Rattle.enet_host.specs.Turns.{turn_of}
-use Rattle.enet_host.specs.Receiving.{no_peer, handled_one, offer_refused, is_known}
-use Rattle.enet_host.specs.Ticking.{clock_after, is_standing, limit_for, with_time, is_due}
+use Rattle.enet_slot.specs.Hearing.{no_peer}
+use Rattle.enet_host.specs.Receiving.{handled_one, offer_refused, is_known}
+use Rattle.enet_slot.specs.Sharing.{is_standing, limit_for}
+use Rattle.enet_host.specs.Ticking.{clock_after, with_time, is_due}
 use Rattle.enet_connection.specs.Steps.{Way, Asking, Now, Later}
 use Rattle.enet_connection.specs.Steps as setting
 use Rattle.enet_isolation.specs.Calls as call

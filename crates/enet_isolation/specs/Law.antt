@@ -7,7 +7,8 @@ use Rattle.enet_types.specs.Config.{is_in_range}
 use Rattle.enet_peer.specs.declared.parts.PeerState.{PeerState}
 use Rattle.enet_peer.specs.declared.parts.PeerState.TheVariants as state
 use Rattle.enet_peer.specs.Peering.{Peering}
-use Rattle.enet_host.specs.Host.{Host, SlotState, Keeps, with_peer, named}
+use Rattle.enet_slot.specs.Slot.{SlotState, with_peer}
+use Rattle.enet_host.specs.Host.{Host, Keeps, named}
 use Rattle.enet_host.specs.Opening as opening
 use Rattle.enet_isolation.specs.Calls.{Call, Acts, Steps}
 use Rattle.enet_isolation.specs.Deeds.{Deed, AllAlone}

@@ -22,9 +22,12 @@ use Rattle.enet_link.specs.Link as link
 use Rattle.enet_link.specs.Steps.{Has}
 use Rattle.enet_connection.specs.Connection.{Put, End, messages_of, sent_on}
 use Rattle.enet_connection.specs.Steps.{Event, Come, InTime, with_peer}
-use Rattle.enet_host.specs.Host.{SlotState, is_same_address, with_peer as slot_with_peer, greatest}
+use Rattle.enet_slot.specs.Hearing.{is_same_address}
+use Rattle.enet_slot.specs.Slot.{SlotState, greatest}
+use Rattle.enet_slot.specs.Slot.{with_peer as slot_with_peer}
 use Rattle.enet_host.specs.Calls.{address_in, address_of, address_named}
-use Rattle.enet_host.specs.Receiving.{no_peer, is_deaf, fits_session, refused_by_peer, refused_by_slot, refused_by, Hears, Offers, Arrives}
+use Rattle.enet_slot.specs.Hearing.{no_peer, is_deaf, fits_session, refused_by_peer, refused_by_slot, Hears}
+use Rattle.enet_host.specs.Receiving.{refused_by, Offers, Arrives}
 use Rattle.enet_host.specs.Receiving as receiving
 use Rattle.enet_isolation.specs.Calls.{Call, Acts}
 use Rattle.enet_isolation.specs.Calls as call
@@ -251,7 +254,7 @@ goes-brought from i d answer old new e own far low acts same sent has apart show
     offered slots reply o after was is (receiving.answers j s r known free there) =
         let open' = is_open old.host.config slots j s free there in
         apart-by (λ x. ap (λ (xs : List SlotState). slice_get xs e.name.slot) (sym is)
-        ∙ get-set_other slots j e.name.slot (Rattle.enet_host.specs.Opening.answering old.host.config old.host.clock j s from.address o)
+        ∙ get-set_other slots j e.name.slot (Rattle.enet_slot.specs.Giving.answering old.host.config old.host.clock j s from.address o)
         (λ z. let y : s ≡ x.slot = same-some s x.slot (sym there ∙ ap (λ (l : ℕ). slice_get slots l) z ∙ ap (λ (xs : List SlotState). slice_get xs e.name.slot) was ∙ x.there) in
         let none : ◌≡◌ {A = Option Peering} None (Some k.peer) = sym open'.0 ∙ ap (λ (v : SlotState). v.peer) y ∙ x.peer in absurd (cc))
         ∙ ap (λ (xs : List SlotState). slice_get xs e.name.slot) was ∙ x.there)

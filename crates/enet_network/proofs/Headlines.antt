@@ -11,7 +11,7 @@ use Rattle.enet_link.specs.Steps.{Has, bodies_of}
 use Rattle.enet_connection.specs.Connection.{End, of_channel, packets_of, in_sequence}
 use Rattle.enet_connection.specs.Law.{mtu_in, IsOneLife, IsInOrder as IsInOrderBetween}
 use Rattle.enet_connection.specs.Steps.{no_end}
-use Rattle.enet_host.specs.Calls.{event_of}
+use Rattle.enet_slot.specs.Calls.{event_of}
 use Rattle.enet_network.specs.declared.event.Side.{Side}
 use Rattle.enet_network.specs.declared.event.Side.TheVariants.{A, B}
 use Rattle.enet_network.specs.Headline.{end_at, submitted_at, taken_at, events_at, mtu_at, AreEnds, AreOn, IsInOrder, IsLife, HasHeadline}

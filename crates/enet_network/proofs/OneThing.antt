@@ -9,8 +9,9 @@ use Rattle.enet_link.specs.Steps.{Has}
 use Rattle.enet_link.proofs.Lists.{Has-slice_get}
 use Rattle.enet_connection.specs.Connection.{End}
 use Rattle.enet_connection.specs.Law.{mtu_in}
-use Rattle.enet_host.specs.Host.{Host, Keeps, named, name_of, greatest}
-use Rattle.enet_host.specs.Calls.{event_of}
+use Rattle.enet_slot.specs.Slot.{name_of, greatest}
+use Rattle.enet_host.specs.Host.{Host, Keeps, named}
+use Rattle.enet_slot.specs.Calls.{event_of}
 use Rattle.enet_isolation.specs.Calls.{Call, Acts}
 use Rattle.enet_isolation.specs.Calls as call
 use Rattle.enet_network.specs.Log.{Logged}

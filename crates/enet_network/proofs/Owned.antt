@@ -12,12 +12,17 @@ use Rattle.enet_peer.specs.declared.parts.PeerState.TheVariants as state
 use Rattle.enet_peer.specs.Peering.{Peering}
 use Rattle.enet_peer.specs.Calls as peers
 use Rattle.enet_link.specs.Steps.{Has}
-use Rattle.enet_host.specs.Host.{Host, SlotState, name_of, with_peer, with_peer_in, changed}
-use Rattle.enet_host.specs.Calls.{Does as DoesCall, DoesWithMemory, on_named, submission, leaving, throttling, pinging, waiting}
-use Rattle.enet_host.specs.Opening.{unused_slot, asking, answering, Connects, no_channel, no_slot, no_memory, asks}
+use Rattle.enet_slot.specs.Slot.{SlotState, name_of, with_peer, with_peer_in, changed}
+use Rattle.enet_host.specs.Host.{Host}
+use Rattle.enet_slot.specs.Calls.{DoesWithMemory, submission, leaving, throttling, pinging, waiting}
+use Rattle.enet_slot.specs.Calls.{Does as DoesCall}
+use Rattle.enet_host.specs.Calls.{on_named}
+use Rattle.enet_slot.specs.Giving.{unused_slot, asking, answering}
+use Rattle.enet_host.specs.Opening.{Connects, no_channel, no_slot, no_memory, asks}
 use Rattle.enet_host.specs.Receiving.{Offers, Arrives}
 use Rattle.enet_host.specs.Receiving as receiving
-use Rattle.enet_host.specs.Ticking.{clock_after, is_standing, shared, with_time, is_due, ticked}
+use Rattle.enet_slot.specs.Sharing.{is_standing, shared}
+use Rattle.enet_host.specs.Ticking.{clock_after, with_time, is_due, ticked}
 use Rattle.std.specs.List.{count_by}
 use Rattle.enet_isolation.specs.Calls.{Call, Done, Acts}
 use Rattle.enet_isolation.specs.Calls as call

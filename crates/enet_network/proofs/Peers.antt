@@ -7,7 +7,8 @@ use Rattle.enet_types.specs.declared.refusal.Refusal.{Refusal}
 use Rattle.enet_peer.specs.declared.parts.PeerState.{PeerState}
 use Rattle.enet_peer.specs.declared.parts.PeerState.TheVariants as state
 use Rattle.enet_peer.specs.Peering.{Peering}
-use Rattle.enet_host.specs.Host.{Host, SlotState, with_generation, named, greatest}
+use Rattle.enet_slot.specs.Slot.{SlotState, greatest}
+use Rattle.enet_host.specs.Host.{Host, with_generation, named}
 use Rattle.enet_host.specs.Calls.{on_slot, on_named}
 use Rattle.enet_isolation.specs.Calls.{Call, Acts}
 use Rattle.enet_isolation.specs.Deeds.{Deed, AllAlone}
@@ -45,7 +46,7 @@ there-or h name p k = by (free-or p.state)
 
 -- a peer that went on in its slot, or left it free
 pub shows-after : (c : Call) (old new : Host) (name : PeerRef) (p q : Peering) (x : IsThere old.slots name p) (t : SlotState) (n : ℕ) → old.config.generations ≤ greatest → new.config.generations ≡ old.config.generations
-    → slice_get new.slots name.slot ≡ Some t → t ≡ with_emitted (Rattle.enet_host.specs.Host.with_peer x.slot q) n → ShowsPeer new name q
+    → slice_get new.slots name.slot ≡ Some t → t ≡ with_emitted (Rattle.enet_slot.specs.Slot.with_peer x.slot q) n → ShowsPeer new name q
 shows-after c old new name p q x t n low same there e = by (free-or q.state)
   where
     by : (q.state ≡ state.Free) ⊎ (q.state ≢ state.Free) → ShowsPeer new name q

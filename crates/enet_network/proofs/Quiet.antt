@@ -4,7 +4,8 @@ use Rattle.enet_peer.specs.Peering.{Peering}
 use Rattle.enet_connection.specs.Connection.{End}
 use Rattle.enet_connection.specs.Steps.{Event, Happens, with_peer}
 use Rattle.enet_connection.specs.Steps as event
-use Rattle.enet_host.specs.Host.{Host, SlotState, greatest}
+use Rattle.enet_slot.specs.Slot.{SlotState, greatest}
+use Rattle.enet_host.specs.Host.{Host}
 use Rattle.enet_isolation.specs.Calls.{Call, Acts}
 use Rattle.enet_isolation.specs.Calls as call
 use Rattle.enet_isolation.specs.Deeds.{Deed, Alone, AllAlone, Tick, Disconnect, Set}

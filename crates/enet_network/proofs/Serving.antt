@@ -24,9 +24,10 @@ use Rattle.enet_connection.specs.Connection as connection
 use Rattle.enet_connection.specs.Steps.{Emit, with_emission}
 use Rattle.enet_connection.proofs.Emits.{Has-from_map}
 use Rattle.enet_connection.proofs.Runs.{reached-append, reached-none}
-use Rattle.enet_host.specs.Host.{SlotState, with_peer, greatest}
+use Rattle.enet_slot.specs.Slot.{SlotState, with_peer, greatest}
 use Rattle.enet_host.specs.Turns.{turn_of}
-use Rattle.enet_host.specs.Serving.{Gives, HasNothing, passes_by, Passes, InTurn, AllPass}
+use Rattle.enet_slot.specs.Serving.{Gives, HasNothing, passes_by, Passes}
+use Rattle.enet_host.specs.Serving.{InTurn, AllPass}
 use Rattle.enet_isolation.specs.Calls.{Call, Acts}
 use Rattle.enet_isolation.specs.Calls as call
 use Rattle.enet_isolation.proofs.Lists.{get-within}
@@ -366,7 +367,7 @@ goes-served fars gave buf old new e own far low acts l apart theirs k = by (ther
             let same : l.own ≡ e = apart l.own l.there (inl (l.name ∙ named)) in
             let counts : Counts (take gave.2 buf) e.greatest l.greatest (fars e.connection) l.marks = subst (λ (z : HostEnd). Counts (take gave.2 buf) z.greatest l.greatest (fars z.connection) l.marks) same l.counts in
             let shows : ShowsPeer new.host e.name g.after =
-            shows-after c old.host new.host e.name k.peer g.after x t.0 (Rattle.enet_host.specs.Serving.with_emitted x.slot gave.2).emitted low (same-generations c old.host new.host acts) t.1
-            (g.left ∙ emitted-apart x.slot g.after (Rattle.enet_host.specs.Serving.with_emitted x.slot gave.2).emitted) in
+            shows-after c old.host new.host e.name k.peer g.after x t.0 (Rattle.enet_slot.specs.Serving.with_emitted x.slot gave.2).emitted low (same-generations c old.host new.host acts) t.1
+            (g.left ∙ emitted-apart x.slot g.after (Rattle.enet_slot.specs.Serving.with_emitted x.slot gave.2).emitted) in
             changes-as own far new (is_same_name e.name gave.0) f e (same-name e.name gave.0 here generation)
             (goes-logged old new e own far old.host.clock gave.2 g.after buf k (subst (λ (y : Peering). PutsOut old.host.clock (Some gave.2) y g.after buf) p g.puts) shows l.greatest (fars e.connection) l.marks d counts theirs l.header l.commands l.read refl refl refl logs)

@@ -15,8 +15,10 @@ use Rattle.enet_connection.specs.Law.{mtu_in}
 use Rattle.enet_connection.specs.Steps.{with_peer, with_submission}
 use Rattle.enet_connection.specs.Steps as event
 use Rattle.enet_connection.proofs.Moves.{packets-push}
-use Rattle.enet_host.specs.Host.{SlotState, name_of, named, greatest}
-use Rattle.enet_host.specs.Calls.{submission, event_of, TakesOne}
+use Rattle.enet_slot.specs.Slot.{SlotState, name_of, greatest}
+use Rattle.enet_host.specs.Host.{named}
+use Rattle.enet_slot.specs.Calls.{submission, event_of}
+use Rattle.enet_host.specs.Calls.{TakesOne}
 use Rattle.enet_isolation.specs.Calls.{Call, Acts}
 use Rattle.enet_isolation.specs.Calls as call
 use Rattle.enet_isolation.specs.Deeds.{Deed, AllAlone, Submit, Take}

@@ -18,7 +18,8 @@ use Rattle.enet_connection.specs.Steps.{One, Two, Event, no_end}
 use Rattle.enet_connection.proofs.Laws.{kept-at as kept-event}
 use Rattle.enet_connection.proofs.Runs.{reached-none}
 use Rattle.enet_connection.proofs.Words.{IsWord, word-happens}
-use Rattle.enet_host.specs.Host.{Host, SlotState, name_of, greatest}
+use Rattle.enet_slot.specs.Slot.{SlotState, name_of, greatest}
+use Rattle.enet_host.specs.Host.{Host}
 use Rattle.enet_host.specs.Opening.{Connects, no_channel, no_slot, no_memory, asks}
 use Rattle.enet_isolation.specs.Calls.{Call, Acts}
 use Rattle.enet_isolation.specs.Calls as call

@@ -10,7 +10,7 @@ use Rattle.enet_link.specs.Steps.{Has, bodies_of}
 use Rattle.enet_connection.specs.Connection.{of_channel, in_sequence}
 use Rattle.enet_connection.specs.Law.{IsOneLife}
 use Rattle.enet_host.specs.Host.{named}
-use Rattle.enet_host.specs.Calls.{event_of}
+use Rattle.enet_slot.specs.Calls.{event_of}
 use Rattle.enet_network.specs.declared.event.Side.{Side}
 use Rattle.enet_network.specs.Log.{kept_at}
 use Rattle.enet_network.specs.Network.{HostEnd, Site, end_of}

@@ -13,7 +13,9 @@ use Rattle.enet_link.specs.Steps.{Has}
 use Rattle.enet_connection.specs.Connection.{End}
 use Rattle.enet_connection.specs.Law.{IsLawful}
 use Rattle.enet_connection.specs.Steps.{Event, Happens as HappensLaw, no_end, asking_pair}
-use Rattle.enet_host.specs.Host.{Host, limits_of, greatest}
+use Rattle.enet_slot.specs.Giving.{limits_of}
+use Rattle.enet_slot.specs.Slot.{greatest}
+use Rattle.enet_host.specs.Host.{Host}
 use Rattle.enet_isolation.specs.Calls as call
 use Rattle.enet_network.specs.declared.event.Answer.{Answer}
 use Rattle.enet_network.specs.declared.event.Side.{Side}

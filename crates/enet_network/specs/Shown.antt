@@ -10,8 +10,9 @@ use Rattle.enet_link.specs.Steps.{Has}
 use Rattle.enet_connection.specs.Connection.{Put, End, messages_of, sent_on, packets_of}
 use Rattle.enet_connection.specs.Kept.{is_young}
 use Rattle.enet_connection.specs.Steps.{Event, Happens}
-use Rattle.enet_host.specs.Host.{Host, SlotState}
-use Rattle.enet_host.specs.Calls.{event_of}
+use Rattle.enet_slot.specs.Slot.{SlotState}
+use Rattle.enet_host.specs.Host.{Host}
+use Rattle.enet_slot.specs.Calls.{event_of}
 use Rattle.enet_isolation.specs.Law.{IsAt}
 use Rattle.enet_network.specs.declared.mark.Mark.{Mark}
 use Rattle.enet_network.specs.Log.{Logged, kept_at, greatest_at}

@@ -11,7 +11,8 @@ use Rattle.enet_peer.specs.Peering.{Peering}
 use Rattle.enet_datagram.specs.Heading.{IsRead}
 use Rattle.enet_link.specs.Steps.{Has}
 use Rattle.enet_connection.specs.Law.{mtu_in}
-use Rattle.enet_host.specs.Host.{Host, SlotState, named, name_of}
+use Rattle.enet_slot.specs.Slot.{SlotState, name_of}
+use Rattle.enet_host.specs.Host.{Host, named}
 use Rattle.enet_host.specs.Opening.{available}
 use Rattle.enet_isolation.specs.Calls.{Call, Acts}
 use Rattle.enet_isolation.specs.Calls as call

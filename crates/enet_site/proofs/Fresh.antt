@@ -4,8 +4,11 @@ use Rattle.enet_types.specs.declared.address.Addr.{Addr}
 use Rattle.enet_types.specs.declared.config.Config.{Config}
 use Rattle.enet_peer.specs.Peering.{joined as joined_peer}
 use Rattle.enet_link.specs.Steps.{Has}
-use Rattle.enet_host.specs.Host.{Host, SlotState, limits_of}
-use Rattle.enet_host.specs.Opening.{unused_slot, opened, joined, joined_terms, given}
+use Rattle.enet_slot.specs.Giving.{limits_of}
+use Rattle.enet_slot.specs.Slot.{SlotState}
+use Rattle.enet_host.specs.Host.{Host}
+use Rattle.enet_slot.specs.Giving.{unused_slot, joined_terms, given}
+use Rattle.enet_host.specs.Opening.{opened, joined}
 use Rattle.enet_isolation.proofs.Names.{named-there}
 use Rattle.enet_network.specs.Log.{Logged, Kept, fresh_kept, fresh_channels, joined_greatest, greatest_at}
 use Rattle.enet_network.specs.Network.{HostEnd}

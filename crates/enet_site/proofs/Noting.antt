@@ -7,7 +7,7 @@ use Rattle.enet_types.specs.declared.refusal.Refusal.{Refusal}
 use Rattle.enet_link.specs.Steps.{Has}
 use Rattle.enet_connection.proofs.Emits.{Has-from_map}
 use Rattle.enet_host.specs.Host.{Host}
-use Rattle.enet_host.specs.Opening.{no_address}
+use Rattle.enet_slot.specs.Giving.{no_address}
 use Rattle.enet_isolation.specs.Calls as call
 use Rattle.enet_network.specs.Log.{Logged}
 use Rattle.enet_network.specs.Network.{HostEnd, Site, is_same_name, with_end}

@@ -15,8 +15,10 @@ use Rattle.enet_outbox.specs.Emission.{HasDatagram}
 use Rattle.enet_outbox.proofs.Spelled.{datagram-spelled}
 use Rattle.enet_peer.specs.Peering.{Peering}
 use Rattle.enet_peer.specs.Calls.{destination_of}
-use Rattle.enet_host.specs.Host.{Host, SlotState, named}
-use Rattle.enet_host.specs.Serving.{Gives as GivesSlot, GivesInTurn, Serves}
+use Rattle.enet_slot.specs.Slot.{SlotState}
+use Rattle.enet_host.specs.Host.{Host, named}
+use Rattle.enet_slot.specs.Serving.{Gives as GivesSlot}
+use Rattle.enet_host.specs.Serving.{GivesInTurn, Serves}
 use Rattle.enet_isolation.proofs.Lists.{get-within}
 use Rattle.enet_isolation.proofs.Names.{there-named}
 

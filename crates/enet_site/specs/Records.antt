@@ -7,7 +7,7 @@ use Rattle.enet_peer.specs.Peering.{Peering}
 use Rattle.enet_datagram.specs.Heading.{IsRead}
 use Rattle.enet_link.specs.Steps.{Has}
 use Rattle.enet_host.specs.Host.{Host, named}
-use Rattle.enet_host.specs.Opening.{no_address}
+use Rattle.enet_slot.specs.Giving.{no_address}
 use Rattle.enet_network.specs.declared.mark.Mark.{Mark}
 use Rattle.enet_network.specs.Log.{Logged, greatest_at}
 use Rattle.enet_network.specs.Marks.{Counts}

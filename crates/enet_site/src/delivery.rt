@@ -3,7 +3,7 @@
 ghost use Rattle.std.specs.Prelude.{◌≡◌, slice_get};
 ghost use Rattle.enet_types.specs.declared.address.Addr.{Addr};
 ghost use Rattle.enet_host.specs.Host.{Host, named};
-ghost use Rattle.enet_host.specs.Receiving.{is_deaf};
+ghost use Rattle.enet_slot.specs.Hearing.{is_deaf};
 ghost use Rattle.enet_network.specs.Lateness.{has_late};
 ghost use Rattle.enet_network.specs.Log.{greatest_at};
 ghost use Rattle.enet_network.specs.Network.{is_at, is_over, has_ended, holds_another, is_earlier, numbers_in, end_of, delivery_refusal};

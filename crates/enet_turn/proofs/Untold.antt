@@ -10,7 +10,8 @@ use Rattle.enet_peer.specs.declared.parts.PeerState.TheVariants.{Free, Connectin
 use Rattle.enet_peer.specs.declared.parts.PeerEvent.TheVariants as told
 use Rattle.enet_peer.specs.Peering.{Peering}
 use Rattle.enet_peer.specs.Calls.{Taken, last_event, packet_event, event_after}
-use Rattle.enet_host.specs.Host.{Host, SlotState, with_peer, with_peer_in}
+use Rattle.enet_slot.specs.Slot.{SlotState, with_peer, with_peer_in}
+use Rattle.enet_host.specs.Host.{Host}
 use Rattle.enet_host.specs.Calls.{Takes, TakesOne}
 use Rattle.enet_turn.specs.Hosting.{greetings, endings, untold_by, untold_in, untold}
 

@@ -16,7 +16,8 @@ use Rattle.enet_host.specs.Opening.{Connects}
 use Rattle.enet_host.specs.Receiving.{Receives}
 use Rattle.enet_host.specs.Serving.{Serves}
 use Rattle.enet_host.specs.Ticking.{ticked}
-use Rattle.enet_host.specs.Calls.{Does, DoesWithMemory, Takes, on_named, submission, leaving}
+use Rattle.enet_slot.specs.Calls.{Does, DoesWithMemory, submission, leaving}
+use Rattle.enet_host.specs.Calls.{Takes, on_named}
 use Rattle.enet_turn.specs.Phases.{why_of}
 
 -- the clock goes on

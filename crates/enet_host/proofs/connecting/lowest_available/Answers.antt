@@ -1,5 +1,5 @@
 use Rattle.std.proofs.Common.{◌∙◌}
-use Rattle.enet_host.specs.Opening.{is_available}
+use Rattle.enet_slot.specs.Giving.{is_available}
 use Rattle.enet_host.proofs.Slots.{position-shown}
 use Rattle.enet_host.proofs.connecting.lowest_available.Goals as goal
 

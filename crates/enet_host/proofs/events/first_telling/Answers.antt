@@ -1,5 +1,5 @@
 use Rattle.std.proofs.Common.{ℕ, ◌<◌, length, arith, ap, sym, ◌∙◌}
-use Rattle.enet_host.specs.Calls.{tells}
+use Rattle.enet_slot.specs.Calls.{tells}
 use Rattle.enet_host.specs.Turns.{turn_of}
 use Rattle.enet_host.specs.Shown.{shown, all_shown}
 use Rattle.enet_host.proofs.Asking.{none-more, none-at-all, is-first}

@@ -1,5 +1,5 @@
 use Rattle.std.proofs.Common.{◌≡◌, replicate, vec_len, vec_capacity}
-use Rattle.enet_host.specs.Opening.{unused_slot}
+use Rattle.enet_slot.specs.Giving.{unused_slot}
 use Rattle.enet_host.specs.Shown.{all_shown}
 use Rattle.enet_host.proofs.opening.unused_slots.Given as goal
 

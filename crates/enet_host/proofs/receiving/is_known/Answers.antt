@@ -1,5 +1,5 @@
 use Rattle.std.proofs.Common.{◌∙◌}
-use Rattle.enet_host.specs.Receiving.{is_connection}
+use Rattle.enet_slot.specs.Hearing.{is_connection}
 use Rattle.enet_host.proofs.Slots.{any-shown}
 use Rattle.enet_host.proofs.receiving.is_known.Goals as goal
 

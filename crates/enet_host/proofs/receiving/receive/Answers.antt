@@ -31,4 +31,4 @@ returns-clause-arrives c =
     heard-at c.args.start.now.config c.args.start.now.clock c.args.slots.now.items c.args.from c.args.bytes.now c.in-Ok.found.0 c.in-Ok.found.1.now c.from.result c.index_mut-slot.result.now c.hear.new.self
     c.hear.result c.in-Ok.ensures.read c.if-header-eq-NO_PEER.false
     (refused-in c.args.slots.now.items c.deref.result.now c.args.from c.in-Ok.found.0 _ _ c.refused_by.ensures.stop c.deref.ensures.value c.in_default.is) c.from.ensures
-    (let within = c.in_default.ensures.within in let len = c.deref.ensures.len in let e = c.from.ensures in grind (arith, within, len, e)) c.index_mut-slot.ensures.value c.hear.ensures
+    (let within = c.in_default.ensures.within in let len = c.deref.ensures.len in let e = c.from.ensures in grind (arith, within, len, e)) c.index_mut-slot.ensures.value c.hear.ensures.hears

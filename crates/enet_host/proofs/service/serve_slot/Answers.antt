@@ -9,5 +9,5 @@ returns-in_default-clause-passes c =
 
 pub returns-clause-gives : goal.returns-clause-gives
 returns-clause-gives c =
-    slot-gives c.args.now c.in-Some.len c.serve.new.buf c.args.slots.now.items c.from.result c.args.number c.index_mut-slot.result.now c.serve.new.self c.from.ensures
-    (let e = c.from.ensures in let within = c.requires in grind (arith, e, within)) c.index_mut-slot.ensures.value c.in-Some.ensures.gives
+    slot-gives c.args.now c.in-Some.len c.generation.result c.address-address.result c.serve.new.buf c.args.slots.now.items c.from.result c.args.number c.index_mut-slot.result.now c.serve.new.self c.from.ensures
+    (let e = c.from.ensures in let within = c.requires in grind (arith, e, within)) c.index_mut-slot.ensures.value c.generation.ensures c.address-address.ensures c.in-Some.ensures.gives

@@ -1,10 +1,11 @@
 use Rattle.std.proofs.Common.{◌≡◌, if◌then◌else◌, ap, ◌∙◌, arith, List}
+use Rattle.std.specs.Int.{from_bool}
 use Rattle.std.specs.List.{count_by}
 use Rattle.std.proofs.lemmas.List.{take_all}
-use Rattle.enet_host.specs.declared.slot.Slot.{Slot}
-use Rattle.enet_host.specs.Ticking.{is_standing}
+use Rattle.enet_slot.specs.declared.slot.Slot.{Slot}
+use Rattle.enet_slot.specs.Sharing.{is_standing}
 use Rattle.enet_host.specs.Shown.{shown, all_shown}
-use Rattle.enet_host.proofs.Slots.{count-more, at-most-one}
+use Rattle.enet_host.proofs.Slots.{count-more, one-if, at-most-one}
 use Rattle.enet_host.proofs.sharing.count_standing.Goals as goal
 
 pub loop-slot-preserved : goal.loop-slot-preserved
@@ -12,7 +13,8 @@ loop-slot-preserved c =
     let more = count-more is_standing c.args.slots.now c.loop-slot.slot-index c.slot-item.result c.loop-slot-test.true c.slot-item.is in
     let counted = c.loop-slot.invariant.counted in
     let few = c.loop-slot.invariant.few in
-    let one : c.standing-count.result ≡ (if is_standing (shown c.slot-item.result) then 1 else 0) = c.standing-count.ensures in
+    let one : c.from-count.result ≡ (if is_standing (shown c.slot-item.result) then 1 else 0) =
+    c.from-count.ensures ∙ ap from_bool c.is_standing.ensures ∙ one-if (is_standing (shown c.slot-item.result)) in
     let small = at-most-one (is_standing (shown c.slot-item.result)) in
     record {
       counted = omega (arith, more, counted, one);

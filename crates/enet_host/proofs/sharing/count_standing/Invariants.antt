@@ -1,6 +1,6 @@
 use Rattle.std.proofs.Common.{◌≡◌, ◌≤◌, take}
 use Rattle.std.specs.List.{count_by}
-use Rattle.enet_host.specs.Ticking.{is_standing}
+use Rattle.enet_slot.specs.Sharing.{is_standing}
 use Rattle.enet_host.specs.Shown.{all_shown}
 use Rattle.enet_host.proofs.sharing.count_standing.Given as goal
 

@@ -1,8 +1,8 @@
 use Rattle.std.proofs.Common.{◌≡◌, ◌≤◌, ℕ, ◌++◌, map, take, drop, vec_len, get_or}
 use Rattle.enet_peer.specs.Peering.{Peering}
 use Rattle.enet_peer.specs.Calls as peers
-use Rattle.enet_host.specs.declared.slot.Slot.{Slot}
-use Rattle.enet_host.specs.Host.{changed}
+use Rattle.enet_slot.specs.declared.slot.Slot.{Slot}
+use Rattle.enet_slot.specs.Slot.{changed}
 use Rattle.enet_host.specs.Shown.{all_shown}
 use Rattle.enet_host.proofs.sharing.set_all.Given as goal
 

@@ -1,5 +1,5 @@
 use Rattle.std.proofs.Common.{arith}
-use Rattle.enet_host.specs.Ticking.{shared}
+use Rattle.enet_slot.specs.Sharing.{shared}
 use Rattle.enet_host.specs.Shown.{all_shown}
 use Rattle.enet_host.proofs.Slots.{map-more, map-done, length-shown}
 use Rattle.enet_host.proofs.sharing.share_all.Goals as goal

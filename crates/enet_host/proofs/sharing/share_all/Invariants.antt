@@ -1,5 +1,5 @@
 use Rattle.std.proofs.Common.{◌≡◌, ◌++◌, map, take, drop, vec_len}
-use Rattle.enet_host.specs.Ticking.{shared}
+use Rattle.enet_slot.specs.Sharing.{shared}
 use Rattle.enet_host.specs.Shown.{all_shown}
 use Rattle.enet_host.proofs.sharing.share_all.Given as goal
 

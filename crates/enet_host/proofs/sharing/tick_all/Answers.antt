@@ -1,7 +1,7 @@
 use Rattle.std.proofs.Common.{arith}
 use Rattle.enet_peer.specs.Peering.{Peering}
 use Rattle.enet_peer.specs.Calls as peers
-use Rattle.enet_host.specs.Host.{changed}
+use Rattle.enet_slot.specs.Slot.{changed}
 use Rattle.enet_host.specs.Shown.{all_shown}
 use Rattle.enet_host.proofs.Slots.{map-more, map-done, length-shown}
 use Rattle.enet_host.proofs.sharing.tick_all.Goals as goal

@@ -1,7 +1,7 @@
 use Rattle.std.proofs.Common.{◌≡◌, ◌++◌, map, take, drop, vec_len}
 use Rattle.enet_peer.specs.Peering.{Peering}
 use Rattle.enet_peer.specs.Calls as peers
-use Rattle.enet_host.specs.Host.{changed}
+use Rattle.enet_slot.specs.Slot.{changed}
 use Rattle.enet_host.specs.Shown.{all_shown}
 use Rattle.enet_host.proofs.sharing.tick_all.Given as goal
 

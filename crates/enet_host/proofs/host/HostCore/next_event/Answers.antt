@@ -1,8 +1,8 @@
 use Rattle.std.proofs.Common.{ℕ, List, subst, ap, sym, ◌∙◌}
-use Rattle.enet_host.specs.declared.slot.Slot.{Slot}
+use Rattle.enet_slot.specs.declared.slot.Slot.{Slot}
 use Rattle.enet_host.specs.Host.{Host}
 use Rattle.enet_host.specs.Turns.{IsFirst, slot_after}
-use Rattle.enet_host.specs.Calls.{tells}
+use Rattle.enet_slot.specs.Calls.{tells}
 use Rattle.enet_host.specs.Shown.{all_shown}
 use Rattle.enet_host.proofs.Slots.{length-shown}
 use Rattle.enet_host.proofs.Telling.{takes-at}

@@ -1,4 +1,4 @@
-use Rattle.enet_host.specs.Calls.{throttling}
+use Rattle.enet_slot.specs.Calls.{throttling}
 use Rattle.enet_host.specs.Shown.{all_shown}
 use Rattle.enet_host.proofs.Holding.{keeps-after, does-with-memory-held}
 use Rattle.enet_host.proofs.host.HostCore.throttle_configure.Goals as goal

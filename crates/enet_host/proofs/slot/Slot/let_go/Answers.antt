@@ -1,5 +1,0 @@
-use Rattle.std.proofs.Common.{rules, ◌∙◌}
-use Rattle.enet_host.proofs.slot.Slot.let_go.Goals as goal
-
-pub returns : goal.returns
-returns c = c.hold.ensures ∙ (search rules)

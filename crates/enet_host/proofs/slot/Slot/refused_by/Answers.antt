@@ -1,8 +1,0 @@
-use Rattle.std.proofs.Common.{rules}
-use Rattle.enet_host.proofs.slot.Slot.refused_by.Goals as goal
-
-pub returns-then-session-terms : goal.returns-then-session-terms
-returns-then-session-terms c = search rules
-
-pub returns : goal.returns
-returns c = search rules

@@ -1,0 +1,58 @@
+//! What a host tells of what is to come.
+
+ghost use Rattle.std.specs.Prelude.{◌≡◌, IfSome, IfNone};
+ghost use Rattle.std.specs.Option.{option_copied};
+ghost use Rattle.enet_host.specs.Turns.{HoldsNowhere};
+ghost use Rattle.enet_slot.specs.Calls.{tells};
+ghost use Rattle.enet_host.specs.Foretelling.{next_name, teller_of, packet_of, body_of, Foretells, IsTeller};
+
+use crate::connecting::lowest_available;
+use crate::events::{first_telling, name_at, packet_of};
+use crate::host::HostCore;
+use bytes::Bytes;
+use enet_types::{Packet, PeerRef};
+
+impl HostCore {
+    /// The name that the next peer gets: that of the lowest slot that is free and has a generation left. None where there is
+    /// no such slot.
+    pub fn next_peer(&self) -> Option<PeerRef>
+        ensures { result ≡ next_name self.now.config self.now.slots }
+    {
+        let Some(place) = lowest_available(&self.slots, &self.start.config) else {
+            return None;
+        };
+        Some(name_at(&self.slots, place as u16))
+    }
+
+    /// The peer whose event `next_event` would give; None where there is none.
+    pub fn next_event_of(&self) -> Option<PeerRef>
+        ensures first { IfSome result (λ name. IsTeller self.now name) }
+        ensures none { IfNone result (HoldsNowhere tells self.now.slots) }
+        ensures foretells { Foretells teller_of self.now result }
+    {
+        let Some(slot) = first_telling(&self.slots, self.start.config.peers, self.event_from) else {
+            return None;
+        };
+        Some(name_at(&self.slots, slot))
+    }
+
+    /// The packet that `next_event` would hand out; None where that would be no packet.
+    pub fn next_packet(&self) -> Option<&Packet>
+        ensures { Foretells packet_of self.now (option_copied result) }
+    {
+        let Some(slot) = first_telling(&self.slots, self.start.config.peers, self.event_from) else {
+            return None;
+        };
+        packet_of(&self.slots, slot)
+    }
+
+    /// The body of the packet that `next_event` would hand out; None where that would be no packet.
+    pub fn next_body(&self) -> Option<&Bytes>
+        ensures { Foretells body_of self.now (option_copied result) }
+    {
+        let Some(packet) = self.next_packet() else {
+            return None;
+        };
+        Some(&packet.body)
+    }
+}

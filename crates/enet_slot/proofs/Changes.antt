@@ -1,0 +1,62 @@
+-- What a call leaves of a slot.
+use Rattle.std.proofs.Common.{◌≡◌, ℕ, ◌+◌, min, Option, Some, None, List, refl, sym, ap, subst, ◌∙◌}
+use Rattle.enet_types.specs.declared.event.Event.{Event}
+use Rattle.enet_types.specs.declared.event.Received.{Received}
+use Rattle.enet_peer.specs.declared.parts.PeerState.{PeerState}
+use Rattle.enet_peer.specs.declared.parts.PeerState.TheVariants as state
+use Rattle.enet_peer.specs.declared.parts.PeerEvent.{PeerEvent}
+use Rattle.enet_peer.specs.Peering.{Peering}
+use Rattle.enet_peer.specs.Calls.{PutsOut, next_event}
+use Rattle.enet_datagram.specs.Handling.{Handles}
+use Rattle.enet_slot.specs.Slot.{SlotState, greatest, with_peer, with_peer_in, name_of}
+use Rattle.enet_slot.specs.Hearing.{Hears}
+use Rattle.enet_slot.specs.Serving.{with_emitted, Gives, passes_by, Passes}
+use Rattle.enet_slot.specs.Calls.{event_of, GivesEvent}
+
+over-in : (st : PeerState) (s : SlotState) (q : Option Peering) (p : Peering) → with_peer_in st (record s { peer = q }) p ≡ with_peer_in st s p
+over-in state.Free s q p = refl
+over-in state.Connecting s q p = refl
+over-in state.Answering s q p = refl
+over-in state.Connected s q p = refl
+over-in state.DisconnectLater s q p = refl
+over-in state.Disconnecting s q p = refl
+over-in state.AckDisconnect s q p = refl
+over-in state.Ended s q p = refl
+over-in state.Parting s q p = refl
+
+-- what a slot held before plays no part
+with-peer-over : (s : SlotState) (q : Option Peering) (p : Peering) → with_peer (record s { peer = q }) p ≡ with_peer s p
+with-peer-over s q p = over-in p.state s q p
+
+-- `v` is what was seen of the slot before
+pub hears-of : (now : ℕ) (sent : Option ℕ) (commands : List ℕ) (v s t : SlotState) (p q : Peering) (answer : Received) → v ≡ s → v.peer ≡ Some p
+    → Handles now sent 0 commands p answer q → t ≡ with_peer (record v { peer = Some q }) q → Hears now sent commands s answer t
+hears-of now sent commands v s t p q answer same held handled left =
+    subst (λ (u : SlotState). Hears now sent commands u answer t) same
+    (record { peer = p; after = q; held = held; handled = handled; left = left ∙ with-peer-over v (Some q) q })
+
+pub passes-of : (now : ℕ) (buf : List ℕ) (v s t : SlotState) (p q : Peering) → v ≡ s → v.peer ≡ Some p → PutsOut now None p q buf
+    → t ≡ with_peer (record v { peer = Some q }) q → Passes now s t
+passes-of now buf v s t p q same held puts left =
+    subst (λ (u : SlotState). Passes now u t) same
+    (subst (λ (o : Option Peering). passes_by now v t o) (sym held)
+    (record { after = q; buf = buf; puts = puts; left = left ∙ with-peer-over v (Some q) q }))
+
+pub gives-of : (now len emitted : ℕ) (buf : List ℕ) (v s t : SlotState) (p q : Peering) → v ≡ s → v.peer ≡ Some p → PutsOut now (Some len) p q buf
+    → emitted ≡ min (v.emitted + len) greatest → t ≡ with_peer (record v { emitted = emitted; peer = Some q }) q → Gives now len buf s t
+gives-of now len emitted buf v s t p q same held puts counted left =
+    subst (λ (u : SlotState). Gives now len buf u t) same
+    (record {
+      peer = p;
+      after = q;
+      held = held;
+      puts = puts;
+      left = left ∙ ap (λ (n : ℕ). with_peer (record v { emitted = n; peer = Some q }) q) counted ∙ with-peer-over (with_emitted v len) (Some q) q;
+    })
+
+pub gives-event-of : (i : ℕ) (event : Event) (told : PeerEvent) (v s t : SlotState) (p q : Peering) → v ≡ s → v.peer ≡ Some p
+    → next_event p ≡ Some (record { event = told; after = q }) → event ≡ event_of (name_of i v) told
+    → t ≡ with_peer (record v { peer = Some q }) q → GivesEvent i event s t
+gives-event-of i event told v s t p q same held next is left =
+    subst (λ (u : SlotState). GivesEvent i event u t) same
+    (record { peer = p; held = held; taken = record { event = told; after = q }; next = next; told = is; left = left ∙ with-peer-over v (Some q) q })

@@ -1,0 +1,89 @@
+-- How a slot is given out.
+use Rattle.std.specs.Prelude.{ℕ, ◌&&◌, Bool, true, false, nat_lt, Option, Some, None}
+use Rattle.enet_codec.specs.declared.command.Offer.{Offer}
+use Rattle.enet_types.specs.declared.address.Addr.{Addr}
+use Rattle.enet_types.specs.declared.config.Config.{Config}
+use Rattle.enet_throttle.specs.Bandwidth.{window_size}
+use Rattle.enet_connect.specs.declared.server.Server.{Server}
+use Rattle.enet_connect.specs.declared.terms.Terms.{Terms}
+use Rattle.enet_peer.specs.declared.parts.Limits.{Limits}
+use Rattle.enet_peer.specs.Peering.{Peering}
+use Rattle.enet_peer.specs.Peering as peers
+use Rattle.enet_slot.specs.Slot.{SlotState}
+
+-- what a host allows its peers
+abbrev pub limits_of : Config → Limits
+limits_of c = record { max_packet = c.max_packet; max_waiting = c.max_waiting; incoming = c.incoming; outgoing = c.outgoing }
+
+abbrev pub no_address : Addr
+no_address = record { ip = 0; port = 0 }
+
+-- a slot that held no peer yet
+abbrev pub unused_slot : SlotState
+unused_slot = record { generation = 0; address = no_address; incoming_session = 0xFF; outgoing_session = 0xFF; emitted = 0; peer = None }
+
+-- the terms of a host that is connected from the start, to slot 0 of another of whose bandwidths nothing is known
+abbrev pub joined_terms : Config → Terms
+joined_terms c = record {
+  slot = 0;
+  channels = c.channels;
+  mtu = c.mtu;
+  window = window_size c.outgoing 0;
+  incoming_session = 0;
+  outgoing_session = 0;
+  throttle_interval = 5000;
+  acceleration = 2;
+  deceleration = 2;
+  connect_id = 0;
+}
+
+-- a slot is given to a peer at an address
+abbrev pub given : SlotState → Addr → Peering → SlotState
+given s address p = record s { address = address; emitted = 0; peer = Some p }
+
+-- the lowest slot that is free and has a generation left
+abbrev pub is_vacant : Option Peering → Bool
+is_vacant None = true
+is_vacant (Some p) = false
+
+abbrev pub is_available : ℕ → SlotState → Bool
+is_available generations s = is_vacant s.peer && nat_lt s.generation generations
+
+-- what a client offers from a slot: its own settings, the sessions that the slot had, and the throttle's standard numbers
+abbrev pub offer_from : Config → ℕ → SlotState → ℕ → ℕ → ℕ → Offer
+offer_from c i s channels info word = record {
+  outgoing_peer = i;
+  incoming_session = s.incoming_session;
+  outgoing_session = s.outgoing_session;
+  mtu = c.mtu;
+  window = window_size c.outgoing 0;
+  channels = channels;
+  incoming_bandwidth = c.incoming;
+  outgoing_bandwidth = c.outgoing;
+  throttle_interval = 5000;
+  acceleration = 2;
+  deceleration = 2;
+  connect_id = word;
+  info = info;
+}
+
+-- what a server answers an offer by from a slot
+abbrev pub server_from : Config → ℕ → SlotState → Server
+server_from c i s = record {
+  slot = i;
+  incoming_session = s.incoming_session;
+  outgoing_session = s.outgoing_session;
+  channels = c.channels;
+  mtu = c.mtu;
+  incoming_bandwidth = c.incoming;
+  outgoing_bandwidth = c.outgoing;
+}
+
+-- a client asks from slot i
+abbrev pub asking : Config → ℕ → ℕ → SlotState → Addr → ℕ → ℕ → ℕ → SlotState
+asking c now i s address channels info word =
+    given s address (peers.connecting now (offer_from c i s channels info word) (limits_of c))
+
+-- a server answers from slot i
+abbrev pub answering : Config → ℕ → ℕ → SlotState → Addr → Offer → SlotState
+answering c now i s address offer = given s address (peers.answering now offer (server_from c i s) (limits_of c))

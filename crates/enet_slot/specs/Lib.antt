@@ -1,0 +1,7 @@
+pub mod Slot
+pub mod Giving
+pub mod Hearing
+pub mod Serving
+pub mod Sharing
+pub mod Calls
+pub mod Slotted

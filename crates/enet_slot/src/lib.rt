@@ -1,0 +1,22 @@
+//! One slot of a host of ENet 1.3: it is free, or holds one peer at an address.
+//!
+//! Proved, each call exactly by small definitions over a slot (`SlotState`): what a user's call does is that call of its peer
+//! (`on_peer`), with E2 where the slot is free; `hear` and `serve` are its peer's (`Hears`, `Gives`, `Passes`), and so are
+//! `tick`, `set_bandwidth` (`changed`), `share` (`shared`) and `take` (`GivesEvent`). After each of them a slot whose peer is
+//! free gives it up: it keeps the sessions of the connection that it had, and has the next generation (`vacated`). `join`,
+//! `ask` and `answer` give it to a peer (`given`, `asking`, `answering`). Which datagrams it takes in say the tests of
+//! `refused_by` in their order, and whether it can be given out `is_available`. Want of memory changes nothing.
+//! Only tested, with the host's calls by `check_hosts` and `check_foreign`: that calls succeed with ample memory.
+#![tactic(auto)]
+
+mod calls;
+mod events;
+mod giving;
+mod hearing;
+mod serving;
+mod sharing;
+mod slot;
+
+pub use calls::Setting;
+pub use giving::{Question, Start};
+pub use slot::Slot;

@@ -1,0 +1,27 @@
+//! A slot puts out a datagram.
+
+ghost use Rattle.std.specs.Prelude.{◌≤◌, IfSome, IfNone};
+ghost use Rattle.enet_slot.specs.Serving.{Gives, Passes};
+
+use crate::Slot;
+
+impl Slot {
+    /// Asks its peer, if there is one, for a datagram at the time `now`, in milliseconds: how many bytes of the buffer it has.
+    /// None where there is nothing to send. It takes no memory.
+    pub fn serve(&mut self, now: u32, buf: &mut [u8; 4096]) -> Option<usize>
+        ensures gives { IfSome result (λ len. Gives now len buf.new self.old.slot self.new.slot) }
+        ensures passes { IfNone result (Passes now self.old.slot self.new.slot) }
+        ensures fits { IfSome result (λ len. len ≤ 4096) }
+    {
+        let Some(peer) = &mut self.peer else {
+            return None;
+        };
+        let Some(len) = peer.emit(now, buf) else {
+            self.let_go();
+            return None;
+        };
+        self.emitted = self.emitted.saturating_add(len as u32);
+        self.let_go();
+        Some(len)
+    }
+}

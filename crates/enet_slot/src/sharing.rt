@@ -1,0 +1,72 @@
+//! What a moment brings to a slot, and what its host's bandwidths do to it.
+
+ghost use Rattle.std.specs.Prelude.{◌≡◌, OnOk, IfErr};
+ghost use Rattle.enet_peer.specs.Peering.{Peering};
+ghost use Rattle.enet_peer.specs.Calls as peers;
+ghost use Rattle.enet_slot.specs.Slot.{changed};
+ghost use Rattle.enet_slot.specs.Sharing.{is_standing, shared};
+ghost use Rattle.enet_slot.specs.Slotted.{HasRoom};
+
+use crate::Slot;
+use enet_peer::PeerState;
+use enet_throttle::{budget_of, limit_of};
+use enet_types::Refusal;
+
+impl Slot {
+    /// Time has come to `now`, in milliseconds.
+    pub fn tick(&mut self, now: u32)
+        ensures { self.new.slot ≡ changed (λ (p : Peering). peers.ticked p now) self.old.slot }
+    {
+        if let Some(peer) = &mut self.peer {
+            peer.tick(now);
+            self.let_go();
+        }
+    }
+
+    /// Whether its connection stands.
+    pub fn is_standing(&self) -> bool
+        ensures { result ≡ is_standing self.now.slot }
+    {
+        match &self.peer {
+            Some(peer) => peer.state() == PeerState::Connected,
+            None => false,
+        }
+    }
+
+    /// Limits a connected peer's throttle to its share of the host's outgoing bandwidth, in bytes per second, among so many
+    /// connected peers.
+    pub fn share(&mut self, outgoing: u32, standing: u32)
+        ensures { self.new.slot ≡ shared outgoing standing self.old.slot }
+    {
+        if let Some(peer) = &mut self.peer {
+            if peer.state() == PeerState::Connected {
+                let budget = budget_of(outgoing, standing, peer.other_incoming());
+                peer.throttle_limit(limit_of(self.emitted, budget));
+            }
+        }
+        self.emitted = 0;
+    }
+
+    /// Makes room for one command of channel 0xFF of a connected peer. E1 where memory is refused.
+    pub fn reserve(&mut self) -> Result<(), Refusal>
+        ensures unchanged { self.new.slot ≡ self.old.slot }
+        ensures room { OnOk result (HasRoom self.new) }
+        ensures memory { IfErr result (λ why. why ≡ Refusal.Memory) }
+    {
+        match &mut self.peer {
+            Some(peer) => peer.reserve(),
+            None => Ok(()),
+        }
+    }
+
+    /// Sets its peer's bandwidths, in bytes per second; a connected one is told, for which there must be room.
+    pub fn set_bandwidth(&mut self, incoming: u32, outgoing: u32)
+        requires { HasRoom self.old }
+        ensures { self.new.slot ≡ changed (λ (p : Peering). peers.with_bandwidth p incoming outgoing) self.old.slot }
+    {
+        if let Some(peer) = &mut self.peer {
+            peer.bandwidth(incoming, outgoing);
+            self.let_go();
+        }
+    }
+}
