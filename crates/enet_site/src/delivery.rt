@@ -7,17 +7,15 @@ ghost use Rattle.enet_host.specs.Receiving.{is_deaf};
 ghost use Rattle.enet_network.specs.Lateness.{has_late};
 ghost use Rattle.enet_network.specs.Log.{greatest_at};
 ghost use Rattle.enet_network.specs.Network.{is_at, is_over, has_ended, holds_another, is_earlier, numbers_in, end_of, delivery_refusal};
-ghost use Rattle.enet_site.specs.Records.{site, with_ends, unread};
+ghost use Rattle.enet_site.specs.Sites.{site, with_ends, unread};
 
-use crate::end::{End, numbers_of};
-use crate::lateness::has_late;
-use crate::records::Records;
 use enet_host::{HostCore, PeerState};
 use enet_network::Mark;
+use enet_records::{End, Records, has_late, numbers_of};
 use enet_types::{Addr, PeerRef, Refusal};
 
 /// The peer id in the header of a CONNECT.
-const NO_PEER: u16 = 0xFFF;
+pub(crate) const NO_PEER: u16 = 0xFFF;
 
 /// Whether a peer in this state takes no datagram in.
 fn is_deaf(state: PeerState) -> bool
