@@ -4,7 +4,9 @@ ghost use Rattle.std.specs.Prelude.{◌≡◌};
 ghost use Rattle.enet_link.specs.Link.{number_below};
 ghost use Rattle.enet_network.specs.Lateness.{is_late, has_late};
 ghost use Rattle.enet_network.specs.Log.{greatest_at};
+ghost use Rattle.enet_network.specs.Network.{numbers_in, end_of};
 
+use crate::end::{End, numbers_of};
 use crate::numbers::greatest_at;
 use enet_network::{Mark, MarkKind};
 use enet_seq::ahead;
@@ -34,8 +36,18 @@ fn is_late(mark: &Mark, sender: &[u128], taker: &[u128]) -> bool
 
 /// Whether such a command is among those of a datagram. `sender` and `taker` are the greatest numbers that its connection's two
 /// ends have sent, by channel.
-pub fn has_late(marks: &[Mark], sender: &[u128], taker: &[u128]) -> bool
+fn has_late(marks: &[Mark], sender: &[u128], taker: &[u128]) -> bool
     ensures { result ≡ has_late (greatest_at sender.now) (greatest_at taker.now) marks.now }
 {
     marks.iter().any(|mark| is_late(mark, sender, taker))
+}
+
+/// Whether a datagram of this connection with these marks comes too late, by the ends of the host that put it out and of the
+/// host that takes it in: a command of it is more than 32,768 numbers late.
+pub fn comes_late(from: &[End], to: &[End], connection: u64, marks: &[Mark]) -> bool
+    ensures { result ≡ has_late (greatest_at (numbers_in (end_of connection from.now))) (greatest_at (numbers_in (end_of connection to.now))) marks.now }
+{
+    let sender = numbers_of(from, connection);
+    let taker = numbers_of(to, connection);
+    has_late(marks, sender, taker)
 }
