@@ -79,12 +79,12 @@ ok-name : (a b : PeerRef) → ◌≡◌ {A = Result PeerRef Refusal} (Ok a) (Ok 
 ok-name a b e = cc
 
 -- the slot of the name holds a peer that asks
-record Asks (h : Host) (slots : List SlotState) (word : ℕ) (name : PeerRef) : Type 0 where
-  offer : Offer
-  says : offer.connect_id ≡ word
-  there : IsThere slots name (connecting h.clock offer (limits_of h.config))
+pub record Asks (h : Host) (slots : List SlotState) (word : ℕ) (name : PeerRef) : Type 0 where
+  pub offer : Offer
+  pub says : offer.connect_id ≡ word
+  pub there : IsThere slots name (connecting h.clock offer (limits_of h.config))
 
-asked-in : (h : Host) (address : Addr) (channels info word : ℕ) (name : PeerRef) (answer : Result PeerRef Refusal) (slots after : List SlotState) → Connects h.config h.clock slots address channels info word answer after → answer ≡ Ok name
+pub asked-in : (h : Host) (address : Addr) (channels info word : ℕ) (name : PeerRef) (answer : Result PeerRef Refusal) (slots after : List SlotState) → Connects h.config h.clock slots address channels info word answer after → answer ≡ Ok name
     → Asks h after word name
 asked-in h address channels info word name answer slots after (no_channel z) e = absurd (cc)
 asked-in h address channels info word name answer slots after (no_slot some none) e = absurd (cc)

@@ -213,7 +213,7 @@ brought-acts : (other old new : Site) (answer : Received) (found : Option Logged
 brought-acts other old new answer None x = absurd x
 brought-acts other old new answer (Some d) x = (call.Receive other.address d.text answer, x.1.0)
 
-some-acts : (next : ℕ) (other old new : Site) (what : Happening) → Happens next other what old new → (c : Call) × Acts c old.host new.host
+pub some-acts : (next : ℕ) (other old new : Site) (what : Happening) → Happens next other what old new → (c : Call) × Acts c old.host new.host
 some-acts next other old new (Calls c) x = (c, acts-of next other old new c x)
 some-acts next other old new (Hears k answer) x = brought-acts other old new answer (slice_get other.log k) x
 
@@ -270,7 +270,7 @@ pub record IsFresh (h : Host) (name : PeerRef) : Type 0 where
   pub left : slot.generation < h.config.generations
   pub generation : name.generation ≡ slot.generation
 
-fresh-connected : (h : Host) (address : Addr) (channels info word : ℕ) (name : PeerRef) (answer : Result PeerRef Refusal) (slots after : List SlotState) → slots ≡ h.slots → Connects h.config h.clock slots address channels info word answer after
+pub fresh-connected : (h : Host) (address : Addr) (channels info word : ℕ) (name : PeerRef) (answer : Result PeerRef Refusal) (slots after : List SlotState) → slots ≡ h.slots → Connects h.config h.clock slots address channels info word answer after
     → answer ≡ Ok name → IsFresh h name
 fresh-connected h address channels info word name answer slots after was (no_channel z) e = absurd (cc)
 fresh-connected h address channels info word name answer slots after was (no_slot some none) e = absurd (cc)
@@ -284,7 +284,7 @@ begun-generation : (c : Call) (h : Host) (i : ℕ) (s t : SlotState) → falling
 begun-generation c h i s t (falling.asks address channels info word is some at) = refl
 begun-generation c h i s t (falling.answers from bytes commands header o is read stranger offer taken new at) = refl
 
-kept-generation : (c : Call) (h : Host) (i : ℕ) (s t : SlotState) → s.peer ≡ None → isolation.Fares c h i s t → t.generation ≡ s.generation
+pub kept-generation : (c : Call) (h : Host) (i : ℕ) (s t : SlotState) → s.peer ≡ None → isolation.Fares c h i s t → t.generation ≡ s.generation
 kept-generation c h i s t none (isolation.untouched fell not' e) = ap (λ (z : SlotState). z.generation) e
 kept-generation c h i s t none (isolation.goes_on p q ds has fell alone e) = absurd (let y : ◌≡◌ {A = Option Peering} None (Some p) = sym none ∙ has in cc)
 kept-generation c h i s t none (isolation.begins vacant left b) = begun-generation c h i s t b
@@ -310,7 +310,7 @@ fresh-more next other old new (Hears k answer) x f h = by (slice_get other.log k
     by None y m = absurd y
     by (Some d) y m = fresh-begun (call.Receive other.address d.text answer) d.connection old.host new.host f y.1.0 m
 
-not-fresh : (h : Host) (e : HostEnd) (name : PeerRef) (p : Peering) → ShowsPeer h e.name p → IsFresh h name → name ≡ e.name → ⊥
+pub not-fresh : (h : Host) (e : HostEnd) (name : PeerRef) (p : Peering) → ShowsPeer h e.name p → IsFresh h name → name ≡ e.name → ⊥
 not-fresh h e name p k f same = by (there-or h e.name p k)
   where
     g : IsFresh h e.name

@@ -1,8 +1,11 @@
-pub mod MarkLemmas
-pub mod Bounds
-pub mod Places
-pub mod Ends
+pub mod Going
 pub mod Fresh
 pub mod Reading
 pub mod Noting
 pub mod Refusing
+pub mod Beginning
+pub mod Left
+pub mod Submits
+pub mod Takes
+pub mod Hears
+pub mod AtSite

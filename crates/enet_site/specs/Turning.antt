@@ -8,7 +8,7 @@ use Rattle.enet_isolation.specs.Calls as call
 use Rattle.enet_network.specs.Log.{Logged}
 use Rattle.enet_network.specs.Network.{HostEnd, Site}
 use Rattle.enet_network.specs.Steps.{Calls, Happens}
-use Rattle.enet_site.specs.Records.{Records, Notes}
+use Rattle.enet_records.specs.Records.{Records, Notes}
 
 -- it has none
 abbrev pub Rests : Host → Host → Type 0

@@ -4,20 +4,15 @@ ghost use Rattle.std.specs.Prelude.{◌≡◌, slice_get};
 ghost use Rattle.enet_types.specs.declared.address.Addr.{Addr};
 ghost use Rattle.enet_host.specs.Host.{Host, named};
 ghost use Rattle.enet_slot.specs.Hearing.{is_deaf};
-ghost use Rattle.enet_network.specs.Lateness.{has_late};
-ghost use Rattle.enet_network.specs.Log.{greatest_at};
-ghost use Rattle.enet_network.specs.Network.{is_at, is_over, has_ended, holds_another, is_earlier, numbers_in, end_of, delivery_refusal};
-ghost use Rattle.enet_site.specs.Records.{site, with_ends, unread};
+ghost use Rattle.enet_network.specs.Network.{is_at, is_over, has_ended, holds_another, is_earlier, delivery_refusal};
+ghost use Rattle.enet_site.specs.Sites.{site, with_ends, unread};
 
-use crate::end::{End, numbers_of};
-use crate::lateness::has_late;
-use crate::records::Records;
 use enet_host::{HostCore, PeerState};
-use enet_network::Mark;
+use enet_records::{End, Records, comes_late};
 use enet_types::{Addr, PeerRef, Refusal};
 
 /// The peer id in the header of a CONNECT.
-const NO_PEER: u16 = 0xFFF;
+pub(crate) const NO_PEER: u16 = 0xFFF;
 
 /// Whether a peer in this state takes no datagram in.
 fn is_deaf(state: PeerState) -> bool
@@ -77,15 +72,6 @@ fn is_earlier(host: &HostCore, ends: &[End], from: Addr, peer: u16, connection: 
     }
 }
 
-/// Whether a datagram of this connection with these marks comes too late, by the ends of both hosts.
-fn is_late(from: &[End], to: &[End], connection: u64, marks: &[Mark]) -> bool
-    ensures { result ≡ has_late (greatest_at (numbers_in (end_of connection from.now))) (greatest_at (numbers_in (end_of connection to.now))) marks.now }
-{
-    let sender = numbers_of(from, connection);
-    let taker = numbers_of(to, connection);
-    has_late(marks, sender, taker)
-}
-
 /// The first refusal but want of memory that datagram `k` of the host at an address meets at this one.
 pub(crate) fn refusal_of(
     host: &HostCore,
@@ -102,7 +88,7 @@ pub(crate) fn refusal_of(
     if is_earlier(host, &own.ends, from, datagram.peer, datagram.connection) {
         return Some(Refusal::Earlier);
     }
-    if is_late(&far.ends, &own.ends, datagram.connection, &datagram.marks) {
+    if comes_late(&far.ends, &own.ends, datagram.connection, &datagram.marks) {
         return Some(Refusal::Late);
     }
     None

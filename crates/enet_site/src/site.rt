@@ -1,20 +1,28 @@
 //! A host in a network, at its address.
 
-ghost use Rattle.std.specs.Prelude.{◌≡◌, ℕ, [], ◌∷◌, true, false, IfOk, IfErr, OnOk, OnErr, Some, slice_get};
+ghost use Rattle.std.specs.Prelude.{◌≡◌, ℕ, [], ◌∷◌, true, false, Ok, Err, IfOk, IfErr, OnErr, slice_get};
 ghost use Rattle.std.specs.Option.{option_copied, option_map};
 ghost use Rattle.enet_types.specs.Config.{is_in_range};
 ghost use Rattle.enet_host.specs.Opening.{opened, joined};
 ghost use Rattle.enet_network.specs.Headline.{submitted_at, taken_at, events_at};
 ghost use Rattle.enet_network.specs.Network.{end_of, delivery_refusal};
-ghost use Rattle.enet_network.specs.World.{joined_end};
+ghost use Rattle.enet_isolation.specs.Calls as call;
+ghost use Rattle.enet_network.specs.Steps.{Calls, Hears, Happens};
+ghost use Rattle.enet_network.specs.World.{joined_end, IsRefusedFor, RefusesCall};
+ghost use Rattle.enet_site.specs.Sites.{CallsAt};
 ghost use Rattle.enet_site.specs.Turning.{TurnsAt};
 
+use crate::arriving::deliver;
+use crate::connecting::{Question, connect};
 use crate::delivery::refusal_of;
-use crate::end;
-use crate::records::Records;
+use crate::leaving::disconnect;
+use crate::submitting::submit;
+use crate::taking::take;
 use crate::turn::turn;
+use bytes::Bytes;
 use enet_host::HostCore;
-use enet_types::{Addr, Config, Event, Packet, Refusal};
+use enet_records::Records;
+use enet_types::{Addr, Config, DisconnectMode, Event, Packet, PeerRef, Received, Refusal};
 use std::alloc::Global;
 use std::marker::Model;
 
@@ -29,7 +37,7 @@ pub struct Site {
 
 impl Model for Site {
     ghost use Rattle.enet_network.specs.Network.{Site};
-    ghost use Rattle.enet_site.specs.Records.{site, AreOwned};
+    ghost use Rattle.enet_site.specs.Sites.{site, IsWhole};
     ghost use Rattle.std.specs.Coded.{codes};
     ghost use Rattle.enet_inbox.specs.Codes.{inbox_code};
 
@@ -39,7 +47,7 @@ impl Model for Site {
 
     ghost view = { λ s. site s.address s.host s.records };
 
-    ghost invariant = { λ s. AreOwned s.host s.records.ends };
+    ghost invariant = { λ s. IsWhole s.host s.records.ends };
 }
 
 impl Site {
@@ -71,6 +79,71 @@ impl Site {
         })
     }
 
+    /// Its user asks the host `far` for a connection with so many channels, where there have been `next` connections so far.
+    /// `info` is a word for the other user, `word` the connect id. E8 for no channels, E7 where no slot is left, E1 where
+    /// memory is refused, with nothing changed.
+    pub fn connect(
+        &mut self,
+        alloc: Global,
+        far: &Site,
+        next: u64,
+        channels: u8,
+        info: u32,
+        word: u32,
+    ) -> Result<PeerRef, Refusal>
+        ensures refused { IfErr result (λ why. RefusesCall (call.Connect far.now.address channels info word (Err why)) self.old) }
+        ensures unchanged { OnErr result (self.new ≡ self.old) }
+        ensures connects { IfOk result (λ name. Happens next far.now (Calls (call.Connect far.now.address channels info word (Ok name))) self.old self.new) }
+    {
+        let question = Question {
+            address: far.address,
+            channels,
+            info,
+            word,
+        };
+        connect(&mut self.host, &mut self.records, alloc, next, question)
+    }
+
+    /// Its user submits a packet to a peer on a channel; `flags` are its flags. E2, E3, E4, E5 as by the host, E1 where memory
+    /// is refused, with nothing changed.
+    pub fn submit(
+        &mut self,
+        peer: PeerRef,
+        channel: u8,
+        flags: u8,
+        body: &Bytes,
+    ) -> Result<(), Refusal>
+        ensures refused { IfErr result (λ why. RefusesCall (call.Submit peer channel (record { flags = flags; body = body.now }) (Err (why, body.now))) self.old) }
+        ensures unchanged { OnErr result (self.new ≡ self.old) }
+        ensures submits { IfOk result (λ done. CallsAt (call.Submit peer channel (record { flags = flags; body = body.now }) (Ok tt)) self.old self.new) }
+    {
+        submit(
+            &mut self.host,
+            &mut self.records,
+            peer,
+            channel,
+            flags,
+            body,
+        )
+    }
+
+    /// The network brings datagram `k` of the host `from`. E13, E12 and E11 as `delivery_refusal` tells them, E1 where memory
+    /// is refused, with nothing changed.
+    pub fn deliver(&mut self, alloc: Global, from: &Site, k: u64) -> Result<Received, Refusal>
+        ensures refused { IfErr result (λ why. IsRefusedFor why (delivery_refusal from.now self.old (slice_get from.now.log k))) }
+        ensures unchanged { OnErr result (self.new ≡ self.old) }
+        ensures delivers { IfOk result (λ answer. (next : ℕ) → Happens next from.now (Hears k answer) self.old self.new) }
+    {
+        deliver(
+            &mut self.host,
+            &mut self.records,
+            alloc,
+            from.address,
+            &from.records,
+            k,
+        )
+    }
+
     /// The host may put out one datagram, which gets the site's next number, from 0; None where it has nothing to send. `far`
     /// is the other host. E1 where memory is refused, with nothing changed.
     pub fn turn(&mut self, alloc: Global, far: &Site) -> Result<Option<u64>, Refusal>
@@ -79,6 +152,36 @@ impl Site {
         ensures turns { IfOk result (λ sent. TurnsAt far.now sent self.old self.new) }
     {
         turn(&mut self.host, &mut self.records, &far.records, alloc)
+    }
+
+    /// The clock of the host goes on by so many milliseconds, by a minute at most.
+    pub fn tick(&mut self, ms: u32)
+        ensures { CallsAt (call.Tick ms) self.old self.new }
+    {
+        self.host.tick(ms);
+    }
+
+    /// Its user takes the next event; None where there is none. E1 where memory is refused, with nothing changed.
+    pub fn take(&mut self) -> Result<Option<Event>, Refusal>
+        ensures memory { IfErr result (λ why. why ≡ Refusal.Memory) }
+        ensures unchanged { OnErr result (self.new ≡ self.old) }
+        ensures takes { IfOk result (λ event. CallsAt (call.NextEvent event) self.old self.new) }
+    {
+        take(&mut self.host, &mut self.records)
+    }
+
+    /// Its user ends the connection of a peer, with a word for the other user. E2, E3 as by the host, with nothing changed.
+    pub fn disconnect(
+        &mut self,
+        peer: PeerRef,
+        how: DisconnectMode,
+        info: u32,
+    ) -> Result<(), Refusal>
+        ensures refused { IfErr result (λ why. RefusesCall (call.Disconnect how peer info (Err why)) self.old) }
+        ensures unchanged { OnErr result (self.new ≡ self.old) }
+        ensures ends { IfOk result (λ done. CallsAt (call.Disconnect how peer info (Ok tt)) self.old self.new) }
+    {
+        disconnect(&mut self.host, peer, how, info)
     }
 
     /// The first refusal but want of memory that datagram `k` of the host `from` meets here, if there is one: E13 where `from`
@@ -102,20 +205,20 @@ impl Site {
     pub fn submitted(&self, connection: u64, channel: u8) -> &[Packet]
         ensures { result.now ≡ submitted_at channel (end_of connection self.now.ends) }
     {
-        end::submitted(&self.records.ends, connection, channel)
+        enet_records::submitted(&self.records.ends, connection, channel)
     }
 
     /// What the user of this end of a connection took of a channel, in order.
     pub fn taken(&self, connection: u64, channel: u8) -> &[Packet]
         ensures { result.now ≡ taken_at channel (end_of connection self.now.ends) }
     {
-        end::taken(&self.records.ends, connection, channel)
+        enet_records::taken(&self.records.ends, connection, channel)
     }
 
     /// The events that the user of this end of a connection took, in order.
     pub fn events(&self, connection: u64) -> &[Event]
         ensures { result.now ≡ events_at (end_of connection self.now.ends) }
     {
-        end::events(&self.records.ends, connection)
+        enet_records::events(&self.records.ends, connection)
     }
 }

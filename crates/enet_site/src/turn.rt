@@ -1,12 +1,11 @@
 //! A host may put out a datagram, which is logged.
 
 ghost use Rattle.std.specs.Prelude.{◌≡◌, ◌+◌, ◌≤◌, [], vec_len, vec_capacity, IfSome, IfNone, IfOk, IfErr, OnErr};
-ghost use Rattle.enet_site.specs.Records.{AreOwned};
+ghost use Rattle.enet_site.specs.Sites.{IsWhole};
 ghost use Rattle.enet_site.specs.Turning.{Rests, Gives, Turns};
 
-use crate::marks::MAX_COMMANDS;
-use crate::records::{Records, note};
 use enet_host::HostCore;
+use enet_records::{MAX_COMMANDS, Records, note};
 use enet_types::{Addr, PeerRef, Refusal};
 use std::alloc::Global;
 
@@ -36,7 +35,7 @@ pub(crate) fn turn(
     far: &Records,
     alloc: Global,
 ) -> Result<Option<u64>, Refusal>
-    requires { AreOwned host.old own.old.ends }
+    requires { IsWhole host.old own.old.ends }
     ensures memory { IfErr result (λ why. why ≡ Refusal.Memory) }
     ensures host { OnErr result (host.new ≡ host.old) }
     ensures unchanged { OnErr result (own.new ≡ own.old) }

@@ -2,7 +2,8 @@ use Rattle.std.proofs.Common.{◌≡◌, true, false, sym, ap, ◌∙◌}
 use Rattle.enet_network.specs.Lateness.{has_late}
 use Rattle.enet_network.specs.Log.{Logged, greatest_at}
 use Rattle.enet_network.specs.Network.{is_earlier, numbers_in, end_of}
-use Rattle.enet_site.specs.Records.{Records, site, with_ends, unread}
+use Rattle.enet_records.specs.Records.{Records}
+use Rattle.enet_site.specs.Sites.{site, with_ends, unread}
 use Rattle.enet_site.proofs.Refusing.{earlier-at, late-at}
 use Rattle.enet_site.proofs.delivery.refusal_of.Goals as goal
 
@@ -13,8 +14,8 @@ returns-then-is_earlier c =
     earlier-at (site c.args.from g c.args.far.now) (site address c.args.host.now c.args.own.now) _ c.in-Some.datagram.now c.in-Some.ensures
     (sym (λ i. is_earlier (with_ends c.args.host.now (own i)) c.args.from (unread (c.datagram.view_is i).connection c.args.from (c.datagram.view_is i).peer)) ∙ sym c.is_earlier.ensures ∙ c.if-is_earlier.true)
 
-pub returns-then-is_late : goal.returns-then-is_late
-returns-then-is_late c =
+pub returns-then-comes_late : goal.returns-then-comes_late
+returns-then-comes_late c =
     let own : c.deref.result.now ≡ c.args.own.now.ends = c.deref.ensures.value ∙ ap (λ (r : Records). r.ends) c.own.view_is in
     let from : c.deref-2.result.now ≡ c.args.far.now.ends = c.deref-2.ensures.value ∙ ap (λ (r : Records). r.ends) c.far.view_is in
     let to : c.deref-3.result.now ≡ c.args.own.now.ends = c.deref-3.ensures.value ∙ ap (λ (r : Records). r.ends) c.own.view_is in
@@ -22,7 +23,7 @@ returns-then-is_late c =
     λ address g.
     late-at (site c.args.from g c.args.far.now) (site address c.args.host.now c.args.own.now) _ c.in-Some.datagram.now true c.in-Some.ensures
     (sym (λ i. is_earlier (with_ends c.args.host.now (own i)) c.args.from (unread (c.datagram.view_is i).connection c.args.from (c.datagram.view_is i).peer)) ∙ sym c.is_earlier.ensures ∙ c.if-is_earlier.false)
-    (sym (λ i. has_late (greatest_at (numbers_in (end_of (c.datagram.view_is i).connection (from i)))) (greatest_at (numbers_in (end_of (c.datagram.view_is i).connection (to i)))) (marks i)) ∙ sym c.is_late.ensures ∙ c.if-is_late.true)
+    (sym (λ i. has_late (greatest_at (numbers_in (end_of (c.datagram.view_is i).connection (from i)))) (greatest_at (numbers_in (end_of (c.datagram.view_is i).connection (to i)))) (marks i)) ∙ sym c.comes_late.ensures ∙ c.if-comes_late.true)
 
 pub returns : goal.returns
 returns c =
@@ -33,4 +34,4 @@ returns c =
     λ address g.
     late-at (site c.args.from g c.args.far.now) (site address c.args.host.now c.args.own.now) _ c.in-Some.datagram.now false c.in-Some.ensures
     (sym (λ i. is_earlier (with_ends c.args.host.now (own i)) c.args.from (unread (c.datagram.view_is i).connection c.args.from (c.datagram.view_is i).peer)) ∙ sym c.is_earlier.ensures ∙ c.if-is_earlier.false)
-    (sym (λ i. has_late (greatest_at (numbers_in (end_of (c.datagram.view_is i).connection (from i)))) (greatest_at (numbers_in (end_of (c.datagram.view_is i).connection (to i)))) (marks i)) ∙ sym c.is_late.ensures ∙ c.if-is_late.false)
+    (sym (λ i. has_late (greatest_at (numbers_in (end_of (c.datagram.view_is i).connection (from i)))) (greatest_at (numbers_in (end_of (c.datagram.view_is i).connection (to i)))) (marks i)) ∙ sym c.comes_late.ensures ∙ c.if-comes_late.false)

@@ -3,16 +3,16 @@ use Rattle.std.proofs.lemmas.List.{with_items_is}
 use Rattle.enet_datagram.specs.Heading.{IsRead}
 use Rattle.enet_network.specs.Log.{Logged}
 use Rattle.enet_network.specs.Network.{HostEnd}
-use Rattle.enet_site.specs.Records.{Records, AreKept, HasEnd}
+use Rattle.enet_records.specs.Records.{Records, AreKept, HasEnd}
+use Rattle.enet_records.proofs.Keeps.{kept-noted}
 use Rattle.enet_site.proofs.Reading.{gave-read, gave-named}
-use Rattle.enet_site.proofs.Noting.{kept-noted}
 use Rattle.enet_site.proofs.turn.turn.Goals as goal
 
 pub note-datagram-requires-clause-there : goal.note-datagram-requires-clause-there
 note-datagram-requires-clause-there c =
     let g = c.in-Some.ensures.gives in
     let n = gave-named c.args.host.now c.emit.new.host c.in-Some.name c.in-Some.to g.len g.buf g.serves in
-    subst (λ (xs : List HostEnd). HasEnd xs c.in-Some.name) (sym (c.deref_mut.ensures.value ∙ ap (λ (r : Records). r.ends) c.own.view_is)) (c.requires c.in-Some.name n.0 n.1)
+    subst (λ (xs : List HostEnd). HasEnd xs c.in-Some.name) (sym (c.deref_mut.ensures.value ∙ ap (λ (r : Records). r.ends) c.own.view_is)) (c.requires.owned c.in-Some.name n.0 n.1)
 
 pub note-datagram-requires-clause-read : goal.note-datagram-requires-clause-read
 note-datagram-requires-clause-read c =

@@ -1,9 +1,9 @@
-use Rattle.enet_site.proofs.Noting.{owned-after, site-turned}
+use Rattle.enet_site.proofs.Noting.{whole-turned, site-turned}
 use Rattle.enet_site.proofs.site.Site.turn.Goals as goal
 
 pub invariant_of-self : goal.invariant_of-self
 invariant_of-self c =
-    owned-after c.turn.result c.self.inside.host c.turn.new.host c.far.inside.records c.self.inside.records c.turn.new.own c.turn.ensures.host c.turn.ensures.unchanged c.turn.ensures.turns c.self.invariant
+    whole-turned c.turn.result c.self.inside.host c.turn.new.host c.far.inside.records c.self.inside.records c.turn.new.own c.turn.ensures.host c.turn.ensures.unchanged c.turn.ensures.turns c.self.invariant
 
 pub returns-clause-turns : goal.returns-clause-turns
 returns-clause-turns c =

@@ -1,0 +1,56 @@
+-- What is kept of a host, apart from the host itself.
+use Rattle.std.specs.Prelude.{◌≡◌, ℕ, ◌+◌, ◌*◌, ◌^◌, ◌<◌, List, [], ◌∷◌, ◌++◌, replicate, length, Some, slice_get}
+use Rattle.enet_types.specs.declared.address.Addr.{Addr}
+use Rattle.enet_types.specs.declared.event.PeerRef.{PeerRef}
+use Rattle.enet_codec.specs.declared.header.Header.{Header}
+use Rattle.enet_datagram.specs.Heading.{IsRead}
+use Rattle.enet_link.specs.Steps.{Has}
+use Rattle.enet_network.specs.declared.mark.Mark.{Mark}
+use Rattle.enet_network.specs.Log.{Logged, greatest_at}
+use Rattle.enet_network.specs.Marks.{Counts}
+use Rattle.enet_network.specs.Network.{HostEnd, with_end, numbers_in, end_of}
+
+pub record Records : Type 0 where
+  pub log : List Logged
+  pub ends : List HostEnd
+
+-- the numbers sent at first, with this one on channel 0xFF
+unfoldable pub first_numbers : ℕ → List ℕ
+first_numbers control = replicate 255 0 ++ control ∷ []
+
+-- each of the greatest numbers is below a bound
+abbrev pub AreBelow : ℕ → List ℕ → Type 0
+AreBelow bound greatest = (channel : ℕ) → greatest_at greatest channel < bound
+
+-- what holds of an end once its host has put so many datagrams out: a datagram has at most 32 commands, and by each a number rises by less than 2 ^ 15
+pub record IsKept (count : ℕ) (e : HostEnd) : Type 0 where
+  pub channels : length e.channels ≡ 256
+  pub numbers : length e.greatest ≡ 256
+  pub below : AreBelow (2 + 2 ^ 20 * count) e.greatest
+
+-- no two ends have one name
+abbrev pub AreApart : List HostEnd → Type 0
+AreApart ends = (i j : ℕ) (e f : HostEnd) → slice_get ends i ≡ Some e → slice_get ends j ≡ Some f → e.name ≡ f.name → i ≡ j
+
+-- what holds of all that is kept
+pub record AreKept (log : List Logged) (ends : List HostEnd) : Type 0 where
+  pub each : (e : HostEnd) → Has ends e → IsKept (length log) e
+  pub apart : AreApart ends
+
+-- some end has this name
+abbrev pub HasEnd : List HostEnd → PeerRef → Type 0
+HasEnd ends name = (e : HostEnd) × Has ends e × (e.name ≡ name)
+
+-- a datagram of the end of this name is to be logged: its commands are counted and marked; `far` are the ends of the other host
+pub record Notes (far : List HostEnd) (name : PeerRef) (to : Addr) (text : List ℕ) (old new : List HostEnd) (logged : Logged) : Type 0 where
+  pub own : HostEnd
+  pub there : Has old own
+  pub named : own.name ≡ name
+  pub header : Header
+  pub commands : List ℕ
+  pub read : IsRead text header commands
+  pub greatest : List ℕ
+  pub marks : List Mark
+  pub counts : Counts text own.greatest greatest (numbers_in (end_of own.connection far)) marks
+  pub is : logged ≡ record { connection = own.connection; to = to; peer = header.peer; text = text; marks = marks }
+  pub ends : new ≡ with_end (λ (e : HostEnd). record e { greatest = greatest }) name old

@@ -1,0 +1,98 @@
+-- What holds of each site stays, whatever happens at it.
+use Rattle.std.proofs.Common.{◌≡◌, ℕ, refl, sym, ap, subst, ◌∙◌, inl, inr, Option, Some, None, Result, Ok, Err, IfOk, OnErr, slice_get}
+use Rattle.enet_types.specs.declared.event.PeerRef.{PeerRef}
+use Rattle.enet_types.specs.declared.refusal.Refusal.{Refusal}
+use Rattle.enet_peer.specs.Peering.{Peering}
+use Rattle.enet_link.specs.Steps.{Has}
+use Rattle.enet_slot.specs.Slot.{SlotState}
+use Rattle.enet_host.specs.Host.{Host, Keeps}
+use Rattle.enet_slot.specs.Giving.{no_address}
+use Rattle.enet_host.specs.Opening.{available}
+use Rattle.enet_isolation.specs.Calls.{Call, Acts}
+use Rattle.enet_isolation.specs.Calls as call
+use Rattle.enet_isolation.proofs.Keeping.{each-keeps}
+use Rattle.enet_isolation.proofs.Names.{IsThere, there-named}
+use Rattle.enet_network.specs.Log.{Logged}
+use Rattle.enet_network.specs.Network.{HostEnd, Site}
+use Rattle.enet_network.specs.Shown.{ShowsPeer}
+use Rattle.enet_network.specs.Steps.{Happening, Calls, Hears, Happens, end_in, end_at, begun_in}
+use Rattle.enet_network.proofs.Beginnings.{asked-in}
+use Rattle.enet_network.proofs.Growing.{more_of, more_in, Grows, grows, from-before}
+use Rattle.enet_network.proofs.Owned.{owned-goes, are-ends}
+use Rattle.enet_network.proofs.Peers.{shows-held, is_gone, goes, Moved, moved}
+use Rattle.enet_network.proofs.Worlds.{some-acts}
+use Rattle.enet_records.specs.Records.{Records}
+use Rattle.enet_site.specs.Sites.{site, AreOwned, AreShown, IsWhole}
+
+-- an end that begins has a peer
+
+Held : Host → PeerRef → Type 0
+Held h name = (p : Peering) × IsThere h.slots name p
+
+held-end : (x i : ℕ) (h : Host) (s : SlotState) (o : Option Peering) (f : HostEnd) → slice_get h.slots i ≡ Some s → s.peer ≡ o → Has (end_in x i s o) f → Held h f.name
+unfolding Held
+held-end x i h s None f there is m = absurd m
+held-end x i h s (Some p) f there is (inl e) = subst (λ (z : HostEnd). (q : Peering) × IsThere h.slots z.name q) e (p, record { slot = s; there = there; same = refl; peer = is })
+held-end x i h s (Some p) f there is (inr m) = absurd m
+
+held-at : (x i : ℕ) (h : Host) (o : Option SlotState) (f : HostEnd) → slice_get h.slots i ≡ o → Has (end_at x i o) f → Held h f.name
+held-at x i h None f there m = absurd m
+held-at x i h (Some s) f there m = held-end x i h s s.peer f there refl m
+
+held-begun : (x : ℕ) (o : Option ℕ) (h : Host) (f : HostEnd) → Has (begun_in x o h) f → Held h f.name
+held-begun x None h f m = absurd m
+held-begun x (Some i) h f m = held-at x i h (slice_get h.slots i) f refl m
+
+held-more : (next : ℕ) (far old new : Site) (what : Happening) → Happens next far what old new → (f : HostEnd) → Has (more_of next far old new what) f → Held new.host f.name
+unfolding Held
+held-more next far old new (Calls (call.Connect address channels info word (Ok name))) x f (inl e) =
+    let a = asked-in old.host address channels info word name (Ok name) old.host.slots new.host.slots x.1.0.0 refl in
+    subst (λ (z : HostEnd). (q : Peering) × IsThere new.host.slots z.name q) e (_, a.there)
+held-more next far old new (Calls (call.Connect address channels info word (Ok name))) x f (inr m) = absurd m
+held-more next far old new (Calls c) x f m = absurd m
+held-more next far old new (Hears k answer) x f m = by (slice_get far.log k) m
+  where
+    by : (found : Option Logged) → Has (more_in next old new found) f → Held new.host f.name
+    by None y = absurd y
+    by (Some d) y = held-begun d.connection (available old.host.config old.host.slots) new.host f y
+
+-- each end is shown
+
+shown-moved : (c : Call) (old new : Host) (name : PeerRef) (p : Peering) → Moved c old new name p → (q : Peering) × ShowsPeer new name q
+shown-moved c old new name p (is_gone shows none) = (p, shows)
+shown-moved c old new name p (goes x ds q fell alone shows) = (q, shows)
+
+shown-goes : (next : ℕ) (far old new : Site) (what : Happening) → Happens next far what old new → Keeps old.host → Keeps new.host → AreShown old.host old.ends → AreShown new.host new.ends
+unfolding Held
+shown-goes next far old new what x low keeps k f there = elim (from-before old new (more_of next far old new what) g f there) [
+  | inl b ↦ (let own = k b.0 b.1 in subst (λ (n : PeerRef). (q : Peering) × ShowsPeer new.host n q) (sym (g.name b.0) ∙ ap (λ (z : HostEnd). z.name) b.2)
+      (shown-moved a.0 old.host new.host (b.0).name own.0 (moved a.0 old.host new.host (b.0).name own.0 low.generations a.1 own.1)))
+  | inr m ↦ (let h = held-more next far old new what x f m in (h.0, shows-held new.host f.name h.0 (let t = h.1 in keeps.held (f.name).slot t.slot h.0 t.there t.peer) h.1))
+]
+  where
+    g : Grows old new (more_of next far old new what)
+    g = grows next far old new what x
+
+    a : (c : Call) × Acts c old.host new.host
+    a = some-acts next far old new what x
+
+pub whole-goes : (next : ℕ) (far old new : Site) (what : Happening) → Happens next far what old new → IsWhole old.host old.ends → IsWhole new.host new.ends
+whole-goes next far old new what x k = record { keeps = keeps; owned = owned; shown = shown-goes next far old new what x k.keeps keeps k.shown }
+  where
+    keeps : Keeps new.host
+    keeps = (let a = some-acts next far old new what x in each-keeps.call a.0 old.host new.host a.1 k.keeps)
+
+    owned : AreOwned new.host new.ends
+    owned =
+        are-ends new
+        (owned-goes next far old new what x
+        (λ i s p there has. k.owned (record { slot = i; generation = s.generation }) p
+        (there-named old.host.slots (record { slot = i; generation = s.generation }) p (record { slot = s; there = there; same = refl; peer = has }))))
+
+-- some thing happened at a host of which this is kept
+abbrev pub Goes : Host → Records → Host → Records → Type 0
+Goes old was new is = (next : ℕ) × (far : Site) × (what : Happening) × Happens next far what (site no_address old was) (site no_address new is)
+
+pub whole-after : {T : Type 0} (r : Result T Refusal) (P : T → Type 0) (old new : Host) (was is : Records) → OnErr r (new ≡ old) → OnErr r (is ≡ was) → IfOk r P → ((x : T) → P x → Goes old was new is) → IsWhole old was.ends → IsWhole new is.ends
+whole-after (Ok x) P old new was is host same done by k = (let g = by x done in whole-goes g.0 g.1 (site no_address old was) (site no_address new is) g.2 g.3 k)
+whole-after (Err why) P old new was is host same done by k = subst (λ (h : Host). IsWhole h is.ends) (sym host) (subst (λ (q : Records). IsWhole old q.ends) (sym same) k)

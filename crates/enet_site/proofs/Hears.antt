@@ -1,0 +1,46 @@
+-- A datagram comes, at its site.
+use Rattle.std.proofs.Common.{◌≡◌, ◌≢◌, ℕ, ◌==◌, Bool, false, List, [], ◌++◌, sym, ap, subst, ◌∙◌, arith, Option, Some, None, IfNone, Result, Ok, Err, IfOk}
+use Rattle.std.proofs.lemmas.Bool.Decides.{nat_tests}
+use Rattle.enet_types.specs.declared.address.Addr.{Addr}
+use Rattle.enet_types.specs.declared.event.PeerRef.{PeerRef}
+use Rattle.enet_types.specs.declared.event.Received.{Received}
+use Rattle.enet_types.specs.declared.refusal.Refusal.{Refusal}
+use Rattle.enet_codec.specs.declared.header.Header.{Header}
+use Rattle.enet_datagram.specs.Heading.{IsRead}
+use Rattle.enet_host.specs.Host.{Host}
+use Rattle.enet_host.specs.Foretelling.{next_name}
+use Rattle.enet_slot.specs.Hearing.{no_peer}
+use Rattle.enet_isolation.specs.Calls.{Acts}
+use Rattle.enet_isolation.specs.Calls as call
+use Rattle.enet_network.specs.Log.{Logged}
+use Rattle.enet_network.specs.Network.{HostEnd, delivery_refusal}
+use Rattle.enet_network.specs.Steps.{BringsOne, Brought, begun}
+use Rattle.enet_records.specs.Records.{Records}
+use Rattle.enet_site.specs.Sites.{site}
+use Rattle.enet_site.proofs.Beginning.{next-none, begun-none}
+
+pub other-peer : (b : Bool) (text : List ℕ) → b ≡ false → ((header : Header) (commands : List ℕ) → IsRead text header commands → b ≡ (header.peer == no_peer)) → (header : Header) (commands : List ℕ) → IsRead text header commands → header.peer ≢ no_peer
+other-peer b text is says header commands read same = (let t : (header.peer == no_peer) ≡ false = sym (says header commands read) ∙ is in grind (arith, nat_tests))
+
+pub none-answers : (o : Option PeerRef) (h : Host) (text : List ℕ) → o ≡ next_name h.config h.slots → IfNone o ((from : Addr) (x : ℕ) (answer : Received) (after : Host) → Acts (call.Receive from text answer) h after → begun x h after ≡ [])
+none-answers None h text is = λ from x answer after acts. begun-none x h after (next-none h (sym is))
+none-answers (Some name) h text is = tt
+
+-- what a datagram of this connection does that begins these ends
+pub brought-by : (from : Addr) (d : Logged) (x : ℕ) (text : List ℕ) (answer : Received) (old new : Host) (was : Records) (log : List Logged) (ends after more : List HostEnd) → x ≡ d.connection → text ≡ d.text → record { log = log; ends = ends } ≡ was → Acts (call.Receive from text answer) old new
+    → begun x old new ≡ more → after ≡ ends ++ more → (address : Addr) → Brought from d answer (site address old was) (site address new (record { log = log; ends = after }))
+brought-by from d x text answer old new was log ends after more of same view acts begins is =
+    subst (λ (w : Records). (address : Addr) → Brought from d answer (site address old w) (site address new (record { log = log; ends = after }))) view
+    (λ address. (
+      subst (λ (t : List ℕ). Acts (call.Receive from t answer) old new) same acts,
+      (λ i. record { address = address; host = new; log = log; ends = (is ∙ ap (λ (l : List HostEnd). ends ++ l) (sym begins ∙ ap (λ (n : ℕ). begun n old new) of)) i }),
+    ))
+
+pub delivered : (r : Result Received Refusal) (from : Addr) (far : Records) (d : Logged) (found : Option Logged) (old new : Host) (was is : Records) → Some d ≡ found
+    → ((address : Addr) (g : Host) → None ≡ delivery_refusal (site from g far) (site address old was) found)
+    → IfOk r (λ answer. (address : Addr) → Brought from d answer (site address old was) (site address new is))
+    → IfOk r (λ answer. (address : Addr) (g : Host) → BringsOne (site from g far) found answer (site address old was) (site address new is))
+delivered (Err why) from far d found old new was is there free done = tt
+delivered (Ok answer) from far d found old new was is there free done = λ address g.
+    (subst (λ (o : Option Logged). (None ≡ delivery_refusal (site from g far) (site address old was) o) → BringsOne (site from g far) o answer (site address old was) (site address new is)) there
+    (λ none. (sym none, done address)) (free address g))

@@ -1,0 +1,69 @@
+-- An event is taken, at its site.
+use Rattle.std.proofs.Common.{◌≡◌, ℕ, true, List, [], ◌∷◌, ◌++◌, length, refl, sym, ap, subst, ◌∙◌, Option, Some, None, Result, Ok, Err, IfOk, OnErr, slice_set}
+use Rattle.enet_types.specs.declared.event.Event.{Event}
+use Rattle.enet_types.specs.declared.event.Event.TheVariants as events
+use Rattle.enet_types.specs.declared.event.PeerRef.{PeerRef}
+use Rattle.enet_types.specs.declared.packet.Packet.{Packet}
+use Rattle.enet_types.specs.declared.refusal.Refusal.{Refusal}
+use Rattle.enet_peer.specs.Peering.{Peering}
+use Rattle.enet_host.specs.Host.{Host}
+use Rattle.enet_slot.specs.Calls.{peer_tells}
+use Rattle.enet_host.specs.Calls.{Takes}
+use Rattle.enet_host.specs.Foretelling.{teller_of, packet_of, Foretells, IsTeller}
+use Rattle.enet_isolation.specs.Calls as call
+use Rattle.enet_isolation.proofs.Names.{there-named}
+use Rattle.enet_network.specs.Log.{Logged}
+use Rattle.enet_network.specs.Network.{HostEnd, with_end}
+use Rattle.enet_network.specs.Steps.{with_event, after_event}
+use Rattle.enet_records.specs.Records.{Records, IsKept, AreApart, AreKept, HasEnd}
+use Rattle.enet_records.proofs.Ends.{Placed, with-one}
+use Rattle.enet_records.proofs.Keeps.{kept-set, event-kept}
+use Rattle.enet_site.specs.Sites.{IsWhole, CallsOn, told}
+
+-- whoever tells is a peer, which an end has
+
+telling : (o : Option Peering) → peer_tells o ≡ true → (p : Peering) × (o ≡ Some p)
+telling None is = absurd (cc)
+telling (Some p) is = (p, refl)
+
+pub teller-end : (h : Host) (was : Records) (log : List Logged) (ends : List HostEnd) (name : PeerRef) → record { log = log; ends = ends } ≡ was → IsWhole h was.ends → IsTeller h name → HasEnd ends name
+teller-end h was log ends name view k t =
+    let f = t.first in
+    let p = telling f.slot.peer f.here in
+    subst (λ (r : Records). HasEnd r.ends name) (sym view)
+    (k.owned name p.0 (there-named h.slots name p.0 (record { slot = f.slot; there = f.there; same = sym (ap (λ (n : PeerRef). n.generation) t.named); peer = p.1 })))
+
+-- a word is kept among the events alone
+pub word-keeps : (event : Event) (e : HostEnd) (all : List Event) → None ≡ packet_of event → all ≡ e.events ++ event ∷ [] → record e { events = all } ≡ with_event event e
+word-keeps (events.Connect name info) e all none same = (λ i. record e { events = same i })
+word-keeps (events.Receive name q) e all none same = absurd (let y : ◌≡◌ {A = Option Packet} None (Some q) = none in cc)
+word-keeps (events.Disconnect name info) e all none same = (λ i. record e { events = same i })
+word-keeps (events.Refused seat number why) e all none same = (λ i. record e { events = same i })
+
+-- it is kept at the end that it names
+named-one : (event : Event) (name : PeerRef) (ends : List HostEnd) → Some name ≡ teller_of event → after_event event ends ≡ with_end (with_event event) name ends
+named-one (events.Connect n info) name ends is = (let same : n ≡ name = (let y : ◌≡◌ {A = Option PeerRef} (Some name) (Some n) = is in cc) in ap (λ (m : PeerRef). with_end (with_event (events.Connect n info)) m ends) same)
+named-one (events.Receive n q) name ends is = (let same : n ≡ name = (let y : ◌≡◌ {A = Option PeerRef} (Some name) (Some n) = is in cc) in ap (λ (m : PeerRef). with_end (with_event (events.Receive n q)) m ends) same)
+named-one (events.Disconnect n info) name ends is = (let same : n ≡ name = (let y : ◌≡◌ {A = Option PeerRef} (Some name) (Some n) = is in cc) in ap (λ (m : PeerRef). with_end (with_event (events.Disconnect n info)) m ends) same)
+named-one (events.Refused seat number why) name ends is = absurd (let y : ◌≡◌ {A = Option PeerRef} (Some name) None = is in cc)
+
+pub kept-told : (r : Result (Option Event) Refusal) (log : List Logged) (ends : List HostEnd) (place : ℕ) (e f : HostEnd) (name : PeerRef) → AreKept log ends → Placed ends name place e → OnErr r (f ≡ e) → IfOk r (λ event. f ≡ told event e)
+    → AreKept log (slice_set ends place f)
+kept-told (Ok None) log ends place e f name k at same keeps = kept-set log ends place e f k at.at (ap (λ (x : HostEnd). x.name) keeps) (subst (IsKept (length log)) (sym keeps) (k.each e at.there))
+kept-told (Ok (Some event)) log ends place e f name k at same keeps =
+    kept-set log ends place e f k at.at (ap (λ (x : HostEnd). x.name) keeps) (subst (IsKept (length log)) (sym keeps) (event-kept (length log) event e (k.each e at.there)))
+kept-told (Err why) log ends place e f name k at same keeps = kept-set log ends place e f k at.at (ap (λ (x : HostEnd). x.name) same) (subst (IsKept (length log)) (sym same) (k.each e at.there))
+
+pub taken-on : (r : Result (Option Event) Refusal) (old new : Host) (was : Records) (log : List Logged) (ends : List HostEnd) (place : ℕ) (e f : HostEnd) (name : PeerRef) → record { log = log; ends = ends } ≡ was → AreApart ends → Placed ends name place e
+    → Foretells teller_of old (Some name) → IfOk r (λ event. Takes event old new) → IfOk r (λ event. f ≡ told event e) → IfOk r (λ event. CallsOn 0 (call.NextEvent event) old was new (record { log = log; ends = slice_set ends place f }))
+taken-on (Err why) old new was log ends place e f name view apart at tells takes keeps = tt
+taken-on (Ok None) old new was log ends place e f name view apart at tells takes keeps = absurd (let y : ◌≡◌ {A = Option PeerRef} (Some name) None = tells None new takes in cc)
+taken-on (Ok (Some event)) old new was log ends place e f name view apart at tells takes keeps =
+    subst (λ (w : Records). CallsOn 0 (call.NextEvent (Some event)) old w new (record { log = log; ends = slice_set ends place f })) view
+    (λ address. (takes, (λ i. record { address = address; host = new; log = log; ends = same i })))
+  where
+    same : slice_set ends place f ≡ after_event event ends
+    same = ap (slice_set ends place) keeps ∙ sym (with-one (with_event event) name ends place e apart at.at at.named) ∙ sym (named-one event name ends (tells (Some event) new takes))
+
+pub told-by : (h : Host) (own name : PeerRef) → own ≡ name → Foretells teller_of h (Some name) → Foretells teller_of h (Some own)
+told-by h own name same tells = subst (λ (n : PeerRef). Foretells teller_of h (Some n)) (sym same) tells

@@ -1,0 +1,23 @@
+//! A user ends a connection.
+
+ghost use Rattle.enet_isolation.specs.Calls.{Acts};
+ghost use Rattle.enet_isolation.specs.Calls as call;
+
+use enet_host::HostCore;
+use enet_types::{DisconnectMode, PeerRef, Refusal};
+
+/// Ends the connection of the peer of this name in this way.
+pub(crate) fn disconnect(
+    host: &mut HostCore,
+    peer: PeerRef,
+    how: DisconnectMode,
+    info: u32,
+) -> Result<(), Refusal>
+    ensures { Acts (call.Disconnect how peer info result) host.old host.new }
+{
+    match how {
+        DisconnectMode::Now => host.disconnect_now(peer, info),
+        DisconnectMode::Ask => host.disconnect(peer, info),
+        DisconnectMode::Later => host.disconnect_later(peer, info),
+    }
+}
