@@ -3,6 +3,7 @@ use Rattle.std.specs.Prelude.{ℕ, ◌^◌, nat_eq, if◌then◌else◌, List, [
 use Rattle.std.specs.List.{starts_with}
 use Rattle.enet_types.specs.declared.event.DisconnectMode.{DisconnectMode}
 use Rattle.enet_types.specs.declared.event.DisconnectMode.TheVariants.{Now, Ask, Later}
+use Rattle.enet_types.specs.declared.event.PeerRef.{PeerRef}
 use Rattle.enet_network.specs.declared.event.Side.{Side}
 use Rattle.enet_network.specs.declared.event.Side.TheVariants.{A, B}
 use Rattle.enet_network.specs.declared.event.WorldEvent.{WorldEvent}
@@ -43,26 +44,93 @@ mode_named word =
     else (if bytes_eq word (codes "ask") then Some Ask else (if bytes_eq word (codes "later") then Some Later else None))
 
 -- `pair <channels>`
-unfoldable pub pair_of : List (List ℕ) → Option Line
-pair_of words = of_one (λ channels. number_below (2 ^ 8) channels >>= λ n. Some (Pair n)) words
+abbrev pub pair_of : List (List ℕ) → Option Line
+pair_of others = of_one (λ channels. option_map Pair (number_below (2 ^ 8) channels)) others
 
 -- `open <peers A> <channels A> <peers B> <channels B>`
-unfoldable pub open_of : List (List ℕ) → Option Line
-open_of words = of_four spelled words
-  where
-    spelled : List ℕ → List ℕ → List ℕ → List ℕ → Option Line
-    spelled peers_a channels_a peers_b channels_b = do
-      p ← number_below (2 ^ 16) peers_a
-      c ← number_below (2 ^ 8) channels_a
-      q ← number_below (2 ^ 16) peers_b
-      d ← number_below (2 ^ 8) channels_b
-      Some (Open p c q d)
+abbrev pub open_of : List (List ℕ) → Option Line
+open_of others = of_four (λ peers_a channels_a peers_b channels_b. do
+  p ← number_below (2 ^ 16) peers_a
+  c ← number_below (2 ^ 8) channels_a
+  q ← number_below (2 ^ 16) peers_b
+  d ← number_below (2 ^ 8) channels_b
+  Some (Open p c q d)) others
 
 -- `connect <side> <channels> <data> <id>`
-unfoldable pub connect_of : List (List ℕ) → Option WorldEvent
-connect_of words = of_four (λ side channels info id. do
+abbrev pub connect_of : List (List ℕ) → Option WorldEvent
+connect_of others = of_four (λ side channels info id. do
   s ← side_named side
   c ← number_below (2 ^ 8) channels
   i ← number_below (2 ^ 32) info
   w ← id_of id
-  Some (Connect s c i w)) words
+  Some (Connect s c i w)) others
+
+-- The words of `submit` before its bytes.
+abbrev pub head_of : List ℕ → List ℕ → List ℕ → List ℕ → Option (Side × PeerRef × ℕ × ℕ)
+head_of side peer channel flags = do
+  s ← side_named side
+  p ← peer_of peer
+  c ← number_below (2 ^ 8) channel
+  f ← number_below (2 ^ 8) flags
+  Some (s, p, c, f)
+
+-- `submit <side> <peer> <channel> <flags> <bytes>`
+abbrev pub submit_of : List (List ℕ) → Option WorldEvent
+submit_of others = of_five (λ side peer channel flags body. do
+  h ← head_of side peer channel flags
+  b ← bytes_of body
+  Some (Submit h.0 h.1 h.2 h.3 b)) others
+
+-- `deliver <side> <k>`
+abbrev pub deliver_of : List (List ℕ) → Option WorldEvent
+deliver_of others = of_two (λ side k. do
+  s ← side_named side
+  n ← number_below (2 ^ 64) k
+  Some (Deliver s n)) others
+
+-- `turn <side>`
+abbrev pub turn_of : List (List ℕ) → Option WorldEvent
+turn_of others = of_one (λ side. option_map Turn (side_named side)) others
+
+-- `tick <side> <ms>`
+abbrev pub tick_of : List (List ℕ) → Option WorldEvent
+tick_of others = of_two (λ side ms. do
+  s ← side_named side
+  n ← number_below (2 ^ 32) ms
+  Some (Tick s n)) others
+
+-- `take <side>`
+abbrev pub take_of : List (List ℕ) → Option WorldEvent
+take_of others = of_one (λ side. option_map Take (side_named side)) others
+
+-- `now`, `ask` or `later <side> <peer> <data>`
+abbrev pub disconnect_of : List ℕ → List (List ℕ) → Option WorldEvent
+disconnect_of form others = of_three (λ side peer info. do
+  how ← mode_named form
+  s ← side_named side
+  p ← peer_of peer
+  i ← number_below (2 ^ 32) info
+  Some (Disconnect s p how i)) others
+
+-- The event that a line spells, by its first word.
+unfoldable pub event_of : List ℕ → List (List ℕ) → Option WorldEvent
+event_of form others =
+    if bytes_eq form (codes "connect") then connect_of others
+    else (if bytes_eq form (codes "submit") then submit_of others
+    else (if bytes_eq form (codes "deliver") then deliver_of others
+    else (if bytes_eq form (codes "turn") then turn_of others
+    else (if bytes_eq form (codes "tick") then tick_of others
+    else (if bytes_eq form (codes "take") then take_of others
+    else disconnect_of form others)))))
+
+-- What a line of these words spells.
+unfoldable pub line_of : List (List ℕ) → Option Line
+line_of [] = Some PassedOver
+line_of (form ∷ others) =
+    if bytes_eq form (codes "pair") then pair_of others
+    else (if bytes_eq form (codes "open") then open_of others
+    else option_map Step (event_of form others))
+
+-- What a line spells. One that begins with `#` is passed over, as one without words is.
+unfoldable pub spells : List ℕ → Option Line
+spells line = if starts_with nat_eq line (codes "#") then Some PassedOver else line_of (words line)

@@ -2,11 +2,11 @@
 
 ghost use Rattle.std.specs.Prelude.{◌≡◌, ◌∷◌, bytes_eq, IfOk};
 ghost use Rattle.enet_script.specs.Words.{words};
-ghost use Rattle.enet_lines.specs.Lines.{side_named, mode_named, pair_of, open_of, connect_of, submit_of, deliver_of, turn_of, tick_of, take_of, disconnect_of, event_of, line_of, spells};
+ghost use Rattle.enet_lines.specs.Lines.{side_named, mode_named, pair_of, open_of, connect_of, submit_of, head_of, deliver_of, turn_of, tick_of, take_of, disconnect_of, event_of, line_of, spells};
 
 use enet_network::{Side, WorldEvent};
 use enet_script::{bytes_of, five, four, id_of, one, peer_of, three, two, u8_of, u16_of, u32_of, u64_of, word};
-use enet_types::DisconnectMode;
+use enet_types::{DisconnectMode, PeerRef};
 use std::alloc::{AllocError, Global};
 
 /// What a line spells.
@@ -99,32 +99,25 @@ fn open(text: &[u8]) -> Option<Line>
 fn read_event(alloc: Global, form: &[u8], rest: &[u8]) -> Result<Option<WorldEvent>, AllocError>
     ensures { IfOk result (λ event. event ≡ event_of form.now (words rest.now)) }
 {
+    if is(form, b"connect") {
+        return Ok(connect(rest));
+    }
     if is(form, b"submit") {
         return submit(alloc, rest);
     }
-    Ok(plain_event(form, rest))
-}
-
-// The same of a form that takes no memory.
-fn plain_event(form: &[u8], rest: &[u8]) -> Option<WorldEvent>
-    ensures { result ≡ plain_event_of form.now (words rest.now) }
-{
-    if is(form, b"connect") {
-        return connect(rest);
-    }
     if is(form, b"deliver") {
-        return deliver(rest);
+        return Ok(deliver(rest));
     }
     if is(form, b"turn") {
-        return turn(rest);
+        return Ok(turn(rest));
     }
     if is(form, b"tick") {
-        return tick(rest);
+        return Ok(tick(rest));
     }
     if is(form, b"take") {
-        return take(rest);
+        return Ok(take(rest));
     }
-    disconnect(form, rest)
+    Ok(disconnect(form, rest))
 }
 
 fn connect(text: &[u8]) -> Option<WorldEvent>
@@ -146,13 +139,33 @@ fn connect(text: &[u8]) -> Option<WorldEvent>
 fn submit(alloc: Global, text: &[u8]) -> Result<Option<WorldEvent>, AllocError>
     ensures { IfOk result (λ event. event ≡ submit_of (words text.now)) }
 {
-    let Some((head, body)) = submit_words(text) else {
+    let Some((side, peer, channel, flags, body)) = five(text) else {
         return Ok(None);
     };
-    let Some(body) = bytes_of(alloc, body)? else {
+    let Some((side, peer, channel, flags)) = head(side, peer, channel, flags) else {
         return Ok(None);
     };
-    Ok(Some(head.with(body)))
+    match bytes_of(alloc, body)? {
+        None => Ok(None),
+        Some(body) => Ok(Some(WorldEvent::Submit {
+            side,
+            peer,
+            channel,
+            flags,
+            body,
+        })),
+    }
+}
+
+// What the first words of `submit` spell.
+fn head(side: &[u8], peer: &[u8], channel: &[u8], flags: &[u8]) -> Option<(Side, PeerRef, u8, u8)>
+    ensures { result ≡ head_of side.now peer.now channel.now flags.now }
+{
+    let side = side_named(side)?;
+    let peer = peer_of(peer)?;
+    let channel = u8_of(channel)?;
+    let flags = u8_of(flags)?;
+    Some((side, peer, channel, flags))
 }
 
 fn deliver(text: &[u8]) -> Option<WorldEvent>
