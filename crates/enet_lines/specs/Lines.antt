@@ -3,7 +3,6 @@ use Rattle.std.specs.Prelude.{ℕ, ◌^◌, nat_eq, if◌then◌else◌, List, [
 use Rattle.std.specs.List.{starts_with}
 use Rattle.enet_types.specs.declared.event.DisconnectMode.{DisconnectMode}
 use Rattle.enet_types.specs.declared.event.DisconnectMode.TheVariants.{Now, Ask, Later}
-use Rattle.enet_types.specs.declared.event.PeerRef.{PeerRef}
 use Rattle.enet_network.specs.declared.event.Side.{Side}
 use Rattle.enet_network.specs.declared.event.Side.TheVariants.{A, B}
 use Rattle.enet_network.specs.declared.event.WorldEvent.{WorldEvent}
@@ -65,21 +64,15 @@ connect_of others = of_four (λ side channels info id. do
   w ← id_of id
   Some (Connect s c i w)) others
 
--- The words of `submit` before its bytes.
-abbrev pub head_of : List ℕ → List ℕ → List ℕ → List ℕ → Option (Side × PeerRef × ℕ × ℕ)
-head_of side peer channel flags = do
+-- `submit <side> <peer> <channel> <flags> <bytes>`
+abbrev pub submit_of : List (List ℕ) → Option WorldEvent
+submit_of others = of_five (λ side peer channel flags body. do
   s ← side_named side
   p ← peer_of peer
   c ← number_below (2 ^ 8) channel
   f ← number_below (2 ^ 8) flags
-  Some (s, p, c, f)
-
--- `submit <side> <peer> <channel> <flags> <bytes>`
-abbrev pub submit_of : List (List ℕ) → Option WorldEvent
-submit_of others = of_five (λ side peer channel flags body. do
-  h ← head_of side peer channel flags
   b ← bytes_of body
-  Some (Submit h.0 h.1 h.2 h.3 b)) others
+  Some (Submit s p c f b)) others
 
 -- `deliver <side> <k>`
 abbrev pub deliver_of : List (List ℕ) → Option WorldEvent

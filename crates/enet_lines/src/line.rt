@@ -2,11 +2,11 @@
 
 ghost use Rattle.std.specs.Prelude.{◌≡◌, ◌∷◌, bytes_eq, IfOk};
 ghost use Rattle.enet_script.specs.Words.{words};
-ghost use Rattle.enet_lines.specs.Lines.{side_named, mode_named, pair_of, open_of, connect_of, submit_of, head_of, deliver_of, turn_of, tick_of, take_of, disconnect_of, event_of, line_of, spells};
+ghost use Rattle.enet_lines.specs.Lines.{side_named, mode_named, pair_of, open_of, connect_of, submit_of, deliver_of, turn_of, tick_of, take_of, disconnect_of, event_of, line_of, spells};
 
 use enet_network::{Side, WorldEvent};
 use enet_script::{bytes_of, five, four, id_of, one, peer_of, three, two, u8_of, u16_of, u32_of, u64_of, word};
-use enet_types::{DisconnectMode, PeerRef};
+use enet_types::DisconnectMode;
 use std::alloc::{AllocError, Global};
 
 /// What a line spells.
@@ -142,30 +142,28 @@ fn submit(alloc: Global, text: &[u8]) -> Result<Option<WorldEvent>, AllocError>
     let Some((side, peer, channel, flags, body)) = five(text) else {
         return Ok(None);
     };
-    let Some((side, peer, channel, flags)) = head(side, peer, channel, flags) else {
+    let Some(side) = side_named(side) else {
         return Ok(None);
     };
-    match bytes_of(alloc, body)? {
-        None => Ok(None),
-        Some(body) => Ok(Some(WorldEvent::Submit {
-            side,
-            peer,
-            channel,
-            flags,
-            body,
-        })),
-    }
-}
-
-// What the first words of `submit` spell.
-fn head(side: &[u8], peer: &[u8], channel: &[u8], flags: &[u8]) -> Option<(Side, PeerRef, u8, u8)>
-    ensures { result ≡ head_of side.now peer.now channel.now flags.now }
-{
-    let side = side_named(side)?;
-    let peer = peer_of(peer)?;
-    let channel = u8_of(channel)?;
-    let flags = u8_of(flags)?;
-    Some((side, peer, channel, flags))
+    let Some(peer) = peer_of(peer) else {
+        return Ok(None);
+    };
+    let Some(channel) = u8_of(channel) else {
+        return Ok(None);
+    };
+    let Some(flags) = u8_of(flags) else {
+        return Ok(None);
+    };
+    let Some(body) = bytes_of(alloc, body)? else {
+        return Ok(None);
+    };
+    Ok(Some(WorldEvent::Submit {
+        side,
+        peer,
+        channel,
+        flags,
+        body,
+    }))
 }
 
 fn deliver(text: &[u8]) -> Option<WorldEvent>
