@@ -5,7 +5,9 @@ ghost use Rattle.enet_script.specs.Words.{words};
 ghost use Rattle.enet_lines.specs.Lines.{side_named, mode_named, pair_of, open_of, connect_of, submit_of, deliver_of, turn_of, tick_of, take_of, disconnect_of, event_of, line_of, spells};
 
 use enet_network::{Side, WorldEvent};
-use enet_script::{bytes_of, five, four, id_of, one, peer_of, three, two, u8_of, u16_of, u32_of, u64_of, word};
+use enet_script::{
+    bytes_of, five, four, id_of, one, peer_of, three, two, u8_of, u16_of, u32_of, u64_of, word,
+};
 use enet_types::DisconnectMode;
 use std::alloc::{AllocError, Global};
 

@@ -103,10 +103,10 @@ pub words-word : (text : List ℕ) (start : ℕ) → position (λ b. not (b == 3
     ∷ words (drop (unwrap_or (position (λ b. b == 32) (drop start text)) (length (drop start text))) (drop start text))
 words-word text start e =
     let found : (nat_lt (position_or_len (λ b. not (is_space b)) text) (length text) ≡ true) × (position_or_len (λ b. not (is_space b)) text ≡ start) =
-        cond_some _ _ _ e in
+    cond_some _ _ _ e in
     let inside : position_or_len (λ b. not (is_space b)) text < length text = ltb-true _ _ found.0 in
     let first : is_space (get_or text start 0) ≡ false =
-        not-true _ (ap (λ k. not (is_space (get_or text k 0))) (sym found.1) ∙ passes_at_first (λ b. not (is_space b)) text 0 inside) in
+    not-true _ (ap (λ k. not (is_space (get_or text k 0))) (sym found.1) ∙ passes_at_first (λ b. not (is_space b)) text 0 inside) in
     let front : is_space (get_or (drop start text) 0 0) ≡ false = simp (get_or-drop, add-zero) first in
     skip text ∙ ap (λ k. words (drop k text)) found.1
     ∙ words_end (drop start text) _ refl (omega (arith, length-drop start text, found.1)) front
@@ -118,7 +118,7 @@ pub words-read : (text rest front back : List ℕ) (start at : ℕ) (place : Opt
 words-read text rest front back start at place found cut ends where_ends first others =
     let whole = words-word text start found in
     let along : words text ≡ take (unwrap_or (position (λ b. b == 32) rest) (length rest)) rest ∷ words (drop (unwrap_or (position (λ b. b == 32) rest) (length rest)) rest) =
-        subst (λ r. words text ≡ take (unwrap_or (position (λ b. b == 32) r) (length r)) r ∷ words (drop (unwrap_or (position (λ b. b == 32) r) (length r)) r)) (sym cut) whole in
+    subst (λ r. words text ≡ take (unwrap_or (position (λ b. b == 32) r) (length r)) r ∷ words (drop (unwrap_or (position (λ b. b == 32) r) (length r)) r)) (sym cut) whole in
     let place_is : at ≡ unwrap_or (position (λ b. b == 32) rest) (length rest) = where_ends ∙ ap (λ o. unwrap_or o (length rest)) ends in
     let here : words text ≡ take at rest ∷ words (drop at rest) = subst (λ n. words text ≡ take n rest ∷ words (drop n rest)) (sym place_is) along in
     here ∙ ap (λ f. f ∷ words (drop at rest)) (sym first) ∙ ap (λ r. front ∷ words r) (sym others)

@@ -66,7 +66,7 @@ fn connection_text(
 fn receive_text(alloc: Global, peer: PeerRef, packet: &Packet) -> Result<String, AllocError>
     ensures { IfOk result (λ text. string_bytes text
         ≡ codes "receive " ++ peer_text peer ++ codes " ch " ++ decimal packet.now.channel ++ codes " flags "
-            ++ decimal packet.now.flags ++ codes " " ++ bytes_text packet.now.body) }
+        ++ decimal packet.now.flags ++ codes " " ++ bytes_text packet.now.body) }
 {
     let PeerRef { slot, generation } = peer;
     let channel = packet.channel;

@@ -8,4 +8,7 @@ mod answers;
 mod words;
 
 pub use answers::{bytes_text, event_text, peer_text, received_text, refusal_text};
-pub use words::{bytes_of, bytes_word, end, five, four, id_of, one, peer_of, peer_word, three, two, u8_of, u8_word, u16_of, u32_of, u32_word, u64_of, u64_word, word};
+pub use words::{
+    bytes_of, bytes_word, end, five, four, id_of, one, peer_of, peer_word, three, two, u8_of,
+    u8_word, u16_of, u32_of, u32_word, u64_of, u64_word, word,
+};

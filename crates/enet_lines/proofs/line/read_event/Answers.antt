@@ -32,4 +32,3 @@ returns-then-is-6 c = search rules
 pub returns : goal.returns
 unfolding event_of
 returns c = search rules
-

@@ -17,4 +17,3 @@ returns-in-None c = search rules
 pub returns-in-Some : goal.returns-in-Some
 unfolding line_of
 returns-in-Some c = search rules
-

@@ -17,4 +17,3 @@ returns-in-Err-InvalidStringLength c = bytes_of-bad c.args.word.now c.in-Err-Inv
 
 pub returns-in-Err-InvalidHexCharacter : goal.returns-in-Err-InvalidHexCharacter
 returns-in-Err-InvalidHexCharacter c = bytes_of-bad c.args.word.now c.in-Err-InvalidHexCharacter.field-0 (c.if-eq.ensures ∙ ap (bytes_eq c.args.word.now) c.as_slice.ensures) (λ memory. cc) c.in-Err-InvalidHexCharacter.ensures.err
-

@@ -11,6 +11,6 @@ pub returns : goal.returns
 returns c =
     let start : position (λ b. not (b == 32)) c.args.text.now ≡ Some c.in_ok-text.field-0 = sym c.word_start.ensures ∙ c.in_ok-text.was in
     let rest : take (length c.args.text.now - c.in_ok-text.field-0) (drop c.in_ok-text.field-0 c.args.text.now) ≡ drop c.in_ok-text.field-0 c.args.text.now =
-        take_all _ _ (omega (arith, length-drop c.in_ok-text.field-0 c.args.text.now)) in
+    take_all _ _ (omega (arith, length-drop c.in_ok-text.field-0 c.args.text.now)) in
     words-read c.args.text.now _ _ _ c.in_ok-text.field-0 c.unwrap_or.result c.word_end.result start rest
-        c.word_end.ensures c.unwrap_or.ensures c.split_at.ensures.front c.split_at.ensures.back
+    c.word_end.ensures c.unwrap_or.ensures c.split_at.ensures.front c.split_at.ensures.back
