@@ -49,37 +49,37 @@ pair_of others = of_one (λ channels. option_map Pair (number_below (2 ^ 8) chan
 -- `open <peers A> <channels A> <peers B> <channels B>`
 abbrev pub open_of : List (List ℕ) → Option Line
 open_of others = of_four (λ peers_a channels_a peers_b channels_b. do
-  p ← number_below (2 ^ 16) peers_a
-  c ← number_below (2 ^ 8) channels_a
-  q ← number_below (2 ^ 16) peers_b
-  d ← number_below (2 ^ 8) channels_b
-  Some (Open p c q d)) others
+  peers_a ← number_below (2 ^ 16) peers_a
+  channels_a ← number_below (2 ^ 8) channels_a
+  peers_b ← number_below (2 ^ 16) peers_b
+  channels_b ← number_below (2 ^ 8) channels_b
+  Some (Open peers_a channels_a peers_b channels_b)) others
 
 -- `connect <side> <channels> <data> <id>`
 abbrev pub connect_of : List (List ℕ) → Option WorldEvent
 connect_of others = of_four (λ side channels info id. do
-  s ← side_named side
-  c ← number_below (2 ^ 8) channels
-  i ← number_below (2 ^ 32) info
-  w ← id_of id
-  Some (Connect s c i w)) others
+  side ← side_named side
+  channels ← number_below (2 ^ 8) channels
+  info ← number_below (2 ^ 32) info
+  id ← id_of id
+  Some (Connect side channels info id)) others
 
 -- `submit <side> <peer> <channel> <flags> <bytes>`
 abbrev pub submit_of : List (List ℕ) → Option WorldEvent
 submit_of others = of_five (λ side peer channel flags body. do
-  s ← side_named side
-  p ← peer_of peer
-  c ← number_below (2 ^ 8) channel
-  f ← number_below (2 ^ 8) flags
-  b ← bytes_of body
-  Some (Submit s p c f b)) others
+  side ← side_named side
+  peer ← peer_of peer
+  channel ← number_below (2 ^ 8) channel
+  flags ← number_below (2 ^ 8) flags
+  body ← bytes_of body
+  Some (Submit side peer channel flags body)) others
 
 -- `deliver <side> <k>`
 abbrev pub deliver_of : List (List ℕ) → Option WorldEvent
 deliver_of others = of_two (λ side k. do
-  s ← side_named side
-  n ← number_below (2 ^ 64) k
-  Some (Deliver s n)) others
+  side ← side_named side
+  k ← number_below (2 ^ 64) k
+  Some (Deliver side k)) others
 
 -- `turn <side>`
 abbrev pub turn_of : List (List ℕ) → Option WorldEvent
@@ -88,9 +88,9 @@ turn_of others = of_one (λ side. option_map Turn (side_named side)) others
 -- `tick <side> <ms>`
 abbrev pub tick_of : List (List ℕ) → Option WorldEvent
 tick_of others = of_two (λ side ms. do
-  s ← side_named side
-  n ← number_below (2 ^ 32) ms
-  Some (Tick s n)) others
+  side ← side_named side
+  ms ← number_below (2 ^ 32) ms
+  Some (Tick side ms)) others
 
 -- `take <side>`
 abbrev pub take_of : List (List ℕ) → Option WorldEvent
@@ -100,10 +100,10 @@ take_of others = of_one (λ side. option_map Take (side_named side)) others
 abbrev pub disconnect_of : List ℕ → List (List ℕ) → Option WorldEvent
 disconnect_of form others = of_three (λ side peer info. do
   how ← mode_named form
-  s ← side_named side
-  p ← peer_of peer
-  i ← number_below (2 ^ 32) info
-  Some (Disconnect s p how i)) others
+  side ← side_named side
+  peer ← peer_of peer
+  info ← number_below (2 ^ 32) info
+  Some (Disconnect side peer how info)) others
 
 -- The event that a line spells, by its first word.
 unfoldable pub event_of : List ℕ → List (List ℕ) → Option WorldEvent
