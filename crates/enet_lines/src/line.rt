@@ -12,7 +12,7 @@ use enet_types::DisconnectMode;
 use std::alloc::{AllocError, Global};
 
 /// What a line spells.
-#[derive(Debug, Drop)]
+#[derive(Drop)]
 pub enum Line {
     /// Nothing: the line is empty, or has spaces alone, or begins with `#`.
     PassedOver,
