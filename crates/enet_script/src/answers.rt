@@ -1,15 +1,33 @@
 //! The texts of answers, without the line feed that ends a line.
 
+ghost use Rattle.std.specs.Prelude.{◌≡◌, ◌++◌, codes, IfOk};
+ghost use Rattle.std.specs.Fmt.{decimal};
+ghost use Rattle.std.specs.String.{string_bytes};
+ghost use Rattle.enet_types.specs.Refusal.{label_of};
+ghost use Rattle.enet_script.specs.Texts.{bytes_text, event_text, peer_text, received_text};
+
 use enet_types::{Event, Packet, PeerRef, Received, Refusal};
 use std::alloc::{AllocError, Global};
 
 /// A refusal: its number and its name.
-pub fn refusal_text(alloc: Global, refusal: Refusal) -> Result<String, AllocError> {
+pub fn refusal_text(alloc: Global, refusal: Refusal) -> Result<String, AllocError>
+    ensures { IfOk result (λ text. string_bytes text ≡ label_of refusal) }
+{
     String::from_str(alloc, refusal.label())
 }
 
+/// A peer as `slot.generation`.
+pub fn peer_text(alloc: Global, peer: PeerRef) -> Result<String, AllocError>
+    ensures { IfOk result (λ text. string_bytes text ≡ peer_text peer) }
+{
+    let PeerRef { slot, generation } = peer;
+    format!(in alloc; "{slot}.{generation}")
+}
+
 /// What came of a datagram: how many commands were handled, and the number of the stop, if there was one.
-pub fn received_text(alloc: Global, received: Received) -> Result<String, AllocError> {
+pub fn received_text(alloc: Global, received: Received) -> Result<String, AllocError>
+    ensures { IfOk result (λ text. string_bytes text ≡ received_text received) }
+{
     let handled = received.handled;
     match received.stop {
         None => format!(in alloc; "handled {handled}"),
@@ -21,7 +39,9 @@ pub fn received_text(alloc: Global, received: Received) -> Result<String, AllocE
 }
 
 /// An event that was taken.
-pub fn event_text(alloc: Global, event: &Event) -> Result<String, AllocError> {
+pub fn event_text(alloc: Global, event: &Event) -> Result<String, AllocError>
+    ensures { IfOk result (λ text. string_bytes text ≡ event_text event.now) }
+{
     match event {
         Event::Connect { peer, info } => connection_text(alloc, "connect", *peer, *info),
         Event::Receive { peer, packet } => receive_text(alloc, *peer, packet),
@@ -35,12 +55,19 @@ fn connection_text(
     name: &str,
     peer: PeerRef,
     info: u32,
-) -> Result<String, AllocError> {
+) -> Result<String, AllocError>
+    ensures { IfOk result (λ text. string_bytes text
+        ≡ name.now ++ codes " " ++ peer_text peer ++ codes " data " ++ decimal info) }
+{
     let PeerRef { slot, generation } = peer;
     format!(in alloc; "{name} {slot}.{generation} data {info}")
 }
 
-fn receive_text(alloc: Global, peer: PeerRef, packet: &Packet) -> Result<String, AllocError> {
+fn receive_text(alloc: Global, peer: PeerRef, packet: &Packet) -> Result<String, AllocError>
+    ensures { IfOk result (λ text. string_bytes text
+        ≡ codes "receive " ++ peer_text peer ++ codes " ch " ++ decimal packet.now.channel ++ codes " flags "
+        ++ decimal packet.now.flags ++ codes " " ++ bytes_text packet.now.body) }
+{
     let PeerRef { slot, generation } = peer;
     let channel = packet.channel;
     let flags = packet.flags;
@@ -49,7 +76,9 @@ fn receive_text(alloc: Global, peer: PeerRef, packet: &Packet) -> Result<String,
 }
 
 /// Bytes in hex, or `-` for none.
-pub fn bytes_text(alloc: Global, bytes: &[u8]) -> Result<String, AllocError> {
+pub fn bytes_text(alloc: Global, bytes: &[u8]) -> Result<String, AllocError>
+    ensures { IfOk result (λ text. string_bytes text ≡ bytes_text bytes.now) }
+{
     if bytes.is_empty() {
         return String::from_str(alloc, "-");
     }

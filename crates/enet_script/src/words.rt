@@ -1,28 +1,96 @@
-//! The words of a line, and what they spell. Each function takes what is left of a line and gives what its first word
-//! spells, with what is left behind it, or None.
+//! The words of a line, and what they spell. Functions named for a kind of word take what is left of a line and give what
+//! its first word spells, with what is left behind it, or None.
 
-ghost use Rattle.std.specs.Prelude.{◌≡◌, ◌<◌, ◌^◌};
+ghost use Rattle.std.specs.Prelude.{◌≡◌, ◌≢◌, ◌==◌, ◌<◌, ◌^◌, ◌↔◌, ◌∷◌, [], length, not, position, MatchOption, IfOk, IsSome};
 ghost use Rattle.std.specs.Option.{SomeIff};
 ghost use Rattle.std.specs.Str.Parse.{IsNumeral, digits_value};
+ghost use Rattle.enet_script.specs.Words.{words, number_below, peer_of, bytes_of, id_of, Reads};
 
 use bytes::Bytes;
 use enet_types::PeerRef;
-use hex::FromHexError;
+use hex::{FromHex, FromHexError};
 use std::alloc::{AllocError, Global};
 
 const SPACE: u8 = b' ';
 
-/// The first word. Words are separated by one or more spaces, which may also stand before the first and after the last.
-pub fn word(text: &[u8]) -> Option<(&[u8], &[u8])> {
-    let start = text.iter().position(|byte| *byte != SPACE)?;
-    let text = &text[start..];
-    let end = text.iter().position(|byte| *byte == SPACE);
-    Some(text.split_at(end.unwrap_or(text.len())))
+// Where the first byte stands that is no space.
+fn word_start(text: &[u8]) -> Option<usize>
+    ensures { result ≡ position (λ byte. not (byte == 32)) text.now }
+{
+    text.iter().position(|byte| *byte != SPACE)
+}
+
+// Where the first space stands.
+fn word_end(text: &[u8]) -> Option<usize>
+    ensures { result ≡ position (λ byte. byte == 32) text.now }
+{
+    text.iter().position(|byte| *byte == SPACE)
+}
+
+/// The first word and what is left behind it. Words are separated by one or more spaces, which may also stand before the
+/// first and after the last.
+pub fn word(text: &[u8]) -> Option<(&[u8], &[u8])>
+    ensures { MatchOption result (words text.now ≡ []) (λ read. words text.now ≡ read.0.now ∷ words read.1.now) }
+{
+    let text = &text[word_start(text)?..];
+    Some(text.split_at(word_end(text).unwrap_or(text.len())))
 }
 
 /// No word is left.
-pub fn end(text: &[u8]) -> Option<()> {
-    word(text).is_none().then_some(())
+pub fn end(text: &[u8]) -> Option<()>
+    ensures { IsSome result ↔ (words text.now ≡ []) }
+{
+    match word(text) {
+        None => Some(()),
+        Some(_) => None,
+    }
+}
+
+/// The one word that is there.
+pub fn one(text: &[u8]) -> Option<&[u8]>
+    ensures { MatchOption result (length (words text.now) ≢ 1) (λ only. words text.now ≡ only.now ∷ []) }
+{
+    let (only, rest) = word(text)?;
+    end(rest)?;
+    Some(only)
+}
+
+/// The two words that are there.
+pub fn two(text: &[u8]) -> Option<(&[u8], &[u8])>
+    ensures { MatchOption result (length (words text.now) ≢ 2) (λ all. words text.now ≡ all.0.now ∷ all.1.now ∷ []) }
+{
+    let (first, rest) = word(text)?;
+    Some((first, one(rest)?))
+}
+
+/// The three words that are there.
+pub fn three(text: &[u8]) -> Option<(&[u8], &[u8], &[u8])>
+    ensures { MatchOption result (length (words text.now) ≢ 3)
+        (λ all. words text.now ≡ all.0.now ∷ all.1.now ∷ all.2.now ∷ []) }
+{
+    let (first, rest) = word(text)?;
+    let (second, third) = two(rest)?;
+    Some((first, second, third))
+}
+
+/// The four words that are there.
+pub fn four(text: &[u8]) -> Option<(&[u8], &[u8], &[u8], &[u8])>
+    ensures { MatchOption result (length (words text.now) ≢ 4)
+        (λ all. words text.now ≡ all.0.now ∷ all.1.now ∷ all.2.now ∷ all.3.now ∷ []) }
+{
+    let (first, rest) = word(text)?;
+    let (second, third, fourth) = three(rest)?;
+    Some((first, second, third, fourth))
+}
+
+/// The five words that are there.
+pub fn five(text: &[u8]) -> Option<(&[u8], &[u8], &[u8], &[u8], &[u8])>
+    ensures { MatchOption result (length (words text.now) ≢ 5)
+        (λ all. words text.now ≡ all.0.now ∷ all.1.now ∷ all.2.now ∷ all.3.now ∷ all.4.now ∷ []) }
+{
+    let (first, rest) = word(text)?;
+    let (second, third, fourth, fifth) = four(rest)?;
+    Some((first, second, third, fourth, fifth))
 }
 
 // The number that decimal digits spell: at least one digit, leading zeros allowed, below 2^64.
@@ -43,68 +111,116 @@ fn number(digits: &[u8]) -> Option<u64>
     Some(number)
 }
 
-// The same of 8 bits.
-fn number_u8(digits: &[u8]) -> Option<u8>
-    ensures { SomeIff result (IsNumeral 10 digits.now × (digits_value 10 digits.now < 2 ^ 8))
-        (digits_value 10 digits.now) }
+/// The number of 8 bits that a word spells: decimal digits, leading zeros allowed.
+pub fn u8_of(word: &[u8]) -> Option<u8>
+    ensures { result ≡ number_below (2 ^ 8) word.now }
 {
-    u8::try_from(number(digits)?).ok()
+    u8::try_from(number(word)?).ok()
 }
 
-// The same of 16 bits.
-fn number_u16(digits: &[u8]) -> Option<u16>
-    ensures { SomeIff result (IsNumeral 10 digits.now × (digits_value 10 digits.now < 2 ^ 16))
-        (digits_value 10 digits.now) }
+/// The same of 16 bits.
+pub fn u16_of(word: &[u8]) -> Option<u16>
+    ensures { result ≡ number_below (2 ^ 16) word.now }
 {
-    u16::try_from(number(digits)?).ok()
+    u16::try_from(number(word)?).ok()
 }
 
-// The same of 32 bits.
-fn number_u32(digits: &[u8]) -> Option<u32>
-    ensures { SomeIff result (IsNumeral 10 digits.now × (digits_value 10 digits.now < 2 ^ 32))
-        (digits_value 10 digits.now) }
+/// The same of 32 bits.
+pub fn u32_of(word: &[u8]) -> Option<u32>
+    ensures { result ≡ number_below (2 ^ 32) word.now }
 {
-    u32::try_from(number(digits)?).ok()
+    u32::try_from(number(word)?).ok()
+}
+
+/// The same of 64 bits.
+pub fn u64_of(word: &[u8]) -> Option<u64>
+    ensures { result ≡ number_below (2 ^ 64) word.now }
+{
+    number(word)
+}
+
+// Where the first point stands.
+fn point_in(word: &[u8]) -> Option<usize>
+    ensures { result ≡ position (λ byte. byte == 46) word.now }
+{
+    word.iter().position(|byte| *byte == b'.')
+}
+
+/// The peer that a word spells: its slot and its generation with a point between them.
+pub fn peer_of(word: &[u8]) -> Option<PeerRef>
+    ensures { result ≡ peer_of word.now }
+{
+    let point = point_in(word)?;
+    let slot = u16_of(&word[..point])?;
+    let generation = u32_of(&word[point + 1..])?;
+    Some(PeerRef { slot, generation })
+}
+
+/// The bytes that a word spells: hex of either case, or `-` for none. An error where there is no memory for them.
+pub fn bytes_of(alloc: Global, word: &[u8]) -> Result<Option<Bytes>, AllocError>
+    ensures { IfOk result (λ read. read ≡ bytes_of word.now) }
+{
+    if word == b"-".as_slice() {
+        return Ok(Some(Bytes::from_static(&[])));
+    }
+    match hex::decode(alloc, word) {
+        Ok(bytes) => Ok(Some(Bytes::from_vec(bytes)?)),
+        Err(FromHexError::OutOfMemory) => Err(AllocError),
+        Err(FromHexError::OddLength) => Ok(None),
+        Err(FromHexError::InvalidStringLength) => Ok(None),
+        Err(FromHexError::InvalidHexCharacter { .. }) => Ok(None),
+    }
+}
+
+/// The number of 32 bits that a word of eight hex digits spells, of either case: a connect id.
+pub fn id_of(word: &[u8]) -> Option<u32>
+    ensures { result ≡ id_of word.now }
+{
+    let bytes = <[u8; 4]>::from_hex(word).ok()?;
+    Some(u32::from_be_bytes(bytes))
 }
 
 /// A number of 8 bits.
-pub fn u8_word(text: &[u8]) -> Option<(u8, &[u8])> {
+pub fn u8_word(text: &[u8]) -> Option<(u8, &[u8])>
+    ensures { Reads (number_below (2 ^ 8)) text.now result }
+{
     let (digits, rest) = word(text)?;
-    Some((number_u8(digits)?, rest))
+    Some((u8_of(digits)?, rest))
 }
 
 /// A number of 32 bits.
-pub fn u32_word(text: &[u8]) -> Option<(u32, &[u8])> {
+pub fn u32_word(text: &[u8]) -> Option<(u32, &[u8])>
+    ensures { Reads (number_below (2 ^ 32)) text.now result }
+{
     let (digits, rest) = word(text)?;
-    Some((number_u32(digits)?, rest))
+    Some((u32_of(digits)?, rest))
 }
 
 /// A number of 64 bits.
-pub fn u64_word(text: &[u8]) -> Option<(u64, &[u8])> {
+pub fn u64_word(text: &[u8]) -> Option<(u64, &[u8])>
+    ensures { Reads (number_below (2 ^ 64)) text.now result }
+{
     let (digits, rest) = word(text)?;
-    Some((number(digits)?, rest))
+    Some((u64_of(digits)?, rest))
 }
 
 /// A peer: its slot and its generation with a point between them.
-pub fn peer_word(text: &[u8]) -> Option<(PeerRef, &[u8])> {
+pub fn peer_word(text: &[u8]) -> Option<(PeerRef, &[u8])>
+    ensures { Reads peer_of text.now result }
+{
     let (name, rest) = word(text)?;
-    let point = name.iter().position(|byte| *byte == b'.')?;
-    let slot = number_u16(&name[..point])?;
-    let generation = number_u32(&name[point + 1..])?;
-    Some((PeerRef { slot, generation }, rest))
+    Some((peer_of(name)?, rest))
 }
 
 /// Bytes: hex of either case, or `-` for none. An error where there is no memory for them.
-pub fn bytes_word(alloc: Global, text: &[u8]) -> Result<Option<(Bytes, &[u8])>, AllocError> {
+pub fn bytes_word(alloc: Global, text: &[u8]) -> Result<Option<(Bytes, &[u8])>, AllocError>
+    ensures { IfOk result (λ read. Reads bytes_of text.now read) }
+{
     let Some((spelled, rest)) = word(text) else {
         return Ok(None);
     };
-    if spelled == b"-".as_slice() {
-        return Ok(Some((Bytes::from_static(&[]), rest)));
-    }
-    match hex::decode(alloc, spelled) {
-        Ok(bytes) => Ok(Some((Bytes::from_vec(bytes)?, rest))),
-        Err(FromHexError::OutOfMemory) => Err(AllocError),
-        Err(_) => Ok(None),
-    }
+    let Some(bytes) = bytes_of(alloc, spelled)? else {
+        return Ok(None);
+    };
+    Ok(Some((bytes, rest)))
 }

@@ -1,0 +1,34 @@
+use Rattle.std.proofs.Common.{◌≡◌, IfOk, rules, subst}
+use Rattle.enet_script.specs.Words.{words}
+use Rattle.enet_lines.specs.Lines.{submit_of, event_of}
+use Rattle.enet_lines.proofs.line.read_event.Goals as goal
+
+pub returns-then-is-2 : goal.returns-then-is-2
+unfolding event_of
+returns-then-is-2 c =
+    let same : submit_of (words c.args.rest.now) ≡ event_of c.args.form.now (words c.args.rest.now) = search rules in
+    subst (λ spelled. IfOk c.submit.result (λ event. event ≡ spelled)) same c.submit.ensures
+
+pub returns-then-is : goal.returns-then-is
+unfolding event_of
+returns-then-is c = search rules
+
+pub returns-then-is-3 : goal.returns-then-is-3
+unfolding event_of
+returns-then-is-3 c = search rules
+
+pub returns-then-is-4 : goal.returns-then-is-4
+unfolding event_of
+returns-then-is-4 c = search rules
+
+pub returns-then-is-5 : goal.returns-then-is-5
+unfolding event_of
+returns-then-is-5 c = search rules
+
+pub returns-then-is-6 : goal.returns-then-is-6
+unfolding event_of
+returns-then-is-6 c = search rules
+
+pub returns : goal.returns
+unfolding event_of
+returns c = search rules
