@@ -307,7 +307,10 @@ impl Field {
 
     fn take(&mut self, words: &mut Words<'_>, text: &mut String) -> Result<(), Fault> {
         let host = self.host(words.letter()?)?;
-        let foretold = (host.next_event_of(), host.next_packet().map(|q| q.body.len()));
+        let foretold = (
+            host.next_event_of(),
+            host.next_packet().map(|q| q.body.len()),
+        );
         let Some(event) = host.next_event() else {
             if foretold != (None, None) {
                 push_otherwise(text)?;

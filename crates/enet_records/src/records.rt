@@ -1,6 +1,6 @@
 //! What is kept of a host: the datagrams that it put out, and its ends of connections.
 
-ghost use Rattle.std.specs.Prelude.{◌≡◌, ℕ, ◌+◌, ◌≤◌, ◌^◌, List, [], slice_get, vec_len, vec_capacity};
+ghost use Rattle.std.specs.Prelude.{◌≡◌, ℕ, ◌+◌, ◌<◌, ◌≤◌, ◌^◌, List, [], length, slice_get, vec_len, vec_capacity};
 ghost use Rattle.std.specs.Option.{option_copied};
 ghost use Rattle.enet_codec.specs.declared.header.Header.{Header};
 ghost use Rattle.enet_datagram.specs.Heading.{IsRead};
@@ -63,6 +63,14 @@ impl Records {
         ensures { option_copied result ≡ slice_get self.now.log k }
     {
         self.log.get(k as usize)
+    }
+
+    /// How many ends are kept: fewer than 2^63, since a vector has no more bytes.
+    pub fn connections(&self) -> usize
+        ensures count { result ≡ length self.now.ends }
+        ensures few { result < 2 ^ 63 }
+    {
+        self.ends.len()
     }
 }
 

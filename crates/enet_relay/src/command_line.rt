@@ -124,8 +124,9 @@ fn port<'a>(alloc: Global) -> Arg<'a> {
 }
 
 fn server_port<'a>(alloc: Global) -> Arg<'a> {
-    number16(alloc, "port", 1, 65_535)
-        .help("The UDP port of a server that is there, of the reference library too; without it one is started")
+    number16(alloc, "port", 1, 65_535).help(
+        "The UDP port of a server that is there, of the reference library too; without it one is started",
+    )
 }
 
 fn address<'a>(alloc: Global) -> Arg<'a> {

@@ -1,6 +1,6 @@
 //! A host in a network, at its address.
 
-ghost use Rattle.std.specs.Prelude.{◌≡◌, ℕ, [], ◌∷◌, true, false, Ok, Err, IfOk, IfErr, OnErr, slice_get};
+ghost use Rattle.std.specs.Prelude.{◌≡◌, ◌<◌, ◌^◌, ℕ, [], length, ◌∷◌, true, false, Ok, Err, IfOk, IfErr, OnErr, slice_get};
 ghost use Rattle.std.specs.Option.{option_copied, option_map};
 ghost use Rattle.enet_types.specs.Config.{is_in_range};
 ghost use Rattle.enet_host.specs.Opening.{opened, joined};
@@ -190,6 +190,14 @@ impl Site {
         ensures { result ≡ delivery_refusal from.now self.now (slice_get from.now.log k) }
     {
         refusal_of(&self.host, &self.records, from.address, &from.records, k)
+    }
+
+    /// How many connections have an end here: fewer than 2^63.
+    pub fn connections(&self) -> usize
+        ensures count { result ≡ length self.now.ends }
+        ensures few { result < 2 ^ 63 }
+    {
+        self.records.connections()
     }
 
     /// The bytes of a datagram that the host put out, or None where it has put out fewer.

@@ -1,0 +1,17 @@
+//! A world of two hosts and the network between them, which loses, repeats and reorders datagrams as the events say. Each host sees
+//! of the other only the bytes of datagrams. The definitions are those of `enet_network`.
+//!
+//! Proved, without a premise: `World::open` and `World::joined` give the stated first world, and refuse as stated. `step` is one event
+//! by the network's definition (`Steps`): a refusal is the first that applies and changes nothing, and any other event makes its one
+//! host call on its side, with what that adds to what is kept. `run` is its steps in order (`Runs`). After each the headline holds
+//! of every connection, end and channel, whatever was connected before, at the same time or after, slots used again included
+//! (`HasHeadline`).
+//! Neither: that a datagram arrives, or that memory is there.
+#![tactic(auto)]
+
+mod happening;
+mod hosts;
+mod world;
+
+pub use enet_network::{Answer, Side, WorldEvent};
+pub use world::World;
