@@ -16,14 +16,14 @@ pub(crate) enum Stage {
 impl Stage {
     ghost use Rattle.std.specs.Prelude.{◌≡◌, ◌∷◌, [], is_some};
     ghost use Rattle.std.specs.Option.{option_or};
-    ghost use Rattle.enet_demo.specs.declared.orders.Plan.{Plan as Any};
+    ghost use Rattle.enet_demo.specs.declared.orders.Plan.{Plan as AnyPlan};
     ghost use Rattle.enet_demo.specs.Plans.{asks};
     ghost use Rattle.enet_demo.specs.Visits.{first_peer, peer_of};
 
     /// How far it has come after an event. The first connection is its own.
     pub(crate) fn after(self, event: &Event) -> Stage
         ensures peer { peer_of result ≡ option_or (peer_of self) (first_peer (event.now ∷ [])) }
-        ensures asks { (plan : Any) → asks plan result ≡ asks plan self }
+        ensures asks { (plan : AnyPlan) → asks plan result ≡ asks plan self }
     {
         match self {
             Stage::Alone => match event {
