@@ -1,3 +1,2 @@
 pub mod Stepping
-pub mod Placing
 pub mod Reaching

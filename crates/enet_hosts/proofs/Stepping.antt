@@ -55,12 +55,3 @@ pub left : (side : Side) (peer : PeerRef) (how : DisconnectMode) (info : ℕ) (h
     → Steps (world_of side here far n) (happen.Disconnect side peer how info) (Ok answers.Done) (world_of side new far n)
 left side peer how info here new far n h =
     done side here new far n n (happen.Disconnect side peer how info) answers.Done (Calls (call.Disconnect how peer info (Ok tt))) refl refl (h n far) refl
-
--- a step at side A, or at side B, of the two hosts
-pub at-a : (event : WorldEvent) (here new far : Site) (n m : ℕ) (r : Result Answer Refusal) → side_of event ≡ A
-    → Steps (world_of (side_of event) here far n) event r (world_of (side_of event) new far m) → Steps (record { a = here; b = far; count = n }) event r (record { a = new; b = far; count = m })
-at-a event here new far n m r is h = subst (λ (side : Side). Steps (world_of side here far n) event r (world_of side new far m)) is h
-
-pub at-b : (event : WorldEvent) (here new far : Site) (n m : ℕ) (r : Result Answer Refusal) → side_of event ≡ B
-    → Steps (world_of (side_of event) here far n) event r (world_of (side_of event) new far m) → Steps (record { a = far; b = here; count = n }) event r (record { a = far; b = new; count = m })
-at-b event here new far n m r is h = subst (λ (side : Side). Steps (world_of side here far n) event r (world_of side new far m)) is h

@@ -20,7 +20,7 @@ use std::marker::Model;
 pub struct Datagram {
     /// The number of the connection that it is of.
     pub connection: u64,
-    /// Where to it went.
+    /// Where it went to.
     pub to: Addr,
     /// The peer id that its header names: a slot of the taking host, or 0xFFF, which a CONNECT names alone.
     pub peer: u16,
