@@ -15,9 +15,8 @@ use Rattle.enet_peer.specs.Next.{packet_after}
 use Rattle.enet_slot.specs.Slot.{SlotState, name_of}
 use Rattle.enet_host.specs.Host.{Host}
 use Rattle.enet_host.specs.Turns.{turn_of, IsFirst, HoldsNowhere}
-use Rattle.enet_slot.specs.Calls.{tells, event_of, GivesEvent}
+use Rattle.enet_slot.specs.Calls.{tells, event_of, GivesEvent, peer_packet}
 use Rattle.enet_host.specs.Foretelling.{teller_of, packet_of, Foretells, IsTeller}
-use Rattle.enet_slot.specs.Calls.{peer_packet}
 use Rattle.enet_host.specs.Shown.{SlotIsNamed, SlotShows}
 use Rattle.enet_host.proofs.Asking.{some-same}
 use Rattle.enet_host.proofs.Holding.{turns-apart}

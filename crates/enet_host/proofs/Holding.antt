@@ -22,10 +22,9 @@ use Rattle.enet_peer.specs.Calls as calls
 use Rattle.enet_slot.specs.declared.slot.Slot.{Slot}
 use Rattle.enet_host.specs.Shown.{shown, all_shown, KeepsHost, SlotGivesEvent}
 use Rattle.enet_host.proofs.Slots.{set-shown, length-shown}
-use Rattle.enet_slot.specs.Giving.{limits_of}
+use Rattle.enet_slot.specs.Giving.{limits_of, unused_slot, joined_terms, given, offer_from, server_from, asking, answering}
 use Rattle.enet_slot.specs.Slot.{greatest, SlotState, with_peer, with_peer_in, with_changed, changed}
 use Rattle.enet_host.specs.Host.{Host, HoldsNoFree, with_generation}
-use Rattle.enet_slot.specs.Giving.{unused_slot, joined_terms, given, offer_from, server_from, asking, answering}
 use Rattle.enet_host.specs.Opening.{joined, Connects, no_channel, no_slot, no_memory, asks}
 use Rattle.enet_host.specs.Receiving as receiving
 use Rattle.enet_host.specs.Receiving.{Offers, Arrives}

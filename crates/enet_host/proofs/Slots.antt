@@ -43,6 +43,21 @@ with-generation : (g : ℕ) (o : Option SlotState) (s : SlotState) → o ≡ Som
 with-generation g None s e some = absurd (cc)
 with-generation g (Some t) s e some = chosen (t.generation == g) t some ∙ e
 
+-- a slot of its generation is one that the name means
+some-if : (b : Bool) (s : SlotState) → b ≡ true → IsTrue (is_some (if b then Some s else None))
+some-if b s e = subst (λ (c : Bool). IsTrue (is_some (if c then Some s else None))) (sym e) refl
+
+same-number : (a b : ℕ) → a ≡ b → (a == b) ≡ true
+same-number a b e = grind (arith, nat_tests)
+
+pub found-at : (xs : List Slot) (name : PeerRef) (i : ℕ) (x : Slot) (g : ℕ) → i ≡ name.slot → i < length xs → x ≡ get_or xs i x → g ≡ (shown x).generation
+    → g ≡ name.generation → IsTrue (is_some (slot_named (all_shown xs) name))
+found-at xs name i x g e inside read is same =
+    let there : slice_get (all_shown xs) name.slot ≡ Some (shown x) =
+    subst (λ (n : ℕ). slice_get (all_shown xs) n ≡ Some (shown x)) e (get-shown xs i x inside read) in
+    subst (λ (o : Option SlotState). IsTrue (is_some (with_generation name.generation o))) (sym there)
+    (some-if ((shown x).generation == name.generation) (shown x) (same-number (shown x).generation name.generation (sym is ∙ same)))
+
 -- what a name means is the slot of its number
 pub named-is : (xs : List Slot) (name : PeerRef) (i : ℕ) (x : Slot) → i ≡ name.slot → i < length xs → x ≡ get_or xs i x
     → IsTrue (is_some (slot_named (all_shown xs) name)) → slot_named (all_shown xs) name ≡ Some (shown x)

@@ -1,17 +1,12 @@
 -- What every host keeps, from its opening on.
-use Rattle.std.proofs.Common.{◌≡◌, ◌≤◌, ℕ, Bool, true, false, cond, ◌&&◌, nat_le, List, map, ap, subst, sym, ◌∙◌, arith, Option, Some, None, Ok, Err}
+use Rattle.std.proofs.Common.{◌≡◌, ◌≤◌, true, subst, sym, arith, Some, None, Ok, Err}
 use Rattle.std.proofs.lemmas.Bool.Decides.{nat_tests}
-use Rattle.std.specs.List.{count_by}
-use Rattle.enet_types.specs.declared.address.Addr.{Addr}
 use Rattle.enet_types.specs.declared.config.Config.{Config}
 use Rattle.enet_types.specs.Config.{is_in_range}
 use Rattle.enet_peer.specs.Peering.{Peering}
 use Rattle.enet_peer.specs.Calls as peers
-use Rattle.enet_slot.specs.Slot.{SlotState, changed, greatest}
-use Rattle.enet_host.specs.Host.{Host, HoldsNoFree, Keeps}
-use Rattle.enet_host.specs.Opening as opening
-use Rattle.enet_slot.specs.Sharing.{is_standing, shared}
-use Rattle.enet_host.specs.Ticking.{clock_after, is_due, with_time, ticked}
+use Rattle.enet_slot.specs.Slot.{greatest}
+use Rattle.enet_host.specs.Host.{Host, HoldsNoFree}
 use Rattle.enet_slot.specs.Calls.{submission, leaving, throttling, pinging, waiting}
 use Rattle.enet_host.proofs.Holding.{unused-held, joined-held, connects-held, submits-held, arrives-held, served-held, passed-held, ticked-held, does-held, does-with-memory-held, changed-held, event-held}
 use Rattle.enet_isolation.specs.Calls.{Call, Acts}

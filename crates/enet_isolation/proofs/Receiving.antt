@@ -20,7 +20,7 @@ use Rattle.enet_codec.proofs.HeaderLaws.{one_header}
 use Rattle.enet_codec.proofs.Laws.{one_spelling}
 use Rattle.enet_peer.specs.Peering.{Peering}
 use Rattle.enet_datagram.specs.Heading.{IsRead, IsOffer}
-use Rattle.enet_slot.specs.Slot.{SlotState, with_peer, name_of}
+use Rattle.enet_slot.specs.Slot.{SlotState, name_of}
 use Rattle.enet_host.specs.Host.{Host}
 use Rattle.enet_slot.specs.Giving.{is_vacant, is_available, asking, answering}
 use Rattle.enet_host.specs.Opening.{available, Connects}

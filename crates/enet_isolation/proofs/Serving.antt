@@ -15,9 +15,8 @@ use Rattle.enet_peer.specs.Calls.{PutsOut, gone_on, pace_of, destination_of}
 use Rattle.enet_slot.specs.Slot.{SlotState, with_peer, name_of, greatest}
 use Rattle.enet_host.specs.Host.{Host}
 use Rattle.enet_host.specs.Turns.{turn_of}
-use Rattle.enet_slot.specs.Serving.{Gives, HasNothing, passes_by, Passes}
-use Rattle.enet_host.specs.Serving.{InTurn, GivesInTurn, AllPass, Serves}
-use Rattle.enet_host.specs.Serving as serving
+use Rattle.enet_slot.specs.Serving.{Gives, passes_by, Passes}
+use Rattle.enet_host.specs.Serving.{InTurn, GivesInTurn, AllPass}
 use Rattle.enet_slot.specs.Calls.{event_of, GivesEvent}
 use Rattle.enet_isolation.specs.Calls.{Call}
 use Rattle.enet_isolation.specs.Calls as call

@@ -1,8 +1,7 @@
 use Rattle.std.proofs.Common.{slice_set}
 use Rattle.std.proofs.lemmas.List.{length-set}
 use Rattle.enet_peer.specs.Peering as peers
-use Rattle.enet_slot.specs.Giving.{limits_of}
-use Rattle.enet_slot.specs.Giving.{joined_terms}
+use Rattle.enet_slot.specs.Giving.{limits_of, joined_terms}
 use Rattle.enet_host.specs.Shown.{shown}
 use Rattle.enet_host.proofs.Holding.{keeps-after, given-there}
 use Rattle.enet_host.proofs.host.HostCore.joined.Goals as goal
