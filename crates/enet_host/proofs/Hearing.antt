@@ -12,8 +12,8 @@ use Rattle.enet_slot.specs.Slot.{SlotState}
 use Rattle.enet_slot.specs.Giving.{is_vacant}
 use Rattle.enet_slot.specs.Hearing.{Hears, no_peer, refused_by_slot, refused_by_peer}
 use Rattle.enet_host.specs.Receiving.{Arrives, heard, refused_by}
-use Rattle.enet_host.specs.Shown.{shown, all_shown}
-use Rattle.enet_host.proofs.Slots.{get-shown, set-shown}
+use Rattle.enet_slot.specs.Slotted.{shown, all_shown}
+use Rattle.enet_slot.proofs.Shown.{get-shown, set-shown}
 
 pub refused-in : (xs ys : List Slot) (from : Addr) (header : Header) (r a : Option Stop) → r ≡ refused_by (all_shown ys) from header → ys ≡ xs → r ≡ a
     → refused_by (all_shown xs) from header ≡ a

@@ -1,7 +1,7 @@
 -- No call leaves a slot that holds a free peer.
 use Rattle.std.proofs.Common.{◌≡◌, ◌≢◌, ℕ, zero, suc, ◌<◌, ◌≤◌, Bool, true, false, cond, nat_lt, Option, Some, None, Result, Ok, Err, List, [], ◌∷◌, length, map, replicate, slice_set, get_or, arith, refl, sym, ap, subst, ◌∙◌}
 use Rattle.std.proofs.lemmas.Bool.Decides.{nat_tests}
-use Rattle.std.proofs.lemmas.List.{length-replicate}
+use Rattle.std.proofs.lemmas.List.{length-replicate, length-set}
 use Rattle.std.proofs.lemmas.Option.{slice_get_within, slice_get-get_or}
 use Rattle.std.specs.List.{slice_get, count_by}
 use Rattle.enet_types.specs.declared.address.Addr.{Addr}
@@ -20,9 +20,10 @@ use Rattle.enet_peer.specs.Peering as peers
 use Rattle.enet_peer.specs.Calls.{is_connected, with_throttle_limit}
 use Rattle.enet_peer.specs.Calls as calls
 use Rattle.enet_slot.specs.declared.slot.Slot.{Slot}
-use Rattle.enet_host.specs.Shown.{shown, all_shown, KeepsHost, SlotGivesEvent}
-use Rattle.enet_host.proofs.Slots.{set-shown, length-shown}
-use Rattle.enet_slot.specs.Giving.{limits_of, unused_slot, joined_terms, given, offer_from, server_from, asking, answering}
+use Rattle.enet_slot.specs.Slotted.{all_shown}
+use Rattle.enet_host.specs.Shown.{KeepsHost, SlotGivesEvent}
+use Rattle.enet_slot.proofs.Shown.{length-shown}
+use Rattle.enet_slot.specs.Giving.{limits_of, unused_slot, joined_terms, joined_slots, given, offer_from, server_from, asking, answering}
 use Rattle.enet_slot.specs.Slot.{greatest, SlotState, with_peer, with_peer_in, with_changed, changed}
 use Rattle.enet_host.specs.Host.{Host, HoldsNoFree, with_generation}
 use Rattle.enet_host.specs.Opening.{joined, Connects, no_channel, no_slot, no_memory, asks}
@@ -212,10 +213,6 @@ ticked-held h ms old =
     held-if (is_due timed) (map (shared outgoing standing) timed.slots) timed.slots (shared-held outgoing standing timed.slots held) held
 
 -- a slot is given
-pub given-there : (xs : List Slot) (i : ℕ) (y : Slot) (s : SlotState) (address : Addr) (q : Peering) → HoldsNoFree (all_shown xs) → shown y ≡ given s address q → q.state ≢ state.Free → HoldsNoFree (all_shown (slice_set xs i y))
-given-there xs i y s address q old e live =
-    subst HoldsNoFree (sym (set-shown xs i y)) (set-held (all_shown xs) i (shown y) old (subst IsHeld (sym e) (given-held s address q live)))
-
 pub gave-held : (slots new : List SlotState) (i : ℕ) (event : Event) → HoldsNoFree slots → SlotGivesEvent slots i event new → HoldsNoFree new
 gave-held slots new i event old x = subst HoldsNoFree (sym x.after) (event-held slots i event x.slot x.left old x.gives)
 
@@ -234,14 +231,24 @@ keeps-after peers generations from event first next xs ys k e a b held = record 
 in-range : (c : Config) → is_in_range c ≡ true → (0 < c.peers) × (c.peers ≤ 4095) × (c.generations ≤ greatest)
 in-range c h = (grind (arith, nat_tests), grind (arith, nat_tests), grind (arith, nat_tests))
 
-pub keeps-opened : (c : Config) (r : Bool) (xs : List Slot) → r ≡ is_in_range c → r ≡ true → all_shown xs ≡ replicate c.peers unused_slot → KeepsHost c.peers c.generations 0 0 xs
-keeps-opened c r xs is go e =
+keeps-fresh : (c : Config) (r : Bool) (xs : List Slot) (slots : List SlotState) → r ≡ is_in_range c → r ≡ true → all_shown xs ≡ slots → length slots ≡ c.peers → HoldsNoFree slots
+    → KeepsHost c.peers c.generations 0 0 xs
+keeps-fresh c r xs slots is go e count held =
     let h : (0 < c.peers) × (c.peers ≤ 4095) × (c.generations ≤ greatest) = in-range c (sym is ∙ go) in
     record {
-      count = sym (length-shown xs) ∙ ap length e ∙ length-replicate c.peers unused_slot;
+      count = sym (length-shown xs) ∙ ap length e ∙ count;
       many = h.1;
       service = h.0;
       event = h.0;
       few = h.2;
-      held = subst HoldsNoFree (sym e) (unused-held c.peers);
+      held = subst HoldsNoFree (sym e) held;
     }
+
+pub keeps-opened : (c : Config) (r : Bool) (xs : List Slot) → r ≡ is_in_range c → r ≡ true → all_shown xs ≡ replicate c.peers unused_slot → KeepsHost c.peers c.generations 0 0 xs
+keeps-opened c r xs is go e = keeps-fresh c r xs (replicate c.peers unused_slot) is go e (length-replicate c.peers unused_slot) (unused-held c.peers)
+
+pub keeps-joined : (c : Config) (address : Addr) (r : Bool) (xs : List Slot) → r ≡ is_in_range c → r ≡ true → all_shown xs ≡ joined_slots c address → KeepsHost c.peers c.generations 0 0 xs
+keeps-joined c address r xs is go e =
+    keeps-fresh c r xs (joined_slots c address) is go e
+    (length-set (replicate c.peers unused_slot) 0 (given unused_slot address (peers.joined c.clock (joined_terms c) (limits_of c))) ∙ length-replicate c.peers unused_slot)
+    (joined-held c address)

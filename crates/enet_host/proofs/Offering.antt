@@ -15,8 +15,8 @@ use Rattle.enet_host.specs.Opening.{available, Connects, no_memory, asks}
 use Rattle.enet_slot.specs.Hearing.{stopped}
 use Rattle.enet_host.specs.Receiving.{Offers, offer_refused, is_known, handled_one}
 use Rattle.enet_host.specs.Receiving as receiving
-use Rattle.enet_host.specs.Shown.{shown, all_shown}
-use Rattle.enet_host.proofs.Slots.{get-shown, set-shown, same-shown}
+use Rattle.enet_slot.specs.Slotted.{shown, all_shown}
+use Rattle.enet_slot.proofs.Shown.{get-shown, set-shown, same-shown}
 
 -- what was found among the slots of a vector
 pub found-in : (c : Config) (xs ys : List Slot) (r a : Option ℕ) → r ≡ available c (all_shown ys) → ys ≡ xs → r ≡ a → available c (all_shown xs) ≡ a

@@ -6,8 +6,9 @@ use Rattle.enet_types.specs.declared.packet.Packet.{Packet}
 use Rattle.enet_slot.specs.declared.slot.Slot.{Slot}
 use Rattle.enet_slot.specs.Serving.{Gives, Passes}
 use Rattle.enet_slot.specs.Calls.{tells, peer_packet, GivesEvent}
-use Rattle.enet_host.specs.Shown.{shown, all_shown, SlotGives, SlotPasses, SlotGivesEvent, SlotIsMute, SlotIsNamed, SlotShows}
-use Rattle.enet_host.proofs.Slots.{get-shown, set-shown}
+use Rattle.enet_slot.specs.Slotted.{shown, all_shown}
+use Rattle.enet_host.specs.Shown.{SlotGives, SlotPasses, SlotGivesEvent, SlotIsMute, SlotIsNamed, SlotShows}
+use Rattle.enet_slot.proofs.Shown.{get-shown, set-shown}
 
 -- slot n of the vector is slot `number`
 pub at-number : (xs : List Slot) (n number : ℕ) (x : Slot) → n ≡ number → n < length xs → x ≡ get_or xs n x → slice_get (all_shown xs) number ≡ Some (shown x)

@@ -1,15 +1,6 @@
 -- Slots of the code and as they are shown.
-use Rattle.std.proofs.Common.{◌≡◌, ℕ, ◌<◌, Bool, true, false, ◌==◌, IsTrue, if◌then◌else◌, Option, Some, None, is_some, is_ok, Result, Ok, Err, List, length, map, slice_get, slice_set, get_or, refl, sym, ap, ap₂, subst, ◌∙◌, ◌+◌, ◌≤◌, ◌||◌, not, nat_lt, [], ◌∷◌, ◌++◌, take, drop, arith, All, zero-add}
-use Rattle.std.proofs.lemmas.Grind.{get_or-set_at}
+use Rattle.std.proofs.Common.{◌≡◌, ℕ, ◌<◌, Bool, true, false, ◌==◌, IsTrue, if◌then◌else◌, Option, Some, None, is_some, is_ok, Result, Ok, Err, List, length, slice_get, slice_set, get_or, refl, sym, ap, subst, ◌∙◌, arith}
 use Rattle.std.proofs.lemmas.Bool.Decides.{nat_tests}
-use Rattle.std.proofs.lemmas.List.{map-set, get_or-set_other, get_or_default, get_or-map, take_all, drop_all, append-nil, length-map, take_more, map-append}
-use Rattle.std.proofs.lemmas.List.Edits.{map_over_more}
-use Rattle.std.proofs.lemmas.List.Sums.{sum_by-append}
-use Rattle.std.specs.List.{position, prefix_len, list_any, count_by}
-use Rattle.std.proofs.Math.Seq.{map-set_same}
-use Rattle.std.specs.Int.{from_bool}
-use Rattle.std.specs.Option.{option_map}
-use Rattle.std.proofs.lemmas.Option.{slice_get-map, slice_get_read}
 use Rattle.enet_types.specs.declared.event.PeerRef.{PeerRef}
 use Rattle.enet_types.specs.declared.refusal.Refusal.{Refusal}
 use Rattle.enet_types.specs.declared.refusal.Refusal.TheVariants.{Memory}
@@ -20,20 +11,8 @@ use Rattle.enet_slot.specs.Slot.{SlotState}
 use Rattle.enet_host.specs.Host.{slot_named, with_generation}
 use Rattle.enet_slot.specs.Calls.{on_peer, Does, DoesWithMemory, Submits, IsRefusedBy}
 use Rattle.enet_host.specs.Calls.{on_slot, on_named, put_back}
-use Rattle.enet_slot.specs.Slotted.{HasRoom}
-use Rattle.enet_host.specs.Shown.{shown, all_shown}
-
--- slot i as it is shown
-pub get-shown : (xs : List Slot) (i : ℕ) (x : Slot) → i < length xs → x ≡ get_or xs i x → slice_get (all_shown xs) i ≡ Some (shown x)
-get-shown xs i x inside read =
-    slice_get-map shown xs i ∙ ap (λ (o : Option Slot). option_map shown o) (slice_get_read xs (length xs) i x refl inside read)
-
-pub set-shown : (xs : List Slot) (i : ℕ) (y : Slot) → all_shown (slice_set xs i y) ≡ slice_set (all_shown xs) i (shown y)
-set-shown xs i y = map-set shown xs i y
-
--- a slot that is shown as before leaves all as they were
-pub same-shown : (xs : List Slot) (i : ℕ) (x y : Slot) → x ≡ get_or xs i x → shown y ≡ shown x → all_shown (slice_set xs i y) ≡ all_shown xs
-same-shown xs i x y read same = map-set_same shown xs i y x (same ∙ ap shown read)
+use Rattle.enet_slot.specs.Slotted.{shown, all_shown}
+use Rattle.enet_slot.proofs.Shown.{get-shown, set-shown, same-shown}
 
 chosen : (b : Bool) (s : SlotState) → IsTrue (is_some (if b then Some s else None)) → (if b then Some s else None) ≡ Some s
 chosen true s some = refl
@@ -121,77 +100,3 @@ submits-named xs name q call i x y (Ok done) e inside read some h =
     sym (on-named xs name call i x e inside read some) ∙ put-ok xs i y (on_peer (shown x) call) h
 submits-named xs name q call i x y (Err f) e inside read some h =
     (refused-named xs name call i x f.0 e inside read some h.0, h.1, same-shown xs i x y read h.2)
-
--- a change that goes over the slots one by one
-pub map-more : (f : SlotState → SlotState) (all : List SlotState) (xs : List Slot) (i : ℕ) (x y : Slot) → i < length all → i < length xs
-    → all_shown xs ≡ map f (take i all) ++ drop i all → x ≡ get_or xs i x → shown y ≡ f (shown x)
-    → all_shown (slice_set xs i y) ≡ map f (take (i + 1) all) ++ drop (i + 1) all
-map-more f all xs i x y inside within so_far read changed =
-    let there : shown x ≡ get_or (all_shown xs) i (shown x) = ap shown read ∙ sym (get_or-map shown xs i x (shown x) within) in
-    set-shown xs i y ∙ ap (λ (s : SlotState). slice_set (all_shown xs) i s) changed ∙ map_over_more f all (all_shown xs) i (shown x) inside so_far there
-
-pub map-done : (f : SlotState → SlotState) (all new : List SlotState) (i : ℕ) → length all ≤ i → new ≡ map f (take i all) ++ drop i all → new ≡ map f all
-map-done f all new i past so_far =
-    so_far ∙ ap₂ (λ (front back : List SlotState). map f front ++ back) (take_all i all past) (drop_all i all past) ∙ append-nil (map f all)
-
-pub length-shown : (xs : List Slot) → length (all_shown xs) ≡ length xs
-length-shown xs = length-map xs shown
-
--- tests of slots
-prefix-shown : (p : SlotState → Bool) (xs : List Slot) → prefix_len p (all_shown xs) ≡ prefix_len (λ (x : Slot). p (shown x)) xs
-prefix-shown p [] = refl
-prefix-shown p (x ∷ xs) = ap (λ (n : ℕ). if p (shown x) then 1 + n else 0) (prefix-shown p xs)
-
-pub position-shown : (p : SlotState → Bool) (xs : List Slot) → position (λ (x : Slot). p (shown x)) xs ≡ position p (all_shown xs)
-position-shown p xs =
-    ap₂ (λ (n m : ℕ). if nat_lt n m then Some n else None) (sym (prefix-shown (λ (s : SlotState). not (p s)) xs)) (sym (length-shown xs))
-
-pub any-shown : (p : SlotState → Bool) (xs : List Slot) → list_any (λ (x : Slot). p (shown x)) xs ≡ list_any p (all_shown xs)
-any-shown p [] = refl
-any-shown p (x ∷ xs) = ap (λ (b : Bool). p (shown x) || b) (any-shown p xs)
-
-count-one : (p : SlotState → Bool) (s : SlotState) → count_by p (s ∷ []) ≡ (if p s then 1 else 0)
-count-one p s = zero-add (if p s then 1 else 0)
-
-pub count-more : (p : SlotState → Bool) (xs : List Slot) (i : ℕ) (x : Slot) → i < length xs → x ≡ get_or xs i x
-    → count_by p (all_shown (take (i + 1) xs)) ≡ count_by p (all_shown (take i xs)) + (if p (shown x) then 1 else 0)
-count-more p xs i x inside read =
-    let more : take (i + 1) xs ≡ take i xs ++ x ∷ [] = take_more xs i x inside ∙ ap (λ (y : Slot). take i xs ++ y ∷ []) (sym read) in
-    let mapped : all_shown (take (i + 1) xs) ≡ all_shown (take i xs) ++ shown x ∷ [] = ap all_shown more ∙ map-append shown (take i xs) (x ∷ []) in
-    ap (λ (ss : List SlotState). count_by p ss) mapped
-    ∙ sum_by-append (λ (s : SlotState). if p s then 1 else 0) (all_shown (take i xs)) (shown x ∷ [])
-    ∙ ap (λ (n : ℕ). count_by p (all_shown (take i xs)) + n) (count-one p (shown x))
-
--- each slot has room, one more each time
-room-case : (xs : List Slot) (i : ℕ) (y : Slot) → i < length xs → ((k : ℕ) (x : Slot) → k < i → x ≡ get_or xs k x → HasRoom x) → HasRoom y
-    → (k : ℕ) (x : Slot) → k < i + 1 → x ≡ get_or (slice_set xs i y) k x → (b : Bool) → nat_lt k i ≡ b → HasRoom x
-room-case xs i y inside rooms room k x below read true e =
-    let less : k < i = grind (arith, nat_tests, e) in
-    rooms k x less (read ∙ get_or-set_other xs i k y x (omega arith))
-room-case xs i y inside rooms room k x below read false e =
-    let same : k ≡ i = grind (arith, nat_tests, e) in
-    subst HasRoom (sym (read ∙ get_or-set_at xs i k y x same inside)) room
-
-pub room-more : (xs : List Slot) (i : ℕ) (y : Slot) → i < length xs → ((k : ℕ) (x : Slot) → k < i → x ≡ get_or xs k x → HasRoom x) → HasRoom y
-    → (k : ℕ) (x : Slot) → k < i + 1 → x ≡ get_or (slice_set xs i y) k x → HasRoom x
-room-more xs i y inside rooms room k x below read = room-case xs i y inside rooms room k x below read (nat_lt k i) refl
-
-pub all-room : (xs : List Slot) (i : ℕ) → length xs ≤ i → ((k : ℕ) (x : Slot) → k < i → x ≡ get_or xs k x → HasRoom x) → All HasRoom xs
-all-room xs i past rooms = λ k d inside. rooms k (get_or xs k d) (omega arith) (get_or_default xs k d (get_or xs k d) inside)
-
--- a slot that is as it was at first has room
-pub still-room : (all xs : List Slot) (i : ℕ) (x : Slot) → All HasRoom all → i < length all → x ≡ get_or xs i x → get_or xs i x ≡ get_or all i x → HasRoom x
-still-room all xs i x rooms inside read same = subst HasRoom (sym (read ∙ same)) (rooms i x inside)
-
-pub later-more : (all xs : List Slot) (i : ℕ) (y : Slot) → ((k : ℕ) (x : Slot) → i ≤ k → get_or xs k x ≡ get_or all k x)
-    → (k : ℕ) (x : Slot) → i + 1 ≤ k → get_or (slice_set xs i y) k x ≡ get_or all k x
-later-more all xs i y later k x past = get_or-set_other xs i k y x (omega arith) ∙ later k x (omega arith)
-
--- a count goes on by one slot
-pub one-if : (b : Bool) → from_bool b ≡ (if b then 1 else 0)
-one-if true = refl
-one-if false = refl
-
-pub at-most-one : (b : Bool) → (if b then 1 else 0) ≤ 1
-at-most-one true = omega arith
-at-most-one false = omega arith

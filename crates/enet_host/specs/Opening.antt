@@ -7,9 +7,8 @@ use Rattle.enet_types.specs.declared.event.PeerRef.{PeerRef}
 use Rattle.enet_types.specs.declared.refusal.Refusal.{Refusal}
 use Rattle.enet_types.specs.declared.refusal.Refusal.TheVariants.{Memory, NoSlot, BadConfig}
 use Rattle.enet_types.specs.Config.{is_in_range}
-use Rattle.enet_peer.specs.Peering as peers
 use Rattle.enet_slot.specs.Slot.{SlotState, name_of}
-use Rattle.enet_slot.specs.Giving.{unused_slot, given, limits_of, joined_terms, is_available, asking}
+use Rattle.enet_slot.specs.Giving.{unused_slot, joined_slots, is_available, asking}
 use Rattle.enet_host.specs.declared.totals.Totals.{Totals}
 use Rattle.enet_host.specs.Host.{Host}
 
@@ -30,9 +29,7 @@ opened c = record {
 
 -- a host whose slot 0 is connected from the start to this address
 abbrev pub joined : Config → Addr → Host
-joined c address = record (opened c) {
-  slots = slice_set (replicate c.peers unused_slot) 0 (given unused_slot address (peers.joined c.clock (joined_terms c) (limits_of c)));
-}
+joined c address = record (opened c) { slots = joined_slots c address }
 
 -- what a call that makes a host answers: E8 exactly where a number is out of its range, and else the host, or E1
 abbrev pub Opens : Config → Result Host Refusal → Host → Type 0

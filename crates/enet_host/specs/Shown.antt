@@ -1,20 +1,15 @@
 -- A slot of the code as the contracts of the host's calls see it.
-use Rattle.std.specs.Prelude.{◌≡◌, ◌≤◌, ◌<◌, length, ℕ, false, Option, Some, List, map, slice_get, slice_set}
+use Rattle.std.specs.Prelude.{◌≡◌, ◌≤◌, ◌<◌, length, ℕ, false, Option, Some, List, slice_get, slice_set}
 use Rattle.enet_types.specs.declared.address.Addr.{Addr}
 use Rattle.enet_types.specs.declared.event.PeerRef.{PeerRef}
 use Rattle.enet_types.specs.declared.event.Event.{Event}
 use Rattle.enet_types.specs.declared.packet.Packet.{Packet}
 use Rattle.enet_slot.specs.declared.slot.Slot.{Slot}
 use Rattle.enet_slot.specs.Slot.{SlotState, name_of, greatest}
+use Rattle.enet_slot.specs.Slotted.{all_shown}
 use Rattle.enet_slot.specs.Serving.{Gives, Passes}
 use Rattle.enet_slot.specs.Calls.{tells, peer_packet, GivesEvent}
 use Rattle.enet_host.specs.Host.{HoldsNoFree}
-
-abbrev pub shown : Slot → SlotState
-shown s = s.slot
-
-abbrev pub all_shown : List Slot → List SlotState
-all_shown slots = map shown slots
 
 -- what the fields of a host keep
 pub record KeepsHost (peers generations service_from event_from : ℕ) (slots : List Slot) : Type 0 where

@@ -6,7 +6,7 @@ ghost use Rattle.enet_slot.specs.Calls.{Submits, Does, DoesWithMemory, submissio
 ghost use Rattle.enet_slot.specs.Slotted.{peer_shown};
 ghost use Rattle.enet_host.specs.Calls.{address_named, on_named};
 ghost use Rattle.enet_host.specs.Host.{named, slot_named};
-ghost use Rattle.enet_host.specs.Shown.{all_shown};
+ghost use Rattle.enet_slot.specs.Slotted.{all_shown};
 
 use bytes::Bytes;
 use enet_peer::Peer;

@@ -4,7 +4,8 @@ ghost use Rattle.std.specs.Prelude.{◌≡◌, ◌<◌, length, IfSome, IfNone};
 ghost use Rattle.std.specs.Option.{option_copied};
 ghost use Rattle.enet_slot.specs.Calls.{tells};
 ghost use Rattle.enet_host.specs.Turns.{IsFirst, HoldsNowhere};
-ghost use Rattle.enet_host.specs.Shown.{all_shown, SlotGivesEvent, SlotIsMute, SlotIsNamed, SlotShows};
+ghost use Rattle.enet_slot.specs.Slotted.{all_shown};
+ghost use Rattle.enet_host.specs.Shown.{SlotGivesEvent, SlotIsMute, SlotIsNamed, SlotShows};
 
 use crate::service::slot_after;
 use enet_slot::Slot;

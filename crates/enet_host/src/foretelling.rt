@@ -6,10 +6,10 @@ ghost use Rattle.enet_host.specs.Turns.{HoldsNowhere};
 ghost use Rattle.enet_slot.specs.Calls.{tells};
 ghost use Rattle.enet_host.specs.Foretelling.{next_name, teller_of, packet_of, body_of, Foretells, IsTeller};
 
-use crate::connecting::lowest_available;
 use crate::events::{first_telling, name_at, packet_of};
 use crate::host::HostCore;
 use bytes::Bytes;
+use enet_slot::first_available;
 use enet_types::{Packet, PeerRef};
 
 impl HostCore {
@@ -18,9 +18,7 @@ impl HostCore {
     pub fn next_peer(&self) -> Option<PeerRef>
         ensures { result ≡ next_name self.now.config self.now.slots }
     {
-        let Some(place) = lowest_available(&self.slots, &self.start.config) else {
-            return None;
-        };
+        let place = first_available(&self.slots, self.start.config.generations)?;
         Some(name_at(&self.slots, place as u16))
     }
 

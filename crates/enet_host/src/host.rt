@@ -5,6 +5,8 @@ ghost use Rattle.enet_types.specs.Config.{is_in_range};
 ghost use Rattle.enet_host.specs.Host.{Keeps, KeepsRest};
 ghost use Rattle.enet_host.specs.Opening.{opened, joined, Opens, Connects};
 ghost use Rattle.enet_host.specs.Receiving.{Receives};
+ghost use Rattle.enet_host.specs.Shown.{KeepsHost};
+ghost use Rattle.enet_slot.specs.Slotted.{all_shown};
 ghost use Rattle.enet_host.specs.Serving.{Serves};
 ghost use Rattle.enet_host.specs.Ticking.{ticked, clock_after};
 ghost use Rattle.enet_host.specs.Calls.{with_bandwidth, Takes};
@@ -12,13 +14,13 @@ ghost use Rattle.enet_host.specs.Calls as calls;
 
 use crate::connecting::connect;
 use crate::events::{first_telling, take_from};
-use crate::opening::unused_slots;
 use crate::receiving::receive;
 use crate::service::{serve, slot_after};
-use crate::sharing::{set_bandwidth, share_out, tick_all};
 use crate::totals::Totals;
 use enet_rtt::elapsed;
-use enet_slot::{Question, Slot, Start};
+use enet_slot::{
+    Question, Slot, Start, joined_slots, set_bandwidth, share_out, tick_all, unused_slots,
+};
 use enet_types::{Addr, Config, Event, PeerRef, Received, Refusal};
 use std::alloc::Global;
 use std::marker::Model;
@@ -54,7 +56,8 @@ pub struct HostCore {
 
 impl Model for HostCore {
     ghost use Rattle.enet_host.specs.Host.{Host};
-    ghost use Rattle.enet_host.specs.Shown.{all_shown, KeepsHost};
+    ghost use Rattle.enet_slot.specs.Slotted.{all_shown};
+    ghost use Rattle.enet_host.specs.Shown.{KeepsHost};
     ghost use Rattle.std.specs.Coded.{codes};
     ghost use Rattle.enet_inbox.specs.Codes.{inbox_code};
 
@@ -84,18 +87,8 @@ impl HostCore {
         if !config.is_in_range() {
             return Err(Refusal::BadConfig);
         }
-        Ok(HostCore {
-            start: Start {
-                alloc,
-                config,
-                clock: config.clock,
-            },
-            shared_at: config.clock,
-            service_from: 0,
-            event_from: 0,
-            totals: Totals::none(),
-            slots: unused_slots(alloc, config.peers)?,
-        })
+        let slots = unused_slots(alloc, config.peers)?;
+        Ok(HostCore::with_slots(alloc, config, slots))
     }
 
     /// A law: a slot has at most 4,294,967,295 generations, and none holds a peer that is free.
@@ -111,9 +104,30 @@ impl HostCore {
     pub fn joined(alloc: Global, config: Config, address: Addr) -> Result<HostCore, Refusal>
         ensures { Opens config result (joined config address) }
     {
-        let mut host = HostCore::open(alloc, config)?;
-        host.slots[0].join(alloc, &config, address)?;
-        Ok(host)
+        if !config.is_in_range() {
+            return Err(Refusal::BadConfig);
+        }
+        let slots = joined_slots(alloc, &config, address)?;
+        Ok(HostCore::with_slots(alloc, config, slots))
+    }
+
+    /// A host with these settings and slots, to which nothing has happened.
+    fn with_slots(alloc: Global, config: Config, slots: Vec<Slot>) -> HostCore
+        requires { KeepsHost config.peers config.generations 0 0 slots.items }
+        ensures { result ≡ record (opened config) { slots = all_shown slots.items } }
+    {
+        HostCore {
+            start: Start {
+                alloc,
+                config,
+                clock: config.clock,
+            },
+            shared_at: config.clock,
+            service_from: 0,
+            event_from: 0,
+            totals: Totals::none(),
+            slots,
+        }
     }
 
     /// Asks the host at this address for a connection with so many channels, from the lowest slot that is free and has a
@@ -208,13 +222,8 @@ impl HostCore {
     pub fn next_event(&mut self) -> Option<Event>
         ensures { Takes result self.old self.new }
     {
-        let Some(slot) = first_telling(&self.slots, self.start.config.peers, self.event_from) else {
-            return None;
-        };
-        let Some(event) = take_from(&mut self.slots, slot) else {
-            // Never: the slot has an event.
-            return None;
-        };
+        let slot = first_telling(&self.slots, self.start.config.peers, self.event_from)?;
+        let event = take_from(&mut self.slots, slot)?;
         self.event_from = slot_after(self.start.config.peers, slot);
         Some(event)
     }

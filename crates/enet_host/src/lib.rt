@@ -23,11 +23,9 @@ mod connecting;
 mod events;
 mod foretelling;
 mod host;
-mod opening;
 mod peers;
 mod receiving;
 mod service;
-mod sharing;
 mod totals;
 
 pub use enet_connect::Terms;

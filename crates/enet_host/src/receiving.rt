@@ -1,16 +1,14 @@
 //! A datagram comes to a host.
 
 ghost use Rattle.std.specs.Prelude.{◌≡◌, ◌<◌, ◌≤◌, length, IfNone};
-ghost use Rattle.std.specs.List.{list_any};
-ghost use Rattle.enet_slot.specs.Hearing.{stopped, is_connection};
-ghost use Rattle.enet_host.specs.Receiving.{refused_by, offer_refused, is_known, Offers, Arrives};
-ghost use Rattle.enet_host.specs.Shown.{shown, all_shown};
+ghost use Rattle.enet_slot.specs.Hearing.{stopped};
+ghost use Rattle.enet_host.specs.Receiving.{refused_by, offer_refused, Offers, Arrives};
+ghost use Rattle.enet_slot.specs.Slotted.{all_shown};
 
-use crate::connecting::lowest_available;
 use enet_codec::Header;
 use enet_connect::Offer;
 use enet_datagram::{read_heading, read_offer};
-use enet_slot::{Slot, Start};
+use enet_slot::{Slot, Start, any_is_connection, first_available};
 use enet_types::{Addr, Received, Stop};
 
 /// The peer id in the header of one who has no peer yet (ENet 1.3).
@@ -57,22 +55,6 @@ fn offer_refused(offer: &Offer) -> Option<Stop>
     None
 }
 
-/// Whether a slot holds a connection with this address and connect id.
-fn any_is_connection(slots: &[Slot], from: Addr, connect_id: u32) -> bool
-    ensures { result ≡ list_any (λ (s : Slot). is_connection from connect_id (shown s)) slots.now }
-{
-    slots
-        .iter()
-        .any(|slot| slot.is_connection(from, connect_id))
-}
-
-/// Whether the connection of an offer is there already.
-fn is_known(slots: &[Slot], from: Addr, offer: &Offer) -> bool
-    ensures { result ≡ is_known (all_shown slots.now) from offer.now }
-{
-    any_is_connection(slots, from, offer.connect_id)
-}
-
 /// An offer comes.
 fn take_offer(slots: &mut Vec<Slot>, start: &Start, from: Addr, offer: Offer) -> Received
     requires { length slots.old.items ≤ 4095 }
@@ -82,10 +64,10 @@ fn take_offer(slots: &mut Vec<Slot>, start: &Start, from: Addr, offer: Offer) ->
     if let Some(why) = offer_refused(&offer) {
         return stopped(why);
     }
-    if is_known(slots, from, &offer) {
+    if any_is_connection(slots, from, offer.connect_id) {
         return HANDLED_ONE;
     }
-    let Some(place) = lowest_available(slots, &start.config) else {
+    let Some(place) = first_available(slots, start.config.generations) else {
         return stopped(Stop::NoSlot);
     };
     let slot = &mut slots[place];

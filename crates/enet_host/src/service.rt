@@ -3,7 +3,8 @@
 ghost use Rattle.std.specs.Prelude.{◌≡◌, ◌<◌, ◌≤◌, length, IfSome, IfNone};
 ghost use Rattle.enet_host.specs.Serving.{GivesInTurn, AllPass};
 ghost use Rattle.enet_host.specs.Turns.{slot_after};
-ghost use Rattle.enet_host.specs.Shown.{all_shown, SlotGives, SlotPasses};
+ghost use Rattle.enet_slot.specs.Slotted.{all_shown};
+ghost use Rattle.enet_host.specs.Shown.{SlotGives, SlotPasses};
 
 use enet_slot::Slot;
 use enet_types::{Addr, PeerRef};

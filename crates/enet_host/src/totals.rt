@@ -6,7 +6,7 @@ ghost use Rattle.enet_host.specs.Receiving.{with_datagram_in};
 ghost use Rattle.enet_host.specs.Serving.{with_datagram_out};
 
 /// How many datagrams and bytes came to a host and went out. Each number stops at its greatest value.
-#[derive(Clone, Copy, Debug, PartialEq, Eq)]
+#[derive(Clone, Copy, PartialEq, Eq)]
 pub struct Totals {
     /// Datagrams that came, the refused ones too.
     pub datagrams_in: u64,

@@ -1,5 +1,5 @@
 -- How a slot is given out.
-use Rattle.std.specs.Prelude.{ℕ, ◌&&◌, Bool, true, false, nat_lt, Option, Some, None}
+use Rattle.std.specs.Prelude.{ℕ, ◌&&◌, Bool, true, false, nat_lt, Option, Some, None, List, replicate, slice_set}
 use Rattle.enet_codec.specs.declared.command.Offer.{Offer}
 use Rattle.enet_types.specs.declared.address.Addr.{Addr}
 use Rattle.enet_types.specs.declared.config.Config.{Config}
@@ -40,6 +40,10 @@ joined_terms c = record {
 -- a slot is given to a peer at an address
 abbrev pub given : SlotState → Addr → Peering → SlotState
 given s address p = record s { address = address; emitted = 0; peer = Some p }
+
+-- the slots of a host whose slot 0 is connected from the start to this address
+abbrev pub joined_slots : Config → Addr → List SlotState
+joined_slots c address = slice_set (replicate c.peers unused_slot) 0 (given unused_slot address (peers.joined c.clock (joined_terms c) (limits_of c)))
 
 -- the lowest slot that is free and has a generation left
 abbrev pub is_vacant : Option Peering → Bool

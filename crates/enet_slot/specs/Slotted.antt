@@ -1,5 +1,5 @@
 -- A slot of the code as the contracts of its calls see it.
-use Rattle.std.specs.Prelude.{◌≤◌, ℕ, Option, Some, None, IsTrue}
+use Rattle.std.specs.Prelude.{◌≤◌, ℕ, Option, Some, None, IsTrue, List, map}
 use Rattle.enet_peer.specs.Peered.{Peered}
 use Rattle.enet_peer.specs.Peering.{Peering}
 use Rattle.enet_slot.specs.Slot.{SlotState}
@@ -21,3 +21,10 @@ room_of (Some p) = p.room
 -- where its connection stands there is room for one command of channel 0xFF
 abbrev pub HasRoom : Slotted → Type 0
 HasRoom s = IsTrue (is_standing s.slot) → 1 ≤ s.room
+
+-- slots as they are, without their room
+abbrev pub shown : Slotted → SlotState
+shown s = s.slot
+
+abbrev pub all_shown : List Slotted → List SlotState
+all_shown slots = map shown slots

@@ -119,7 +119,12 @@ impl Slot {
 
     /// Gives the slot to a peer at this address that is connected from the start, on terms of our profile. E1 where memory is
     /// refused, with nothing changed.
-    pub fn join(&mut self, alloc: Global, config: &Config, address: Addr) -> Result<(), Refusal>
+    pub(crate) fn join(
+        &mut self,
+        alloc: Global,
+        config: &Config,
+        address: Addr,
+    ) -> Result<(), Refusal>
         requires { (576 ≤ config.now.mtu) × (config.now.mtu ≤ 4096) }
         ensures given { OnOk result (self.new.slot ≡ given self.old.slot address (peers.joined config.now.clock (joined_terms config.now) (limits_of config.now))) }
         ensures unchanged { OnErr result (self.new.slot ≡ self.old.slot) }

@@ -9,6 +9,7 @@
 //! Only tested, with the host's calls by `check_hosts` and `check_foreign`: that calls succeed with ample memory.
 #![tactic(auto)]
 
+mod all;
 mod calls;
 mod events;
 mod giving;
@@ -17,6 +18,10 @@ mod serving;
 mod sharing;
 mod slot;
 
+pub use all::{
+    any_is_connection, first_available, joined_slots, set_bandwidth, share_out, tick_all,
+    unused_slots,
+};
 pub use calls::Setting;
 pub use giving::{Question, Start};
 pub use slot::Slot;

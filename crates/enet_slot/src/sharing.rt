@@ -14,7 +14,7 @@ use enet_types::Refusal;
 
 impl Slot {
     /// Time has come to `now`, in milliseconds.
-    pub fn tick(&mut self, now: u32)
+    pub(crate) fn tick(&mut self, now: u32)
         ensures { self.new.slot ≡ changed (λ (p : Peering). peers.ticked p now) self.old.slot }
     {
         if let Some(peer) = &mut self.peer {
@@ -24,7 +24,7 @@ impl Slot {
     }
 
     /// Whether its connection stands.
-    pub fn is_standing(&self) -> bool
+    pub(crate) fn is_standing(&self) -> bool
         ensures { result ≡ is_standing self.now.slot }
     {
         match &self.peer {
@@ -35,7 +35,7 @@ impl Slot {
 
     /// Limits a connected peer's throttle to its share of the host's outgoing bandwidth, in bytes per second, among so many
     /// connected peers.
-    pub fn share(&mut self, outgoing: u32, standing: u32)
+    pub(crate) fn share(&mut self, outgoing: u32, standing: u32)
         ensures { self.new.slot ≡ shared outgoing standing self.old.slot }
     {
         if let Some(peer) = &mut self.peer {
@@ -48,7 +48,7 @@ impl Slot {
     }
 
     /// Makes room for one command of channel 0xFF of a connected peer. E1 where memory is refused.
-    pub fn reserve(&mut self) -> Result<(), Refusal>
+    pub(crate) fn reserve(&mut self) -> Result<(), Refusal>
         ensures unchanged { self.new.slot ≡ self.old.slot }
         ensures room { OnOk result (HasRoom self.new) }
         ensures memory { IfErr result (λ why. why ≡ Refusal.Memory) }
@@ -60,7 +60,7 @@ impl Slot {
     }
 
     /// Sets its peer's bandwidths, in bytes per second; a connected one is told, for which there must be room.
-    pub fn set_bandwidth(&mut self, incoming: u32, outgoing: u32)
+    pub(crate) fn set_bandwidth(&mut self, incoming: u32, outgoing: u32)
         requires { HasRoom self.old }
         ensures { self.new.slot ≡ changed (λ (p : Peering). peers.with_bandwidth p incoming outgoing) self.old.slot }
     {

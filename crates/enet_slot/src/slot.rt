@@ -53,7 +53,7 @@ const NO_ADDRESS: Addr = Addr { ip: 0, port: 0 };
 
 impl Slot {
     /// A slot that held no peer yet.
-    pub fn unused() -> Slot
+    pub(crate) fn unused() -> Slot
         ensures { result.slot ≡ unused_slot }
     {
         Slot {
@@ -91,7 +91,7 @@ impl Slot {
     }
 
     /// Whether it is free and has a generation left of so many.
-    pub fn is_available(&self, generations: u32) -> bool
+    pub(crate) fn is_available(&self, generations: u32) -> bool
         ensures { result ≡ is_available generations self.now.slot }
     {
         self.peer.is_none() && self.generation < generations

@@ -1,7 +1,7 @@
 use Rattle.std.proofs.Common.{◌<◌, IsTrue, is_some, List, length, subst}
 use Rattle.enet_slot.specs.declared.slot.Slot.{Slot}
 use Rattle.enet_host.specs.Host.{slot_named}
-use Rattle.enet_host.specs.Shown.{all_shown}
+use Rattle.enet_slot.specs.Slotted.{all_shown}
 use Rattle.enet_host.proofs.Slots.{does-named}
 use Rattle.enet_host.proofs.calls.disconnect.Goals as goal
 

@@ -8,11 +8,11 @@ returns-then-question-eq0-clause-connects c = no_channel c.if-question-eq0.true
 
 pub returns-in_default-clause-connects : goal.returns-in_default-clause-connects
 returns-in_default-clause-connects c =
-    no_slot c.if-question-eq0.false (found-in c.args.start.now.config c.args.slots.now.items c.deref.result.now _ _ c.lowest_available.ensures.lowest c.deref.ensures.value c.in_default.is)
+    no_slot c.if-question-eq0.false (found-in c.args.start.now.config c.args.slots.now.items c.deref.result.now _ _ c.first_available.ensures.first c.deref.ensures.value c.in_default.is)
 
 pub returns-clause-connects : goal.returns-clause-connects
 returns-clause-connects c =
     connects-at c.args.start.now.config c.args.start.now.clock c.args.slots.now.items c.args.question.address c.args.question.channels c.args.question.info c.args.question.word c.in-Some.place
     c.index_mut-slot.result.now c.ask.new.self c.ask.result c.if-question-eq0.false
-    (found-in c.args.start.now.config c.args.slots.now.items c.deref.result.now _ _ c.lowest_available.ensures.lowest c.deref.ensures.value c.in-Some.is)
+    (found-in c.args.start.now.config c.args.slots.now.items c.deref.result.now _ _ c.first_available.ensures.first c.deref.ensures.value c.in-Some.is)
     (let within = c.in-Some.ensures.within in let len = c.deref.ensures.len in grind (arith, within, len)) c.index_mut-slot.ensures.value c.ask.ensures.asks c.ask.ensures.named c.ask.ensures.unchanged c.ask.ensures.memory

@@ -1,10 +1,10 @@
 use Rattle.std.proofs.Common.{ℕ, ◌<◌, length, arith, ap, sym, ◌∙◌}
 use Rattle.enet_slot.specs.Calls.{tells}
 use Rattle.enet_host.specs.Turns.{turn_of}
-use Rattle.enet_host.specs.Shown.{shown, all_shown}
+use Rattle.enet_slot.specs.Slotted.{shown, all_shown}
 use Rattle.enet_host.proofs.Asking.{none-more, none-at-all, is-first}
 use Rattle.enet_host.proofs.Serving.{at-number}
-use Rattle.enet_host.proofs.Slots.{length-shown}
+use Rattle.enet_slot.proofs.Shown.{length-shown}
 use Rattle.enet_host.proofs.Turning.{first-turn, next-turn}
 use Rattle.enet_host.proofs.events.first_telling.Goals as goal
 

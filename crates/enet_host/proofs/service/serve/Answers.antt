@@ -1,8 +1,8 @@
 use Rattle.std.proofs.Common.{ℕ, refl, ap, sym, ◌∙◌}
 use Rattle.enet_host.specs.Turns.{turn_of}
-use Rattle.enet_host.specs.Shown.{all_shown}
+use Rattle.enet_slot.specs.Slotted.{all_shown}
 use Rattle.enet_host.proofs.Asking.{none-asked, all-asked-more, all-pass, gives-in-turn, still-there, name-slot}
-use Rattle.enet_host.proofs.Slots.{length-shown}
+use Rattle.enet_slot.proofs.Shown.{length-shown}
 use Rattle.enet_host.proofs.Turning.{first-turn, next-turn}
 use Rattle.enet_host.proofs.service.serve.Goals as goal
 

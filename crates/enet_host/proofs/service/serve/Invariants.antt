@@ -1,6 +1,6 @@
 use Rattle.std.proofs.Common.{◌≡◌, ◌<◌, length}
 use Rattle.enet_host.specs.Turns.{turn_of}
-use Rattle.enet_host.specs.Shown.{all_shown}
+use Rattle.enet_slot.specs.Slotted.{all_shown}
 use Rattle.enet_host.proofs.Asking.{AllAsked}
 use Rattle.enet_host.proofs.service.serve.Given as goal
 

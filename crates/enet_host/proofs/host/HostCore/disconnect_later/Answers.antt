@@ -1,6 +1,6 @@
 use Rattle.enet_types.specs.declared.event.DisconnectMode.TheVariants as mode
 use Rattle.enet_slot.specs.Calls.{leaving}
-use Rattle.enet_host.specs.Shown.{all_shown}
+use Rattle.enet_slot.specs.Slotted.{all_shown}
 use Rattle.enet_host.proofs.Holding.{keeps-after, does-held}
 use Rattle.enet_host.proofs.host.HostCore.disconnect_later.Goals as goal
 

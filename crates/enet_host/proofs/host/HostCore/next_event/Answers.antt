@@ -3,8 +3,8 @@ use Rattle.enet_slot.specs.declared.slot.Slot.{Slot}
 use Rattle.enet_host.specs.Host.{Host}
 use Rattle.enet_host.specs.Turns.{IsFirst, slot_after}
 use Rattle.enet_slot.specs.Calls.{tells}
-use Rattle.enet_host.specs.Shown.{all_shown}
-use Rattle.enet_host.proofs.Slots.{length-shown}
+use Rattle.enet_slot.specs.Slotted.{all_shown}
+use Rattle.enet_slot.proofs.Shown.{length-shown}
 use Rattle.enet_host.proofs.Telling.{takes-at}
 use Rattle.enet_host.proofs.Holding.{keeps-after, gave-held}
 use Rattle.enet_host.proofs.host.HostCore.next_event.Goals as goal
@@ -21,12 +21,12 @@ returns c =
       totals = inside.totals;
       slots = all_shown inside.slots.items;
     } in
-    takes-at v c.args.self.now (all_shown c.take_from.new.slots.items) c.in-Some.slot c.slot_after-self-inside.result c.in-Some-take_from.event c.self.view_is
-    (subst (λ (xs : List Slot). IsFirst tells (all_shown xs) inside.event_from c.in-Some.slot) c.deref.ensures.value c.in-Some.ensures.first) c.in-Some-take_from.ensures.gives
-    (c.slot_after-self-inside.ensures.after ∙ ap (λ (m : ℕ). slot_after m c.in-Some.slot) (sym (length-shown inside.slots.items ∙ c.self.invariant.count)))
+    takes-at v c.args.self.now (all_shown c.take_from.new.slots.items) c.in_ok-slot.slot c.slot_after-self-inside.result c.in_ok-event.event c.self.view_is
+    (subst (λ (xs : List Slot). IsFirst tells (all_shown xs) inside.event_from c.in_ok-slot.slot) c.deref.ensures.value c.in_ok-slot.ensures.first) c.in_ok-event.ensures.gives
+    (c.slot_after-self-inside.ensures.after ∙ ap (λ (m : ℕ). slot_after m c.in_ok-slot.slot) (sym (length-shown inside.slots.items ∙ c.self.invariant.count)))
 
 pub invariant_of-self-2 : goal.invariant_of-self-2
 invariant_of-self-2 c =
     keeps-after c.self.inside.start.config.peers c.self.inside.start.config.generations c.self.inside.service_from c.self.inside.event_from c.self.inside.service_from c.slot_after-self-inside.result c.self.inside.slots.items c.take_from.new.slots.items c.self.invariant
     c.take_from.ensures.count c.self.invariant.service c.slot_after-self-inside.ensures.within
-    (gave-held (all_shown c.self.inside.slots.items) (all_shown c.take_from.new.slots.items) c.in-Some.slot c.in-Some-take_from.event c.self.invariant.held c.in-Some-take_from.ensures.gives)
+    (gave-held (all_shown c.self.inside.slots.items) (all_shown c.take_from.new.slots.items) c.in_ok-slot.slot c.in_ok-event.event c.self.invariant.held c.in_ok-event.ensures.gives)

@@ -3,7 +3,8 @@ use Rattle.enet_slot.specs.declared.slot.Slot.{Slot}
 use Rattle.enet_host.specs.Host.{Host}
 use Rattle.enet_host.specs.Turns.{IsFirst}
 use Rattle.enet_slot.specs.Calls.{tells}
-use Rattle.enet_host.specs.Shown.{all_shown, SlotIsNamed}
+use Rattle.enet_slot.specs.Slotted.{all_shown}
+use Rattle.enet_host.specs.Shown.{SlotIsNamed}
 use Rattle.enet_host.proofs.Foretold.{is-teller, foretells-teller}
 use Rattle.enet_host.proofs.host.HostCore.next_event_of.Goals as goal
 

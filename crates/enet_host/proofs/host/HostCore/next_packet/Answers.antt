@@ -5,7 +5,8 @@ use Rattle.enet_host.specs.Host.{Host}
 use Rattle.enet_host.specs.Turns.{IsFirst, HoldsNowhere}
 use Rattle.enet_slot.specs.Calls.{tells}
 use Rattle.enet_host.specs.Foretelling.{packet_of}
-use Rattle.enet_host.specs.Shown.{all_shown, SlotShows}
+use Rattle.enet_slot.specs.Slotted.{all_shown}
+use Rattle.enet_host.specs.Shown.{SlotShows}
 use Rattle.enet_host.proofs.Foretold.{foretells-nothing, foretells-packet}
 use Rattle.enet_host.proofs.host.HostCore.next_packet.Goals as goal
 

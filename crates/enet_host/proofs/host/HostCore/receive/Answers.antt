@@ -1,4 +1,4 @@
-use Rattle.enet_host.specs.Shown.{all_shown}
+use Rattle.enet_slot.specs.Slotted.{all_shown}
 use Rattle.enet_host.proofs.Holding.{keeps-after, arrives-held}
 use Rattle.enet_host.proofs.host.HostCore.receive.Goals as goal
 

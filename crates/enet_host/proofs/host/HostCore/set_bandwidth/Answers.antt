@@ -1,4 +1,4 @@
-use Rattle.enet_host.specs.Shown.{all_shown}
+use Rattle.enet_slot.specs.Slotted.{all_shown}
 use Rattle.enet_host.proofs.Holding.{keeps-after, changed-after}
 use Rattle.enet_host.proofs.host.HostCore.set_bandwidth.Goals as goal
 

@@ -1,5 +1,5 @@
 use Rattle.enet_slot.specs.Calls.{waiting}
-use Rattle.enet_host.specs.Shown.{all_shown}
+use Rattle.enet_slot.specs.Slotted.{all_shown}
 use Rattle.enet_host.proofs.Holding.{keeps-after, does-held}
 use Rattle.enet_host.proofs.host.HostCore.set_timeout.Goals as goal
 

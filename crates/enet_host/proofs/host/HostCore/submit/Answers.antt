@@ -1,6 +1,6 @@
 use Rattle.enet_sender.specs.Carriage.{Packet}
 use Rattle.enet_slot.specs.Calls.{submission}
-use Rattle.enet_host.specs.Shown.{all_shown}
+use Rattle.enet_slot.specs.Slotted.{all_shown}
 use Rattle.enet_host.proofs.Holding.{keeps-after, submits-held}
 use Rattle.enet_host.proofs.host.HostCore.submit.Goals as goal
 

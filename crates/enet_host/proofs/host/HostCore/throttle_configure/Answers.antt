@@ -1,5 +1,5 @@
 use Rattle.enet_slot.specs.Calls.{throttling}
-use Rattle.enet_host.specs.Shown.{all_shown}
+use Rattle.enet_slot.specs.Slotted.{all_shown}
 use Rattle.enet_host.proofs.Holding.{keeps-after, does-with-memory-held}
 use Rattle.enet_host.proofs.host.HostCore.throttle_configure.Goals as goal
 

@@ -1,7 +1,7 @@
 use Rattle.std.proofs.Common.{◌∙◌}
 use Rattle.std.specs.List.{count_by}
 use Rattle.enet_slot.specs.Sharing.{is_standing}
-use Rattle.enet_host.specs.Shown.{all_shown}
+use Rattle.enet_slot.specs.Slotted.{all_shown}
 use Rattle.enet_host.proofs.Holding.{keeps-after, changed-after, shared-after}
 use Rattle.enet_host.proofs.host.HostCore.tick.Goals as goal
 

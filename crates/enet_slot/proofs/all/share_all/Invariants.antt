@@ -1,7 +1,7 @@
 use Rattle.std.proofs.Common.{◌≡◌, ◌++◌, map, take, drop, vec_len}
 use Rattle.enet_slot.specs.Sharing.{shared}
-use Rattle.enet_host.specs.Shown.{all_shown}
-use Rattle.enet_host.proofs.sharing.share_all.Given as goal
+use Rattle.enet_slot.specs.Slotted.{all_shown}
+use Rattle.enet_slot.proofs.all.share_all.Given as goal
 
 abbrev pub invariant-loop-place : goal.invariant-loop-place
 invariant-loop-place l = record {

@@ -2,9 +2,10 @@ use Rattle.std.proofs.Common.{arith}
 use Rattle.enet_peer.specs.Peering.{Peering}
 use Rattle.enet_peer.specs.Calls as peers
 use Rattle.enet_slot.specs.Slot.{changed}
-use Rattle.enet_host.specs.Shown.{all_shown}
-use Rattle.enet_host.proofs.Slots.{map-more, map-done, length-shown}
-use Rattle.enet_host.proofs.sharing.tick_all.Goals as goal
+use Rattle.enet_slot.specs.Slotted.{all_shown}
+use Rattle.enet_slot.proofs.Shown.{length-shown}
+use Rattle.enet_slot.proofs.OverAll.{map-more, map-done}
+use Rattle.enet_slot.proofs.all.tick_all.Goals as goal
 
 pub loop-place-preserved : goal.loop-place-preserved
 loop-place-preserved c =

@@ -2,9 +2,10 @@ use Rattle.std.proofs.Common.{arith}
 use Rattle.enet_peer.specs.Peering.{Peering}
 use Rattle.enet_peer.specs.Calls as peers
 use Rattle.enet_slot.specs.Slot.{changed}
-use Rattle.enet_host.specs.Shown.{all_shown}
-use Rattle.enet_host.proofs.Slots.{map-more, map-done, length-shown, still-room, later-more}
-use Rattle.enet_host.proofs.sharing.set_all.Goals as goal
+use Rattle.enet_slot.specs.Slotted.{all_shown}
+use Rattle.enet_slot.proofs.Shown.{length-shown}
+use Rattle.enet_slot.proofs.OverAll.{map-more, map-done, still-room, later-more}
+use Rattle.enet_slot.proofs.all.set_all.Goals as goal
 
 pub set_bandwidth-requires : goal.set_bandwidth-requires
 set_bandwidth-requires c =

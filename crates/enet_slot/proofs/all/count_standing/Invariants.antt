@@ -1,8 +1,8 @@
 use Rattle.std.proofs.Common.{◌≡◌, ◌≤◌, take}
 use Rattle.std.specs.List.{count_by}
 use Rattle.enet_slot.specs.Sharing.{is_standing}
-use Rattle.enet_host.specs.Shown.{all_shown}
-use Rattle.enet_host.proofs.sharing.count_standing.Given as goal
+use Rattle.enet_slot.specs.Slotted.{all_shown}
+use Rattle.enet_slot.proofs.all.count_standing.Given as goal
 
 abbrev pub invariant-loop-slot : goal.invariant-loop-slot
 invariant-loop-slot l = record {

@@ -2,8 +2,8 @@ use Rattle.std.proofs.Common.{◌≡◌, ◌++◌, map, take, drop, vec_len}
 use Rattle.enet_peer.specs.Peering.{Peering}
 use Rattle.enet_peer.specs.Calls as peers
 use Rattle.enet_slot.specs.Slot.{changed}
-use Rattle.enet_host.specs.Shown.{all_shown}
-use Rattle.enet_host.proofs.sharing.tick_all.Given as goal
+use Rattle.enet_slot.specs.Slotted.{all_shown}
+use Rattle.enet_slot.proofs.all.tick_all.Given as goal
 
 abbrev pub invariant-loop-place : goal.invariant-loop-place
 invariant-loop-place l = record {

@@ -1,5 +1,5 @@
 use Rattle.std.proofs.Common.{rules}
-use Rattle.enet_host.proofs.sharing.share_out.Goals as goal
+use Rattle.enet_slot.proofs.all.share_out.Goals as goal
 
 pub returns-clause-slots : goal.returns-clause-slots
 returns-clause-slots c = search rules

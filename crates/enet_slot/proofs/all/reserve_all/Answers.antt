@@ -1,6 +1,7 @@
 use Rattle.std.proofs.Common.{arith, ◌∙◌}
-use Rattle.enet_host.proofs.Slots.{same-shown, room-more, all-room}
-use Rattle.enet_host.proofs.sharing.reserve_all.Goals as goal
+use Rattle.enet_slot.proofs.Shown.{same-shown}
+use Rattle.enet_slot.proofs.OverAll.{room-more, all-room}
+use Rattle.enet_slot.proofs.all.reserve_all.Goals as goal
 
 pub loop-place-preserved : goal.loop-place-preserved
 loop-place-preserved c =

@@ -4,9 +4,9 @@ use Rattle.std.specs.List.{count_by}
 use Rattle.std.proofs.lemmas.List.{take_all}
 use Rattle.enet_slot.specs.declared.slot.Slot.{Slot}
 use Rattle.enet_slot.specs.Sharing.{is_standing}
-use Rattle.enet_host.specs.Shown.{shown, all_shown}
-use Rattle.enet_host.proofs.Slots.{count-more, one-if, at-most-one}
-use Rattle.enet_host.proofs.sharing.count_standing.Goals as goal
+use Rattle.enet_slot.specs.Slotted.{shown, all_shown}
+use Rattle.enet_slot.proofs.OverAll.{count-more, one-if, at-most-one}
+use Rattle.enet_slot.proofs.all.count_standing.Goals as goal
 
 pub loop-slot-preserved : goal.loop-slot-preserved
 loop-slot-preserved c =

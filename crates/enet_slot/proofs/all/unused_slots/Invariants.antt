@@ -1,7 +1,7 @@
 use Rattle.std.proofs.Common.{◌≡◌, replicate, vec_len, vec_capacity}
 use Rattle.enet_slot.specs.Giving.{unused_slot}
-use Rattle.enet_host.specs.Shown.{all_shown}
-use Rattle.enet_host.proofs.opening.unused_slots.Given as goal
+use Rattle.enet_slot.specs.Slotted.{all_shown}
+use Rattle.enet_slot.proofs.all.unused_slots.Given as goal
 
 abbrev pub invariant-loop-slot : goal.invariant-loop-slot
 invariant-loop-slot l = record {
