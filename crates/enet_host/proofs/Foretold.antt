@@ -2,21 +2,27 @@
 use Rattle.std.proofs.Common.{◌≡◌, ℕ, Bool, true, false, nat_lt, Option, Some, None, List, [], ◌∷◌, length, slice_get, arith, refl, sym, ap, subst, ◌∙◌}
 use Rattle.std.proofs.lemmas.Bool.Decides.{nat_tests}
 use Rattle.std.proofs.lemmas.Option.{slice_get_within}
+use Rattle.std.specs.Option.{option_map, option_and_then}
 use Rattle.enet_types.specs.declared.event.Event.{Event}
 use Rattle.enet_types.specs.declared.event.PeerRef.{PeerRef}
+use Rattle.enet_types.specs.declared.config.Config.{Config}
 use Rattle.enet_types.specs.declared.packet.Packet.{Packet}
+use Rattle.enet_types.specs.declared.refusal.Refusal.{Refusal}
 use Rattle.enet_peer.specs.declared.parts.PeerEvent.{PeerEvent}
 use Rattle.enet_peer.specs.declared.parts.PeerEvent.TheVariants as told
 use Rattle.enet_peer.specs.declared.parts.PeerState.{PeerState}
 use Rattle.enet_peer.specs.declared.parts.PeerState.TheVariants as state
+use Rattle.enet_sender.specs.Carriage as carriage
 use Rattle.enet_peer.specs.Peering.{Peering}
 use Rattle.enet_peer.specs.Calls as peers
 use Rattle.enet_peer.specs.Next.{packet_after}
 use Rattle.enet_slot.specs.Slot.{SlotState, name_of}
-use Rattle.enet_host.specs.Host.{Host}
+use Rattle.enet_host.specs.Host.{Host, peer_in, slot_named}
 use Rattle.enet_host.specs.Turns.{turn_of, IsFirst, HoldsNowhere}
-use Rattle.enet_slot.specs.Calls.{tells, event_of, GivesEvent, peer_packet}
-use Rattle.enet_host.specs.Foretelling.{teller_of, packet_of, Foretells, IsTeller}
+use Rattle.enet_slot.specs.Calls.{tells, event_of, GivesEvent, peer_packet, refused_in, submission, submitted_unless, kept, on_peer_in}
+use Rattle.enet_host.specs.Calls.{on_slot, on_named, put_back}
+use Rattle.enet_host.specs.Opening.{available}
+use Rattle.enet_host.specs.Foretelling.{next_name, submission_refusal, refusal_of, teller_of, packet_of, Foretells, IsTeller}
 use Rattle.enet_host.specs.Shown.{SlotIsNamed, SlotShows}
 use Rattle.enet_host.proofs.Asking.{some-same}
 use Rattle.enet_host.proofs.Holding.{turns-apart}
@@ -99,3 +105,30 @@ foretells-teller v old i name same first is = subst (λ (h : Host). Foretells te
         let named : name ≡ name_of takes.from takes.first.slot =
         is.named ∙ ap (λ (s : SlotState). name_of i s) (one ∙ two) ∙ ap (λ (j : ℕ). name_of j takes.first.slot) here in
         sym (ap teller_of takes.gives.told ∙ event-teller (name_of takes.from takes.first.slot) takes.gives.taken.event ∙ ap (λ (n : PeerRef). Some n) (sym named))
+
+-- the name of the next peer
+pub next-named : (c : Config) (slots : List SlotState) (i : ℕ) (name : PeerRef) → available c slots ≡ Some i → SlotIsNamed slots i name → Some name ≡ next_name c slots
+next-named c slots i name found is =
+    ap (λ (n : PeerRef). Some n) is.named ∙ ap (λ (o : Option SlotState). option_map (name_of i) o) (sym is.there)
+    ∙ ap (λ (o : Option ℕ). option_and_then (λ j. option_map (name_of j) (slice_get slots j)) o) (sym found)
+
+-- the refusal of a submission
+agrees-in : (slots : List SlotState) (i channel : ℕ) (s : SlotState) (p : Peering) (q : carriage.Packet) (o : Option Refusal)
+    → o ≡ refusal_of (put_back slots i (kept s (submitted_unless p channel q o)))
+agrees-in slots i channel s p q None = refl
+agrees-in slots i channel s p q (Some why) = refl
+
+agrees-peer : (slots : List SlotState) (i channel : ℕ) (s : SlotState) (q : carriage.Packet) (o : Option Peering)
+    → refused_in channel (length q.body) o ≡ refusal_of (put_back slots i (on_peer_in s (submission channel q) o))
+agrees-peer slots i channel s q None = refl
+agrees-peer slots i channel s q (Some p) = agrees-in slots i channel s p q (peers.submission_refusal p channel (length q.body))
+
+agrees-slot : (slots : List SlotState) (i channel : ℕ) (q : carriage.Packet) (o : Option SlotState)
+    → refused_in channel (length q.body) (peer_in o) ≡ refusal_of (on_slot slots i (submission channel q) o)
+agrees-slot slots i channel q None = refl
+agrees-slot slots i channel q (Some s) = agrees-peer slots i channel s q s.peer
+
+pub agrees-named : (slots : List SlotState) (name : PeerRef) (channel len : ℕ) (q : carriage.Packet) → length q.body ≡ len
+    → submission_refusal slots name channel len ≡ refusal_of (on_named slots name (submission channel q))
+agrees-named slots name channel len q e =
+    ap (λ (n : ℕ). submission_refusal slots name channel n) (sym e) ∙ agrees-slot slots name.slot channel q (slot_named slots name)

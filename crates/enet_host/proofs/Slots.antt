@@ -8,7 +8,7 @@ use Rattle.enet_sender.specs.Carriage.{Packet}
 use Rattle.enet_peer.specs.Peering.{Peering}
 use Rattle.enet_slot.specs.declared.slot.Slot.{Slot}
 use Rattle.enet_slot.specs.Slot.{SlotState}
-use Rattle.enet_host.specs.Host.{slot_named, with_generation}
+use Rattle.enet_host.specs.Host.{named, peer_in, slot_named, with_generation}
 use Rattle.enet_slot.specs.Calls.{on_peer, Does, DoesWithMemory, Submits, IsRefusedBy}
 use Rattle.enet_host.specs.Calls.{on_slot, on_named, put_back}
 use Rattle.enet_slot.specs.Slotted.{shown, all_shown}
@@ -44,6 +44,10 @@ named-is xs name i x e inside read some =
     let there : slice_get (all_shown xs) name.slot ≡ Some (shown x) =
     subst (λ (n : ℕ). slice_get (all_shown xs) n ≡ Some (shown x)) e (get-shown xs i x inside read) in
     with-generation name.generation (slice_get (all_shown xs) name.slot) (shown x) there some
+
+pub peer-named : (xs : List Slot) (name : PeerRef) (i : ℕ) (x : Slot) (p : Option Peering) → i ≡ name.slot → i < length xs → x ≡ get_or xs i x
+    → IsTrue (is_some (slot_named (all_shown xs) name)) → p ≡ (shown x).peer → p ≡ named (all_shown xs) name
+peer-named xs name i x p e inside read some is = is ∙ ap peer_in (sym (named-is xs name i x e inside read some))
 
 on-named : (xs : List Slot) (name : PeerRef) (call : Peering → Result Peering Refusal) (i : ℕ) (x : Slot) → i ≡ name.slot → i < length xs → x ≡ get_or xs i x
     → IsTrue (is_some (slot_named (all_shown xs) name)) → put_back (all_shown xs) i (on_peer (shown x) call) ≡ on_named (all_shown xs) name call

@@ -1,11 +1,15 @@
--- The first slot in turn tells its event.
-use Rattle.std.proofs.Common.{◌≡◌, ℕ, List, length, slice_get, ap₂, subst}
+-- The first slot in turn gave its event, or its datagram.
+use Rattle.std.proofs.Common.{◌≡◌, ℕ, Some, List, length, slice_get, ap₂, subst}
+use Rattle.enet_types.specs.declared.address.Addr.{Addr}
 use Rattle.enet_types.specs.declared.event.Event.{Event}
+use Rattle.enet_types.specs.declared.event.PeerRef.{PeerRef}
 use Rattle.enet_slot.specs.Slot.{SlotState}
 use Rattle.enet_host.specs.Host.{Host}
 use Rattle.enet_host.specs.Turns.{IsFirst, slot_after}
 use Rattle.enet_slot.specs.Calls.{tells, GivesEvent}
 use Rattle.enet_host.specs.Calls.{TakesOne}
+use Rattle.enet_host.specs.declared.totals.Totals.{Totals}
+use Rattle.enet_host.specs.Serving.{GivesInTurn, Serves, with_datagram_out}
 use Rattle.enet_host.specs.Shown.{SlotGivesEvent}
 use Rattle.enet_host.proofs.Asking.{some-same}
 
@@ -22,3 +26,10 @@ takes-at v old after i n event same first g next =
       gives = subst (λ (s : SlotState). GivesEvent i event s g.left) is g.gives;
       rest = ap₂ (λ (ss : List SlotState) (m : ℕ). record v { slots = ss; event_from = m }) g.after next;
     })
+
+pub serves-at : (v old : Host) (after : List SlotState) (n : ℕ) (t : Totals) (gave : PeerRef × Addr × ℕ) (buf : List ℕ) → v ≡ old
+    → GivesInTurn v.clock v.service_from v.slots gave.0 gave.1 gave.2 buf after → n ≡ slot_after (length v.slots) gave.0.slot → t ≡ with_datagram_out v.totals gave.2
+    → Serves old (Some gave) buf (record v { slots = after; service_from = n; totals = t })
+serves-at v old after n t gave buf same gives next counted =
+    subst (λ (h : Host). Serves h (Some gave) buf (record v { slots = after; service_from = n; totals = t })) same
+    (gives, ap₂ (λ (m : ℕ) (u : Totals). record v { slots = after; service_from = m; totals = u }) next counted)

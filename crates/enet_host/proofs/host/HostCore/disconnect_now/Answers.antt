@@ -1,7 +1,9 @@
-use Rattle.std.proofs.Common.{rules}
+use Rattle.std.proofs.Common.{subst}
 use Rattle.enet_types.specs.declared.event.DisconnectMode.TheVariants as mode
-use Rattle.enet_slot.specs.Calls.{leaving}
+use Rattle.enet_slot.specs.Calls.{leaving, Does}
 use Rattle.enet_slot.specs.Slotted.{all_shown}
+use Rattle.enet_host.specs.Calls.{on_named}
+use Rattle.enet_host.specs.Host.{Host}
 use Rattle.enet_host.proofs.Holding.{keeps-after, does-held}
 use Rattle.enet_host.proofs.host.HostCore.disconnect_now.Goals as goal
 
@@ -12,4 +14,6 @@ invariant_of-self c =
     (does-held (all_shown c.self.inside.slots.items) (all_shown c.disconnect.new.slots.items) c.args.peer (leaving mode.Now c.args.info) c.disconnect.result c.self.invariant.held c.disconnect.ensures.does)
 
 pub returns-clause-disconnects : goal.returns-clause-disconnects
-returns-clause-disconnects c = search rules
+returns-clause-disconnects c =
+    subst (λ (h : Host). Does c.disconnect.result (on_named h.slots c.args.peer (leaving mode.Now c.args.info)) h.slots (all_shown c.disconnect.new.slots.items)) c.self.view_is
+    c.disconnect.ensures.does

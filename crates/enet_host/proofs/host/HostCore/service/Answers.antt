@@ -1,7 +1,10 @@
-use Rattle.std.proofs.Common.{arith}
-use Rattle.std.proofs.lemmas.Grind.{common_steps}
+use Rattle.std.proofs.Common.{ℕ, ap, sym, ◌∙◌}
 use Rattle.enet_slot.specs.Slotted.{all_shown}
+use Rattle.enet_slot.proofs.Shown.{length-shown}
+use Rattle.enet_host.specs.Host.{Host}
+use Rattle.enet_host.specs.Turns.{slot_after}
 use Rattle.enet_host.proofs.Holding.{keeps-after, served-held, passed-held}
+use Rattle.enet_host.proofs.Telling.{serves-at}
 use Rattle.enet_host.proofs.host.HostCore.service.Goals as goal
 
 pub invariant_of-self : goal.invariant_of-self
@@ -17,4 +20,18 @@ invariant_of-self-2 c =
     (served-held _ _ (all_shown c.self.inside.slots.items) (all_shown c.serve.new.slots.items) _ _ _ _ c.self.invariant.held c.in-Some.ensures.gives)
 
 pub returns-clause-serves : goal.returns-clause-serves
-returns-clause-serves c = grind (arith, common_steps)
+returns-clause-serves c =
+    let inside = c.self.inside in
+    let v : Host = record {
+      config = inside.start.config;
+      clock = inside.start.clock;
+      shared_at = inside.shared_at;
+      service_from = inside.service_from;
+      event_from = inside.event_from;
+      totals = inside.totals;
+      slots = all_shown inside.slots.items;
+    } in
+    serves-at v c.args.self.now (all_shown c.serve.new.slots.items) c.slot_after-self-inside.result c.with_datagram_out-self-inside.result c.in-Some.sent c.serve.new.buf c.self.view_is
+    c.in-Some.ensures.gives
+    (c.slot_after-self-inside.ensures.after ∙ ap (λ (m : ℕ). slot_after m c.in-Some.sent.0.slot) (sym (length-shown inside.slots.items ∙ c.self.invariant.count)))
+    c.with_datagram_out-self-inside.ensures
