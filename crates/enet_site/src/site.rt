@@ -72,10 +72,14 @@ impl Site {
         ensures in_range { is_in_range config ≡ true → IfErr result (λ why. why ≡ Refusal.Memory) }
         ensures fresh { IfOk result (λ s. s ≡ record { address = address; host = joined config far; log = []; ends = joined_end ∷ [] }) }
     {
+        if !config.is_in_range() {
+            return Err(Refusal::BadConfig);
+        }
+        let records = Records::joined(alloc)?;
         Ok(Site {
             address,
             host: HostCore::joined(alloc, config, far)?,
-            records: Records::joined(alloc)?,
+            records,
         })
     }
 
