@@ -1,6 +1,10 @@
-use Rattle.std.proofs.Common.{◌≡◌, ◌&&◌, true, [], rules}
+use Rattle.std.proofs.Common.{◌≡◌, ◌&&◌, true, false, [], ap, rules}
 use Rattle.enet_types.specs.Config.{is_in_range}
+use Rattle.enet_network.specs.World.{World}
 use Rattle.enet_hosts.proofs.world.World.open.Goals as goal
+
+pub returns-clause-fresh : goal.returns-clause-fresh
+returns-clause-fresh c = ap (λ (w : World). record { joined = false; world = w }) c.in_ok-open.ensures.fresh
 
 pub invariant_of-result : goal.invariant_of-result
 invariant_of-result c =
