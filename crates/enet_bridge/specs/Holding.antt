@@ -5,7 +5,7 @@ use Rattle.enet_submit.specs.declared.order.Order.{Order}
 use Rattle.enet_submit.specs.declared.queue.SubmitQueue.{SubmitQueue}
 use Rattle.enet_submit.specs.Words.{sent}
 use Rattle.enet_events.specs.declared.numbered.Numbered.{Numbered}
-use Rattle.enet_events.specs.Words.{Queue, TakerFits}
+use Rattle.enet_events.specs.Words.{Queue, TakerState, TakerFits}
 use Rattle.enet_bridge.specs.declared.desk.Desk.{Desk}
 use Rattle.enet_bridge.specs.declared.inbox.Inbox.{Inbox}
 use Rattle.enet_bridge.specs.Ends.{orders}
@@ -17,14 +17,22 @@ desk_queue desk = desk.queue.now
 abbrev pub inbox_queue : Inbox → Queue
 inbox_queue inbox = inbox.queue.now
 
+-- the orders that wait at a desk
+abbrev pub waiting_at : Desk → List Order
+waiting_at desk = desk.waiting.items
+
 -- what a desk was asked: what its seat submitted, and then what waits
 abbrev pub asked : Desk → List Order
-asked desk = orders (sent desk.seat) ++ desk.waiting.items
+asked desk = orders (sent desk.seat) ++ waiting_at desk
+
+-- by what an inbox takes
+abbrev pub taker_of : Inbox → TakerState
+taker_of inbox = inbox.taker
 
 -- what an inbox took, in order
 abbrev pub received : Inbox → List Numbered
-received inbox = inbox.taker.taken
+received inbox = (taker_of inbox).taken
 
 -- at a moment of the call nothing was held, and what the inbox took is just its part of all that was posted until then
 abbrev pub FoundNone : Inbox → Type 0
-FoundNone inbox = Held 0 (λ held. (posted : List Numbered) × TakerFits inbox.taker posted held)
+FoundNone inbox = Held 0 (λ held. (posted : List Numbered) × TakerFits (taker_of inbox) posted held)

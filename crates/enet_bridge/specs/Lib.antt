@@ -1,3 +1,4 @@
 pub mod Ends
 pub mod Holding
 pub mod Memory
+pub mod Serving

@@ -1,5 +1,5 @@
 //! A seat with the orders that wait for room, and the bell that tells the service of what was submitted.
-ghost use Rattle.std.specs.Prelude.{◌≡◌, ◌++◌, ◌∷◌, [], OnOk, OnErr, IfErr, IsTrue, ◌↔◌, length};
+ghost use Rattle.std.specs.Prelude.{◌≡◌, ◌++◌, ◌∷◌, [], OnOk, OnErr, IfErr, IsTrue, ◌↔◌, ◌<◌, length};
 ghost use Rattle.enet_submit.specs.Words.{IsSeatOf, IsFinishedOf, sent, all_sent};
 ghost use Rattle.enet_bridge.specs.Ends.{orders};
 
@@ -23,12 +23,13 @@ pub struct Desk<'a> {
 }
 
 impl<'a> Desk<'a> {
-    ghost use Rattle.enet_bridge.specs.Holding.{asked, desk_queue};
+    ghost use Rattle.enet_bridge.specs.Holding.{asked, waiting_at, desk_queue};
 
     /// A desk at which nothing waits. The bell is that of the wire on which the service waits.
     pub fn new(alloc: Global, queue: &'a SubmitQueue, seat: Seat, bell: &'a Bell) -> Desk<'a>
         requires { IsSeatOf queue.now seat }
         ensures asked { asked result ≡ orders (sent seat) }
+        ensures none { waiting_at result ≡ [] }
         ensures queue { desk_queue result ≡ queue.now }
     {
         Desk {
@@ -67,10 +68,12 @@ impl<'a> Desk<'a> {
         }
     }
 
-    /// Submits what waits, oldest first, as far as there is room. What was asked stays the same. It never waits for room.
+    /// Submits what waits, oldest first, as far as there is room. What was asked stays the same. It never waits for room; where there
+    /// is none an order waits on.
     pub fn submit<R: Wait>(&mut self, rt: &R) -> Pumped
         ensures kept { asked self.new ≡ asked self.old }
-        ensures all { result ≡ Pumped.All → self.new.waiting.items ≡ [] }
+        ensures all { result ≡ Pumped.All → waiting_at self.new ≡ [] }
+        ensures full { result ≡ Pumped.Full → 0 < length (waiting_at self.new) }
         ensures queue { desk_queue self.new ≡ desk_queue self.old }
     {
         pump(rt, self.queue, &mut self.seat, &mut self.waiting)
@@ -83,14 +86,14 @@ impl<'a> Desk<'a> {
 
     /// How many orders wait.
     pub fn len(&self) -> usize
-        ensures { result ≡ length self.now.waiting.items }
+        ensures { result ≡ length (waiting_at self.now) }
     {
         self.waiting.len()
     }
 
     /// No order waits.
     pub fn is_empty(&self) -> bool
-        ensures { IsTrue result ↔ (length self.now.waiting.items ≡ 0) }
+        ensures { IsTrue result ↔ (waiting_at self.now ≡ []) }
     {
         self.waiting.is_empty()
     }
@@ -105,6 +108,7 @@ impl<'a> Desk<'a> {
     /// Gives the seat up, with what still waits.
     pub fn into_parts(self) -> (Finished, VecDeque<Order>)
         ensures fits { IsFinishedOf (desk_queue self.entry) result.0 }
+        ensures waits { result.1.items ≡ waiting_at self.entry }
         ensures all { asked self.entry ≡ orders (all_sent result.0) ++ result.1.items }
     {
         (self.seat.finish(), self.waiting)

@@ -65,12 +65,12 @@ pub struct Inbox<'a> {
 }
 
 impl<'a> Inbox<'a> {
-    ghost use Rattle.enet_bridge.specs.Holding.{inbox_queue, received, FoundNone};
+    ghost use Rattle.enet_bridge.specs.Holding.{inbox_queue, taker_of, received, FoundNone};
 
     /// An inbox of this queue.
     pub fn new(queue: &'a EventQueue, taker: Taker) -> Inbox<'a>
         requires { taker.queue ≡ queue.now.id }
-        ensures taker { result.taker ≡ taker }
+        ensures taker { taker_of result ≡ taker }
         ensures queue { inbox_queue result ≡ queue.now }
     {
         Inbox { queue, taker }
@@ -88,7 +88,7 @@ impl<'a> Inbox<'a> {
 
     /// The taker, by which the queue is settled.
     pub fn into_taker(self) -> Taker
-        ensures taker { result ≡ self.entry.taker }
+        ensures taker { result ≡ taker_of self.entry }
         ensures fits { result.queue ≡ (inbox_queue self.entry).id }
     {
         self.taker

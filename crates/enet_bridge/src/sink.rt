@@ -90,10 +90,13 @@ pub struct QueueSink<'a> {
 }
 
 impl<'a> QueueSink<'a> {
+    ghost use Rattle.enet_bridge.specs.Serving.{sink_queue, poster_of};
+
     /// A sink of this queue, from which the thread of this bell takes.
     pub fn new(queue: &'a EventQueue, poster: Poster, bell: &'a TakerBell) -> QueueSink<'a>
         requires { poster.queue ≡ queue.now.id }
-        ensures { (result.poster ≡ poster) × (result.queue ≡ queue.entry) }
+        ensures poster { poster_of result ≡ poster }
+        ensures queue { sink_queue result ≡ queue.now }
     {
         QueueSink {
             queue,
@@ -105,8 +108,8 @@ impl<'a> QueueSink<'a> {
 
     /// The poster, by which the queue is settled.
     pub fn into_poster(self) -> Poster
-        ensures poster { result ≡ self.entry.poster }
-        ensures fits { result.queue ≡ self.entry.queue.now.id }
+        ensures poster { result ≡ poster_of self.entry }
+        ensures fits { result.queue ≡ (sink_queue self.entry).id }
     {
         self.poster
     }
@@ -115,8 +118,9 @@ impl<'a> QueueSink<'a> {
 impl<'a> Sink for QueueSink<'a> {
     ghost use Rattle.std.specs.Prelude.{◌≡◌};
     ghost use Rattle.enet_bridge.specs.Ends.{PosterPuts};
+    ghost use Rattle.enet_bridge.specs.Serving.{sink_queue, poster_of};
 
-    ghost puts = { λ s event taken t. (t.queue ≡ s.queue) × PosterPuts s.queue.now s.poster event taken t.poster };
+    ghost puts = { λ s event taken t. (sink_queue t ≡ sink_queue s) × PosterPuts (sink_queue s) (poster_of s) event taken (poster_of t) };
 
     fn put<R: Wait>(&mut self, rt: &R, event: Event) -> Result<(), Event> {
         match self.queue.post(rt, &mut self.poster, event) {

@@ -72,10 +72,13 @@ pub struct QueueSource<'a> {
 }
 
 impl<'a> QueueSource<'a> {
+    ghost use Rattle.enet_bridge.specs.Serving.{queue_of, drain_of};
+
     /// A source of this queue, whose service waits on the wire of this bell.
     pub fn new(queue: &'a SubmitQueue, drain: Drain, bell: &'a Bell) -> QueueSource<'a>
         requires { IsDrainOf queue.now drain }
-        ensures { (result.drain ≡ drain) × (result.queue ≡ queue.entry) }
+        ensures drain { drain_of result ≡ drain }
+        ensures queue { queue_of result ≡ queue.now }
     {
         QueueSource {
             queue,
@@ -87,8 +90,8 @@ impl<'a> QueueSource<'a> {
 
     /// The drain, by which the queue is settled.
     pub fn into_drain(self) -> Drain
-        ensures drain { result ≡ self.entry.drain }
-        ensures fits { IsDrainOf self.entry.queue.now result }
+        ensures drain { result ≡ drain_of self.entry }
+        ensures fits { IsDrainOf (queue_of self.entry) result }
     {
         self.drain
     }
@@ -97,8 +100,9 @@ impl<'a> QueueSource<'a> {
 impl<'a> Source for QueueSource<'a> {
     ghost use Rattle.std.specs.Prelude.{◌≡◌};
     ghost use Rattle.enet_bridge.specs.Ends.{DrainGives};
+    ghost use Rattle.enet_bridge.specs.Serving.{queue_of, drain_of};
 
-    ghost gives = { λ s x t. (t.queue ≡ s.queue) × DrainGives s.queue.now s.drain x t.drain };
+    ghost gives = { λ s x t. (queue_of t ≡ queue_of s) × DrainGives (queue_of s) (drain_of s) x (drain_of t) };
 
     fn next<R: Wait>(&mut self, rt: &R) -> Option<Submission> {
         let item = self.queue.take(rt, &mut self.drain);

@@ -1,5 +1,5 @@
 //! Orders that wait for room in the submit queue.
-ghost use Rattle.std.specs.Prelude.{◌≡◌, ◌++◌, [], length};
+ghost use Rattle.std.specs.Prelude.{◌≡◌, ◌<◌, ◌++◌, [], length};
 ghost use Rattle.crossbeam_queue.specs.Fifo.{Held};
 ghost use Rattle.enet_submit.specs.Words.{IsSeatOf, sent, limit_of, capacity_of, SeatSees};
 ghost use Rattle.enet_bridge.specs.Ends.{orders};
@@ -36,6 +36,7 @@ pub fn pump<R: Wait>(
     ensures kept { orders (sent seat.new) ++ waiting.new.items ≡ orders (sent seat.old) ++ waiting.old.items }
     ensures all { result ≡ Pumped.All → waiting.new.items ≡ [] }
     ensures spent { result ≡ Pumped.Spent → length (sent seat.new) ≡ limit_of queue.now }
+    ensures waits { result ≡ Pumped.Full → 0 < length waiting.new.items }
     ensures full { result ≡ Pumped.Full → Held (capacity_of queue.now) (SeatSees queue.now seat.new) }
 {
     while let Some(order) = waiting.pop_front() {

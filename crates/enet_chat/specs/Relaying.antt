@@ -1,12 +1,34 @@
 -- What the relay's thread makes of the events that it takes.
-use Rattle.std.specs.Prelude.{◌≡◌, List, [], ◌∷◌, ◌++◌, map}
+use Rattle.std.specs.Prelude.{◌≡◌, ◌⊎◌, ◌<◌, List, [], ◌∷◌, ◌++◌, map, length}
 use Rattle.enet_types.specs.declared.event.PeerRef.{PeerRef}
 use Rattle.enet_types.specs.declared.event.Event.{Event}
 use Rattle.enet_submit.specs.declared.order.Order.{Order}
 use Rattle.enet_events.specs.declared.numbered.Numbered.{Numbered}
 use Rattle.enet_chat.specs.Chat.{noted, relayed}
-use Rattle.enet_bridge.specs.Holding.{desk_queue, inbox_queue, asked, received}
+use Rattle.enet_bridge.specs.declared.desk.Desk.{Desk}
+use Rattle.enet_bridge.specs.declared.inbox.Inbox.{Inbox}
+use Rattle.enet_bridge.specs.Holding.{desk_queue, inbox_queue, waiting_at, asked, received}
 use Rattle.enet_chat.specs.declared.relaying.Relay.{Relay}
+
+-- the peers that a relay knows, the events that it took and has not expanded, and its ends of the queues
+abbrev pub peers_of : Relay → List PeerRef
+peers_of relay = relay.table
+
+abbrev pub backlog_of : Relay → List Event
+backlog_of relay = relay.backlog.items
+
+abbrev pub desk_of : Relay → Desk
+desk_of relay = relay.desk
+
+abbrev pub inbox_of : Relay → Inbox
+inbox_of relay = relay.inbox
+
+-- events are left only where orders wait
+abbrev pub AreBehind : List Event → List Order → Type 0
+AreBehind backlog waiting = (backlog ≡ []) ⊎ (0 < length waiting)
+
+abbrev pub IsThrough : Relay → Type 0
+IsThrough relay = AreBehind (backlog_of relay) (waiting_at (desk_of relay))
 
 -- events without their numbers
 abbrev pub events : List Numbered → List Event
@@ -24,15 +46,15 @@ relayed_all peers (e ∷ es) = relayed (noted peers e) e ++ relayed_all (noted p
 
 -- between the same queues
 abbrev pub SameQueues : Relay → Relay → Type 0
-SameQueues old new = (desk_queue new.desk ≡ desk_queue old.desk) × (inbox_queue new.inbox ≡ inbox_queue old.inbox)
+SameQueues old new = (desk_queue (desk_of new) ≡ desk_queue (desk_of old)) × (inbox_queue (inbox_of new) ≡ inbox_queue (inbox_of old))
 
 -- From one state of a relay to a later one: it took these events, and expanded those, in the order in which they were taken.
 -- The table is what those made of it, and what was asked is what was asked before and then their orders
 pub record Relays (old new : Relay) : Type 0 where
   pub taken : List Event
   pub expanded : List Event
-  pub took : events (received new.inbox) ≡ events (received old.inbox) ++ taken
-  pub in_order : old.backlog.items ++ taken ≡ expanded ++ new.backlog.items
-  pub peers : new.table ≡ noted_all old.table expanded
-  pub orders : asked new.desk ≡ asked old.desk ++ relayed_all old.table expanded
+  pub took : events (received (inbox_of new)) ≡ events (received (inbox_of old)) ++ taken
+  pub in_order : backlog_of old ++ taken ≡ expanded ++ backlog_of new
+  pub peers : peers_of new ≡ noted_all (peers_of old) expanded
+  pub orders : asked (desk_of new) ≡ asked (desk_of old) ++ relayed_all (peers_of old) expanded
   pub same_queues : SameQueues old new

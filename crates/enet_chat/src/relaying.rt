@@ -66,11 +66,11 @@ enum Found {
 }
 
 impl<'a> Relay<'a> {
-    ghost use Rattle.std.specs.Prelude.{◌≡◌, ◌⊎◌, ◌++◌, true, OnOk, IfOk, IfErr};
+    ghost use Rattle.std.specs.Prelude.{◌≡◌, ◌⊎◌, ◌<◌, ◌++◌, [], true, false, length, OnOk, IfOk, IfErr};
     ghost use Rattle.enet_submit.specs.Words.{IsFinishedOf, all_sent};
     ghost use Rattle.enet_bridge.specs.Ends.{orders};
-    ghost use Rattle.enet_bridge.specs.Holding.{asked, received, desk_queue, inbox_queue, FoundNone};
-    ghost use Rattle.enet_chat.specs.Relaying.{Relays};
+    ghost use Rattle.enet_bridge.specs.Holding.{asked, waiting_at, received, desk_queue, inbox_queue, FoundNone};
+    ghost use Rattle.enet_chat.specs.Relaying.{peers_of, backlog_of, desk_of, inbox_of, Relays, IsThrough};
 
     /// A relay that goes on from these peers and these events.
     pub fn new(
@@ -80,7 +80,10 @@ impl<'a> Relay<'a> {
         inbox: Inbox<'a>,
         backlog: VecDeque<Event>,
     ) -> Relay<'a>
-        ensures { (result.table ≡ table) × (result.desk ≡ desk.entry) × (result.inbox ≡ inbox.entry) × (result.backlog ≡ backlog) }
+        ensures peers { peers_of result ≡ table }
+        ensures desk { desk_of result ≡ desk.entry }
+        ensures inbox { inbox_of result ≡ inbox.entry }
+        ensures backlog { backlog_of result ≡ backlog.items }
     {
         Relay {
             alloc,
@@ -94,11 +97,12 @@ impl<'a> Relay<'a> {
 
     /// Gives seat and taker up, with the peers, the events that were not expanded and the orders that found no room.
     pub fn into_parts(self) -> Parts
-        ensures peers { result.table ≡ self.entry.table }
-        ensures backlog { result.backlog ≡ self.entry.backlog }
-        ensures orders { asked self.entry.desk ≡ orders (all_sent result.seat) ++ result.orders.items }
-        ensures taken { result.taker.taken ≡ received self.entry.inbox }
-        ensures fits { IsFinishedOf (desk_queue self.entry.desk) result.seat × (result.taker.queue ≡ (inbox_queue self.entry.inbox).id) }
+        ensures peers { result.table ≡ peers_of self.entry }
+        ensures backlog { result.backlog.items ≡ backlog_of self.entry }
+        ensures waits { result.orders.items ≡ waiting_at (desk_of self.entry) }
+        ensures orders { asked (desk_of self.entry) ≡ orders (all_sent result.seat) ++ result.orders.items }
+        ensures taken { result.taker.taken ≡ received (inbox_of self.entry) }
+        ensures fits { IsFinishedOf (desk_queue (desk_of self.entry)) result.seat × (result.taker.queue ≡ (inbox_queue (inbox_of self.entry)).id) }
     {
         let (seat, orders) = self.desk.into_parts();
         Parts {
@@ -111,7 +115,7 @@ impl<'a> Relay<'a> {
     }
 
     /// Takes events, expands them by the rule of the relay and submits their orders, until the service has ended and no event
-    /// is left. It never waits for room while the service holds an event back. Meanwhile `present` shows how many peers are connected.
+    /// is left; those that it took are expanded then, unless orders wait for room. It never waits for room while the service holds an event back. Meanwhile `present` shows how many peers are connected.
     ///
     /// E1 for want of memory, E10 where the seat has submitted as many orders as it may; the relay is then as after all that it
     /// did before.
@@ -123,7 +127,8 @@ impl<'a> Relay<'a> {
         present: &AtomicUsize,
     ) -> Result<(), Refusal>
         ensures relays { Relays self.old self.new }
-        ensures none_left { OnOk result (FoundNone self.new.inbox) }
+        ensures none_left { OnOk result (FoundNone (inbox_of self.new)) }
+        ensures through { OnOk result (IsThrough self.new) }
         ensures why { IfErr result (λ why. (why ≡ Refusal.Memory) ⊎ (why ≡ Refusal.SeatSpent)) }
     {
         let mut pace = Pace::new();
@@ -145,7 +150,8 @@ impl<'a> Relay<'a> {
         pace: &mut Pace,
     ) -> Result<bool, Refusal>
         ensures relays { Relays self.old self.new }
-        ensures none { IfOk result (λ over. over ≡ true → FoundNone self.new.inbox) }
+        ensures none { IfOk result (λ over. over ≡ true → FoundNone (inbox_of self.new)) }
+        ensures through { IfOk result (λ over. over ≡ true → IsThrough self.new) }
         ensures why { IfErr result (λ why. (why ≡ Refusal.Memory) ⊎ (why ≡ Refusal.SeatSpent)) }
     {
         let over = ended.load(SeqCst);
@@ -170,7 +176,8 @@ impl<'a> Relay<'a> {
     // Submits what waits, and then expands an event or takes one.
     fn step<R: Wait>(&mut self, rt: &R, bell: &TakerBell, over: bool) -> Result<Found, Refusal>
         ensures relays { Relays self.old self.new }
-        ensures none { IfOk result (λ found. found ≡ Found.Nothing → FoundNone self.new.inbox) }
+        ensures none { IfOk result (λ found. found ≡ Found.Nothing → FoundNone (inbox_of self.new)) }
+        ensures through { IfOk result (λ found. found ≡ Found.Nothing → IsThrough self.new) }
         ensures why { IfErr result (λ why. (why ≡ Refusal.Memory) ⊎ (why ≡ Refusal.SeatSpent)) }
     {
         match self.submit(rt) {
@@ -191,7 +198,8 @@ impl<'a> Relay<'a> {
 
     // Submits what waits, and tells the service where there is no room or much was submitted.
     fn submit<R: Wait>(&mut self, rt: &R) -> Pumped
-        ensures { Relays self.old self.new }
+        ensures relays { Relays self.old self.new }
+        ensures full { result ≡ Pumped.Full → 0 < length (waiting_at (desk_of self.new)) }
     {
         let pumped = self.desk.submit(rt);
         if pumped == Pumped::Full || self.untold >= MOST_ORDERS {
@@ -204,7 +212,8 @@ impl<'a> Relay<'a> {
     // Takes an event.
     fn take<R: Wait>(&mut self, rt: &R) -> Result<Found, Refusal>
         ensures relays { Relays self.old self.new }
-        ensures none { IfOk result (λ found. found ≡ Found.Nothing → FoundNone self.new.inbox) }
+        ensures none { IfOk result (λ found. found ≡ Found.Nothing → FoundNone (inbox_of self.new)) }
+        ensures same { IfOk result (λ found. found ≡ Found.Nothing → (backlog_of self.new ≡ backlog_of self.old) × (desk_of self.new ≡ desk_of self.old)) }
         ensures why { IfErr result (λ why. why ≡ Refusal.Memory) }
     {
         if self.backlog.reserve(1).is_err() {
@@ -222,6 +231,7 @@ impl<'a> Relay<'a> {
     // Expands the oldest event that was taken and wasn't yet, if there is one.
     fn expand(&mut self) -> Result<bool, Refusal>
         ensures relays { Relays self.old self.new }
+        ensures none { IfOk result (λ found. found ≡ false → backlog_of self.new ≡ []) }
         ensures why { IfErr result (λ why. why ≡ Refusal.Memory) }
     {
         let Some(event) = self.backlog.pop_front() else {
@@ -241,7 +251,8 @@ impl<'a> Relay<'a> {
 
     // Tells the service that there are orders.
     fn tell(&mut self)
-        ensures { Relays self.old self.new }
+        ensures relays { Relays self.old self.new }
+        ensures same { desk_of self.new ≡ desk_of self.old }
     {
         self.untold = 0;
         self.desk.ring();

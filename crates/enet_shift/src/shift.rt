@@ -1,7 +1,7 @@
 //! How long a service takes turns.
 ghost use Rattle.std.specs.Prelude.{◌≡◌, ◌≤◌, List, length, IfOk};
 ghost use Rattle.enet_turn.specs.Run.{Round as OneTurn};
-ghost use Rattle.enet_turn.specs.Queues.{queue_of, drain_of, poster_of};
+ghost use Rattle.enet_bridge.specs.Serving.{queue_of, drain_of, poster_of};
 ghost use Rattle.enet_shift.specs.Shifts.{Lasts, Spell};
 
 use enet_host::HostCore;

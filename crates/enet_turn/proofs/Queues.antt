@@ -1,5 +1,5 @@
 -- What many calls of a source and of a sink over the queues come to.
-use Rattle.std.proofs.Common.{◌≡◌, ℕ, ◌+◌, ◌==◌, Bool, true, false, cond, List, [], ◌∷◌, ◌++◌, length, Option, Some, None, sym, refl, ap, ◌∙◌, subst, append_assoc, append-nil, length-append, arith, eq-eqb, ne_eqb, Bor}
+use Rattle.std.proofs.Common.{◌≡◌, ℕ, ◌+◌, ◌==◌, Bool, true, false, cond, List, [], ◌∷◌, ◌++◌, length, Option, Some, None, sym, refl, ap, ◌∙◌, subst, append_assoc, append-nil, length-append, arith, eq-eqb, ne_eqb}
 use Rattle.std.specs.Prelude.{map}
 use Rattle.std.proofs.lemmas.List.{map-append}
 use Rattle.std.proofs.lemmas.List.Elements.{filter-append}
@@ -12,10 +12,11 @@ use Rattle.enet_submit.specs.History.{of, CountsFrom, IsHistory}
 use Rattle.enet_submit.specs.Words.{taken, seats_of}
 use Rattle.enet_events.specs.Words.{Queue, PosterState, next}
 use Rattle.enet_bridge.specs.Ends.{DrainGives, PosterPuts}
+use Rattle.enet_bridge.specs.Serving.{queue_of, drain_of, sink_queue, poster_of}
 use Rattle.enet_bridge.specs.declared.source.QueueSource.{QueueSource}
 use Rattle.enet_bridge.specs.declared.sink.QueueSink.{QueueSink}
 use Rattle.enet_turn.specs.Phases.{Chain}
-use Rattle.enet_turn.specs.Queues.{given, accepted, queue_of, drain_of, poster_of, DrainsOn, PostsOn}
+use Rattle.enet_turn.specs.Queues.{given, accepted, DrainsOn, PostsOn}
 
 -- ---- numbers without gaps
 counts_more : (k : ℕ) (xs ys : List Submission) → CountsFrom k xs → CountsFrom (k + length xs) ys → CountsFrom k (xs ++ ys)
@@ -60,17 +61,17 @@ given_split None xs = refl
 given_split (Some x) xs = refl
 
 abbrev pub SourceGives : QueueSource → Option Submission → QueueSource → Type 0
-SourceGives s x t = (t.queue ≡ s.queue) × DrainGives s.queue.now s.drain x t.drain
+SourceGives s x t = (queue_of t ≡ queue_of s) × DrainGives (queue_of s) (drain_of s) x (drain_of t)
 
 pub drains_on : (old : QueueSource) (gave : List (Option Submission)) (new : QueueSource) → Chain SourceGives old gave new
-    → (new.queue ≡ old.queue) × DrainsOn (queue_of old) (drain_of old) (given gave) (drain_of new)
-drains_on old [] new e = (ap (λ (s : QueueSource). s.queue) e, drains_none (queue_of old) (drain_of old) (drain_of new) (ap (λ (s : QueueSource). taken s.drain) e))
+    → (queue_of new ≡ queue_of old) × DrainsOn (queue_of old) (drain_of old) (given gave) (drain_of new)
+drains_on old [] new e = (ap queue_of e, drains_none (queue_of old) (drain_of old) (drain_of new) (ap (λ (s : QueueSource). taken (drain_of s)) e))
 drains_on old (x ∷ xs) new c =
     let between : QueueSource = c.0 in
     let rest = drains_on between xs new c.2 in
     let one = drains_one (queue_of old) (drain_of old) (drain_of between) x c.1.1 in
     let more : DrainsOn (queue_of old) (drain_of between) (given xs) (drain_of new) =
-    subst (λ (q : Bor SubmitQueue). DrainsOn q.now (drain_of between) (given xs) (drain_of new)) c.1.0 rest.1 in (
+    subst (λ (q : SubmitQueue). DrainsOn q (drain_of between) (given xs) (drain_of new)) c.1.0 rest.1 in (
       rest.0 ∙ c.1.0,
       subst (λ (zs : List Submission). DrainsOn (queue_of old) (drain_of old) zs (drain_of new)) (given_split x xs)
           (drains_more (queue_of old) (drain_of old) (drain_of between) (drain_of new) (given (x ∷ [])) (given xs) one more),
@@ -95,12 +96,12 @@ posts_more a b c es fs f g = record {
 }
 
 abbrev pub SinkPuts : QueueSink → Event × Bool → QueueSink → Type 0
-SinkPuts s x t = (t.queue ≡ s.queue) × PosterPuts s.queue.now s.poster x.0 x.1 t.poster
+SinkPuts s x t = (sink_queue t ≡ sink_queue s) × PosterPuts (sink_queue s) (poster_of s) x.0 x.1 (poster_of t)
 
 pub posts_on : (old : QueueSink) (puts : List (Event × Bool)) (new : QueueSink) → Chain SinkPuts old puts new → PostsOn (poster_of old) (accepted puts) (poster_of new)
-posts_on old [] new e = record { same = ap (λ (s : QueueSink). s.poster.queue) e; grown = ap (λ (s : QueueSink). events_of s.poster) e ∙ sym (append-nil (events_of old.poster)) }
+posts_on old [] new e = record { same = ap (λ (s : QueueSink). (poster_of s).queue) e; grown = ap (λ (s : QueueSink). events_of (poster_of s)) e ∙ sym (append-nil (events_of (poster_of old))) }
 posts_on old (x ∷ xs) new c =
     let between : QueueSink = c.0 in
-    let one = posts_one old.queue.now old.poster between.poster x c.1.1 in
+    let one = posts_one (sink_queue old) (poster_of old) (poster_of between) x c.1.1 in
     subst (λ (zs : List Event). PostsOn (poster_of old) zs (poster_of new)) (accepted_split x xs)
-    (posts_more old.poster between.poster new.poster (accepted (x ∷ [])) (accepted xs) one (posts_on between xs new c.2))
+    (posts_more (poster_of old) (poster_of between) (poster_of new) (accepted (x ∷ [])) (accepted xs) one (posts_on between xs new c.2))

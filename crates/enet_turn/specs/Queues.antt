@@ -8,8 +8,6 @@ use Rattle.enet_submit.specs.declared.token.Drain.{Drain}
 use Rattle.enet_submit.specs.History.{of, CountsFrom}
 use Rattle.enet_submit.specs.Words.{taken, BeganHistory}
 use Rattle.enet_events.specs.Words.{PosterState}
-use Rattle.enet_bridge.specs.declared.source.QueueSource.{QueueSource}
-use Rattle.enet_bridge.specs.declared.sink.QueueSink.{QueueSink}
 
 -- the submissions that were given
 abbrev pub given : List (Option Submission) → List Submission
@@ -18,16 +16,6 @@ given gave = filter_map (λ x. x) gave
 -- the events that were taken
 abbrev pub accepted : List (Event × Bool) → List Event
 accepted puts = map (λ x. x.0) (filter (λ x. x.1) puts)
-
--- what a source and a sink over the queues hold
-abbrev pub queue_of : QueueSource → SubmitQueue
-queue_of source = source.queue.now
-
-abbrev pub drain_of : QueueSource → Drain
-drain_of source = source.drain
-
-abbrev pub poster_of : QueueSink → PosterState
-poster_of sink = sink.poster
 
 -- a drain went on by these submissions: each seat's are its next ones, each once and in the seat's order, and what the drain
 -- took still begins a history of the queue

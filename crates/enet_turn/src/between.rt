@@ -2,7 +2,8 @@
 ghost use Rattle.std.specs.Prelude.{◌≡◌, ◌+◌, List, is_err};
 ghost use Rattle.enet_wire.specs.Wires.{also, unless_spent};
 ghost use Rattle.enet_turn.specs.Run.{Round, Rounds, Ends, all_gave, all_told, all_puts};
-ghost use Rattle.enet_turn.specs.Queues.{given, accepted, queue_of, drain_of, poster_of, DrainsOn, PostsOn};
+ghost use Rattle.enet_turn.specs.Queues.{given, accepted, DrainsOn, PostsOn};
+ghost use Rattle.enet_bridge.specs.Serving.{queue_of, drain_of, poster_of};
 ghost use Rattle.enet_turn.specs.Counts.{count_of};
 
 use crate::host::Core;

@@ -1,5 +1,5 @@
 use Rattle.std.proofs.Common.{◌≡◌, List}
-use Rattle.enet_turn.specs.Queues.{queue_of, drain_of, poster_of}
+use Rattle.enet_bridge.specs.Serving.{queue_of, drain_of, poster_of}
 use Rattle.enet_turn.specs.Run.{Round}
 use Rattle.enet_shift.specs.Shifts.{Spell}
 use Rattle.enet_shift.proofs.shift.turns_for.Given as goal

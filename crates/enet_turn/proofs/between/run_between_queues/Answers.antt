@@ -1,5 +1,4 @@
-use Rattle.std.proofs.Common.{List, ap, Bor}
-use Rattle.enet_submit.specs.declared.queue.SubmitQueue.{SubmitQueue}
+use Rattle.std.proofs.Common.{List}
 use Rattle.enet_turn.specs.Run.{Round, all_gave, all_puts}
 use Rattle.enet_turn.proofs.Queues.{drains_on, posts_on}
 use Rattle.enet_turn.proofs.between.run_between_queues.Goals as goal
@@ -10,4 +9,4 @@ returns g c =
     let rounds : List Round = ran.0 in
     let drained = drains_on c.args.source.now (all_gave rounds) c.run.new.source ran.2 in
     let posted = posts_on c.args.sink.now (all_puts rounds) c.run.new.sink ran.3 in
-    record { run = (rounds, ran.1, ap (λ (q : Bor SubmitQueue). q.now) drained.0, drained.1, posted, ran.4, ran.5); faults = c.run.ensures.faults }
+    record { run = (rounds, ran.1, drained.0, drained.1, posted, ran.4, ran.5); faults = c.run.ensures.faults }

@@ -6,17 +6,17 @@ use Rattle.enet_chat.proofs.relaying.Relay.step.Goals.{in-Full+else-not-over, in
 use Rattle.enet_chat.proofs.relaying.Relay.step.Goals as goal
 
 pub returns-in_err-expand-in-All-clause-relays : goal.returns-in_err-expand-in-All-clause-relays
-returns-in_err-expand-in-All-clause-relays g c = relays_on _ _ _ c.submit.ensures c.expand.ensures.relays
+returns-in_err-expand-in-All-clause-relays g c = relays_on _ _ _ c.submit.ensures.relays c.expand.ensures.relays
 
 pub returns-then-branch-clause-relays : goal.returns-then-branch-clause-relays
-returns-then-branch-clause-relays g c = relays_on _ _ _ c.submit.ensures c.expand.ensures.relays
+returns-then-branch-clause-relays g c = relays_on _ _ _ c.submit.ensures.relays c.expand.ensures.relays
 
 pub returns-clause-relays : goal.returns-clause-relays
 returns-clause-relays g c =
     let before : Relays c.args.self.now c.match-submit.self =
     elim c.match-submit.branch [
-      | in-Full+else-not-over w ↦ subst (λ (s : Relay). Relays c.args.self.now s) (sym w.self-is) c.submit.ensures
+      | in-Full+else-not-over w ↦ subst (λ (s : Relay). Relays c.args.self.now s) (sym w.self-is) c.submit.ensures.relays
       | in-All+in_ok-expand-in-All+else-branch w ↦
-          subst (λ (s : Relay). Relays c.args.self.now s) (sym w.self-is) (relays_on _ _ _ c.submit.ensures w.expand.ensures.relays)
+          subst (λ (s : Relay). Relays c.args.self.now s) (sym w.self-is) (relays_on _ _ _ c.submit.ensures.relays w.expand.ensures.relays)
     ] in
     relays_on _ _ _ before c.take.ensures.relays
