@@ -1,5 +1,5 @@
 -- Turns in which the wire did not fail, one run of them after another.
-use Rattle.std.proofs.Common.{◌≡◌, ℕ, ◌+◌, Bool, List, [], ◌++◌, Option, refl, sym, ap, ◌∙◌, append_assoc, arith}
+use Rattle.std.proofs.Common.{◌≡◌, ◌⊎◌, inl, inr, ℕ, ◌+◌, Bool, List, [], ◌++◌, Option, refl, sym, ap, ◌∙◌, append_assoc, arith}
 use Rattle.std.specs.Prelude.{map}
 use Rattle.std.specs.List.{sum_by}
 use Rattle.std.proofs.lemmas.List.{append-nil, map-append}
@@ -13,10 +13,13 @@ use Rattle.enet_submit.specs.Words.{taken}
 use Rattle.enet_events.specs.declared.numbered.Numbered.{Numbered}
 use Rattle.enet_events.specs.Words.{PosterState}
 use Rattle.enet_host.specs.Host.{Host}
+use Rattle.enet_types.specs.declared.refusal.Refusal.{Refusal}
+use Rattle.enet_types.specs.declared.refusal.Refusal.TheVariants.{WireFault}
+use Rattle.enet_turn.specs.declared.report.Fault.{Fault}
 use Rattle.enet_turn.specs.declared.report.Report.{Report}
 use Rattle.enet_turn.specs.Counts.{stopped}
 use Rattle.enet_turn.specs.Queues.{given, accepted}
-use Rattle.enet_turn.specs.Run.{Round, IsSound, all_gave, all_puts, total}
+use Rattle.enet_turn.specs.Run.{Round, IsSound, EndsInTurn, EndsInWait, all_gave, all_puts, total}
 use Rattle.enet_turn.proofs.PhaseSteps.{chain_more}
 use Rattle.enet_turn.proofs.Reporting.{same_report}
 use Rattle.enet_shift.specs.Shifts.{Spell}
@@ -24,6 +27,11 @@ use Rattle.enet_shift.specs.Shifts.{Spell}
 -- events without their numbers
 abbrev events : List Numbered → List Event
 events numbered = map (λ x. x.event) numbered
+
+-- a run ends early where the wire failed, in a turn or in a wait
+pub fault_of_wire : (turns : ℕ) (rounds : List Round) (fault : Fault) → EndsInTurn turns rounds fault ⊎ EndsInWait turns rounds fault → fault.why ≡ WireFault
+fault_of_wire turns rounds fault (inl e) = ap (λ (f : Fault). f.why) e.told
+fault_of_wire turns rounds fault (inr e) = ap (λ (f : Fault). f.why) e.told
 
 sum_of_both : (f : Round → ℕ) (xs ys : List Round) (a b : ℕ) → a ≡ stopped (sum_by f xs) → b ≡ stopped (sum_by f ys) → stopped (a + b) ≡ stopped (sum_by f (xs ++ ys))
 sum_of_both f xs ys a b ea eb = omega (arith, sum_by-append f xs ys, ea, eb)

@@ -1,7 +1,9 @@
 -- What a service's thread does in a shift.
-use Rattle.std.specs.Prelude.{◌≡◌, ◌≤◌, List, [], ◌++◌, length, Option}
+use Rattle.std.specs.Prelude.{◌≡◌, ◌⊎◌, ℕ, ◌≤◌, List, [], ◌++◌, length, Option}
 use Rattle.std.specs.List.{All}
 use Rattle.enet_types.specs.declared.event.Event.{Event}
+use Rattle.enet_types.specs.declared.refusal.Refusal.{Refusal}
+use Rattle.enet_types.specs.declared.refusal.Refusal.TheVariants.{Memory, BadConfig, StillHeld}
 use Rattle.enet_submit.specs.declared.token.Drain.{Drain}
 use Rattle.enet_submit.specs.declared.queue.SubmitQueue.{SubmitQueue}
 use Rattle.enet_submit.specs.Words.{IsSeatOf, IsDrainOf, seats_of, sent, taken}
@@ -16,6 +18,18 @@ use Rattle.enet_shift.specs.declared.shift.Shift.{Shift}
 use Rattle.enet_shift.specs.declared.shift.Shift.TheVariants.{Turns, Time}
 use Rattle.enet_shift.specs.declared.turning.ServiceEnds.{ServiceEnds}
 use Rattle.enet_shift.specs.declared.turning.Turned.{Turned}
+
+-- how many places a queue may have
+abbrev pub IsRoom : ℕ → Type 0
+IsRoom room = (1 ≤ room) × (room ≤ 65536)
+
+-- why there are no queues of so many places
+abbrev pub AreNotOpened : ℕ → Refusal → Type 0
+AreNotOpened room why = (why ≡ Memory) ⊎ ((why ≡ BadConfig) × ¬ (IsRoom room))
+
+-- why a queue was not settled
+abbrev pub IsNotSettled : Refusal → Type 0
+IsNotSettled why = (why ≡ Memory) ⊎ (why ≡ StillHeld)
 
 -- two queues with all their ends, one seat and one taker, through which nothing went
 pub record AreNew (q : Queues) : Type 0 where

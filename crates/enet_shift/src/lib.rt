@@ -1,7 +1,7 @@
 //! A service's thread, and the two queues between it and one other thread: how they are opened, how long it takes turns, and how the
 //! queues are settled once both threads have ended.
 //!
-//! Proved: a shift ([`serve_turns`], `HasTurned`) is turns of the service, as many as were asked for where a number was and at least one
+//! Proved: a shift ([`beside_turns`], `HasTurned`) is turns of the service, as many as were asked for where a number was and at least one
 //! where a time was, in none of which the wire failed, and its report their sums; what the turns were given is what the drain took, and
 //! what they put is what the poster posted. Once settled, the only taker took all that was posted ([`settle_events`]), and the orders
 //! that the drain didn't take are told in order ([`untaken`]).
@@ -16,4 +16,4 @@ mod turning;
 pub use queues::Queues;
 pub use settling::{settle_events, untaken};
 pub use shift::Shift;
-pub use turning::{ServiceEnds, Shared, Turned, serve_turns};
+pub use turning::{ServiceEnds, Shared, Turned, beside_turns};

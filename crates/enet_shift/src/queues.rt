@@ -20,12 +20,14 @@ pub struct Queues {
 }
 
 impl Queues {
-    ghost use Rattle.std.specs.Prelude.{IfOk};
-    ghost use Rattle.enet_shift.specs.Shifts.{AreNew};
+    ghost use Rattle.std.specs.Prelude.{IfOk, IfErr, OnOk};
+    ghost use Rattle.enet_shift.specs.Shifts.{AreNew, IsRoom, AreNotOpened};
 
     /// Queues of so many places each, in which nothing was put. E8 where the places are out of 1 to 65,536, E1 for want of memory.
     pub fn open(alloc: Global, room: u32) -> Result<Queues, Refusal>
-        ensures { IfOk result AreNew }
+        ensures new { IfOk result AreNew }
+        ensures range { OnOk result (IsRoom room) }
+        ensures refused { IfErr result (AreNotOpened room) }
     {
         let (orders, seats, drain) = SubmitQueue::open(alloc, room, 1, u32::MAX)?;
         let (events, poster, mut takers) = EventQueue::open(alloc, room, 1)?;

@@ -1,7 +1,8 @@
 //! What is left of a shift, once both its threads have ended.
-ghost use Rattle.std.specs.Prelude.{◌≡◌, ◌++◌, OnOk, IfOk};
+ghost use Rattle.std.specs.Prelude.{◌≡◌, ◌++◌, OnOk, IfOk, IfErr};
 ghost use Rattle.enet_submit.specs.Words.{IsDrainOf, IsFinishedOf, seats_of, taken, all_sent};
 ghost use Rattle.enet_bridge.specs.Ends.{orders};
+ghost use Rattle.enet_shift.specs.Shifts.{IsNotSettled};
 
 use enet_events::{EventQueue, Poster, Taker};
 use enet_submit::{Drain, Finished, Order, SubmitQueue};
@@ -20,7 +21,8 @@ pub fn settle_events(
     requires poster { poster.queue ≡ events.now.id }
     requires taker { taker.queue ≡ events.now.id }
     requires one { events.now.id.takers ≡ 1 }
-    ensures { OnOk result (taker.taken ≡ poster.posted) }
+    ensures taken { OnOk result (taker.taken ≡ poster.posted) }
+    ensures refused { IfErr result IsNotSettled }
 {
     let Ok(takers) = Vec::from_array(alloc, [taker]) else {
         return Err(Refusal::Memory);
@@ -43,7 +45,8 @@ pub fn untaken<R: Wait>(
     requires drain { IsDrainOf queue.now drain }
     requires seat { IsFinishedOf queue.now seat }
     requires one { seats_of queue.now ≡ 1 }
-    ensures { IfOk result (λ rest. orders (all_sent seat) ≡ orders (taken drain) ++ rest.items) }
+    ensures rest { IfOk result (λ rest. orders (all_sent seat) ≡ orders (taken drain) ++ rest.items) }
+    ensures refused { IfErr result IsNotSettled }
 {
     let (drain, rest) = take_rest(rt, alloc, queue, drain)?;
     settle_orders(alloc, queue, drain, seat)?;
@@ -60,6 +63,7 @@ fn take_rest<R: Wait>(
     requires { IsDrainOf queue.now drain }
     ensures fits { IfOk result (λ r. IsDrainOf queue.now r.0) }
     ensures rest { IfOk result (λ r. orders (taken r.0) ≡ orders (taken drain) ++ r.1.items) }
+    ensures refused { IfErr result IsNotSettled }
 {
     let mut drain = drain;
     let mut rest = VecDeque::new(alloc);
@@ -84,7 +88,8 @@ fn settle_orders(
     requires drain { IsDrainOf queue.now drain }
     requires seat { IsFinishedOf queue.now seat }
     requires one { seats_of queue.now ≡ 1 }
-    ensures { OnOk result (taken drain ≡ all_sent seat) }
+    ensures taken { OnOk result (taken drain ≡ all_sent seat) }
+    ensures refused { IfErr result IsNotSettled }
 {
     let Ok(seats) = Vec::from_array(alloc, [seat]) else {
         return Err(Refusal::Memory);

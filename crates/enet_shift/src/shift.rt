@@ -1,5 +1,5 @@
 //! How long a service takes turns.
-ghost use Rattle.std.specs.Prelude.{◌≡◌, ◌≤◌, List, length, IfOk};
+ghost use Rattle.std.specs.Prelude.{◌≡◌, ◌≤◌, List, length, IfOk, IfErr};
 ghost use Rattle.enet_turn.specs.Run.{Round as OneTurn};
 ghost use Rattle.enet_bridge.specs.Serving.{queue_of, drain_of, poster_of};
 ghost use Rattle.enet_shift.specs.Shifts.{Lasts, Spell};
@@ -37,6 +37,7 @@ pub(crate) fn take_turns<R: Wait + Clock>(
     ensures turns { IfOk result (λ report. (rounds : List OneTurn) × Lasts shift rounds
         × Spell (service.old.host, service.old.waiting) (drain_of source.old) (poster_of sink.old) rounds
         (service.new.host, service.new.waiting) (drain_of source.new) (poster_of sink.new) report) }
+    ensures fault { IfErr result (λ why. why ≡ Refusal.WireFault) }
 {
     match shift {
         Shift::Turns(turns) => turns_of(rt, service, wire, source, sink, turns),
@@ -57,6 +58,7 @@ fn turns_of<R: Wait + Clock>(
     ensures turns { IfOk result (λ report. (rounds : List OneTurn) × (length rounds ≡ turns)
         × Spell (service.old.host, service.old.waiting) (drain_of source.old) (poster_of sink.old) rounds
         (service.new.host, service.new.waiting) (drain_of source.new) (poster_of sink.new) report) }
+    ensures fault { IfErr result (λ why. why ≡ Refusal.WireFault) }
 {
     match run_between_queues(rt, service, wire, source, sink, turns) {
         Ok(report) => Ok(report),
@@ -77,6 +79,7 @@ fn turns_for<R: Wait + Clock>(
     ensures turns { IfOk result (λ report. (rounds : List OneTurn) × (1 ≤ length rounds)
         × Spell (service.old.host, service.old.waiting) (drain_of source.old) (poster_of sink.old) rounds
         (service.new.host, service.new.waiting) (drain_of source.new) (poster_of sink.new) report) }
+    ensures fault { IfErr result (λ why. why ≡ Refusal.WireFault) }
 {
     let start = Instant::now(rt);
     let mut total = Report::nothing();

@@ -1,5 +1,5 @@
 //! The service's thread of a shift.
-ghost use Rattle.std.specs.Prelude.{◌≡◌, IfOk};
+ghost use Rattle.std.specs.Prelude.{◌≡◌, IfOk, IfErr};
 ghost use Rattle.enet_submit.specs.Words.{IsDrainOf};
 ghost use Rattle.enet_shift.specs.Shifts.{HasTurned};
 
@@ -13,6 +13,8 @@ use std::rt::Clock;
 use std::sync::Wait;
 use std::sync::atomic::AtomicBool;
 use std::sync::atomic::Ordering::SeqCst;
+use std::thread;
+use std::thread::Threads;
 
 /// What the service's thread and the other one share.
 #[derive(Clone, Copy)]
@@ -52,14 +54,15 @@ pub struct Turned {
 
 /// Takes the turns of a shift, and then tells the other thread that the service has ended. E14 where the wire fails; the other thread
 /// is told of the end then, too.
-pub fn serve_turns<R: Wait + Clock>(
+fn serve_turns<R: Wait + Clock>(
     rt: &R,
     shared: Shared<'_>,
     ends: ServiceEnds,
 ) -> Result<Turned, Refusal>
     requires drain { IsDrainOf shared.queue.now ends.drain }
     requires poster { ends.poster.queue ≡ shared.events.now.id }
-    ensures { IfOk result (HasTurned shared.entry.queue.now shared.entry.events.now.id ends) }
+    ensures turned { IfOk result (HasTurned shared.entry.queue.now shared.entry.events.now.id ends) }
+    ensures fault { IfErr result (λ why. why ≡ Refusal.WireFault) }
 {
     let ServiceEnds {
         mut wire,
@@ -80,4 +83,51 @@ pub fn serve_turns<R: Wait + Clock>(
         poster: sink.into_poster(),
         report: report?,
     })
+}
+
+/// Does this in one thread, and takes the turns of a shift in another, until both have ended.
+///
+/// A closure that captures a struct with a lifetime would hand on nothing of its `ensures`, so this one captures what is shared one
+/// by one; so should `other`.
+pub fn beside_turns<R, F, T>(
+    rt: &R,
+    shared: Shared<'_>,
+    ends: ServiceEnds,
+    other: F,
+) -> (T, Result<Turned, Refusal>)
+where
+    R: Threads + Wait + Clock + Sync,
+    F: FnOnce() -> T + Send,
+    T: Send,
+    requires other { F.pre other }
+    requires drain { IsDrainOf shared.queue.now ends.drain }
+    requires poster { ends.poster.queue ≡ shared.events.now.id }
+    ensures other { F.post other result.0 }
+    ensures turned { IfOk result.1 (HasTurned shared.entry.queue.now shared.entry.events.now.id ends) }
+    ensures fault { IfErr result.1 (λ why. why ≡ Refusal.WireFault) }
+{
+    let Shared {
+        queue,
+        events,
+        bell,
+        taker_bell,
+        ended,
+    } = shared;
+    thread::join(
+        rt,
+        other,
+        move || -> Result<Turned, Refusal>
+            requires { IsDrainOf queue.now ends.drain × (ends.poster.queue ≡ events.now.id) }
+            ensures { IfOk result (HasTurned queue.entry.now events.entry.now.id ends) × IfErr result (λ why. why ≡ Refusal.WireFault) }
+        {
+            let shared = Shared {
+                queue,
+                events,
+                bell,
+                taker_bell,
+                ended,
+            };
+            serve_turns(rt, shared, ends)
+        },
+    )
 }

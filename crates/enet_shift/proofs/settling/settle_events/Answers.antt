@@ -4,8 +4,8 @@ use Rattle.enet_shift.proofs.Settled.{taken_is_posted}
 use Rattle.enet_shift.proofs.settling.settle_events.Goals.{in-Ok-settle, in-Err}
 use Rattle.enet_shift.proofs.settling.settle_events.Goals as goal
 
-pub returns : goal.returns
-returns c = elim c.match-settle.branch [
+pub returns-clause-taken : goal.returns-clause-taken
+returns-clause-taken c = elim c.match-settle.branch [
   | in-Ok-settle w ↦ rw w.result-is (taken_is_posted c.args.poster c.args.taker _ c.in-Ok.ensures.items (ap (λ (q : QueueId). q.takers) c.requires.poster ∙ c.requires.one) w.in-Ok-settle.ensures.taken w.in-Ok-settle.ensures.shared)
   | in-Err w ↦ rw w.result-is tt
 ]

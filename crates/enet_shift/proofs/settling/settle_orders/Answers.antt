@@ -3,8 +3,8 @@ use Rattle.enet_shift.proofs.Settled.{taken_is_sent}
 use Rattle.enet_shift.proofs.settling.settle_orders.Goals.{in-Ok-settle, in-Err}
 use Rattle.enet_shift.proofs.settling.settle_orders.Goals as goal
 
-pub returns : goal.returns
-returns c = elim c.match-settle.branch [
+pub returns-clause-taken : goal.returns-clause-taken
+returns-clause-taken c = elim c.match-settle.branch [
   | in-Ok-settle w ↦ rw w.result-is (taken_is_sent c.args.queue.now c.args.drain c.args.seat _ c.in-Ok.ensures.items c.requires.one (w.in-Ok-settle.ensures.settled.0 refl) w.in-Ok-settle.ensures.all_taken w.in-Ok-settle.ensures.empty)
   | in-Err w ↦ rw w.result-is tt
 ]

@@ -1,5 +1,6 @@
 use Rattle.std.proofs.Common.{List}
 use Rattle.enet_turn.specs.Run.{Round}
+use Rattle.enet_shift.proofs.Spells.{fault_of_wire}
 use Rattle.enet_shift.proofs.shift.turns_of.Goals as goal
 
 pub returns-in-Ok-clause-turns : goal.returns-in-Ok-clause-turns
@@ -8,3 +9,6 @@ returns-in-Ok-clause-turns g c =
     let ends = ran.6 in
     let rounds : List Round = ran.0 in
     (rounds, ends.1, record { turns = ran.1; sound = ends.0; totals = ends.2; gave = ran.3.grown; put = ran.4 })
+
+pub returns-in-Err-clause-fault : goal.returns-in-Err-clause-fault
+returns-in-Err-clause-fault g c = fault_of_wire _ _ _ c.in-Err.ensures.run.6
