@@ -1,8 +1,10 @@
 -- What a server does in a shift.
-use Rattle.std.specs.Prelude.{◌≡◌, Bool, List, [], ◌++◌, Option, None}
+use Rattle.std.specs.Prelude.{◌≡◌, ◌⊎◌, ℕ, Bool, List, [], ◌++◌, Option, None}
 use Rattle.std.specs.List.{All}
 use Rattle.enet_types.specs.declared.event.PeerRef.{PeerRef}
 use Rattle.enet_types.specs.declared.event.Event.{Event}
+use Rattle.enet_types.specs.declared.refusal.Refusal.{Refusal}
+use Rattle.enet_types.specs.declared.refusal.Refusal.TheVariants.{Memory, BadConfig, SeatSpent, WireFault, StillHeld}
 use Rattle.enet_types.specs.Config.{standard_config}
 use Rattle.enet_types.specs.Config as configs
 use Rattle.enet_submit.specs.declared.order.Order.{Order}
@@ -12,9 +14,9 @@ use Rattle.enet_bridge.specs.Ends.{orders}
 use Rattle.enet_turn.specs.declared.report.Report.{Report}
 use Rattle.enet_turn.specs.Queues.{given, accepted}
 use Rattle.enet_turn.specs.Run.{Round, IsSound, all_gave, all_puts, total}
-use Rattle.enet_chat.specs.Relaying.{noted_all, relayed_all}
+use Rattle.enet_chat.specs.Relaying.{noted_all, relayed_all, AreBehind}
 use Rattle.enet_shift.specs.declared.shift.Shift.{Shift}
-use Rattle.enet_shift.specs.Shifts.{Lasts, TakesTurns}
+use Rattle.enet_shift.specs.Shifts.{Lasts, TakesTurns, IsRoom}
 use Rattle.enet_serve.specs.declared.server.Server.{Server}
 use Rattle.enet_serve.specs.declared.server.Settings.{Settings}
 
@@ -25,6 +27,10 @@ host_of server = server.service.host
 -- the event that waits for room in the queue, if there is one
 abbrev pub waiting_of : Server → Option Event
 waiting_of server = server.service.waiting
+
+-- how many places each of its queues has
+abbrev pub room_of : Server → ℕ
+room_of server = server.room
 
 -- the peers that the relay knows, the events that it has not expanded, and the orders that were not carried out
 abbrev pub peers_of : Server → List PeerRef
@@ -44,6 +50,7 @@ is_in_range settings = configs.is_in_range (standard_config settings.peers setti
 pub record IsOpened (settings : Settings) (server : Server) : Type 0 where
   pub host : host_of server ≡ opened (standard_config settings.peers settings.channels)
   pub waiting : waiting_of server ≡ None
+  pub room : room_of server ≡ settings.room
   pub peers : peers_of server ≡ []
   pub backlog : backlog_of server ≡ []
   pub orders : orders_of server ≡ []
@@ -51,14 +58,24 @@ pub record IsOpened (settings : Settings) (server : Server) : Type 0 where
 -- ---- a shift
 -- From one shift to the next. In none of its turns the wire failed, and the report is their sums. The events that the turns put are
 -- expanded behind those that waited, once and in order, or wait; the orders that they give over the peers come behind those that
--- waited and were handed to the turns, once and in order, or wait
+-- waited and were handed to the turns, once and in order, or wait. Events wait only where orders do
 pub record Serves (old : Server) (shift : Shift) (new : Server) (report : Report) : Type 0 where
   pub rounds : List Round
   pub expanded : List Event
   pub lasts : Lasts shift rounds
   pub turns : TakesTurns (host_of old, waiting_of old) rounds (host_of new, waiting_of new)
   pub sound : All IsSound rounds
+  pub room : room_of new ≡ room_of old
   pub totals : report ≡ total rounds
   pub events : backlog_of old ++ accepted (all_puts rounds) ≡ expanded ++ backlog_of new
+  pub behind : AreBehind (backlog_of new) (orders_of new)
   pub peers : peers_of new ≡ noted_all (peers_of old) expanded
   pub orders_done : orders_of old ++ relayed_all (peers_of old) expanded ≡ orders (given (all_gave rounds)) ++ orders_of new
+
+-- what ends a shift early: the wire failed, memory was wanting, the seat is spent, or a queue was not empty
+abbrev pub EndsShift : Refusal → Type 0
+EndsShift why = (why ≡ WireFault) ⊎ (why ≡ Memory) ⊎ (why ≡ SeatSpent) ⊎ (why ≡ StillHeld)
+
+-- why there was no shift: that, or there are no queues of the server's room
+abbrev pub IsNotServed : Server → Refusal → Type 0
+IsNotServed server why = EndsShift why ⊎ ((why ≡ BadConfig) × ¬ (IsRoom (room_of server)))

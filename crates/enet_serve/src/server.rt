@@ -1,6 +1,6 @@
 //! A server: a service thread, and a thread that relays.
-ghost use Rattle.std.specs.Prelude.{IfOk};
-ghost use Rattle.enet_serve.specs.Serving.{Serves};
+ghost use Rattle.std.specs.Prelude.{IfOk, IfErr};
+ghost use Rattle.enet_serve.specs.Serving.{Serves, EndsShift};
 ghost use Rattle.enet_serve.specs.Threads.{CanSettle, IsLeft};
 ghost use Rattle.enet_shift.specs.Shifts.{AreNew};
 
@@ -45,7 +45,7 @@ pub struct Server {
 
 impl Server {
     ghost use Rattle.std.specs.Prelude.{◌≡◌, ◌⊎◌, true, false, IfOk, IfErr, Err};
-    ghost use Rattle.enet_serve.specs.Serving.{Serves, IsOpened, is_in_range, host_of};
+    ghost use Rattle.enet_serve.specs.Serving.{Serves, IsNotServed, IsOpened, is_in_range, host_of};
 
     /// A server at this address, with no peer.
     ///
@@ -90,7 +90,8 @@ impl Server {
     ) -> Result<(Server, Report), Refusal>
     where
         R: Threads + Wait + Clock + Sync,
-        ensures { IfOk result (λ r. Serves self shift r.0 r.1) }
+        ensures serves { IfOk result (λ r. Serves self shift r.0 r.1) }
+        ensures refused { IfErr result (IsNotServed self) }
     {
         let queues = Queues::open(self.alloc, self.room)?;
         let bell = self.wire.bell()?;
@@ -115,7 +116,8 @@ fn run_shift<R: Threads + Wait + Clock + Sync>(
     present: &AtomicUsize,
 ) -> Result<(Server, Report), Refusal>
     requires { AreNew queues }
-    ensures { IfOk result (λ r. Serves server shift r.0 r.1) }
+    ensures serves { IfOk result (λ r. Serves server shift r.0 r.1) }
+    ensures refused { IfErr result EndsShift }
 {
     let relay = RelayEnds {
         alloc: server.alloc,
@@ -161,7 +163,8 @@ fn after_shift<R: Wait>(
     turned: Turned,
 ) -> Result<(Server, Report), Refusal>
     requires { CanSettle queue.now events.now parts turned }
-    ensures { IfOk result (λ r. IsLeft parts turned r.0 r.1) }
+    ensures left { IfOk result (λ r. IsLeft room parts turned r.0 r.1) }
+    ensures refused { IfErr result EndsShift }
 {
     let Parts {
         table,

@@ -1,5 +1,5 @@
 //! The two threads of a shift.
-ghost use Rattle.std.specs.Prelude.{◌≡◌, IfOk};
+ghost use Rattle.std.specs.Prelude.{◌≡◌, ◌⊎◌, IfOk, IfErr};
 ghost use Rattle.enet_submit.specs.Words.{IsSeatOf, IsDrainOf};
 ghost use Rattle.enet_shift.specs.Shifts.{HasTurned};
 ghost use Rattle.enet_serve.specs.Threads.{HasRelayed};
@@ -7,7 +7,7 @@ ghost use Rattle.enet_serve.specs.Threads.{HasRelayed};
 use enet_chat::{Parts, Relay, Table};
 use enet_events::Taker;
 use enet_service::{Desk, Inbox};
-use enet_shift::{ServiceEnds, Shared, Turned, serve_turns};
+use enet_shift::{ServiceEnds, Shared, Turned, beside_turns};
 use enet_submit::{Order, Seat};
 use enet_types::{Event, Refusal};
 use std::alloc::Global;
@@ -15,7 +15,6 @@ use std::collections::VecDeque;
 use std::rt::Clock;
 use std::sync::Wait;
 use std::sync::atomic::AtomicUsize;
-use std::thread;
 use std::thread::Threads;
 
 /// What the relay keeps from one shift to the next: the peers, the events not expanded yet, and the orders not carried out.
@@ -36,8 +35,6 @@ pub(crate) struct RelayEnds {
 }
 
 /// Both threads, until both have ended.
-///
-/// A closure that captures a struct with a lifetime would hand on nothing of its `ensures`, so each makes its own.
 pub(crate) fn run_threads<R: Threads + Wait + Clock + Sync>(
     rt: &R,
     shared: Shared<'_>,
@@ -50,7 +47,9 @@ pub(crate) fn run_threads<R: Threads + Wait + Clock + Sync>(
     requires drain { IsDrainOf shared.queue.now service.drain }
     requires poster { service.poster.queue ≡ shared.events.now.id }
     ensures relayed { IfOk result.0 (HasRelayed shared.entry.queue.now shared.entry.events.now.id relay) }
+    ensures stopped { IfErr result.0 (λ why. (why ≡ Refusal.Memory) ⊎ (why ≡ Refusal.SeatSpent)) }
     ensures turned { IfOk result.1 (HasTurned shared.entry.queue.now shared.entry.events.now.id service) }
+    ensures fault { IfErr result.1 (λ why. why ≡ Refusal.WireFault) }
 {
     let Shared {
         queue,
@@ -59,11 +58,13 @@ pub(crate) fn run_threads<R: Threads + Wait + Clock + Sync>(
         taker_bell,
         ended,
     } = shared;
-    thread::join(
+    beside_turns(
         rt,
+        shared,
+        service,
         move || -> Result<Parts, Refusal>
             requires { IsSeatOf queue.now relay.seat × (relay.taker.queue ≡ events.now.id) }
-            ensures { IfOk result (HasRelayed queue.entry.now events.entry.now.id relay) }
+            ensures { IfOk result (HasRelayed queue.entry.now events.entry.now.id relay) × IfErr result (λ why. (why ≡ Refusal.Memory) ⊎ (why ≡ Refusal.SeatSpent)) }
         {
             let shared = Shared {
                 queue,
@@ -73,19 +74,6 @@ pub(crate) fn run_threads<R: Threads + Wait + Clock + Sync>(
                 ended,
             };
             relay_all(rt, shared, present, relay)
-        },
-        move || -> Result<Turned, Refusal>
-            requires { IsDrainOf queue.now service.drain × (service.poster.queue ≡ events.now.id) }
-            ensures { IfOk result (HasTurned queue.entry.now events.entry.now.id service) }
-        {
-            let shared = Shared {
-                queue,
-                events,
-                bell,
-                taker_bell,
-                ended,
-            };
-            serve_turns(rt, shared, service)
         },
     )
 }
@@ -99,7 +87,8 @@ fn relay_all<R: Wait>(
 ) -> Result<Parts, Refusal>
     requires seat { IsSeatOf shared.queue.now ends.seat }
     requires taker { ends.taker.queue ≡ shared.events.now.id }
-    ensures { IfOk result (HasRelayed shared.entry.queue.now shared.entry.events.now.id ends) }
+    ensures relayed { IfOk result (HasRelayed shared.entry.queue.now shared.entry.events.now.id ends) }
+    ensures stopped { IfErr result (λ why. (why ≡ Refusal.Memory) ⊎ (why ≡ Refusal.SeatSpent)) }
 {
     let RelayEnds {
         alloc,
