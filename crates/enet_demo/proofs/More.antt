@@ -1,6 +1,7 @@
 -- One event more, what both threads of a client did, and the visits of all clients.
-use Rattle.std.proofs.Common.{◌≡◌, ℕ, zero, suc, ◌+◌, ◌<◌, ◌≤◌, ◌⊎◌, inl, inr, List, [], ◌∷◌, ◌++◌, length, map, Option, Result, Ok, Vec, IfOk, refl, sym, ap, ◌∙◌, subst, append_assoc, arith}
+use Rattle.std.proofs.Common.{◌≡◌, ℕ, zero, suc, ◌+◌, ◌<◌, ◌≤◌, ◌⊎◌, inl, inr, List, [], ◌∷◌, ◌++◌, length, map, Option, Result, Ok, Err, Vec, IfOk, IfErr, refl, sym, ap, ◌∙◌, subst, append_assoc, arith}
 use Rattle.std.specs.Option.{option_or}
+use Rattle.std.specs.List.{Contains}
 use Rattle.std.proofs.lemmas.List.{map-append, length-append}
 use Rattle.std.proofs.lemmas.Bool.{cases_lt}
 use Rattle.std.proofs.lemmas.Result.{IfOk-weaker}
@@ -9,6 +10,7 @@ use Rattle.std.proofs.Math.Seq.{get_or-append_seam}
 use Rattle.std.specs.declared.alloc.Global.{Global}
 use Rattle.std.specs.Prelude.{slice_index_or}
 use Rattle.enet_types.specs.declared.refusal.Refusal.{Refusal}
+use Rattle.enet_types.specs.declared.refusal.Refusal.TheVariants.{Memory}
 use Rattle.enet_types.specs.declared.event.PeerRef.{PeerRef}
 use Rattle.enet_types.specs.declared.event.Event.{Event}
 use Rattle.enet_types.specs.declared.event.Event.TheVariants.{Connect, Receive, Disconnect, Refused}
@@ -20,6 +22,7 @@ use Rattle.enet_events.specs.declared.numbered.Numbered.{Numbered}
 use Rattle.enet_events.specs.Words.{QueueId}
 use Rattle.enet_bridge.specs.Ends.{orders}
 use Rattle.enet_bridge.specs.Holding.{asked, received}
+use Rattle.enet_serve.specs.Serving.{EndsShift}
 use Rattle.enet_turn.specs.Counts.{stopped}
 use Rattle.enet_turn.specs.Queues.{given, accepted}
 use Rattle.enet_turn.specs.Run.{all_gave, all_puts}
@@ -134,10 +137,21 @@ all_visits : (shown : Demonstration) (visits : List Visit) (outcomes : List (Res
 all_visits shown visits outcomes e are = (
   sym (as_many visits) ∙ (ap length e ∙ are.0),
   λ k d l. subst (λ (r : Result Visit Refusal). IfOk r (Visits beginning (plan_of shown k) shown.turns)) (indexed visits k d)
-      (subst (λ (os : List (Result Visit Refusal)). IfOk (slice_index_or os k (Ok d)) (Visits beginning (plan_of shown k) shown.turns)) (sym e) (are.1 k (Ok d) l)),
+      (subst (λ (os : List (Result Visit Refusal)). IfOk (slice_index_or os k (Ok d)) (Visits beginning (plan_of shown k) shown.turns)) (sym e) ((are.1 k (Ok d) l).0)),
 )
 
 pub all_or_fault : (shown : Demonstration) (result : Result (Vec Visit Global) Refusal) (outcomes : List (Result Visit Refusal))
     → IfOk result (λ visits. oks visits.items ≡ outcomes) → AreOutcomes shown outcomes → IfOk result (λ visits. AreVisits shown visits.items)
 all_or_fault shown result outcomes all are =
     IfOk-weaker result (λ visits. oks visits.items ≡ outcomes) (λ visits. AreVisits shown visits.items) (λ visits e. all_visits shown visits.items outcomes e are) all
+
+-- the refusal of one of the clients is what ended it
+fault_of_one : (shown : Demonstration) (outcomes : List (Result Visit Refusal)) (why : Refusal) → AreOutcomes shown outcomes → (why ≡ Memory) ⊎ Contains outcomes (Err why) → EndsShift why
+fault_of_one shown outcomes why are (inl memory) = inr (inl memory)
+fault_of_one shown outcomes why are (inr (k, l, e)) =
+    subst (λ (r : Result Visit Refusal). IfErr r EndsShift) e ((are.1 k (Err why) (omega (arith, l, are.0))).1)
+
+pub fault_of_client : (shown : Demonstration) (result : Result (Vec Visit Global) Refusal) (outcomes : List (Result Visit Refusal))
+    → IfErr result (λ why. (why ≡ Memory) ⊎ Contains outcomes (Err why)) → AreOutcomes shown outcomes → IfErr result EndsShift
+fault_of_client shown (Ok visits) outcomes fault are = tt
+fault_of_client shown (Err why) outcomes fault are = fault_of_one shown outcomes why are fault

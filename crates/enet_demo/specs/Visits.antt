@@ -1,11 +1,12 @@
 -- What comes of a client.
-use Rattle.std.specs.Prelude.{◌≡◌, ℕ, ◌+◌, ◌<◌, List, [], ◌∷◌, ◌++◌, length, Option, Some, None, is_some, Result, IfOk, slice_index_or}
+use Rattle.std.specs.Prelude.{◌≡◌, ◌⊎◌, ℕ, ◌+◌, ◌<◌, ◌≤◌, List, [], ◌∷◌, ◌++◌, length, Option, Some, None, is_some, Result, IfOk, IfErr, slice_index_or}
 use Rattle.std.specs.List.{All}
 use Rattle.enet_types.specs.declared.address.Addr.{Addr}
 use Rattle.enet_types.specs.declared.event.PeerRef.{PeerRef}
 use Rattle.enet_types.specs.declared.event.Event.{Event}
 use Rattle.enet_types.specs.declared.event.Event.TheVariants.{Connect, Receive, Disconnect, Refused}
 use Rattle.enet_types.specs.declared.refusal.Refusal.{Refusal}
+use Rattle.enet_types.specs.declared.refusal.Refusal.TheVariants.{BadConfig}
 use Rattle.enet_types.specs.Config.{standard_config}
 use Rattle.enet_host.specs.Host.{Host}
 use Rattle.enet_host.specs.Opening.{opened}
@@ -15,6 +16,7 @@ use Rattle.enet_turn.specs.Counts.{stopped}
 use Rattle.enet_turn.specs.Queues.{given, accepted}
 use Rattle.enet_turn.specs.Run.{Round, IsSound, all_gave, all_puts}
 use Rattle.enet_shift.specs.Shifts.{TakesTurns}
+use Rattle.enet_serve.specs.Serving.{EndsShift}
 use Rattle.enet_demo.specs.declared.demonstration.Demonstration.{Demonstration}
 use Rattle.enet_demo.specs.declared.orders.Plan.{Plan}
 use Rattle.enet_demo.specs.declared.player.Visit.{Visit}
@@ -77,10 +79,23 @@ pub record Visits (old : Host × Option Event) (plan : Plan) (turns : ℕ) (visi
   pub asked : asks plan stage ≡ orders (given (all_gave rounds)) ++ left
   pub told : Tells (accepted (all_puts rounds)) visit
 
--- what each client's threads ended with, from client 0 on: a refusal, or its visit
+-- what a client's threads ended with: its visit, or what ended them early
+abbrev pub IsOutcome : Plan → ℕ → Result Visit Refusal → Type 0
+IsOutcome plan turns outcome = IfOk outcome (Visits beginning plan turns) × IfErr outcome EndsShift
+
+-- what each client's threads ended with, from client 0 on
 abbrev pub AreOutcomes : Demonstration → List (Result Visit Refusal) → Type 0
-AreOutcomes shown outcomes = (length outcomes ≡ shown.clients) × ((k : ℕ) (d : Result Visit Refusal) → k < shown.clients → IfOk (slice_index_or outcomes k d) (Visits beginning (plan_of shown k) shown.turns))
+AreOutcomes shown outcomes = (length outcomes ≡ shown.clients)
+    × ((k : ℕ) (d : Result Visit Refusal) → k < shown.clients → IsOutcome (plan_of shown k) shown.turns (slice_index_or outcomes k d))
 
 -- each client's visit, from client 0 on
 abbrev pub AreVisits : Demonstration → List Visit → Type 0
 AreVisits shown visits = (length visits ≡ shown.clients) × ((k : ℕ) (d : Visit) → k < shown.clients → Visits beginning (plan_of shown k) shown.turns (slice_index_or visits k d))
+
+-- how many clients there may be
+abbrev pub IsInRange : Demonstration → Type 0
+IsInRange shown = (1 ≤ shown.clients) × (shown.clients ≤ 8)
+
+-- why nothing is shown: there can't be so many clients, or the server or a client ended early
+abbrev pub IsNotShown : Demonstration → Refusal → Type 0
+IsNotShown shown why = ((why ≡ BadConfig) × ¬ (IsInRange shown)) ⊎ EndsShift why

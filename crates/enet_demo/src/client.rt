@@ -1,7 +1,8 @@
 //! A client: its service's thread, and its game thread.
-ghost use Rattle.std.specs.Prelude.{◌≡◌, ◌<◌, [], IfOk};
+ghost use Rattle.std.specs.Prelude.{◌≡◌, ◌<◌, [], IfOk, IfErr};
 ghost use Rattle.enet_submit.specs.Words.{IsSeatOf, IsDrainOf, sent};
 ghost use Rattle.enet_shift.specs.Shifts.{AreNew, HasTurned};
+ghost use Rattle.enet_serve.specs.Serving.{EndsShift};
 ghost use Rattle.enet_demo.specs.Visits.{Visits};
 ghost use Rattle.enet_demo.specs.Playing.{CanSettle, HasVisited, IsGuest, IsSettled};
 
@@ -10,7 +11,9 @@ use crate::player::{Company, Played, Player, Visit};
 use enet_events::{EventQueue, Taker};
 use enet_host::HostCore;
 use enet_service::{Bell, Desk, Inbox, MioWire, Service, TakerBell};
-use enet_shift::{Queues, ServiceEnds, Shared, Shift, Turned, serve_turns, settle_events, untaken};
+use enet_shift::{
+    Queues, ServiceEnds, Shared, Shift, Turned, beside_turns, settle_events, untaken,
+};
 use enet_submit::{Seat, SubmitQueue};
 use enet_types::{Addr, Config, Refusal};
 use std::alloc::Global;
@@ -18,7 +21,6 @@ use std::net::Net;
 use std::rt::Clock;
 use std::sync::Wait;
 use std::sync::atomic::{AtomicBool, AtomicUsize};
-use std::thread;
 use std::thread::Threads;
 
 /// How many places each queue of a client has.
@@ -42,7 +44,8 @@ impl Guest {
         plan: Plan,
         turns: u64,
     ) -> Result<Guest, Refusal>
-        ensures { IfOk result (IsGuest plan turns) }
+        ensures guest { IfOk result (IsGuest plan turns) }
+        ensures refused { IfErr result EndsShift }
     {
         let alloc = rt.alloc();
         let wire = MioWire::bind(rt, address)?;
@@ -72,7 +75,8 @@ pub(crate) fn visit<R>(rt: &R, guest: Guest, company: Company<'_>) -> Result<Vis
 where
     R: Threads + Wait + Clock + Sync,
     requires { guest.plan.number < 10 }
-    ensures { IfOk result (Visits (guest.service.host, guest.service.waiting) guest.plan guest.turns) }
+    ensures visits { IfOk result (Visits (guest.service.host, guest.service.waiting) guest.plan guest.turns) }
+    ensures refused { IfErr result EndsShift }
 {
     let queues = Queues::open(guest.alloc, ROOM)?;
     let bell = guest.wire.bell()?;
@@ -89,7 +93,8 @@ fn run_client<R: Threads + Wait + Clock + Sync>(
 ) -> Result<Visit, Refusal>
     requires new { AreNew queues }
     requires digit { guest.plan.number < 10 }
-    ensures { IfOk result (Visits (guest.service.host, guest.service.waiting) guest.plan guest.turns) }
+    ensures visits { IfOk result (Visits (guest.service.host, guest.service.waiting) guest.plan guest.turns) }
+    ensures refused { IfErr result EndsShift }
 {
     let player = PlayerEnds {
         alloc: guest.alloc,
@@ -124,8 +129,6 @@ fn run_client<R: Threads + Wait + Clock + Sync>(
 }
 
 // Both threads, until both have ended.
-//
-// A closure that captures a struct with a lifetime would hand on nothing of its `ensures`, so each makes its own.
 fn run_threads<R: Threads + Wait + Clock + Sync>(
     rt: &R,
     shared: Shared<'_>,
@@ -139,7 +142,9 @@ fn run_threads<R: Threads + Wait + Clock + Sync>(
     requires drain { IsDrainOf shared.queue.now service.drain }
     requires poster { service.poster.queue ≡ shared.events.now.id }
     ensures visited { IfOk result.0 (HasVisited shared.entry.queue.now shared.entry.events.now.id player.plan) }
+    ensures memory { IfErr result.0 (λ why. why ≡ Refusal.Memory) }
     ensures turned { IfOk result.1 (HasTurned shared.entry.queue.now shared.entry.events.now.id service) }
+    ensures fault { IfErr result.1 (λ why. why ≡ Refusal.WireFault) }
 {
     let Company { present, all } = company;
     let Shared {
@@ -149,11 +154,13 @@ fn run_threads<R: Threads + Wait + Clock + Sync>(
         taker_bell,
         ended,
     } = shared;
-    thread::join(
+    beside_turns(
         rt,
+        shared,
+        service,
         move || -> Result<Played, Refusal>
             requires { IsSeatOf queue.now player.seat × (sent player.seat ≡ []) × (player.taker.queue ≡ events.now.id) × (player.taker.taken ≡ []) × (player.plan.number < 10) }
-            ensures { IfOk result (HasVisited queue.entry.now events.entry.now.id player.plan) }
+            ensures { IfOk result (HasVisited queue.entry.now events.entry.now.id player.plan) × IfErr result (λ why. why ≡ Refusal.Memory) }
         {
             let shared = Shared {
                 queue,
@@ -163,19 +170,6 @@ fn run_threads<R: Threads + Wait + Clock + Sync>(
                 ended,
             };
             play(rt, shared, Company { present, all }, player)
-        },
-        move || -> Result<Turned, Refusal>
-            requires { IsDrainOf queue.now service.drain × (service.poster.queue ≡ events.now.id) }
-            ensures { IfOk result (HasTurned queue.entry.now events.entry.now.id service) }
-        {
-            let shared = Shared {
-                queue,
-                events,
-                bell,
-                taker_bell,
-                ended,
-            };
-            serve_turns(rt, shared, service)
         },
     )
 }
@@ -190,7 +184,8 @@ fn play<R: Wait>(
     requires seat { IsSeatOf shared.queue.now ends.seat × (sent ends.seat ≡ []) }
     requires taker { (ends.taker.queue ≡ shared.events.now.id) × (ends.taker.taken ≡ []) }
     requires digit { ends.plan.number < 10 }
-    ensures { IfOk result (HasVisited shared.entry.queue.now shared.entry.events.now.id ends.plan) }
+    ensures visited { IfOk result (HasVisited shared.entry.queue.now shared.entry.events.now.id ends.plan) }
+    ensures memory { IfErr result (λ why. why ≡ Refusal.Memory) }
 {
     let PlayerEnds {
         alloc,
@@ -215,7 +210,8 @@ fn after_visit<R: Wait>(
     turned: Turned,
 ) -> Result<Visit, Refusal>
     requires { CanSettle queue.now events.now played turned }
-    ensures { IfOk result (IsSettled played turned) }
+    ensures settled { IfOk result (IsSettled played turned) }
+    ensures refused { IfErr result EndsShift }
 {
     settle_events(alloc, events, turned.poster, played.taker)?;
     untaken(rt, alloc, queue, turned.drain, played.seat)?;

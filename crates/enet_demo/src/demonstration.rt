@@ -1,13 +1,16 @@
 //! The server and its clients.
 ghost use Rattle.std.specs.Thread.{IsSync};
-ghost use Rattle.std.specs.Prelude.{◌≡◌, ◌<◌, ◌≤◌, ◌+◌, Err, Ok, IfOk, map};
-ghost use Rattle.enet_demo.specs.Visits.{Visits, AreVisits, AreOutcomes, server_of};
+ghost use Rattle.std.specs.Prelude.{◌≡◌, ◌⊎◌, ◌<◌, ◌≤◌, ◌+◌, Err, Ok, IfOk, IfErr, map};
+ghost use Rattle.std.specs.List.{Contains};
+ghost use Rattle.enet_serve.specs.Serving.{EndsShift, room_of};
+ghost use Rattle.enet_demo.specs.Visits.{Visits, AreVisits, AreOutcomes, IsInRange, IsNotShown, server_of};
 ghost use Rattle.enet_demo.specs.Playing.{AreGuests};
 
 use crate::client::{Guest, visit};
 use crate::orders::{CHANNELS, Plan};
 use crate::player::{Company, Visit};
 use enet_serve::{Server, Settings};
+use enet_service::Report;
 use enet_shift::Shift;
 use enet_types::{Addr, Refusal};
 use std::alloc::Global;
@@ -50,12 +53,14 @@ pub struct Demonstration {
 /// they end early, it gets fewer.
 ///
 /// E8 where `clients` is out of its range; E14 where a port can't be had, before anything is sent; then E14 where a wire fails, E1 for want
-/// of memory, E16 where threads ended and a queue isn't empty. The server's refusal is told before a client's, and that of a client before
+/// of memory, E10 where the server's shift is so long that its relay has submitted as many orders as it may, E16 where threads ended and
+/// a queue isn't empty. The server's refusal is told before a client's, and that of a client before
 /// that of a later one.
 pub fn demonstrate<R>(rt: &R, shown: Demonstration) -> Result<Vec<Visit>, Refusal>
 where
     R: Threads + Wait + Net + Clock + Sync + AllocGlobal,
-    ensures range { ¬ ((1 ≤ shown.clients) × (shown.clients ≤ 8)) → result ≡ Err Refusal.BadConfig }
+    ensures range { ¬ (IsInRange shown) → result ≡ Err Refusal.BadConfig }
+    ensures refused { IfErr result (IsNotShown shown) }
     ensures visits { IfOk result (λ visits. AreVisits shown visits.items) }
 {
     if shown.clients == 0 || shown.clients > MOST {
@@ -80,7 +85,8 @@ fn visit_server<R>(rt: &R, shown: Demonstration) -> Result<Vec<Visit>, Refusal>
 where
     R: Threads + Wait + Net + Clock + Sync + AllocGlobal,
     requires { shown.clients ≤ 8 }
-    ensures { IfOk result (λ visits. AreVisits shown visits.items) }
+    ensures visits { IfOk result (λ visits. AreVisits shown visits.items) }
+    ensures refused { IfErr result EndsShift }
 {
     let guests = open_guests(rt, shown)?;
     let present = AtomicUsize::new(usize::from(shown.clients));
@@ -101,7 +107,8 @@ fn server_of(shown: Demonstration) -> Addr
 // The clients, each with its port. E14 where a port can't be had, E1 for want of memory.
 fn open_guests<R: Net + AllocGlobal>(rt: &R, shown: Demonstration) -> Result<Vec<Guest>, Refusal>
     requires { shown.clients ≤ 8 }
-    ensures { IfOk result (λ guests. AreGuests shown guests.items) }
+    ensures guests { IfOk result (λ guests. AreGuests shown guests.items) }
+    ensures refused { IfErr result EndsShift }
 {
     let mut guests = Vec::new(rt.alloc());
     for number in 0..shown.clients {
@@ -125,8 +132,10 @@ fn run_all<R: Threads + Wait + Clock + Sync>(
     guests: Vec<Guest>,
     shown: Demonstration,
 ) -> Result<Vec<Visit>, Refusal>
-    requires { AreGuests shown guests.items × (shown.clients ≤ 8) }
-    ensures { IfOk result (λ visits. AreVisits shown visits.items) }
+    requires guests { AreGuests shown guests.items × (shown.clients ≤ 8) }
+    requires room { room_of server ≡ 1024 }
+    ensures visits { IfOk result (λ visits. AreVisits shown visits.items) }
+    ensures refused { IfErr result EndsShift }
 {
     let present = AtomicUsize::new(0);
     let present = &present;
@@ -134,9 +143,12 @@ fn run_all<R: Threads + Wait + Clock + Sync>(
         rt,
         move || -> Result<Vec<Result<Visit, Refusal>>, Refusal>
             requires { IsSync R.row × AreGuests shown guests.items × (shown.clients ≤ 8) }
-            ensures { IfOk result (λ outcomes. AreOutcomes shown outcomes.items) }
+            ensures { IfOk result (λ outcomes. AreOutcomes shown outcomes.items) × IfErr result (λ why. why ≡ Refusal.Memory) }
         { visit_all(rt, guests, shown, present) },
-        move || server.serve(rt, Shift::Turns(u64::from(shown.turns)), present),
+        move || -> Result<(Server, Report), Refusal>
+            requires { IsSync R.row × (room_of server ≡ 1024) }
+            ensures { IfErr result EndsShift }
+        { server.serve(rt, Shift::Turns(u64::from(shown.turns)), present) },
     );
     served?;
     first_fault_or_all(alloc, outcomes?.as_slice())
@@ -150,7 +162,8 @@ fn visit_all<R: Threads + Wait + Clock + Sync>(
     present: &AtomicUsize,
 ) -> Result<Vec<Result<Visit, Refusal>>, Refusal>
     requires { AreGuests shown guests.items × (shown.clients ≤ 8) }
-    ensures { IfOk result (λ outcomes. AreOutcomes shown outcomes.items) }
+    ensures outcomes { IfOk result (λ outcomes. AreOutcomes shown outcomes.items) }
+    ensures memory { IfErr result (λ why. why ≡ Refusal.Memory) }
 {
     let all = usize::from(shown.clients);
     let outcomes = thread::map_vec(
@@ -158,7 +171,7 @@ fn visit_all<R: Threads + Wait + Clock + Sync>(
         guests,
         &|guest: Guest| -> Result<Visit, Refusal>
             requires { IsSync R.row × (guest.plan.number < 10) }
-            ensures { IfOk result (Visits (guest.service.host, guest.service.waiting) guest.plan guest.turns) }
+            ensures { IfOk result (Visits (guest.service.host, guest.service.waiting) guest.plan guest.turns) × IfErr result EndsShift }
         { visit(rt, guest, Company { present, all }) },
     );
     match outcomes {
@@ -172,7 +185,8 @@ fn first_fault_or_all(
     alloc: Global,
     outcomes: &[Result<Visit, Refusal>],
 ) -> Result<Vec<Visit>, Refusal>
-    ensures { IfOk result (λ visits. map Ok visits.items ≡ outcomes.now) }
+    ensures all { IfOk result (λ visits. map Ok visits.items ≡ outcomes.now) }
+    ensures fault { IfErr result (λ why. (why ≡ Refusal.Memory) ⊎ Contains outcomes.now (Err why)) }
 {
     let mut visits = Vec::new(alloc);
     for outcome in outcomes {
