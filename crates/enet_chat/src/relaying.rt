@@ -115,7 +115,8 @@ impl<'a> Relay<'a> {
     }
 
     /// Takes events, expands them by the rule of the relay and submits their orders, until the service has ended and no event
-    /// is left; those that it took are expanded then, unless orders wait for room. It never waits for room while the service holds an event back. Meanwhile `present` shows how many peers are connected.
+    /// is left; those that it took are expanded then, unless orders wait for room. It never waits for room while the service holds
+    /// an event back. Meanwhile `present` shows how many peers are connected.
     ///
     /// E1 for want of memory, E10 where the seat has submitted as many orders as it may; the relay is then as after all that it
     /// did before.
