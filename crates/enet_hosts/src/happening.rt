@@ -110,7 +110,7 @@ fn disconnect(
 }
 
 /// The side at which an event happens.
-pub(crate) fn side_of(event: &WorldEvent) -> Side
+pub fn side_of(event: &WorldEvent) -> Side
     ensures { result ≡ side_of event.now }
 {
     match *event {

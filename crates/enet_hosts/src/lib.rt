@@ -14,4 +14,5 @@ mod hosts;
 mod world;
 
 pub use enet_network::{Answer, Side, WorldEvent};
+pub use happening::side_of;
 pub use world::World;

@@ -1,18 +1,16 @@
 //! The lab: a script of what happens to two hosts and the network between them, with one answer a line.
 //!
-//! Proved: `lab` returns for every script and every reader and writer; the line that a BadScript names is the one that was
-//! read last; a second `pair` and a step without a world are refused with nothing changed.
-//! Only tested, by scripts/rows and `check_lab`: which other lines can be read, the text of each answer, and that the
-//! answers before a fault are written.
-//! Open: which lines can be read has no clause of its own, nor that each line's text is the answer of the world's step.
+//! Proved: `lab` returns for every script and every reader and writer. Where both tell their bytes and it ends with Ok, the whole
+//! script was run (`IsRun`): each line spells what it does by `enet_lines`, the first makes the world, each further one is one step of
+//! it, and what is written is the text of each answer with a line feed. Where it ends with BadScript, that is so up to the first line
+//! that can't be read, whose number is told (`IsStopped`).
+//! Neither: what was written before the lab ran out of memory, or reading or writing failed.
 #![tactic(auto)]
 
-mod answer;
 mod fault;
-mod line;
+mod reading;
 mod script;
 
-pub use answer::answer_text;
 pub use fault::LabFault;
-pub use line::{Line, read_line, side_of};
-pub use script::lab;
+pub use reading::lab;
+pub use script::Stage;

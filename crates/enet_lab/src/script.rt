@@ -1,42 +1,45 @@
-//! Running a script.
+//! Running a script, line by line.
 
-ghost use Rattle.std.specs.Prelude.{◌≡◌, ◌≤◌, ◌+◌, ◌⊎◌, min, IfOk, IfErr, IfSome};
-ghost use Rattle.enet_lab.specs.Stage.{IsBegin, HasWorld};
+ghost use Rattle.std.specs.Prelude.{◌≡◌, ◌+◌, min, IfOk, IfErr};
+ghost use Rattle.std.specs.Option.{option_map};
+ghost use Rattle.std.specs.String.{string_bytes};
+ghost use Rattle.enet_lines.specs.declared.line.Line.TheVariants as spelled;
+ghost use Rattle.enet_lab.specs.declared.script.Stage.TheVariants as stages;
+ghost use Rattle.enet_lab.specs.Lines.{Begins, Does, IsRefused, Opens, RunsLine, StepsTo, bytes_shown, can_do, can_read, is_empty, joined_hosts, two_hosts};
 
-use crate::answer::answer_text;
 use crate::fault::LabFault;
-use crate::line::{Line, read_line, side_of};
+use enet_hosts::{World, side_of};
+use enet_lines::{Line, outcome_text, read_line};
+use enet_network::{Answer, Side, WorldEvent};
 use enet_script::refusal_text;
 use enet_types::{Config, Refusal};
-use enet_world::{World, WorldEvent};
 use std::alloc::{AllocError, Global};
-use std::io::{ErrorKind, Read, Write};
-
-/// How often the reader is read at most.
-const READS: u32 = 16_777_216;
 
 /// What the lines so far have made.
 #[derive(Drop)]
-enum Stage {
-    /// Nothing: `pair` is still to come.
+pub enum Stage {
+    /// Nothing: `pair` or `open` is still to come.
     Empty,
     /// A world.
     Running(World),
-    /// Nothing, since `pair` was refused. No further line can be read, save those that are passed over.
+    /// Nothing, since the first line was refused. No further line can be read, save those that are passed over.
     Refused,
 }
 
 /// A script that is being run.
 #[derive(Drop)]
-struct Script {
+pub(crate) struct Script {
     alloc: Global,
-    stage: Stage,
+    pub stage: Stage,
     /// How many lines there were, those that are passed over among them.
-    lines: u32,
+    pub lines: u32,
 }
 
 impl Script {
-    fn new(alloc: Global) -> Script {
+    pub fn new(alloc: Global) -> Script
+        ensures stage { result.stage ≡ stages.Empty }
+        ensures lines { result.lines ≡ 0 }
+    {
         Script {
             alloc,
             stage: Stage::Empty,
@@ -44,55 +47,90 @@ impl Script {
         }
     }
 
-    // Runs the next line. Its answer, or None where the line is passed over.
-    fn run(&mut self, text: &[u8]) -> Result<Option<String>, LabFault>
+    /// Runs the next line. Its answer, or None where the line is passed over. Memory where the lab finds none for the text;
+    /// BadScript with the line's number where it can't be read.
+    pub fn run(&mut self, text: &[u8]) -> Result<Option<String>, LabFault>
         ensures counted { self.new.lines ≡ min (self.old.lines + 1) 4294967295 }
-        ensures names { IfErr result (λ fault. (fault ≡ LabFault.Memory)
-            ⊎ (fault ≡ LabFault.BadScript self.new.lines)) }
+        ensures runs { IfOk result (λ answer. RunsLine self.old.stage text.now (option_map string_bytes answer) self.new.stage) }
+        ensures unreadable { IfErr result (IsRefused self.new.lines (can_read self.old.stage text.now)) }
     {
         self.lines = self.lines.saturating_add(1);
         match read_line(self.alloc, text)? {
+            Some(line) => self.run_as(line),
             None => Err(LabFault::BadScript(self.lines)),
-            Some(Line::PassedOver) => Ok(None),
-            Some(Line::Pair { channels }) => self.pair(channels),
-            Some(Line::Step(event)) => self.step(event),
         }
     }
 
-    // Makes the world, once.
-    fn pair(&mut self, channels: u8) -> Result<Option<String>, LabFault>
-        ensures first { IsBegin self.old.stage → IfErr result (λ fault. fault ≡ LabFault.Memory) }
-        ensures again { ¬ (IsBegin self.old.stage)
-            → (result ≡ Err (LabFault.BadScript self.old.lines)) × (self.new ≡ self.old) }
+    /// Does what a line spells.
+    fn run_as(&mut self, line: Line) -> Result<Option<String>, LabFault>
         ensures lines { self.new.lines ≡ self.old.lines }
+        ensures does { IfOk result (λ answer. Does self.old.stage line (option_map string_bytes answer) self.new.stage) }
+        ensures unreadable { IfErr result (IsRefused self.old.lines (can_do self.old.stage line)) }
+    {
+        match line {
+            Line::PassedOver => Ok(None),
+            Line::Step(event) => self.step(event),
+            Line::Pair { channels } => self.pair(Config::standard(1, channels)),
+            Line::Open {
+                peers_a,
+                channels_a,
+                peers_b,
+                channels_b,
+            } => self.open(
+                Config::standard(peers_a, channels_a),
+                Config::standard(peers_b, channels_b),
+            ),
+        }
+    }
+
+    /// Makes a world of two hosts that are connected from the start, once.
+    fn pair(&mut self, config: Config) -> Result<Option<String>, LabFault>
+        ensures lines { self.new.lines ≡ self.old.lines }
+        ensures does { IfOk result (λ answer. Opens self.old.stage config config (joined_hosts config config) (option_map string_bytes answer) self.new.stage) }
+        ensures unreadable { IfErr result (IsRefused self.old.lines (is_empty self.old.stage)) }
     {
         let Stage::Empty = self.stage else {
             return Err(LabFault::BadScript(self.lines));
         };
-        match self.join(channels) {
-            Ok(()) => Ok(Some(String::from_str(self.alloc, "ok")?)),
+        self.begin(World::joined(self.alloc, config, config))
+    }
+
+    /// Makes a world of two hosts that know nothing of each other, once.
+    fn open(&mut self, cfg_a: Config, cfg_b: Config) -> Result<Option<String>, LabFault>
+        ensures lines { self.new.lines ≡ self.old.lines }
+        ensures does { IfOk result (λ answer. Opens self.old.stage cfg_a cfg_b (two_hosts cfg_a cfg_b) (option_map string_bytes answer) self.new.stage) }
+        ensures unreadable { IfErr result (IsRefused self.old.lines (is_empty self.old.stage)) }
+    {
+        let Stage::Empty = self.stage else {
+            return Err(LabFault::BadScript(self.lines));
+        };
+        self.begin(World::open(self.alloc, cfg_a, cfg_b))
+    }
+
+    /// Begins with a world, or with the refusal of one.
+    fn begin(&mut self, made: Result<World, Refusal>) -> Result<Option<String>, LabFault>
+        ensures lines { self.new.lines ≡ self.old.lines }
+        ensures begins { IfOk result (λ answer. Begins made (option_map string_bytes answer) self.new.stage) }
+        ensures memory { IfErr result (λ fault. fault ≡ LabFault.Memory) }
+    {
+        let text = match made {
+            Ok(world) => {
+                self.stage = Stage::Running(world);
+                String::from_str(self.alloc, "ok")?
+            }
             Err(refusal) => {
                 self.stage = Stage::Refused;
-                Ok(Some(refusal_text(self.alloc, refusal)?))
+                refusal_text(self.alloc, refusal)?
             }
-        }
+        };
+        Ok(Some(text))
     }
 
-    // Puts a new world in the place of what there is.
-    fn join(&mut self, channels: u8) -> Result<(), Refusal>
-        ensures lines { self.new.lines ≡ self.old.lines }
-    {
-        let config = Config::standard(1, channels);
-        self.stage = Stage::Running(World::joined(self.alloc, config, config)?);
-        Ok(())
-    }
-
-    // Makes something happen in the world.
+    /// Makes an event happen in the world.
     fn step(&mut self, event: WorldEvent) -> Result<Option<String>, LabFault>
-        ensures running { HasWorld self.old.stage → IfErr result (λ fault. fault ≡ LabFault.Memory) }
-        ensures too_early { ¬ (HasWorld self.old.stage)
-            → (result ≡ Err (LabFault.BadScript self.old.lines)) × (self.new ≡ self.old) }
         ensures lines { self.new.lines ≡ self.old.lines }
+        ensures does { IfOk result (λ answer. Does self.old.stage (spelled.Step event) (option_map string_bytes answer) self.new.stage) }
+        ensures unreadable { IfErr result (IsRefused self.old.lines (can_do self.old.stage (spelled.Step event))) }
     {
         let Stage::Running(world) = &mut self.stage else {
             return Err(LabFault::BadScript(self.lines));
@@ -101,105 +139,21 @@ impl Script {
     }
 }
 
-// Makes one event happen, and gives the text of its answer.
-fn step_text(alloc: Global, world: &mut World, event: WorldEvent) -> Result<String, AllocError> {
-    let side = side_of(&event);
-    match world.step(event) {
-        Ok(answer) => answer_text(alloc, world, side, &answer),
-        Err(refusal) => refusal_text(alloc, refusal),
-    }
-}
-
-// Runs a line, and writes its answer where it has one.
-fn run_line<W: Write>(script: &mut Script, text: &[u8], writer: &mut W) -> Result<(), LabFault> {
-    let Some(mut answer) = script.run(text)? else {
-        return Ok(());
-    };
-    answer.push('\n')?;
-    writer
-        .write_all(answer.as_bytes())
-        .map_err(|_| LabFault::Io)
-}
-
-// Takes in bytes of the script: runs each line that they end, and keeps the line that they begin.
-fn take_in<W: Write>(
-    script: &mut Script,
-    line: &mut Vec<u8>,
-    bytes: &[u8],
-    writer: &mut W,
-) -> Result<(), LabFault> {
-    for byte in bytes {
-        if *byte == b'\n' {
-            run_line(script, line.as_slice(), writer)?;
-            line.clear();
-        } else {
-            line.push(*byte)?;
-        }
-    }
-    Ok(())
-}
-
-// The next bytes of the script: how many there are, or None at its end. An interrupted read gives 0.
-fn read_some<R: Read>(reader: &mut R, buf: &mut [u8; 4096]) -> Result<Option<usize>, LabFault>
-    ensures bound { IfOk result (λ read. IfSome read (λ len. len ≤ 4096)) }
-    ensures failed { IfErr result (λ fault. fault ≡ LabFault.Io) }
+/// Makes one event happen, and gives the text of its answer.
+fn step_text(alloc: Global, world: &mut World, event: WorldEvent) -> Result<String, AllocError>
+    ensures { IfOk result (λ text. StepsTo world.old event (string_bytes text) world.new) }
 {
-    match reader.read(buf) {
-        Ok(0) => Ok(None),
-        Ok(len) => Ok(Some(len)),
-        Err(error) if error.kind() == ErrorKind::Interrupted => Ok(Some(0)),
-        Err(_) => Err(LabFault::Io),
-    }
+    let side = side_of(&event);
+    let outcome = world.step(event);
+    outcome_text(alloc, side, bytes_shown(world, side, &outcome), &outcome)
 }
 
-// Runs the whole script.
-fn run_script<R: Read, W: Write>(
-    alloc: Global,
-    reader: &mut R,
-    writer: &mut W,
-) -> Result<(), LabFault> {
-    let mut script = Script::new(alloc);
-    run_lines(&mut script, reader, writer)
-}
-
-// Reads lines and runs them, to the reader's end.
-fn run_lines<R: Read, W: Write>(
-    script: &mut Script,
-    reader: &mut R,
-    writer: &mut W,
-) -> Result<(), LabFault> {
-    let mut line = Vec::new(script.alloc);
-    let mut buf = [0u8; 4096];
-    for _ in 0..READS {
-        let Some(len) = read_some(reader, &mut buf)? else {
-            if line.is_empty() {
-                return Ok(());
-            }
-            return run_line(script, line.as_slice(), writer);
-        };
-        take_in(script, &mut line, &buf[..len], writer)?;
+/// The bytes of the datagram that an answer shows; none where it shows none.
+fn bytes_shown<'a>(world: &'a World, side: Side, outcome: &Result<Answer, Refusal>) -> &'a [u8]
+    ensures { result.now ≡ bytes_shown world.now.world side outcome.now }
+{
+    match outcome {
+        Ok(Answer::Sent(Some(k))) => world.datagram(side, *k).unwrap_or(&[]),
+        _ => &[],
     }
-    Err(LabFault::Io)
-}
-
-/// Runs a script: reads it from the reader to its end and writes one answer a line. A line ends at a line feed or at the
-/// end of the script. Blank lines and lines that begin with `#` are counted and passed over. `pair <channels>` comes first
-/// and once; then `submit <side> <peer> <channel> <flags> <bytes>`, `deliver <side> <k>`, `turn <side>`, `tick <side> <ms>`,
-/// `take <side>`, and `now`, `ask` or `later <side> <peer> <data>`, which disconnect. Words are separated by spaces, numbers
-/// are decimal, a peer is `slot.generation`, bytes are hex of either case or `-` for none. A refusal of the world is answered by
-/// its number and its name, and the script goes on.
-///
-/// BadScript at the first line that can't be read, and at the first line behind a refused `pair`; Memory where a growth of
-/// the lab itself was refused; Io where a read or a write failed, and after 16,777,216 reads. The answers so far are
-/// written, unless a write or the flush failed.
-pub fn lab<R: Read, W: Write>(
-    alloc: Global,
-    reader: &mut R,
-    writer: &mut W,
-) -> Result<(), LabFault> {
-    let outcome = run_script(alloc, reader, writer);
-    if writer.flush().is_err() {
-        return Err(LabFault::Io);
-    }
-    outcome
 }
