@@ -3,14 +3,14 @@
 use anyhow::{Result, bail};
 use bytes::Bytes;
 use check_outcome::follows;
-use enet_codec::Packet;
+use enet_types::Packet;
 use std::alloc::{AllocError, Global};
 
 /// A packet of a case: its flags and its body.
 type Sketch = (u8, &'static [u8]);
 
-/// How many unreliable packets were submitted before since the last reliable one, what was submitted, what was dispatched, and
-/// whether that follows, at an mtu of 576.
+/// How many unreliable packets were submitted before since the last reliable one, what was submitted, what was taken, and whether
+/// that follows, at an mtu of 576.
 type Case = (u32, &'static [Sketch], &'static [Sketch], bool);
 
 const A: Sketch = (1, b"a");
@@ -81,10 +81,10 @@ fn packets(alloc: Global, sketches: &[Sketch]) -> Result<Vec<Packet>, AllocError
 /// How many cases there are. An error where one is judged otherwise.
 pub fn judged(alloc: Global) -> Result<usize> {
     for (number, case) in CASES.iter().enumerate() {
-        let (unreliable, submitted, dispatched, wanted) = *case;
+        let (unreliable, submitted, taken, wanted) = *case;
         let submitted = packets(alloc, submitted)?;
-        let dispatched = packets(alloc, dispatched)?;
-        if follows(576, unreliable.min(65_535), &submitted, &dispatched) != wanted {
+        let taken = packets(alloc, taken)?;
+        if follows(576, 0, unreliable.min(65_535), &submitted, &taken) != wanted {
             bail!("worked case {number} is judged otherwise");
         }
     }

@@ -3,17 +3,17 @@
 ghost use Rattle.std.specs.Prelude.{◌<◌, ◌≤◌};
 
 use bytes::Bytes;
+use enet_hosts::{Side, WorldEvent};
 use enet_types::{DisconnectMode, PeerRef};
-use enet_world::{Side, WorldEvent};
 use rand_core::{Rng, SeedableRng};
 use rand_pcg::Pcg32;
 use std::alloc::{AllocError, Global};
 
-/// The only peer of each side.
-const PEER: PeerRef = PeerRef {
-    slot: 0,
-    generation: 0,
-};
+/// How many slots a host has at most.
+const SLOTS: u16 = 3;
+
+/// How many channels a connection has at most.
+pub const CHANNELS: u8 = 3;
 
 /// What a datagram needs in bytes beside a piece of a packet.
 const OVERHEAD: u32 = 28;
@@ -21,9 +21,11 @@ const OVERHEAD: u32 = 28;
 /// The flags that are drawn: RELIABLE 1, UNSEQUENCED 2, UNRELIABLE_FRAGMENT 8.
 const FLAGS: [u8; 8] = [1, 1, 1, 0, 0, 2, 8, 11];
 
-/// What both sides of a list have in common.
-#[derive(Clone, Copy, Debug)]
+/// What the hosts of a list have in common, and how many slots each has.
+#[derive(Clone, Copy)]
 pub struct Setting {
+    pub peers_a: u16,
+    pub peers_b: u16,
     pub channels: u8,
     pub mtu: u32,
     /// Bytes per second that each side sends; 0 says that there is no limit.
@@ -36,13 +38,55 @@ pub struct Setting {
     ghost most: { mtu ≤ 4096 },
 }
 
-/// The datagrams from one side to the other.
-#[derive(Clone, Copy, Debug)]
-pub struct Way {
-    /// How many were put out.
+/// What is known of a side: the datagrams to it, and its peers.
+#[derive(Clone, Copy)]
+pub struct Known {
+    /// How many datagrams the other side put out.
     pub sent: u64,
     /// The first after all those that came.
     pub first: u64,
+    /// The peer that connected last.
+    connected: PeerRef,
+    /// The generation of the last peer of each slot.
+    generations: [u32; SLOTS as usize],
+}
+
+impl Known {
+    pub fn nothing() -> Known {
+        Known {
+            sent: 0,
+            first: 0,
+            connected: PeerRef {
+                slot: 0,
+                generation: 0,
+            },
+            generations: [0; SLOTS as usize],
+        }
+    }
+
+    /// The side has a peer of this name.
+    pub fn has_peer(&mut self, name: PeerRef) {
+        let slot = usize::from(name.slot);
+        if slot < self.generations.len() {
+            self.generations[slot] = name.generation;
+        }
+    }
+
+    /// A peer of the side has connected.
+    pub fn connects(&mut self, name: PeerRef) {
+        self.connected = name;
+        self.has_peer(name);
+    }
+
+    /// The name of the last peer of a slot.
+    fn last_peer(&self, slot: u16) -> PeerRef {
+        let generation = self
+            .generations
+            .get(usize::from(slot))
+            .copied()
+            .unwrap_or(0);
+        PeerRef { slot, generation }
+    }
 }
 
 /// A generator, and how many packets were drawn of the list that is being drawn.
@@ -82,11 +126,15 @@ impl Draw {
     /// The setting of the next list.
     pub fn setting(&mut self) -> Setting {
         self.packets = 0;
-        let channels = (1 + self.below(3)) as u8;
+        let peers_a = self.slots();
+        let peers_b = self.slots();
+        let channels = self.channels();
         let mtu = self.mtu();
         let outgoing = if self.below(4) == 0 { 65536 } else { 0 };
         let max_waiting = if self.below(4) == 0 { 3000 } else { 33_554_432 };
         Setting {
+            peers_a,
+            peers_b,
             channels,
             mtu,
             outgoing,
@@ -95,28 +143,41 @@ impl Draw {
         }
     }
 
+    fn slots(&mut self) -> u16 {
+        (1 + self.below(u32::from(SLOTS))) as u16
+    }
+
+    fn channels(&mut self) -> u8 {
+        (1 + self.below(u32::from(CHANNELS))) as u8
+    }
+
     /// A side.
     pub fn side(&mut self) -> Side {
         if self.below(2) == 0 { Side::A } else { Side::B }
     }
 
-    /// Something that happens at a side, to which so much is on its way.
+    /// Something that happens at a side, of which so much is known. A list begins with a Connect.
     pub fn event(
         &mut self,
         alloc: Global,
+        number: u32,
         setting: Setting,
         side: Side,
-        way: Way,
+        known: Known,
     ) -> Result<WorldEvent, AllocError> {
+        if number == 0 {
+            return Ok(self.connect(side));
+        }
         match self.below(512) {
-            0 => Ok(self.disconnect(side)),
-            1..100 => self.submit(alloc, setting, side),
-            100..240 => {
-                let k = self.datagram(way);
+            0..8 => Ok(self.connect(side)),
+            8..14 => Ok(self.disconnect(side, known)),
+            14..110 => self.submit(alloc, setting, side, known),
+            110..270 => {
+                let k = self.datagram(known);
                 Ok(WorldEvent::Deliver { side, k })
             }
-            240..340 => Ok(WorldEvent::Turn { side }),
-            340..370 => {
+            270..390 => Ok(WorldEvent::Turn { side }),
+            390..410 => {
                 let ms = self.below(2001);
                 Ok(WorldEvent::Tick { side, ms })
             }
@@ -124,7 +185,19 @@ impl Draw {
         }
     }
 
-    fn disconnect(&mut self, side: Side) -> WorldEvent {
+    fn connect(&mut self, side: Side) -> WorldEvent {
+        let channels = self.channels();
+        let word = self.generator.next_u32();
+        WorldEvent::Connect {
+            side,
+            channels,
+            info: 5,
+            word,
+        }
+    }
+
+    fn disconnect(&mut self, side: Side, known: Known) -> WorldEvent {
+        let peer = self.peer(known);
         let how = match self.below(3) {
             0 => DisconnectMode::Now,
             1 => DisconnectMode::Ask,
@@ -132,20 +205,32 @@ impl Draw {
         };
         WorldEvent::Disconnect {
             side,
-            peer: PEER,
+            peer,
             how,
             info: 7,
         }
     }
 
+    /// A peer of a side: mostly the one that connected last, else the last of a slot or the one before. There may be none of that name.
+    fn peer(&mut self, known: Known) -> PeerRef {
+        match self.below(16) {
+            0..10 => known.connected,
+            10..15 => known.last_peer(self.below(u32::from(SLOTS)) as u16),
+            _ => PeerRef {
+                generation: known.connected.generation.saturating_sub(1),
+                ..known.connected
+            },
+        }
+    }
+
     /// The number of a datagram that comes: mostly the first after all those that came or the one after that, else one of the
     /// last four, or any. It may name one that wasn't put out.
-    fn datagram(&mut self, way: Way) -> u64 {
+    fn datagram(&mut self, known: Known) -> u64 {
         match self.below(8) {
-            0..5 => way.first,
-            5 => way.first.saturating_add(1),
-            6 => self.back(way.sent, 4),
-            _ => self.back(way.sent, 1000),
+            0..5 if known.first < known.sent => known.first,
+            5 => known.first.saturating_add(1),
+            6 => self.back(known.sent, 4),
+            _ => self.back(known.sent, 1000),
         }
     }
 
@@ -161,14 +246,16 @@ impl Draw {
         alloc: Global,
         setting: Setting,
         side: Side,
+        known: Known,
     ) -> Result<WorldEvent, AllocError> {
+        let peer = self.peer(known);
         let channel = (self.below(255) % u32::from(setting.channels.max(1))) as u8;
         let flags = FLAGS[self.below(8) as usize];
         let len = self.length(setting.mtu - OVERHEAD);
         self.packets = self.packets.wrapping_add(1);
         Ok(WorldEvent::Submit {
             side,
-            peer: PEER,
+            peer,
             channel,
             flags,
             body: body(alloc, self.packets, len)?,

@@ -1,26 +1,25 @@
--- When what a channel dispatched follows what was submitted on it, unsequenced packets apart.
-use Rattle.std.specs.Prelude.{ℕ, ◌==◌, if◌then◌else◌, List, [], ◌∷◌}
+-- When what a user took of a channel follows what the other user submitted on it.
+use Rattle.std.specs.Prelude.{ℕ, ◌&&◌, ◌==◌, not, Bool, List}
 use Rattle.enet_types.specs.declared.packet.Packet.{Packet}
 use Rattle.enet_sender.specs.Carriage as carriage
 use Rattle.enet_sender.specs.Carriage.{carried_from}
 use Rattle.enet_outbox.specs.Outbox.{is_unsequenced}
 use Rattle.enet_link.specs.Follows.{FollowsCarried}
+use Rattle.enet_link.specs.Steps.{bodies_of}
+use Rattle.enet_connection.specs.Connection.{of_channel, in_sequence}
 
 -- a submitted packet, as the choice of its commands sees it
 abbrev pub submission : Packet → carriage.Packet
-submission p = record { flags = p.flags; body = p.body }
+submission q = record { flags = q.flags; body = q.body }
 
--- the submitted packets that don't go unsequenced
-abbrev pub sequenced : ℕ → List Packet → List carriage.Packet
-sequenced mtu [] = []
-sequenced mtu (p ∷ ps) = if is_unsequenced mtu (submission p) then sequenced mtu ps else submission p ∷ sequenced mtu ps
+-- a packet was submitted on a channel and goes in sequence
+abbrev pub goes_in_sequence : ℕ → ℕ → Packet → Bool
+goes_in_sequence mtu channel q = q.channel == channel && not (is_unsequenced mtu (submission q))
 
--- the bodies of the dispatched packets that didn't come unsequenced
-abbrev pub ordered_bodies : List Packet → List (List ℕ)
-ordered_bodies [] = []
-ordered_bodies (p ∷ ps) = if p.flags == 2 then ordered_bodies ps else p.body ∷ ordered_bodies ps
+-- a packet was taken of a channel and came in sequence
+abbrev pub came_in_sequence : ℕ → Packet → Bool
+came_in_sequence channel q = q.channel == channel && not (q.flags == 2)
 
--- what was dispatched follows what was submitted, `count` unreliable packets having been submitted before since the last
--- reliable one
-abbrev pub FollowsFrom : ℕ → ℕ → List Packet → List Packet → Type 0
-FollowsFrom mtu count submitted dispatched = FollowsCarried (carried_from mtu count (sequenced mtu submitted)) (ordered_bodies dispatched)
+-- what was taken follows what was submitted, `count` unreliable packets having been submitted before since the last reliable one
+abbrev pub FollowsFrom : ℕ → ℕ → ℕ → List Packet → List Packet → Type 0
+FollowsFrom mtu channel count submitted taken = FollowsCarried (carried_from mtu count (of_channel mtu channel submitted)) (bodies_of (in_sequence channel taken))

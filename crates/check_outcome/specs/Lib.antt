@@ -1,3 +1,3 @@
-pub mod Ending
 pub mod Following
+pub mod Life
 pub mod Sound

@@ -1,21 +1,29 @@
--- What is to hold of a world, whatever happened in it.
-use Rattle.std.specs.Prelude.{◌≡◌, ◌<◌, ℕ}
-use Rattle.std.specs.List.{All}
+-- What is to hold of a world that was opened, whatever happened in it.
+use Rattle.std.specs.Prelude.{◌<◌, ℕ, false, List}
 use Rattle.enet_types.specs.declared.packet.Packet.{Packet}
-use Rattle.enet_world.specs.declared.event.Side.{Side}
-use Rattle.enet_world.specs.World.{Joined, submitted_of, dispatched_of, events_of}
-use Rattle.check_outcome.specs.Ending.{EndsOnce}
-use Rattle.check_outcome.specs.Following.{FollowsFrom}
+use Rattle.enet_link.specs.Follows.{Follows}
+use Rattle.enet_link.specs.Steps.{bodies_of}
+use Rattle.enet_connection.specs.Connection.{of_channel, in_sequence}
+use Rattle.enet_network.specs.declared.event.Side.{Side}
+use Rattle.enet_network.specs.declared.event.Side.TheVariants.{A, B}
+use Rattle.enet_network.specs.Headline.{AreOn, IsLife, end_at, submitted_at, taken_at, events_at}
+use Rattle.enet_network.specs.World.{World, other}
 
-abbrev pub IsOn : ℕ → Packet → Type 0
-IsOn channel p = p.channel ≡ channel
+-- what a user took of a channel follows what the other user submitted on it, and both lists have packets of that channel alone
+pub record AreInOrder (mtu channel : ℕ) (submitted taken : List Packet) : Type 0 where
+  pub submitted_on : AreOn channel submitted
+  pub taken_on : AreOn channel taken
+  pub follows : Follows mtu (of_channel mtu channel submitted) (bodies_of (in_sequence channel taken))
 
--- of a channel on which a side submits, at this mtu
-pub record HoldsOn (w : Joined) (mtu : ℕ) (side : Side) (channel : ℕ) : Type 0 where
-  pub named : All (IsOn channel) (dispatched_of w 0 side channel)
-  pub follows : FollowsFrom mtu 0 (submitted_of w 0 side channel) (dispatched_of w 0 side channel)
+-- so it is of what a side submitted on a channel of connection x
+abbrev pub IsInOrderAt : World → ℕ → ℕ → Side → ℕ → Type 0
+IsInOrderAt w mtu x side channel = AreInOrder mtu channel (submitted_at channel (end_at w x side)) (taken_at channel (end_at w x (other side)))
 
--- of a side, at this mtu and so many channels
-pub record IsSound (w : Joined) (mtu channels : ℕ) (side : Side) : Type 0 where
-  pub each : (channel : ℕ) → channel < channels → HoldsOn w mtu side channel
-  pub ends : EndsOnce (events_of w 0 side)
+-- of a side of connection x, whose packets go by this mtu, and of so many channels
+pub record IsSideSound (w : World) (mtu channels x : ℕ) (side : Side) : Type 0 where
+  pub in_order : (channel : ℕ) → channel < channels → IsInOrderAt w mtu x side channel
+  pub one_life : IsLife false (events_at (end_at w x side))
+
+-- of so many connections
+abbrev pub IsSound : World → ℕ → ℕ → ℕ → Type 0
+IsSound w mtu channels connections = (x : ℕ) → x < connections → IsSideSound w mtu channels x A × IsSideSound w mtu channels x B

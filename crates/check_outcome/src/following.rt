@@ -1,15 +1,15 @@
-//! Whether what a channel dispatched follows what was submitted on it.
+//! Whether what a user took of a channel follows what the other user submitted on it.
 
-ghost use Rattle.std.specs.Prelude.{◌≡◌, ◌≤◌, ◌==◌, ◌↔◌, IsTrue};
+ghost use Rattle.std.specs.Prelude.{◌≡◌, ◌≤◌, ◌↔◌, IsTrue};
 ghost use Rattle.enet_sender.specs.Carriage.{is_long, goes_reliable};
-ghost use Rattle.enet_outbox.specs.Outbox.{is_unsequenced};
-ghost use Rattle.check_outcome.specs.Following.{submission, FollowsFrom};
+ghost use Rattle.check_outcome.specs.Following.{submission, goes_in_sequence, came_in_sequence, FollowsFrom};
 
-use enet_codec::Packet;
+use enet_types::Packet;
 
 /// What a datagram needs in bytes beside a piece of a packet.
 const OVERHEAD: u32 = 28;
 
+/// The flags of a packet that came unsequenced.
 const UNSEQUENCED: u8 = 2;
 
 /// The greatest number of an unreliable packet.
@@ -23,18 +23,19 @@ fn is_long(mtu: u32, packet: &Packet) -> bool
     packet.body.len() > (mtu - OVERHEAD) as usize
 }
 
-/// Whether a submitted packet goes unsequenced.
-fn is_unsequenced(mtu: u32, packet: &Packet) -> bool
+/// Whether a submitted packet goes by this channel and in sequence.
+fn goes_in_sequence(mtu: u32, channel: u8, packet: &Packet) -> bool
     requires { 576 ≤ mtu }
-    ensures { result ≡ is_unsequenced mtu (submission packet.now) }
+    ensures { result ≡ goes_in_sequence mtu channel packet.now }
 {
     let asks_for_unsequenced = packet.flags / 2 % 2 == 1;
     let asks_for_reliable = packet.flags % 2 == 1;
-    asks_for_unsequenced && !asks_for_reliable && !is_long(mtu, packet)
+    let is_unsequenced = asks_for_unsequenced && !asks_for_reliable && !is_long(mtu, packet);
+    packet.channel == channel && !is_unsequenced
 }
 
-/// Whether a submitted packet that doesn't go unsequenced goes by reliable commands, so many unreliable ones having been
-/// submitted since the last that did.
+/// Whether a submitted packet that goes in sequence goes by reliable commands, so many unreliable ones having been submitted since
+/// the last that did.
 fn goes_reliable(mtu: u32, unreliable: u32, packet: &Packet) -> bool
     requires { 576 ≤ mtu }
     ensures { result ≡ goes_reliable mtu unreliable (submission packet.now) }
@@ -46,40 +47,46 @@ fn goes_reliable(mtu: u32, unreliable: u32, packet: &Packet) -> bool
         || (is_long(mtu, packet) && !asks_for_unreliable_fragments)
 }
 
-/// Whether a packet that was dispatched came unsequenced.
-pub fn came_unsequenced(packet: &Packet) -> bool
-    ensures { result ≡ (packet.now.flags == 2) }
+/// Whether a packet that was taken is of this channel and came in sequence.
+pub fn came_in_sequence(channel: u8, packet: &Packet) -> bool
+    ensures { result ≡ came_in_sequence channel packet.now }
 {
-    packet.flags == UNSEQUENCED
+    packet.channel == channel && packet.flags != UNSEQUENCED
 }
 
-/// Whether what was dispatched on a channel, unsequenced packets apart, follows what was submitted on it: a subsequence, each
-/// packet whole and once, which leaves out no reliable packet before its last. `unreliable` packets were submitted before
-/// since the last reliable one.
+/// Whether what was taken of a channel, unsequenced packets apart, follows what was submitted on it by this mtu, in bytes: a
+/// subsequence, each packet whole and once, which leaves out no reliable packet before its last. `unreliable` packets were
+/// submitted before since the last reliable one.
 ///
-/// An unreliable packet with the bytes of the next one that was dispatched may be that one or have been left out: both are
-/// tried. In the lists that are drawn only empty packets are alike, so that this stays cheap.
-pub fn follows(mtu: u32, unreliable: u32, submitted: &[Packet], dispatched: &[Packet]) -> bool
+/// An unreliable packet with the bytes of the next one that was taken may be that one or have been left out: both are tried. In the
+/// lists that are drawn only empty packets are alike, so that this stays cheap.
+pub fn follows(
+    mtu: u32,
+    channel: u8,
+    unreliable: u32,
+    submitted: &[Packet],
+    taken: &[Packet],
+) -> bool
     requires mtu { 576 ≤ mtu }
     requires unreliable { unreliable ≤ 65535 }
-    ensures { IsTrue result ↔ FollowsFrom mtu unreliable submitted.now dispatched.now }
+    ensures { IsTrue result ↔ FollowsFrom mtu channel unreliable submitted.now taken.now }
 {
-    let Some((next, later)) = dispatched.split_first() else {
+    let Some((next, later)) = taken.split_first() else {
         return true;
     };
-    if came_unsequenced(next) {
-        return follows(mtu, unreliable, submitted, later);
+    if !came_in_sequence(channel, next) {
+        return follows(mtu, channel, unreliable, submitted, later);
     }
     let Some((packet, rest)) = submitted.split_first() else {
         return false;
     };
-    if is_unsequenced(mtu, packet) {
-        return follows(mtu, unreliable, rest, dispatched);
+    if !goes_in_sequence(mtu, channel, packet) {
+        return follows(mtu, channel, unreliable, rest, taken);
     }
     let reliable = goes_reliable(mtu, unreliable, packet);
     let since = if reliable { 0 } else { unreliable + 1 };
-    if packet.body == next.body && follows(mtu, since, rest, later) {
+    if packet.body == next.body && follows(mtu, channel, since, rest, later) {
         return true;
     }
-    !reliable && follows(mtu, since, rest, dispatched)
+    !reliable && follows(mtu, channel, since, rest, taken)
 }

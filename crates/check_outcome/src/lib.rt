@@ -1,13 +1,16 @@
-//! Whether what happened in a world is what the headline promises: a test that is proved to be that definition, by which drawn
-//! lists are judged.
+//! Whether what happened in a world of two hosts is what the headline promises: tests that are proved to be the network's own
+//! definitions, over the lists that the world lends. By these drawn lists are judged.
 //!
-//! Proved: `verdict` is Ok exactly where for each side and channel what was dispatched follows what was submitted, and nothing
-//! follows a side's Disconnect (`IsSound`); `follows` is true exactly where a channel's packets follow (`FollowsFrom`).
+//! Proved: `follows` is true exactly where the packets that were taken of a channel follow those that were submitted on it
+//! (`FollowsFrom`, which from the first packet on is `Follows`), `is_life` exactly where a user's events are one life (`IsLife`), and
+//! `is_sound` exactly where both hold at each connection, side and channel (`IsSound`).
 //! Only tested, by `check_lists`: that worked cases are judged as by hand.
 #![tactic(auto)]
 
 mod following;
-mod outcome;
+mod life;
+mod sound;
 
-pub use following::{came_unsequenced, follows};
-pub use outcome::{Fault, is_disconnect, verdict};
+pub use following::{came_in_sequence, follows};
+pub use life::is_life;
+pub use sound::is_sound;

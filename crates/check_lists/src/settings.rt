@@ -1,0 +1,97 @@
+//! Worlds of other settings than those that are drawn, whose hosts are connected from the start, judged before any list is drawn.
+
+use crate::list::stepped;
+use anyhow::Result;
+use bytes::Bytes;
+use enet_hosts::{Answer, Side, World, WorldEvent};
+use enet_types::{Config, PeerRef, Received, Refusal, Stop};
+use std::alloc::Global;
+
+/// The mtu and the greatest packet of a host, in bytes, the length of a packet, and whether it is too large.
+type Size = (u32, u32, usize, bool);
+
+/// At an mtu of 576, 16,384 pieces of 548 bytes are 8,978,432 bytes.
+const SIZES: [Size; 4] = [
+    (576, 33_554_432, 8_978_432, false),
+    (576, 33_554_432, 8_978_433, true),
+    (1392, 2000, 2000, false),
+    (1392, 2000, 2001, true),
+];
+
+/// What comes to a host that takes packets of at most 3 bytes and begins none once 2 wait, and what it answers. Number 1 is too
+/// large, so number 2 is held.
+const STOPS: [(&'static [u8], u32, Option<Stop>); 3] = [
+    (b"abcd", 0, Some(Stop::BadFragment)),
+    (b"ab", 1, None),
+    (b"c", 0, Some(Stop::Waiting)),
+];
+
+/// The hosts. No clause says what: callers would carry it along.
+fn joined(alloc: Global, first: Config, second: Config) -> Result<World, Refusal> {
+    World::joined(alloc, first, second)
+}
+
+fn submit(body: Bytes) -> WorldEvent {
+    WorldEvent::Submit {
+        side: Side::A,
+        peer: PeerRef {
+            slot: 0,
+            generation: 0,
+        },
+        channel: 0,
+        flags: 1,
+        body,
+    }
+}
+
+/// Whether a packet is refused just where it is too large.
+fn is_sized(alloc: Global, size: Size) -> Result<bool> {
+    let (mtu, max_packet, len, too_large) = size;
+    let standard = Config::standard(1, 1);
+    let config = Config {
+        mtu,
+        max_packet,
+        ..standard
+    };
+    let mut world = joined(alloc, config, standard)?;
+    let body = Bytes::from_vec(vec![in alloc; 0u8; len]?)?;
+    match stepped(&mut world, submit(body)) {
+        Ok(_) => Ok(!too_large),
+        Err(why) => Ok(too_large && why == Refusal::TooLarge),
+    }
+}
+
+/// Whether a narrow host stops what comes as worked.
+fn is_stopped(alloc: Global) -> Result<bool> {
+    let standard = Config::standard(1, 1);
+    let narrow = Config {
+        max_packet: 3,
+        max_waiting: 2,
+        ..standard
+    };
+    let mut world = joined(alloc, standard, narrow)?;
+    for k in 0..STOPS.len() {
+        let (body, handled, stop) = STOPS[k];
+        stepped(&mut world, submit(Bytes::from_static(body)))?;
+        stepped(&mut world, WorldEvent::Turn { side: Side::A })?;
+        let delivery = WorldEvent::Deliver {
+            side: Side::B,
+            k: k as u64,
+        };
+        match stepped(&mut world, delivery)? {
+            Answer::Received(told) if told == (Received { handled, stop }) => {}
+            _ => return Ok(false),
+        }
+    }
+    Ok(true)
+}
+
+/// Whether all is answered as worked.
+pub fn judged(alloc: Global) -> Result<bool> {
+    for size in SIZES {
+        if !is_sized(alloc, size)? {
+            return Ok(false);
+        }
+    }
+    is_stopped(alloc)
+}
