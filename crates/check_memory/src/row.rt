@@ -2,30 +2,52 @@
 
 use crate::fault::Fault;
 use crate::seen::Seen;
-use enet_lab::{Line, answer_text, read_line, side_of};
-use enet_script::refusal_text;
+use enet_hosts::{Answer, Side, World, WorldEvent, side_of};
+use enet_lines::{Line, outcome_text, read_line};
 use enet_types::{Config, Received, Refusal, Stop};
-use enet_world::{Answer, Side, World, WorldEvent};
 use std::alloc::Global;
 
+/// What came of an event.
+type Outcome = Result<Answer, Refusal>;
+
 /// A growth was refused: E1, or a datagram was stopped by S11.
-fn is_for_want_of_memory(answer: &Result<Answer, Refusal>) -> bool {
-    match answer {
+fn is_for_want_of_memory(outcome: &Outcome) -> bool {
+    match outcome {
         Err(why) => *why == Refusal::Memory,
         Ok(Answer::Received(Received { stop, .. })) => *stop == Some(Stop::Memory),
         Ok(_) => false,
     }
 }
 
-/// The pair, and how many growths were refused. The opening is repeated once.
-fn open(alloc: Global, channels: u8) -> Result<(World, u32), Fault> {
-    let config = Config::standard(1, channels);
-    if let Ok(world) = World::joined(alloc, config, config) {
+/// The two hosts that a first line makes.
+fn made(alloc: Global, line: &Line) -> Option<Result<World, Refusal>> {
+    match line {
+        Line::Pair { channels } => {
+            let config = Config::standard(1, *channels);
+            Some(World::joined(alloc, config, config))
+        }
+        Line::Open {
+            peers_a,
+            channels_a,
+            peers_b,
+            channels_b,
+        } => {
+            let cfg_a = Config::standard(*peers_a, *channels_a);
+            let cfg_b = Config::standard(*peers_b, *channels_b);
+            Some(World::open(alloc, cfg_a, cfg_b))
+        }
+        _ => None,
+    }
+}
+
+/// The hosts, and how many growths were refused. The making is repeated once.
+fn open(alloc: Global, line: &Line) -> Result<(World, u32), Fault> {
+    if let Some(Ok(world)) = made(alloc, line) {
         return Ok((world, 0));
     }
-    match World::joined(alloc, config, config) {
-        Ok(world) => Ok((world, 1)),
-        Err(_) => Err(Fault::Differs(1)),
+    match made(alloc, line) {
+        Some(Ok(world)) => Ok((world, 1)),
+        _ => Err(Fault::Differs(1)),
     }
 }
 
@@ -40,7 +62,7 @@ fn line(alloc: Global, number: u32, text: &str) -> Result<Option<Line>, Fault> {
 }
 
 /// How an event was answered.
-#[derive(Clone, Copy, PartialEq, Eq)]
+#[derive(Drop)]
 enum Happening {
     AsWanted,
     Otherwise,
@@ -48,7 +70,7 @@ enum Happening {
 }
 
 /// Makes an event happen. No clause says what: callers would carry it along.
-fn stepped(world: &mut World, event: WorldEvent) -> Result<Answer, Refusal> {
+fn stepped(world: &mut World, event: WorldEvent) -> Outcome {
     world.step(event)
 }
 
@@ -60,30 +82,34 @@ fn happen(
     wanted: &str,
 ) -> Result<Happening, Fault> {
     let side = side_of(&event);
-    let answer = stepped(world, event);
-    if is_for_want_of_memory(&answer) {
+    let outcome = stepped(world, event);
+    if is_for_want_of_memory(&outcome) {
         return Ok(Happening::NoMemory);
     }
-    if is_told(alloc, world, side, &answer, wanted)? {
+    if is_told(alloc, world, side, &outcome, wanted)? {
         Ok(Happening::AsWanted)
     } else {
         Ok(Happening::Otherwise)
     }
 }
 
-/// Whether this is the text of an answer, which takes memory of the program's own.
+/// The bytes of the datagram that an answer shows.
+fn datagram_of<'a>(world: &'a World, side: Side, outcome: &Outcome) -> &'a [u8] {
+    match outcome {
+        Ok(Answer::Sent(Some(k))) => world.datagram(side, *k).unwrap_or(&[]),
+        _ => &[],
+    }
+}
+
+/// Whether this is the text of what came of an event, which takes memory of the program's own.
 fn is_told(
     alloc: Global,
     world: &World,
     side: Side,
-    answer: &Result<Answer, Refusal>,
+    outcome: &Outcome,
     wanted: &str,
 ) -> Result<bool, Fault> {
-    let told = match answer {
-        Ok(answer) => answer_text(alloc, world, side, answer),
-        Err(refusal) => refusal_text(alloc, *refusal),
-    };
-    match told {
+    match outcome_text(alloc, side, datagram_of(world, side, outcome), outcome) {
         Ok(told) => Ok(told.as_str() == wanted),
         Err(_) => Err(Fault::OwnMemory),
     }
@@ -115,15 +141,15 @@ fn split_line(text: &str) -> (&str, &str) {
     text.split_once('\n').unwrap_or((text, ""))
 }
 
-/// The pair that a script's first line makes, which is answered by `ok`, and how many growths were refused.
+/// The hosts that a script's first line makes, which is answered by `ok`, and how many growths were refused.
 fn begin(alloc: Global, first: &str, answer: &str) -> Result<(World, u32), Fault> {
     match line(alloc, 1, first)? {
-        Some(Line::Pair { channels }) if answer == "ok" => open(alloc, channels),
+        Some(line) if answer == "ok" => open(alloc, &line),
         _ => Err(Fault::Differs(1)),
     }
 }
 
-/// Runs a script, the first line of which makes the pair, step by step. How many growths were refused.
+/// Runs a script, the first line of which makes the hosts, step by step. How many growths were refused.
 pub(crate) fn run(alloc: Global, script: &str, answers: &str) -> Result<u32, Fault> {
     let (first, steps) = split_line(script);
     let (answer, answers) = split_line(answers);
@@ -168,7 +194,7 @@ fn events_of(alloc: Global, steps: &str) -> Result<Vec<WorldEvent>, Fault> {
     Ok(events)
 }
 
-/// Runs a script, the first line of which makes the pair, as one list of events. How many growths were refused.
+/// Runs a script, the first line of which makes the hosts, as one list of events. How many growths were refused.
 pub(crate) fn run_at_once(alloc: Global, script: &str, answers: &str) -> Result<u32, Fault> {
     let (first, steps) = split_line(script);
     let (answer, answers) = split_line(answers);
@@ -191,7 +217,7 @@ fn are_told(
     alloc: Global,
     world: &World,
     events: &[WorldEvent],
-    told: &[Result<Answer, Refusal>],
+    told: &[Outcome],
     answers: &str,
 ) -> Result<(), Fault> {
     let mut answers = answers.lines();

@@ -1,10 +1,11 @@
 //! What the reading calls of a world tell, as one number.
 
-use enet_codec::Packet;
-use enet_types::Event;
-use enet_world::{Side, World};
+use enet_hosts::{Side, World};
+use enet_types::{Event, Packet};
 
-/// How many channels and datagrams of a side are read. No row has more.
+/// How many connections, channels and datagrams of a side are read. No row has more.
+const CONNECTIONS: u64 = 2;
+
 const CHANNELS: u8 = 2;
 
 const DATAGRAMS: u64 = 4;
@@ -91,12 +92,18 @@ impl Seen {
         }
     }
 
-    fn add_side(&mut self, world: &World, side: Side) {
+    fn add_connection(&mut self, world: &World, connection: u64, side: Side) {
         for channel in 0..CHANNELS {
-            self.add_packets(world.submitted(0, side, channel));
-            self.add_packets(world.dispatched(0, side, channel));
+            self.add_packets(world.submitted(connection, side, channel));
+            self.add_packets(world.dispatched(connection, side, channel));
         }
-        self.add_events(world.events(0, side));
+        self.add_events(world.events(connection, side));
+    }
+
+    fn add_side(&mut self, world: &World, side: Side) {
+        for connection in 0..CONNECTIONS {
+            self.add_connection(world, connection, side);
+        }
         self.add_datagrams(world, side);
     }
 }
