@@ -1,7 +1,7 @@
 //! Why a run ends early.
 
 /// Why a run ends early.
-#[derive(Clone, Copy)]
+#[derive(Drop)]
 pub(crate) enum Fault {
     /// The answer to this line of a script, or to this step of the single peers, isn't the worked one, or a refusal changed what
     /// reading calls tell.

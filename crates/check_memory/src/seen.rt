@@ -12,18 +12,18 @@ const DATAGRAMS: u64 = 4;
 
 /// A sum over all that the reading calls of a world tell: each list with its length and each packet, event and datagram with
 /// its bytes. What tells the same has the same sum, and what differs hardly ever has.
-#[derive(Clone, Copy, PartialEq, Eq)]
+#[derive(Drop)]
 pub(crate) struct Seen {
     sum: u64,
 }
 
 impl Seen {
-    /// What a world tells now.
-    pub(crate) fn of(world: &World) -> Seen {
+    /// The sum of what a world tells now.
+    pub(crate) fn of(world: &World) -> u64 {
         let mut seen = Seen { sum: 0 };
         seen.add_side(world, Side::A);
         seen.add_side(world, Side::B);
-        seen
+        seen.sum
     }
 
     fn add(&mut self, word: u64) {

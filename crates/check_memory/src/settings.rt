@@ -42,7 +42,7 @@ const LIMITS: Limits = Limits {
 };
 
 /// What the reading calls of a peer tell: its state, its terms, the other end's bandwidth, and whether a body waits.
-#[derive(Clone, Copy, PartialEq, Eq)]
+#[derive(PartialEq, Drop)]
 struct Told {
     state: PeerState,
     terms: Terms,
