@@ -2,7 +2,7 @@
 
 use crate::drawing::CHANNELS;
 use crate::list::Happened;
-use enet_hosts::{Side, World};
+use enet_world::{Side, World};
 use enet_types::{Event, Packet};
 use std::fmt;
 

@@ -3,7 +3,7 @@
 ghost use Rattle.std.specs.Prelude.{◌<◌, ◌≤◌};
 
 use bytes::Bytes;
-use enet_hosts::{Side, WorldEvent};
+use enet_world::{Side, WorldEvent};
 use enet_types::{DisconnectMode, PeerRef};
 use rand_core::{Rng, SeedableRng};
 use rand_pcg::Pcg32;

@@ -2,7 +2,7 @@
 
 use crate::drawing::{Draw, Known, Setting};
 use anyhow::{Result, bail};
-use enet_hosts::{Answer, Side, World, WorldEvent};
+use enet_world::{Answer, Side, World, WorldEvent};
 use enet_types::{Config, Event, PeerRef, Refusal};
 use std::alloc::Global;
 

@@ -14,7 +14,7 @@ use anyhow::{Result, bail};
 use check_outcome::is_sound;
 use counting::Counts;
 use drawing::{CHANNELS, Draw, Setting};
-use enet_hosts::World;
+use enet_world::World;
 use list::Happened;
 use std::alloc::Global;
 

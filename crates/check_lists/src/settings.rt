@@ -3,7 +3,7 @@
 use crate::list::stepped;
 use anyhow::Result;
 use bytes::Bytes;
-use enet_hosts::{Answer, Side, World, WorldEvent};
+use enet_world::{Answer, Side, World, WorldEvent};
 use enet_types::{Config, PeerRef, Received, Refusal, Stop};
 use std::alloc::Global;
 

@@ -2,7 +2,7 @@
 
 use crate::fault::Fault;
 use crate::seen::Seen;
-use enet_hosts::{Answer, Side, World, WorldEvent, side_of};
+use enet_world::{Answer, Side, World, WorldEvent, side_of};
 use enet_lines::{Line, outcome_text, read_line};
 use enet_types::{Config, Received, Refusal, Stop};
 use std::alloc::Global;

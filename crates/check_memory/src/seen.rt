@@ -1,6 +1,6 @@
 //! What the reading calls of a world tell, as one number.
 
-use enet_hosts::{Side, World};
+use enet_world::{Side, World};
 use enet_types::{Event, Packet};
 
 /// How many connections, channels and datagrams of a side are read. No row has more.

@@ -6,7 +6,7 @@ ghost use Rattle.check_outcome.specs.Sound.{AreInOrder, IsInOrderAt, IsSideSound
 
 use crate::following::follows;
 use crate::life::is_life;
-use enet_hosts::{Side, World};
+use enet_world::{Side, World};
 use enet_types::Packet;
 
 /// Whether all packets are of this channel.

@@ -6,7 +6,7 @@ use Rattle.enet_types.specs.declared.config.Config.{Config}
 use Rattle.enet_types.specs.declared.refusal.Refusal.{Refusal}
 use Rattle.enet_types.specs.declared.refusal.Refusal.TheVariants.{Memory, BadConfig}
 use Rattle.enet_types.specs.Config.{is_in_range}
-use Rattle.enet_hosts.specs.Worlds.{Running as Hosts}
+use Rattle.enet_world.specs.Worlds.{Running as Hosts}
 use Rattle.enet_lab.specs.declared.fault.LabFault.{LabFault}
 use Rattle.enet_lab.specs.declared.fault.LabFault.TheVariants.{BadScript}
 use Rattle.enet_lab.specs.declared.script.Stage.{Stage}

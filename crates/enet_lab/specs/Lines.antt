@@ -15,7 +15,7 @@ use Rattle.enet_lines.specs.declared.line.Line.{Line}
 use Rattle.enet_lines.specs.declared.line.Line.TheVariants as spelled
 use Rattle.enet_lines.specs.Lines.{spells}
 use Rattle.enet_lines.specs.Answers.{outcome_text}
-use Rattle.enet_hosts.specs.Worlds.{Running as Hosts}
+use Rattle.enet_world.specs.Worlds.{Running as Hosts}
 use Rattle.enet_lab.specs.declared.fault.LabFault.{LabFault}
 use Rattle.enet_lab.specs.declared.fault.LabFault.TheVariants as faults
 use Rattle.enet_lab.specs.declared.script.Stage.{Stage}

@@ -8,7 +8,7 @@ ghost use Rattle.enet_lab.specs.declared.script.Stage.TheVariants as stages;
 ghost use Rattle.enet_lab.specs.Lines.{Begins, Does, IsRefused, Opens, RunsLine, StepsTo, bytes_shown, can_do, can_read, is_empty, joined_hosts, two_hosts};
 
 use crate::fault::LabFault;
-use enet_hosts::{World, side_of};
+use enet_world::{World, side_of};
 use enet_lines::{Line, outcome_text, read_line};
 use enet_network::{Answer, Side, WorldEvent};
 use enet_script::refusal_text;

@@ -9,7 +9,7 @@
 //! specs/Headline has the headline, of the lists that are kept of each connection, end and channel.
 //!
 //! Proved: `each_thing_is_events`, `each_thing_at`, `one_world` and `each_connection_in_order`, of these definitions, which the calls
-//! of `enet_site` and `enet_hosts` meet.
+//! of `enet_site` and `enet_world` meet.
 #![tactic(auto)]
 
 ghost use Rattle.std.specs.Prelude.{true, false};

@@ -1,5 +1,0 @@
-use Rattle.enet_hosts.proofs.Stepping.{turned}
-use Rattle.enet_hosts.proofs.happening.turn.Goals as goal
-
-pub returns : goal.returns
-returns c = turned c.args.side c.args.here.now c.turn.new.self c.args.far.now c.args.count c.in_ok-sent.sent c.in_ok-sent.ensures.turns

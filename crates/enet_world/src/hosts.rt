@@ -1,0 +1,110 @@
+//! Both hosts, and how many connections there have been.
+
+ghost use Rattle.std.specs.Prelude.{◌≡◌, ◌&&◌, true, false, IfOk, IfErr};
+ghost use Rattle.enet_types.specs.Config.{is_in_range};
+ghost use Rattle.enet_network.specs.World.{Steps, joined_config, open_world, joined_world, site_of};
+
+use crate::happening::{happen, side_of};
+use enet_network::{Answer, Side, WorldEvent};
+use enet_site::Site;
+use enet_types::{Addr, Config, Refusal};
+use std::alloc::Global;
+use std::marker::Model;
+
+/// Where the two hosts are.
+const ADDRESS_A: Addr = Addr {
+    ip: 0x0A00_0001,
+    port: 7001,
+};
+
+const ADDRESS_B: Addr = Addr {
+    ip: 0x0A00_0002,
+    port: 7002,
+};
+
+/// Two hosts, each with what is kept of it.
+#[derive(Drop)]
+pub(crate) struct Hosts {
+    a: Site,
+    b: Site,
+    /// How many connections there have been.
+    count: u64,
+}
+
+impl Model for Hosts {
+    ghost use Rattle.enet_network.specs.World.{World};
+    ghost use Rattle.enet_world.specs.Worlds.{IsPlaced};
+    ghost use Rattle.std.specs.Coded.{codes};
+    ghost use Rattle.enet_inbox.specs.Codes.{inbox_code};
+
+    ghost Value = { World };
+
+    ghost coded = { Prim.hlevel (codes, inbox_code) };
+
+    ghost view = { λ w. record { a = w.a; b = w.b; count = w.count } };
+
+    ghost invariant = { λ w. IsPlaced (record { a = w.a; b = w.b; count = w.count }) };
+}
+
+/// The settings of a host that is connected to another from the start: the lesser channel count and mtu of both.
+fn joined_config(config: &Config, other: &Config) -> Config
+    ensures joined { result ≡ joined_config config.now other.now }
+    ensures in_range { (is_in_range config.now && is_in_range other.now) ≡ true → is_in_range result ≡ true }
+{
+    Config {
+        channels: config.channels.min(other.channels),
+        mtu: config.mtu.min(other.mtu),
+        ..*config
+    }
+}
+
+impl Hosts {
+    /// Two hosts whose slots are all free. E1 where memory is refused.
+    pub fn open(alloc: Global, a: Config, b: Config) -> Result<Hosts, Refusal>
+        requires { (is_in_range a && is_in_range b) ≡ true }
+        ensures memory { IfErr result (λ why. why ≡ Refusal.Memory) }
+        ensures fresh { IfOk result (λ w. w ≡ open_world a b) }
+    {
+        Ok(Hosts {
+            a: Site::open(alloc, ADDRESS_A, a)?,
+            b: Site::open(alloc, ADDRESS_B, b)?,
+            count: 0,
+        })
+    }
+
+    /// Two hosts that are connected from the start, by connection 0. E1 where memory is refused.
+    pub fn joined(alloc: Global, a: Config, b: Config) -> Result<Hosts, Refusal>
+        requires { (is_in_range a && is_in_range b) ≡ true }
+        ensures memory { IfErr result (λ why. why ≡ Refusal.Memory) }
+        ensures fresh { IfOk result (λ w. w ≡ joined_world a b) }
+    {
+        let near = joined_config(&a, &b);
+        let far = joined_config(&b, &a);
+        Ok(Hosts {
+            a: Site::joined(alloc, ADDRESS_A, near, ADDRESS_B)?,
+            b: Site::joined(alloc, ADDRESS_B, far, ADDRESS_A)?,
+            count: 1,
+        })
+    }
+
+    /// Makes one event happen.
+    pub fn happen(&mut self, alloc: Global, event: &WorldEvent) -> Result<Answer, Refusal>
+        ensures { Steps self.old event.now result self.new }
+    {
+        let _ = (self.a.connections(), self.b.connections());
+        match side_of(event) {
+            Side::A => happen(&mut self.a, &self.b, &mut self.count, alloc, event),
+            Side::B => happen(&mut self.b, &self.a, &mut self.count, alloc, event),
+        }
+    }
+
+    /// The site of a side.
+    pub fn site(&self, side: Side) -> &Site
+        ensures { result.now ≡ site_of self.now side }
+    {
+        match side {
+            Side::A => &self.a,
+            Side::B => &self.b,
+        }
+    }
+}

@@ -1,0 +1,172 @@
+//! A world of two hosts.
+
+ghost use Rattle.std.specs.Prelude.{◌≡◌, ◌&&◌, true, false, slice_get, IfOk, IfErr, OnErr};
+ghost use Rattle.std.specs.Option.{option_copied, option_map};
+ghost use Rattle.enet_types.specs.Config.{is_in_range};
+ghost use Rattle.enet_network.specs.Headline.{HasHeadline, end_at, submitted_at, taken_at, events_at};
+ghost use Rattle.enet_network.specs.World.{Steps, Runs, open_world, joined_world, site_of, other};
+
+use crate::hosts::Hosts;
+use enet_network::{Answer, Side, WorldEvent, each_connection_in_order};
+use enet_types::{Config, Event, Packet, Refusal};
+use std::alloc::Global;
+use std::marker::Model;
+
+/// Two hosts, at 10.0.0.1 port 7001 and 10.0.0.2 port 7002, each with what is kept of it, and the network between them, which
+/// loses, repeats and reorders datagrams as the events say.
+///
+/// Every world is one that steps made of two hosts to which nothing had happened, so `step` and `run` promise the headline without
+/// any premise.
+#[derive(Drop)]
+pub struct World {
+    alloc: Global,
+    /// Connection 0 stands from the start.
+    joined: bool,
+    hosts: Hosts,
+}
+
+impl Model for World {
+    ghost use Rattle.enet_world.specs.Worlds.{Running, IsReached};
+    ghost use Rattle.std.specs.Coded.{codes};
+    ghost use Rattle.enet_inbox.specs.Codes.{inbox_code};
+
+    ghost Value = { Running };
+
+    ghost coded = { Prim.hlevel (codes, inbox_code) };
+
+    ghost view = { λ w. record { joined = w.joined; world = w.hosts } };
+
+    ghost invariant = { λ w. IsReached w.joined w.hosts };
+}
+
+/// The other side.
+fn other(side: Side) -> Side
+    ensures { result ≡ other side }
+{
+    match side {
+        Side::A => Side::B,
+        Side::B => Side::A,
+    }
+}
+
+impl World {
+    /// Two hosts with these settings, whose slots are all free. E8 where a number of either is out of its range, else E1.
+    pub fn open(alloc: Global, cfg_a: Config, cfg_b: Config) -> Result<World, Refusal>
+        ensures out_of_range { (is_in_range cfg_a && is_in_range cfg_b) ≡ false → result ≡ Err Refusal.BadConfig }
+        ensures in_range { (is_in_range cfg_a && is_in_range cfg_b) ≡ true → IfErr result (λ why. why ≡ Refusal.Memory) }
+        ensures fresh { IfOk result (λ w. w ≡ record { joined = false; world = open_world cfg_a cfg_b }) }
+    {
+        if !cfg_a.is_in_range() || !cfg_b.is_in_range() {
+            return Err(Refusal::BadConfig);
+        }
+        Ok(World {
+            alloc,
+            joined: false,
+            hosts: Hosts::open(alloc, cfg_a, cfg_b)?,
+        })
+    }
+
+    /// Two hosts that are connected from the start by connection 0, slot 0 in generation 0 of each to slot 0 of the other, with the
+    /// lesser channel count and the lesser mtu of both settings. E8 and E1 as by `open`.
+    pub fn joined(alloc: Global, cfg_a: Config, cfg_b: Config) -> Result<World, Refusal>
+        ensures out_of_range { (is_in_range cfg_a && is_in_range cfg_b) ≡ false → result ≡ Err Refusal.BadConfig }
+        ensures in_range { (is_in_range cfg_a && is_in_range cfg_b) ≡ true → IfErr result (λ why. why ≡ Refusal.Memory) }
+        ensures fresh { IfOk result (λ w. w ≡ record { joined = true; world = joined_world cfg_a cfg_b }) }
+    {
+        if !cfg_a.is_in_range() || !cfg_b.is_in_range() {
+            return Err(Refusal::BadConfig);
+        }
+        Ok(World {
+            alloc,
+            joined: true,
+            hosts: Hosts::joined(alloc, cfg_a, cfg_b)?,
+        })
+    }
+
+    /// The headline, a law of every world. Of each connection, whatever was connected before, at the same time or after, slots used
+    /// again included: what the user of one end took of a channel, unsequenced packets apart, is a subsequence of what the user of
+    /// the other submitted on it, each packet whole and once, that leaves out no reliable packet before its last; each user takes at
+    /// most one Connect, before all else, and nothing after a Disconnect, all of one peer. Each peer of a host is that of an end, so
+    /// what is submitted or taken is kept.
+    pub fn headline(&self)
+        ensures { HasHeadline self.now.joined self.now.world }
+    {
+        each_connection_in_order();
+        let _ = &self.hosts;
+    }
+
+    /// Makes one event happen. A refusal changes nothing; which it is, and when, says each event.
+    pub fn step(&mut self, event: WorldEvent) -> Result<Answer, Refusal>
+        ensures steps { Steps self.old.world event result self.new.world }
+        ensures joined { self.new.joined ≡ self.old.joined }
+        ensures headline { HasHeadline self.new.joined self.new.world }
+    {
+        let answer = self.happen(&event);
+        self.headline();
+        answer
+    }
+
+    /// Makes the events happen in order, and gives the answer of each. E1 where there is no memory for the answers, before anything
+    /// happens.
+    pub fn run(&mut self, events: &[WorldEvent]) -> Result<Vec<Result<Answer, Refusal>>, Refusal>
+        ensures memory { IfErr result (λ why. why ≡ Refusal.Memory) }
+        ensures unchanged { OnErr result (self.new ≡ self.old) }
+        ensures steps { IfOk result (λ answers. Runs self.old.world events.now answers.items self.new.world) }
+        ensures joined { self.new.joined ≡ self.old.joined }
+        ensures headline { HasHeadline self.new.joined self.new.world }
+    {
+        let answers = self.run_all(events);
+        self.headline();
+        answers
+    }
+
+    fn run_all(&mut self, events: &[WorldEvent]) -> Result<Vec<Result<Answer, Refusal>>, Refusal>
+        ensures memory { IfErr result (λ why. why ≡ Refusal.Memory) }
+        ensures unchanged { OnErr result (self.new ≡ self.old) }
+        ensures steps { IfOk result (λ answers. Runs self.old.world events.now answers.items self.new.world) }
+        ensures joined { self.new.joined ≡ self.old.joined }
+    {
+        let Ok(mut answers) = Vec::with_capacity(self.alloc, events.len()) else {
+            return Err(Refusal::Memory);
+        };
+        for event in events {
+            answers.push_reserved(self.happen(event));
+        }
+        Ok(answers)
+    }
+
+    fn happen(&mut self, event: &WorldEvent) -> Result<Answer, Refusal>
+        ensures steps { Steps self.old.world event.now result self.new.world }
+        ensures joined { self.new.joined ≡ self.old.joined }
+    {
+        self.hosts.happen(self.alloc, event)
+    }
+
+    /// What a side's user has submitted on a channel of a connection, in order; empty where there is no such connection or channel.
+    pub fn submitted(&self, conn: u64, side: Side, channel: u8) -> &[Packet]
+        ensures { result.now ≡ submitted_at channel (end_at self.now.world conn side) }
+    {
+        self.hosts.site(side).submitted(conn, channel)
+    }
+
+    /// What the other side's user has taken of it, in order.
+    pub fn dispatched(&self, conn: u64, side: Side, channel: u8) -> &[Packet]
+        ensures { result.now ≡ taken_at channel (end_at self.now.world conn (other side)) }
+    {
+        self.hosts.site(other(side)).taken(conn, channel)
+    }
+
+    /// The events that a side's user has taken of a connection, in order.
+    pub fn events(&self, conn: u64, side: Side) -> &[Event]
+        ensures { result.now ≡ events_at (end_at self.now.world conn side) }
+    {
+        self.hosts.site(side).events(conn)
+    }
+
+    /// The bytes of a datagram that a side has put out, or None where it has put out fewer.
+    pub fn datagram(&self, side: Side, k: u64) -> Option<&[u8]>
+        ensures { option_copied result ≡ option_map (λ d. d.text) (slice_get (site_of self.now.world side).log k) }
+    {
+        self.hosts.site(side).datagram(k)
+    }
+}
