@@ -75,6 +75,7 @@ impl Site {
         if !config.is_in_range() {
             return Err(Refusal::BadConfig);
         }
+        // The host comes last, so that none is let go here.
         let records = Records::joined(alloc)?;
         Ok(Site {
             address,

@@ -104,7 +104,7 @@ fn share_all(slots: &mut Vec<Slot>, outgoing: u32, standing: u32)
     }
 }
 
-/// Shares the host's outgoing bandwidth, in bytes per second, out among its connected peers.
+/// Shares the host's outgoing bandwidth, in bytes per second, out among its connected peers. A host has at most 4,095 slots.
 pub fn share_out(slots: &mut Vec<Slot>, outgoing: u32)
     requires { length slots.old.items ≤ 4095 }
     ensures slots { all_shown slots.new.items ≡ map (shared outgoing (count_by is_standing (all_shown slots.old.items))) (all_shown slots.old.items) }
