@@ -1,15 +1,15 @@
 -- When what a user took of a channel follows what the other user submitted on it.
 use Rattle.std.specs.Prelude.{ℕ, ◌&&◌, ◌==◌, not, Bool, List}
 use Rattle.enet_types.specs.declared.packet.Packet.{Packet}
-use Rattle.enet_sender.specs.Carriage as carriage
-use Rattle.enet_sender.specs.Carriage.{carried_from}
+use Rattle.enet_sender.specs.CommandChoice as command_choice
+use Rattle.enet_sender.specs.CommandChoice.{carried_from}
 use Rattle.enet_outbox.specs.Outbox.{is_unsequenced}
 use Rattle.enet_link.specs.Follows.{FollowsCarried}
 use Rattle.enet_link.specs.Steps.{bodies_of}
 use Rattle.enet_connection.specs.Connection.{of_channel, in_sequence}
 
 -- a submitted packet, as the choice of its commands sees it
-abbrev pub submission : Packet → carriage.Packet
+abbrev pub submission : Packet → command_choice.Packet
 submission q = record { flags = q.flags; body = q.body }
 
 -- a packet was submitted on a channel and goes in sequence

@@ -1,7 +1,7 @@
 //! Whether what a user took of a channel follows what the other user submitted on it.
 
 ghost use Rattle.std.specs.Prelude.{◌≡◌, ◌≤◌, ◌↔◌, IsTrue};
-ghost use Rattle.enet_sender.specs.Carriage.{is_long, goes_reliable};
+ghost use Rattle.enet_sender.specs.CommandChoice.{is_long, goes_reliable};
 ghost use Rattle.check_outcome.specs.Following.{submission, goes_in_sequence, came_in_sequence, FollowsFrom};
 
 use enet_types::Packet;

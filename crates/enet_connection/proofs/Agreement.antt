@@ -3,7 +3,7 @@ use Rattle.std.proofs.Common.{◌≡◌, ℕ, ◌+◌, ◌-◌, ◌≤◌, true,
 use Rattle.std.proofs.lemmas.Bool.Decides.{nat_tests}
 use Rattle.std.specs.Prelude.{nat_lt}
 use Rattle.enet_fragment.specs.declared.data.DataCommand.{DataCommand}
-use Rattle.enet_sender.specs.Carriage.{Carried, carried}
+use Rattle.enet_sender.specs.CommandChoice.{ChosenPacket, carried}
 use Rattle.enet_sender.specs.Sender.{Sender}
 use Rattle.enet_sender.specs.declared.sent.Sent.{Sent}
 use Rattle.enet_peer.specs.Peering.{Peering}
@@ -21,15 +21,15 @@ use Rattle.enet_connection.specs.Linked.{IsLinked, ShowsSending, ShowsReceiving}
 use Rattle.enet_connection.specs.Numbers.{is_sending, is_dispatching, sender_on, receiver_on, carried_on, IsInTime, AgreeOn}
 
 -- nothing stands in an empty list
-nothing-stands : (number count : ℕ) (c : Carried) → Stands [] number count c → ⊥
+nothing-stands : (number count : ℕ) (c : ChosenPacket) → Stands [] number count c → ⊥
 nothing-stands number count c s = by s.before s.behind s.whole
   where
-    by : (before behind : List Carried) → [] ≡ before ++ c ∷ behind → ⊥
+    by : (before behind : List ChosenPacket) → [] ≡ before ++ c ∷ behind → ⊥
     by [] behind e = cc
     by (x ∷ before) behind e = cc
 
 -- the link's mtu is the sending end's where something was submitted
-by-mtu : (from to : End) (channel : ℕ) (k : IsLinked from to channel) (P : ℕ → List Carried → Type 0) → ((mtu : ℕ) → P mtu [] → ⊥) → P k.mtu (carried k.mtu k.link.submitted) → P (mtu_of from) (carried_on channel from)
+by-mtu : (from to : End) (channel : ℕ) (k : IsLinked from to channel) (P : ℕ → List ChosenPacket → Type 0) → ((mtu : ℕ) → P mtu [] → ⊥) → P k.mtu (carried k.mtu k.link.submitted) → P (mtu_of from) (carried_on channel from)
 by-mtu from to channel k P none h =
     let here : P k.mtu (carried k.mtu (of_channel k.mtu channel from.submitted)) = subst (λ qs. P k.mtu (carried k.mtu qs)) k.submitted h in
     elim k.agreed [

@@ -15,7 +15,7 @@ use Rattle.enet_receiver.specs.Receiver.{Receiver, nothing_received}
 use Rattle.enet_receiver.specs.Foresight.{ReceivingEnd}
 use Rattle.enet_inbox.specs.Inbox.{Inbox, is_full}
 use Rattle.enet_unsequenced.specs.Groups.{dispatches}
-use Rattle.enet_inbox.specs.Arrivals.{Arrival, handled, stopped as refused, unsequenced, unsequenced_taken, passed_on, sequenced_on, passed_over, arrival}
+use Rattle.enet_inbox.specs.DataEffect.{DataEffect, handled, stopped as refused, unsequenced, unsequenced_taken, passed_on, sequenced_on, passed_over, arrival}
 use Rattle.enet_sender.specs.Sender.{Sender, nothing_sent}
 use Rattle.enet_sender.specs.Due.{SendingEnd}
 use Rattle.enet_outbox.specs.Outbox.{cleared_sender}
@@ -23,7 +23,7 @@ use Rattle.enet_peer.specs.Peering.{Peering}
 use Rattle.enet_peer.specs.declared.parts.PeerState.{PeerState}
 use Rattle.enet_peer.specs.declared.parts.PeerState.TheVariants as state
 use Rattle.enet_peer.specs.Endings.{ended, is_later}
-use Rattle.enet_peer.specs.Arrivals.{Outcome, is_allowed, is_of_handshake, obeyed, by_body, by_answer, by_arrival, on_data, stopped, on_acknowledge, welcomed, on_verify_in, on_disconnect_in, on_bandwidth, on_throttle}
+use Rattle.enet_peer.specs.CommandEffect.{Outcome, is_allowed, is_of_handshake, obeyed, by_body, by_answer, by_arrival, on_data, stopped, on_acknowledge, welcomed, on_verify_in, on_disconnect_in, on_bandwidth, on_throttle}
 use Rattle.enet_link.specs.Link.{is_late}
 use Rattle.enet_link.specs.Steps.{Has, DropAnswers}
 use Rattle.enet_link.specs.WireLink.{WireLink, drops_answers}
@@ -86,19 +86,19 @@ far-of other put clean there none t = elim (less-or-not put.message.head.channel
 ]
 
 -- an unsequenced packet
-abbrev Taken : Inbox → Arrival → Type 0
+abbrev Taken : Inbox → DataEffect → Type 0
 Taken b a = (a.after ≡ b) ⊎ ((channel group : ℕ) × (payload : List ℕ) × (a.after ≡ unsequenced_taken b channel group payload))
 
-taken-if : (b : Inbox) (t : Bool) (x y : Arrival) → Taken b x → Taken b y → Taken b (cond t x y)
+taken-if : (b : Inbox) (t : Bool) (x y : DataEffect) → Taken b x → Taken b y → Taken b (cond t x y)
 taken-if b true x y h k = h
 taken-if b false x y h k = k
 
 unsequenced-taken : (b : Inbox) (channel group : ℕ) (payload : List ℕ) → Taken b (unsequenced b channel group payload)
 unsequenced-taken b channel group payload =
-    let took : Arrival = handled (unsequenced_taken b channel group payload) true in
-    let a3 : Arrival = cond (is_full b) (refused b stop.Waiting) took in
-    let a2 : Arrival = cond (not (dispatches b.seen group)) (handled b true) a3 in
-    let a1 : Arrival = cond (ltb b.max_packet (length payload)) (refused b stop.BadFragment) a2 in
+    let took : DataEffect = handled (unsequenced_taken b channel group payload) true in
+    let a3 : DataEffect = cond (is_full b) (refused b stop.Waiting) took in
+    let a2 : DataEffect = cond (not (dispatches b.seen group)) (handled b true) a3 in
+    let a1 : DataEffect = cond (ltb b.max_packet (length payload)) (refused b stop.BadFragment) a2 in
     taken-if b (leb (length b.receivers) channel) (refused b stop.BadChannel) a1 (inl refl)
     (taken-if b (ltb b.max_packet (length payload)) (refused b stop.BadFragment) a2 (inl refl)
     (taken-if b (not (dispatches b.seen group)) (handled b true) a3 (inl refl)
@@ -112,7 +112,7 @@ holds-unsequenced : (own other : End) (p : Peering) (h : Head) (group : ℕ) (pa
     → Holds own other (on_data p (record { head = h; body = send_unsequenced group payload }) sent).after
 holds-unsequenced own other p h group payload sent far k =
     let m : Message = record { head = h; body = send_unsequenced group payload } in
-    let a : Arrival = arrival p.inbox m in
+    let a : DataEffect = arrival p.inbox m in
     outcome-if own other (is_later p.state) (by_answer p m sent (passed_over p.inbox m)) (by_arrival p m sent a) (λ t. by-result own other p m sent (passed_over p.inbox m) far k)
     (by-result own other (record p { inbox = a.after }) m sent a.answer far (holds-inbox own other p a (unsequenced-taken p.inbox h.channel group payload) k))
 

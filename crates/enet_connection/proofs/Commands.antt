@@ -6,9 +6,9 @@ use Rattle.enet_types.specs.declared.packet.Packet.{Packet}
 use Rattle.enet_codec.specs.Message.{Message, acknowledge}
 use Rattle.enet_control.specs.declared.control.Control.{Control}
 use Rattle.enet_control.specs.declared.control.Control.TheVariants as control
-use Rattle.enet_packets.specs.declared.coming.Dispatched.{Dispatched}
+use Rattle.enet_packets.specs.declared.incoming_packet.Dispatched.{Dispatched}
 use Rattle.enet_inbox.specs.Inbox.{Inbox}
-use Rattle.enet_inbox.specs.Arrivals.{Arrival, unsequenced_taken}
+use Rattle.enet_inbox.specs.DataEffect.{DataEffect, unsequenced_taken}
 use Rattle.enet_outbox.specs.declared.parts.Acknowledgement.{Acknowledgement}
 use Rattle.enet_outbox.specs.declared.parts.Matched.{Matched}
 use Rattle.enet_outbox.specs.declared.parts.Matched.TheVariants as matched
@@ -17,7 +17,7 @@ use Rattle.enet_peer.specs.Peering.{Peering}
 use Rattle.enet_peer.specs.declared.parts.PeerState.{PeerState}
 use Rattle.enet_peer.specs.declared.parts.PeerState.TheVariants as state
 use Rattle.enet_peer.specs.Endings.{ended, freed, disconnecting, parting, settled, is_later}
-use Rattle.enet_peer.specs.Arrivals.{Outcome, answered, answered_at, is_answered_in, sampled, with_answer, on_match, on_acknowledge, on_last_disconnect, on_disconnect_in}
+use Rattle.enet_peer.specs.CommandEffect.{Outcome, answered, answered_at, is_answered_in, sampled, with_answer, on_match, on_acknowledge, on_last_disconnect, on_disconnect_in}
 use Rattle.enet_link.specs.Link.{is_late}
 use Rattle.enet_link.specs.Steps.{Has}
 use Rattle.enet_connection.specs.Connection.{Put, End, sent_on, in_sequence}
@@ -160,7 +160,7 @@ unsequenced-end channel qs q e =
     by true = ap (λ t. cond (not t) (d ∷ []) []) two
     by false = refl
 
-pub holds-inbox : (own other : End) (p : Peering) (a : Arrival) → ((a.after ≡ p.inbox) ⊎ ((channel group : ℕ) × (payload : List ℕ) × (a.after ≡ unsequenced_taken p.inbox channel group payload))) → Holds own other p → Holds own other (record p { inbox = a.after })
+pub holds-inbox : (own other : End) (p : Peering) (a : DataEffect) → ((a.after ≡ p.inbox) ⊎ ((channel group : ℕ) × (payload : List ℕ) × (a.after ≡ unsequenced_taken p.inbox channel group payload))) → Holds own other p → Holds own other (record p { inbox = a.after })
 holds-inbox own other p a (inl e) h = subst (λ (b : Inbox). Holds own other (record p { inbox = b })) (sym e) h
 holds-inbox own other p a (inr u) h =
     let q : Peering = record p { inbox = unsequenced_taken p.inbox u.0 u.1 u.2 } in

@@ -5,7 +5,7 @@ use Rattle.std.specs.List.{slice_get}
 use Rattle.enet_types.specs.declared.packet.Packet.{Packet}
 use Rattle.enet_types.specs.declared.refusal.Refusal.TheVariants.{NotConnected, NoSuchChannel, TooLarge}
 use Rattle.enet_fragment.specs.Cutting.{piece_count}
-use Rattle.enet_sender.specs.Carriage.{fragment_limit}
+use Rattle.enet_sender.specs.CommandChoice.{fragment_limit}
 use Rattle.enet_peer.specs.Peering.{Peering}
 use Rattle.enet_peer.specs.declared.parts.PeerEvent.{PeerEvent}
 use Rattle.enet_peer.specs.declared.parts.PeerEvent.TheVariants as told

@@ -10,14 +10,14 @@ use Rattle.enet_fragment.specs.Cutting as cutting
 use Rattle.enet_receiver.specs.declared.took.Took.{Took}
 use Rattle.enet_receiver.specs.declared.took.Took.TheVariants.{Held}
 use Rattle.enet_receiver.specs.Receiver.{nothing_received}
-use Rattle.enet_receiver.specs.Reception.{outcome, received}
+use Rattle.enet_receiver.specs.DataOutcome.{outcome, received}
 use Rattle.enet_receiver.specs.Foresight.{ReceivingEnd, new_end}
 use Rattle.enet_inbox.specs.Inbox.{is_full}
-use Rattle.enet_inbox.specs.Arrivals.{packet_of, by_took}
+use Rattle.enet_inbox.specs.DataEffect.{packet_of, by_took}
 use Rattle.enet_outbox.specs.Emission as emission
 use Rattle.enet_peer.specs.declared.parts.PeerEvent.TheVariants as told
 use Rattle.enet_peer.specs.Peering.{Peering, joined, answering}
-use Rattle.enet_peer.specs.Arrivals.{obeyed, by_arrival}
+use Rattle.enet_peer.specs.CommandEffect.{obeyed, by_arrival}
 use Rattle.enet_link.specs.Link.{is_late}
 use Rattle.enet_link.specs.Steps.{Has}
 use Rattle.enet_connection.specs.Connection as connection

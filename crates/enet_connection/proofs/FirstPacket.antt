@@ -5,16 +5,16 @@ use Rattle.std.specs.Ordering.{nat_cmp}
 use Rattle.std.specs.FinMap.{FinMap, get, empty, len, entries, values, get-empty, len-empty, len-entries}
 use Rattle.enet_seq.specs.Numbering.{wire}
 use Rattle.enet_fragment.specs.Place as place
-use Rattle.enet_fragment.specs.Making as making
+use Rattle.enet_fragment.specs.PartialPacket as making
 use Rattle.enet_fragment.specs.Whole.{is_whole}
 use Rattle.enet_fragment.specs.declared.data.DataCommand.{DataCommand}
-use Rattle.enet_packets.specs.declared.coming.Coming.{Coming}
-use Rattle.enet_packets.specs.declared.coming.Dispatched.{Dispatched}
+use Rattle.enet_packets.specs.declared.incoming_packet.IncomingPacket.{IncomingPacket}
+use Rattle.enet_packets.specs.declared.incoming_packet.Dispatched.{Dispatched}
 use Rattle.enet_packets.specs.Packets.{handed_out, fresh, bytes_of}
 use Rattle.enet_receiver.specs.declared.took.Took.{Took}
 use Rattle.enet_receiver.specs.declared.took.Took.TheVariants.{Held}
 use Rattle.enet_receiver.specs.Receiver.{Receiver, nothing_received, held_bytes, front_line, flushed_from, with_passed, next_whole, released, released_with, all_released}
-use Rattle.enet_receiver.specs.Reception.{outcome, outcome_of, received, received_with, earlier_or_new, with_more, with_added}
+use Rattle.enet_receiver.specs.DataOutcome.{outcome, outcome_of, received, received_with, earlier_or_new, with_more, with_added}
 use Rattle.enet_receiver.proofs.Maps.{get-insert_same}
 use Rattle.enet_receiver.proofs.Released.{released-keeps, nothing_held}
 
@@ -24,16 +24,16 @@ Begins d r = (rest : List Dispatched) × (r.dispatched ≡ d ∷ rest)
 begins-flushed : (first : ℕ) (d : Dispatched) (r : Receiver) → Begins d r → Begins d (flushed_from first r)
 begins-flushed first d r h = (h.0 ++ fresh first (entries (front_line r)), ap (λ (l : List Dispatched). l ++ fresh first (entries (front_line r))) h.1)
 
-begins-passed : (d : Dispatched) (r : Receiver) (c : Coming) → Begins d r → Begins d (with_passed wire r c)
+begins-passed : (d : Dispatched) (r : Receiver) (c : IncomingPacket) → Begins d r → Begins d (with_passed wire r c)
 begins-passed d r c h = (h.0 ++ handed_out c ∷ [], ap (λ (l : List Dispatched). l ++ handed_out c ∷ []) h.1)
 
 -- what stands whole just past the front is dispatched first
-first-dispatched : (r : Receiver) (e : Coming) → get r.held (wire.after r.front 1) ≡ Some e → is_whole e.making ≡ true → r.dispatched ≡ [] → Begins (handed_out e) (all_released wire r)
+first-dispatched : (r : Receiver) (e : IncomingPacket) → get r.held (wire.after r.front 1) ≡ Some e → is_whole e.making ≡ true → r.dispatched ≡ [] → Begins (handed_out e) (all_released wire r)
 unfolding released
 first-dispatched r e there whole none = let s : Receiver = released wire (len r.held) r in begins-flushed (s.unreliable + 1) (handed_out e) s (by (len r.held) refl)
   where
     go : (n : ℕ) → Begins (handed_out e) (released_with (released wire n) wire r (next_whole (get r.held (wire.after r.front 1))))
-    go n = subst (λ (o : Option Coming). Begins (handed_out e) (released_with (released wire n) wire r o)) (sym (ap next_whole there ∙ ap (λ b. cond b (Some e) None) whole))
+    go n = subst (λ (o : Option IncomingPacket). Begins (handed_out e) (released_with (released wire n) wire r o)) (sym (ap next_whole there ∙ ap (λ b. cond b (Some e) None) whole))
         (released-keeps wire (Begins (handed_out e)) (λ s c t h. begins-flushed 0 (handed_out e) (with_passed wire s c) (begins-passed (handed_out e) s c h)) n (flushed_from 0 (with_passed wire r e))
         (begins-flushed 0 (handed_out e) (with_passed wire r e) ([], ap (λ (l : List Dispatched). l ++ handed_out e ∷ []) none)))
 
@@ -45,12 +45,12 @@ first-dispatched r e there whole none = let s : Receiver = released wire (len r.
 abbrev pub first_command : DataCommand
 first_command = record { reliable = true; number = 1; count = 0; fragment = None; body = 7 ∷ 8 ∷ [] }
 
-abbrev first_coming : Coming
+abbrev first_coming : IncomingPacket
 first_coming = with_more (earlier_or_new None first_command) first_command
 
 pub first-outcome : outcome wire 1000 nothing_received first_command false ≡ Held
 unfolding place.is_sound place.is_even place.told_cut making.belongs
-first-outcome = ap (outcome_of nothing_received first_command false 1) (get-empty {X = Coming} nat_cmp 1)
+first-outcome = ap (outcome_of nothing_received first_command false 1) (get-empty {X = IncomingPacket} nat_cmp 1)
 
 whole : is_whole first_coming.making ≡ true
 whole = refl
@@ -64,7 +64,7 @@ first-received =
     let new : Receiver = with_added nothing_received first_command 1 first_coming in
     let out : Begins (handed_out first_coming) (all_released wire new) = first-dispatched new first_coming (get-insert_same nothing_received.held 1 first_coming) whole refl in
     let at : received_with Held wire nothing_received first_command ≡ all_released wire new =
-    ap (λ (o : Option Coming). all_released wire (with_added nothing_received first_command 1 (with_more (earlier_or_new o first_command) first_command))) (get-empty {X = Coming} nat_cmp 1) in
+    ap (λ (o : Option IncomingPacket). all_released wire (with_added nothing_received first_command 1 (with_more (earlier_or_new o first_command) first_command))) (get-empty {X = IncomingPacket} nat_cmp 1) in
     let is : received wire 1000 nothing_received first_command false ≡ all_released wire new = ap (λ (t : Took). received_with t wire nothing_received first_command) first-outcome ∙ at in
     subst (λ (r : Receiver). Begins (record { flags = 1; body = 7 ∷ 8 ∷ [] }) r) (sym is) (subst (λ (d : Dispatched). Begins d (all_released wire new)) handed out)
 
@@ -79,6 +79,6 @@ none-of {X = X} f = none-in f (entries (empty {X = X} {R = nat_cmp})) (sym (len-
 
 pub nothing-waits : held_bytes nothing_received ≡ 0
 nothing-waits =
-    let one = none-of {X = Coming} (λ c. c.making.total) in
-    let two = none-of {X = FinMap nat_cmp Coming} bytes_of in
+    let one = none-of {X = IncomingPacket} (λ c. c.making.total) in
+    let two = none-of {X = FinMap nat_cmp IncomingPacket} bytes_of in
     omega arith

@@ -6,15 +6,15 @@ use Rattle.enet_codec.specs.declared.command.Offer.{Offer}
 use Rattle.enet_connect.specs.declared.server.Server.{Server}
 use Rattle.enet_connect.specs.Terms.{is_channel_count}
 use Rattle.enet_fragment.specs.Cutting.{piece_count}
-use Rattle.enet_sender.specs.Carriage.{fragment_limit}
-use Rattle.enet_sender.specs.Carriage as carriage
+use Rattle.enet_sender.specs.CommandChoice.{fragment_limit}
+use Rattle.enet_sender.specs.CommandChoice as command_choice
 use Rattle.enet_peer.specs.Peering.{Peering, answering}
 use Rattle.enet_peer.specs.declared.parts.Limits.{Limits}
 use Rattle.enet_peer.specs.declared.parts.PeerEvent.{PeerEvent}
 use Rattle.enet_peer.specs.declared.parts.PeerEvent.TheVariants as told
 use Rattle.enet_peer.specs.declared.parts.PeerState.TheVariants as state
 use Rattle.enet_peer.specs.Calls.{next_event, is_connected, submitted, ticked}
-use Rattle.enet_peer.specs.Arrivals.{obeyed}
+use Rattle.enet_peer.specs.CommandEffect.{obeyed}
 use Rattle.enet_connection.specs.Connection.{End, packets_of, in_sequence}
 use Rattle.enet_connection.specs.Steps.{Event, Answer, Submit, Emit, Come, Tick, Take, Disconnect, Set, Happens, with_peer, with_submission, with_setting}
 use Rattle.enet_connection.specs.Kept.{IsTidy, AreLow, IsLow, PeerFits, IsFit}
@@ -35,7 +35,7 @@ fit-with : (own : End) (q : Peering) → IsFit own → IsTidy own.submitted q �
 fit-with own q h t l = record { clean = clean-same own (with_peer own q) refl h.clean; taken = h.taken; peer = (t, l) }
 
 -- a submission touches no inbox
-low-submitted : (p : Peering) (channel : ℕ) (q : carriage.Packet) → IsLow p → IsLow (submitted p channel q)
+low-submitted : (p : Peering) (channel : ℕ) (q : command_choice.Packet) → IsLow p → IsLow (submitted p channel q)
 low-submitted p channel q h = record { channels = h.channels; untaken = h.untaken }
 
 low-parts : (xs ys : List Packet) → AreLow (xs ++ ys) → AreLow xs × AreLow ys

@@ -6,15 +6,15 @@ use Rattle.std.specs.List.{slice_get}
 use Rattle.enet_types.specs.declared.packet.Packet.{Packet}
 use Rattle.enet_seq.specs.Numbering.{wire}
 use Rattle.enet_fragment.specs.declared.data.DataCommand.{DataCommand}
-use Rattle.enet_packets.specs.declared.coming.Dispatched.{Dispatched}
+use Rattle.enet_packets.specs.declared.incoming_packet.Dispatched.{Dispatched}
 use Rattle.enet_receiver.specs.declared.took.Took.{Took}
 use Rattle.enet_receiver.specs.declared.took.Took.TheVariants.{Held, Again, Outside, Bad, Waiting, Memory}
 use Rattle.enet_receiver.specs.Receiver.{Receiver}
-use Rattle.enet_receiver.specs.Reception.{outcome, received, received_with}
+use Rattle.enet_receiver.specs.DataOutcome.{outcome, received, received_with}
 use Rattle.enet_receiver.specs.Laws.{DoesTheSame}
 use Rattle.enet_receiver.specs.Foresight.{ReceivingEnd}
 use Rattle.enet_inbox.specs.Inbox.{Inbox, is_full}
-use Rattle.enet_inbox.specs.Arrivals.{packet_of, emptied, by_took, sequenced_on}
+use Rattle.enet_inbox.specs.DataEffect.{packet_of, emptied, by_took, sequenced_on}
 use Rattle.enet_connection.specs.Connection.{in_sequence}
 use Rattle.enet_connection.specs.Linked.{receiver_in}
 use Rattle.enet_receiver.specs.Sequenced.{AreSequenced}

@@ -15,7 +15,7 @@ use Rattle.enet_sender.specs.Due.{SendingEnd}
 use Rattle.enet_outbox.specs.Outbox.{Outbox, cleared_sender, marked_sender, has_ended, with_control}
 use Rattle.enet_outbox.specs.Outbox as outbox
 use Rattle.enet_fragment.specs.Cutting.{piece_count}
-use Rattle.enet_sender.specs.Carriage.{fragment_limit}
+use Rattle.enet_sender.specs.CommandChoice.{fragment_limit}
 use Rattle.enet_peer.specs.Peering.{Peering, answering}
 use Rattle.enet_peer.specs.Endings.{ended}
 use Rattle.enet_peer.specs.declared.parts.PeerEvent.{PeerEvent}
@@ -23,7 +23,7 @@ use Rattle.enet_peer.specs.declared.parts.PeerEvent.TheVariants as told
 use Rattle.enet_peer.specs.declared.parts.PeerState.{PeerState}
 use Rattle.enet_peer.specs.declared.parts.PeerState.TheVariants as state
 use Rattle.enet_peer.specs.Calls.{is_connected, next_event}
-use Rattle.enet_inbox.specs.Arrivals.{handed_over, unsequenced_taken}
+use Rattle.enet_inbox.specs.DataEffect.{handed_over, unsequenced_taken}
 use Rattle.enet_inbox.specs.Inbox.{is_full}
 use Rattle.enet_receiver.specs.Foresight.{after_command}
 use Rattle.enet_link.specs.Steps.{Has}

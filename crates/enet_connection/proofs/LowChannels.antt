@@ -5,11 +5,11 @@ use Rattle.std.proofs.lemmas.List.{length-map, length-set}
 use Rattle.std.proofs.lemmas.List.FromFn.{length-map-range_with_len}
 use Rattle.std.specs.List.{range_with_len}
 use Rattle.enet_types.specs.declared.packet.Packet.{Packet}
-use Rattle.enet_packets.specs.declared.coming.Dispatched.{Dispatched}
+use Rattle.enet_packets.specs.declared.incoming_packet.Dispatched.{Dispatched}
 use Rattle.enet_receiver.specs.Foresight.{ReceivingEnd, after_command}
 use Rattle.enet_receiver.specs.Foresight as receiving
 use Rattle.enet_inbox.specs.Inbox.{Inbox, cleared_receiver, is_full}
-use Rattle.enet_inbox.specs.Arrivals.{packet_of, emptied}
+use Rattle.enet_inbox.specs.DataEffect.{packet_of, emptied}
 use Rattle.enet_peer.specs.Peering.{Peering}
 use Rattle.enet_peer.specs.Endings.{disconnecting, dropped, ended, freed, parting}
 use Rattle.enet_peer.specs.declared.parts.PeerState.TheVariants.{AckDisconnect}

@@ -5,7 +5,7 @@ use Rattle.std.proofs.lemmas.List.{append-nil}
 use Rattle.std.specs.List.{slice_get}
 use Rattle.enet_types.specs.declared.packet.Packet.{Packet}
 use Rattle.enet_codec.specs.Message.{acknowledge}
-use Rattle.enet_packets.specs.declared.coming.Dispatched.{Dispatched}
+use Rattle.enet_packets.specs.declared.incoming_packet.Dispatched.{Dispatched}
 use Rattle.enet_sender.specs.declared.sent.Sent.{Sent}
 use Rattle.enet_sender.specs.Sender.{Sender, with_marked, marked}
 use Rattle.enet_sender.specs.Sender as sender

@@ -23,7 +23,7 @@ use Rattle.enet_receiver.specs.declared.took.Took.{Took}
 use Rattle.enet_receiver.specs.declared.took.Took.TheVariants.{Held, Again, Outside, Bad, Waiting, Memory}
 use Rattle.enet_receiver.specs.Foresight.{ReceivingEnd, outcome_for, after_command}
 use Rattle.enet_inbox.specs.Inbox.{Inbox, is_full}
-use Rattle.enet_inbox.specs.Arrivals.{Arrival, handled, stopped as refused, unsequenced, unsequenced_taken, handed_over, by_took, passed_on, sequenced_on, passed_over, arrival}
+use Rattle.enet_inbox.specs.DataEffect.{DataEffect, handled, stopped as refused, unsequenced, unsequenced_taken, handed_over, by_took, passed_on, sequenced_on, passed_over, arrival}
 use Rattle.enet_sender.specs.Sender.{Next, next, with_skipped}
 use Rattle.enet_sender.specs.Due.{SendingEnd}
 use Rattle.enet_outbox.specs.declared.parts.Matched.{Matched}
@@ -37,7 +37,7 @@ use Rattle.enet_peer.specs.Peering.{Peering}
 use Rattle.enet_peer.specs.declared.parts.PeerState.{PeerState}
 use Rattle.enet_peer.specs.declared.parts.PeerState.TheVariants as state
 use Rattle.enet_peer.specs.Endings.{dropped, ended, freed, disconnecting, parting, settled, is_later, cut_off_in}
-use Rattle.enet_peer.specs.Arrivals.{Outcome, answered, answered_at, is_answered_in, is_allowed, is_of_handshake, obeyed, by_body, by_answer, by_arrival, on_data, stopped, sampled, with_answer, on_match, on_acknowledge, welcomed, on_verify_in, on_last_disconnect, on_disconnect_in, on_bandwidth, on_throttle}
+use Rattle.enet_peer.specs.CommandEffect.{Outcome, answered, answered_at, is_answered_in, is_allowed, is_of_handshake, obeyed, by_body, by_answer, by_arrival, on_data, stopped, sampled, with_answer, on_match, on_acknowledge, welcomed, on_verify_in, on_last_disconnect, on_disconnect_in, on_bandwidth, on_throttle}
 use Rattle.enet_peer.specs.Calls.{left, after_timeouts, after_timeouts_by, is_pinged, ticked, is_connected, pace_of, gone_on, gone_on_in}
 use Rattle.enet_connection.specs.Steps.{Way, Asking, Now, Later, leave_by, Setting, Bandwidth, Throttle, ThrottleLimit, PingInterval, Timeout, with_setting, MaySet}
 use Rattle.enet_outbox.proofs.Filled.{by-filling}
@@ -312,7 +312,7 @@ kept-result : (P : Peering → Type 0) → Changes P → (p : Peering) (m : Mess
 kept-result P k p m sent (Err why) h = h
 kept-result P k p m sent (Ok may) h = kept-answered P k p m sent may h
 
-kept-arrival : (P : Peering → Type 0) → Changes P → (p : Peering) (m : Message) (sent : Option ℕ) (a : Arrival) → P (record p { inbox = a.after }) → P (by_arrival p m sent a).after
+kept-arrival : (P : Peering → Type 0) → Changes P → (p : Peering) (m : Message) (sent : Option ℕ) (a : DataEffect) → P (record p { inbox = a.after }) → P (by_arrival p m sent a).after
 kept-arrival P k p m sent a h = kept-result P k (record p { inbox = a.after }) m sent a.answer h
 
 -- sequenced data
@@ -340,17 +340,17 @@ kept-data P k p m c sent up h = by-later (is_later p.state) refl
     by-later false e = kept-arrival P k p m sent (sequenced_on p.inbox j c (slice_get p.inbox.receivers j)) (by (slice_get p.inbox.receivers j) refl (up e))
 
 -- an unsequenced packet
-if-arrival : (P : Peering → Type 0) (p : Peering) (b : Bool) (x y : Arrival) → P (record p { inbox = x.after }) → P (record p { inbox = y.after }) → P (record p { inbox = (cond b x y).after })
+if-arrival : (P : Peering → Type 0) (p : Peering) (b : Bool) (x y : DataEffect) → P (record p { inbox = x.after }) → P (record p { inbox = y.after }) → P (record p { inbox = (cond b x y).after })
 if-arrival P p true x y a h = a
 if-arrival P p false x y a h = h
 
 kept-unsequenced : (P : Peering → Type 0) → Changes P → (p : Peering) (channel group : ℕ) (payload : List ℕ) → is_connected p.state ≡ true → P p → P (record p { inbox = (unsequenced p.inbox channel group payload).after })
 kept-unsequenced P k p channel group payload on h =
     let b : Inbox = p.inbox in
-    let took : Arrival = handled (unsequenced_taken b channel group payload) true in
-    let a3 : Arrival = cond (is_full b) (refused b stop.Waiting) took in
-    let a2 : Arrival = cond (not (dispatches b.seen group)) (handled b true) a3 in
-    let a1 : Arrival = cond (ltb b.max_packet (length payload)) (refused b stop.BadFragment) a2 in
+    let took : DataEffect = handled (unsequenced_taken b channel group payload) true in
+    let a3 : DataEffect = cond (is_full b) (refused b stop.Waiting) took in
+    let a2 : DataEffect = cond (not (dispatches b.seen group)) (handled b true) a3 in
+    let a1 : DataEffect = cond (ltb b.max_packet (length payload)) (refused b stop.BadFragment) a2 in
     if-arrival P p (leb (length b.receivers) channel) (refused b stop.BadChannel) a1 h
     (if-arrival P p (ltb b.max_packet (length payload)) (refused b stop.BadFragment) a2 h
     (if-arrival P p (not (dispatches b.seen group)) (handled b true) a3 h

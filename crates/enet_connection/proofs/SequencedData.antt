@@ -11,14 +11,14 @@ use Rattle.enet_fragment.specs.DataCommand.{data_of}
 use Rattle.enet_receiver.specs.declared.took.Took.{Took}
 use Rattle.enet_receiver.specs.declared.took.Took.TheVariants.{Held, Again, Outside, Bad, Waiting, Memory}
 use Rattle.enet_receiver.specs.Receiver.{Receiver}
-use Rattle.enet_receiver.specs.Reception.{outcome, is_handled}
+use Rattle.enet_receiver.specs.DataOutcome.{outcome, is_handled}
 use Rattle.enet_receiver.specs.Foresight.{ReceivingEnd}
 use Rattle.enet_inbox.specs.Inbox.{Inbox, is_full}
-use Rattle.enet_inbox.specs.Arrivals.{Arrival, by_took, sequenced_on, passed_on}
+use Rattle.enet_inbox.specs.DataEffect.{DataEffect, by_took, sequenced_on, passed_on}
 use Rattle.enet_outbox.specs.declared.parts.Acknowledgement.{Acknowledgement}
 use Rattle.enet_outbox.specs.Outbox.{with_acknowledgement}
 use Rattle.enet_peer.specs.Peering.{Peering}
-use Rattle.enet_peer.specs.Arrivals.{answered, answered_at, is_answered_in, by_answer, by_arrival}
+use Rattle.enet_peer.specs.CommandEffect.{answered, answered_at, is_answered_in, by_answer, by_arrival}
 use Rattle.enet_link.specs.Link.{is_late}
 use Rattle.enet_link.specs.Steps.{Has}
 use Rattle.enet_link.proofs.Runs.{keeps}
@@ -131,7 +131,7 @@ holds-sequenced own other p put c sent opens logged tidy b = by (slice_get p.inb
     j : ℕ
     j = put.message.head.channel
 
-    Good : Arrival → Type 0
+    Good : DataEffect → Type 0
     Good a = Holds own other (by_arrival p put.message sent a).after
 
     -- an outcome that is handled

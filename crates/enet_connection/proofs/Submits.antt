@@ -6,8 +6,8 @@ use Rattle.std.specs.List.{slice_get}
 use Rattle.enet_types.specs.declared.packet.Packet.{Packet}
 use Rattle.enet_seq.specs.Numbering.{wire}
 use Rattle.enet_fragment.specs.Cutting.{piece_count}
-use Rattle.enet_sender.specs.Carriage as carriage
-use Rattle.enet_sender.specs.Carriage.{carried_as, fragment_limit}
+use Rattle.enet_sender.specs.CommandChoice as command_choice
+use Rattle.enet_sender.specs.CommandChoice.{carried_as, fragment_limit}
 use Rattle.enet_sender.specs.Sender.{Sender}
 use Rattle.enet_sender.specs.Sender as sender
 use Rattle.enet_sender.specs.Due.{SendingEnd}
@@ -82,9 +82,9 @@ of_channel-push : (mtu channel : ℕ) (qs : List Packet) (q : Packet) → of_cha
 of_channel-push mtu channel [] q = refl
 of_channel-push mtu channel (x ∷ qs) q =
     let h = of_channel-push mtu channel qs q in
-    let p : carriage.Packet = record { flags = x.flags; body = x.body } in
+    let p : command_choice.Packet = record { flags = x.flags; body = x.body } in
     elim (x.channel == channel && not (is_unsequenced mtu p)) as (λ b. cond b (p ∷ of_channel mtu channel (qs ++ q ∷ [])) (of_channel mtu channel (qs ++ q ∷ [])) ≡ cond b (p ∷ of_channel mtu channel qs) (of_channel mtu channel qs) ++ of_channel mtu channel (q ∷ [])) [
-      | true ↦ ap (λ (l : List carriage.Packet). p ∷ l) h
+      | true ↦ ap (λ (l : List command_choice.Packet). p ∷ l) h
       | false ↦ h
     ]
 
@@ -116,10 +116,10 @@ unmoved own other p r q channel is state' mtu same k at none =
     }
 
 none-of : (mtu channel : ℕ) (q : Packet) → (q.channel == channel && not (is_unsequenced mtu (record { flags = q.flags; body = q.body }))) ≡ false → of_channel mtu channel (q ∷ []) ≡ []
-none-of mtu channel q e = let p : carriage.Packet = record { flags = q.flags; body = q.body } in ap (λ b. cond b (p ∷ []) []) e
+none-of mtu channel q e = let p : command_choice.Packet = record { flags = q.flags; body = q.body } in ap (λ b. cond b (p ∷ []) []) e
 
 one-of : (mtu channel : ℕ) (q : Packet) → (q.channel == channel && not (is_unsequenced mtu (record { flags = q.flags; body = q.body }))) ≡ true → of_channel mtu channel (q ∷ []) ≡ (record { flags = q.flags; body = q.body }) ∷ []
-one-of mtu channel q e = let p : carriage.Packet = record { flags = q.flags; body = q.body } in ap (λ b. cond b (p ∷ []) []) e
+one-of mtu channel q e = let p : command_choice.Packet = record { flags = q.flags; body = q.body } in ap (λ b. cond b (p ∷ []) []) e
 
 -- the link on which the packet goes
 moved : (own other : End) (p : Peering) (q : Packet) (s : SendingEnd) → own.peer ≡ Some p → sends_in p.state ≡ true → slice_get p.outbox.senders q.channel ≡ Some s → piece_count (length q.body) p.terms.mtu ≤ fragment_limit
@@ -127,7 +127,7 @@ moved : (own other : End) (p : Peering) (q : Packet) (s : SendingEnd) → own.pe
     → IsLinked (record own { peer = Some (record p { outbox = record p.outbox { senders = slice_set p.outbox.senders q.channel (record s { sender = sender.submitted wire p.terms.mtu s.sender (record { flags = q.flags; body = q.body }) }) } }); submitted = own.submitted ++ q ∷ [] }) other q.channel
 moved own other p q s is sends there few kind k at =
     let channel : ℕ = q.channel in
-    let packet : carriage.Packet = record { flags = q.flags; body = q.body } in
+    let packet : command_choice.Packet = record { flags = q.flags; body = q.body } in
     let h = sending-of own p channel k.link is k.sending in
     let t : SendingEnd = record s { sender = sender.submitted wire p.terms.mtu s.sender packet } in
     let w : WireLink = submits k.mtu k.link packet in
@@ -165,7 +165,7 @@ both-submitted own other p q s is big sends there few b = by (is_unsequenced mtu
     mtu : ℕ
     mtu = p.terms.mtu
 
-    packet : carriage.Packet
+    packet : command_choice.Packet
     packet = record { flags = q.flags; body = q.body }
 
     own-mtu : mtu_of own ≡ mtu

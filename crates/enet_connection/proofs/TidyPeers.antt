@@ -4,15 +4,15 @@ use Rattle.std.proofs.lemmas.List.{length-map}
 use Rattle.std.specs.List.{slice_get}
 use Rattle.enet_types.specs.declared.packet.Packet.{Packet}
 use Rattle.enet_seq.specs.Numbering.{wire}
-use Rattle.enet_receiver.specs.Reception.{received}
+use Rattle.enet_receiver.specs.DataOutcome.{received}
 use Rattle.enet_receiver.specs.Receiver.{Receiver}
 use Rattle.enet_receiver.specs.Foresight.{ReceivingEnd, after_command}
 use Rattle.enet_inbox.specs.Inbox.{cleared_receiver, is_full}
-use Rattle.enet_inbox.specs.Arrivals.{emptied}
+use Rattle.enet_inbox.specs.DataEffect.{emptied}
 use Rattle.enet_sender.specs.Sender.{Sender, Next, next, with_skipped, with_marked, nothing_sent}
 use Rattle.enet_sender.specs.Sender as sender
 use Rattle.enet_sender.specs.Due.{SendingEnd}
-use Rattle.enet_sender.specs.Carriage as carriage
+use Rattle.enet_sender.specs.CommandChoice as command_choice
 use Rattle.enet_outbox.specs.Outbox.{Outbox, cleared_sender, marked_sender, acknowledged_on, is_unsequenced, with_unsequenced, with_sequenced}
 use Rattle.enet_peer.specs.Peering.{Peering}
 use Rattle.enet_peer.specs.declared.parts.PeerState.{PeerState}
@@ -209,7 +209,7 @@ tidies qs = record {
 }
 
 -- a submission
-pub tidy-submitted : (qs rs : List Packet) (p : Peering) (channel : ℕ) (q : carriage.Packet) → is_connected p.state ≡ true → IsTidy qs p → IsTidy rs (submitted p channel q)
+pub tidy-submitted : (qs rs : List Packet) (p : Peering) (channel : ℕ) (q : command_choice.Packet) → is_connected p.state ≡ true → IsTidy qs p → IsTidy rs (submitted p channel q)
 tidy-submitted qs rs p channel q on h = by (is_unsequenced p.terms.mtu q)
   where
     at : (o : Option SendingEnd) → slice_get p.outbox.senders channel ≡ o → IsTidy rs (record p { outbox = with_sequenced p.outbox p.terms.mtu channel q o })

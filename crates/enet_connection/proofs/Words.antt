@@ -14,7 +14,7 @@ use Rattle.enet_control.specs.Controlling.{Commands, Next, is_reliable, is_in_sp
 use Rattle.enet_control.specs.Controlling as controlling
 use Rattle.enet_fragment.specs.DataCommand.{wire_body}
 use Rattle.enet_fragment.specs.DataCommand as fragment
-use Rattle.enet_sender.specs.Carriage as carriage
+use Rattle.enet_sender.specs.CommandChoice as command_choice
 use Rattle.enet_sender.specs.Due.{SendingEnd}
 use Rattle.enet_outbox.specs.declared.parts.Pace.{Pace}
 use Rattle.enet_outbox.specs.Outbox.{Outbox, is_unsequenced, with_unsequenced, with_sequenced}
@@ -26,7 +26,7 @@ use Rattle.enet_peer.specs.declared.parts.PeerEvent.{PeerEvent}
 use Rattle.enet_peer.specs.declared.parts.PeerState.TheVariants as state
 use Rattle.enet_peer.specs.Peering.{Peering, joined, connecting, answering}
 use Rattle.enet_peer.specs.Endings.{dropped, ended, freed, disconnecting, parting}
-use Rattle.enet_peer.specs.Arrivals.{obeyed}
+use Rattle.enet_peer.specs.CommandEffect.{obeyed}
 use Rattle.enet_peer.specs.Calls.{submitted, pace_of, gone_on, ticked, next_event}
 use Rattle.enet_link.specs.Steps.{Has}
 use Rattle.enet_link.proofs.Lists.{Has-push_cases, Has-append_cases, Has-slice_get}
@@ -256,7 +256,7 @@ same-some p q e = cc
 word-with : (w : ℕ) (own : End) (q : Peering) → IsWord w own → IsOf w q → IsWord w (with_peer own q)
 word-with w own q h a = record { log = h.log; peer = λ p e. subst (IsOf w) (same-some q p e) a }
 
-word-submitted : (w : ℕ) (p : Peering) (channel : ℕ) (q : carriage.Packet) → IsOf w p → IsOf w (submitted p channel q)
+word-submitted : (w : ℕ) (p : Peering) (channel : ℕ) (q : command_choice.Packet) → IsOf w p → IsOf w (submitted p channel q)
 word-submitted w p channel q h = by (is_unsequenced p.terms.mtu q)
   where
     at : (o : Option SendingEnd) → IsOf w (record p { outbox = with_sequenced p.outbox p.terms.mtu channel q o })

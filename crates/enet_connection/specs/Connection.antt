@@ -3,8 +3,8 @@ use Rattle.std.specs.Prelude.{ℕ, Bool, true, false, ◌&&◌, ◌==◌, not, i
 use Rattle.std.specs.Option.{is_some}
 use Rattle.enet_types.specs.declared.packet.Packet.{Packet}
 use Rattle.enet_codec.specs.Message.{Message, Body, acknowledge}
-use Rattle.enet_sender.specs.Carriage as carriage
-use Rattle.enet_packets.specs.declared.coming.Dispatched.{Dispatched}
+use Rattle.enet_sender.specs.CommandChoice as command_choice
+use Rattle.enet_packets.specs.declared.incoming_packet.Dispatched.{Dispatched}
 use Rattle.enet_fragment.specs.DataCommand.{data_of}
 use Rattle.enet_outbox.specs.Outbox.{is_unsequenced}
 use Rattle.enet_peer.specs.declared.parts.PeerEvent.{PeerEvent}
@@ -57,7 +57,7 @@ abbrev pub put_by : End → End → Message → Put
 put_by own other m = record { message = m; reach = if is_acknowledgement m.body then sent_on m.head.channel other else sent_on m.head.channel own }
 
 -- the packets of a channel that go in sequence, in datagrams of at most `mtu` bytes
-abbrev pub of_channel : ℕ → ℕ → List Packet → List carriage.Packet
+abbrev pub of_channel : ℕ → ℕ → List Packet → List command_choice.Packet
 of_channel mtu channel [] = []
 of_channel mtu channel (q ∷ qs) =
     if q.channel == channel && not (is_unsequenced mtu (record { flags = q.flags; body = q.body }))

@@ -3,10 +3,10 @@ use Rattle.std.specs.Prelude.{◌≡◌, ℕ, Bool, true, false, ◌+◌, ◌%�
 use Rattle.std.specs.FinMap.{get}
 use Rattle.enet_fragment.specs.declared.data.DataCommand.{DataCommand}
 use Rattle.enet_fragment.specs.DataCommand.{data_of}
-use Rattle.enet_packets.specs.declared.coming.Coming.{Coming}
+use Rattle.enet_packets.specs.declared.incoming_packet.IncomingPacket.{IncomingPacket}
 use Rattle.enet_packets.specs.Packets.{line_at}
 use Rattle.enet_receiver.specs.Receiver.{Receiver, nothing_received}
-use Rattle.enet_sender.specs.Carriage.{Carried, carried}
+use Rattle.enet_sender.specs.CommandChoice.{ChosenPacket, carried}
 use Rattle.enet_sender.specs.Sender.{Sender, nothing_sent}
 use Rattle.enet_sender.specs.declared.sent.Sent.{Sent}
 use Rattle.enet_peer.specs.Peering.{Peering}
@@ -38,7 +38,7 @@ receiver_on channel e None = nothing_received
 receiver_on channel e (Some p) = record (receiver_in (slice_get p.inbox.receivers channel)) { dispatched = dispatched_on channel e p }
 
 -- how the packets go that an end submitted on a channel
-abbrev pub carried_on : ℕ → End → List Carried
+abbrev pub carried_on : ℕ → End → List ChosenPacket
 carried_on channel e = carried (mtu_of e) (of_channel (mtu_of e) channel e.submitted)
 
 -- a data command of a channel in an end's log that isn't over 32,768 numbers late
@@ -70,8 +70,8 @@ pub record AgreeOn (channel : ℕ) (from to : End) : Type 0 where
   pub read : is_dispatching to.peer ≡ true → (put : Put) (c : DataCommand) → IsInTime from channel put c
       → (m : IsReadAsMeant (mtu_of from) (carried_on channel from) receiver c) × (m.meant.number ≡ number_below put.reach c.number)
   -- so all pieces of a packet in the making are of one submitted packet
-  pub held : is_dispatching to.peer ≡ true → (n : ℕ) (e : Coming) → get receiver.held n ≡ Some e → OfReliable (mtu_of from) (carried_on channel from) n e.making
-  pub lines : is_dispatching to.peer ≡ true → (n k : ℕ) (e : Coming) → get (line_at receiver.waiting n) k ≡ Some e → OfUnreliable (mtu_of from) (carried_on channel from) n k e.making
+  pub held : is_dispatching to.peer ≡ true → (n : ℕ) (e : IncomingPacket) → get receiver.held n ≡ Some e → OfReliable (mtu_of from) (carried_on channel from) n e.making
+  pub lines : is_dispatching to.peer ≡ true → (n k : ℕ) (e : IncomingPacket) → get (line_at receiver.waiting n) k ≡ Some e → OfUnreliable (mtu_of from) (carried_on channel from) n k e.making
   -- the greatest number sent is at most the number of commands that were put out
   pub few : sent_on channel from ≤ length from.log
 

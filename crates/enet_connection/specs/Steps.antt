@@ -15,7 +15,7 @@ use Rattle.enet_peer.specs.declared.parts.Limits.{Limits}
 use Rattle.enet_peer.specs.declared.parts.PeerEvent.{PeerEvent}
 use Rattle.enet_peer.specs.declared.parts.PeerState.{PeerState}
 use Rattle.enet_peer.specs.Peering.{Peering, joined, connecting, answering}
-use Rattle.enet_peer.specs.Arrivals.{obeyed}
+use Rattle.enet_peer.specs.CommandEffect.{obeyed}
 use Rattle.enet_peer.specs.Calls.{Leave, submission_refusal, submitted, pace_of, gone_on, left, leave_by_asking, leave_now, leave_later, ticked, next_event, is_connected, with_bandwidth, with_throttle, with_throttle_limit, with_ping_interval, with_timeout}
 use Rattle.enet_connection.specs.Connection.{Put, End, Connection, sent_on, put_by}
 

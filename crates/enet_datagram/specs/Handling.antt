@@ -5,7 +5,7 @@ use Rattle.enet_types.specs.declared.stop.Stop.TheVariants as stop
 use Rattle.enet_codec.specs.Message.{Message, Spells}
 use Rattle.enet_types.specs.declared.event.Received.{Received}
 use Rattle.enet_peer.specs.Peering.{Peering}
-use Rattle.enet_peer.specs.Arrivals.{obeyed, wants_memory, Obeys}
+use Rattle.enet_peer.specs.CommandEffect.{obeyed, wants_memory, Obeys}
 
 -- no command stands at the front of the bytes
 abbrev pub SpellsNone : List ℕ → Type 0

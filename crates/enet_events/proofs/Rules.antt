@@ -11,7 +11,7 @@ use Rattle.enet_events.specs.declared.rule.Share.{Share}
 use Rattle.enet_events.specs.declared.rule.View.{View}
 use Rattle.enet_events.specs.declared.rule.View.TheVariants.{Posting, Taking, Spent}
 use Rattle.enet_events.specs.History.{IsNumbered, part, AreWith}
-use Rattle.enet_events.specs.Rule.{share, Among, Claims, Agrees, Kept, Pushed, Popped, PosterSees, PosterKnows, TakerSees, TakerLearns, posted_of, taken_of, widened, made_one, taker_of, informed}
+use Rattle.enet_events.specs.Rule.{share, Among, Claims, Agrees, Invariant, Pushed, Popped, PosterSees, PosterKnows, TakerSees, TakerLearns, posted_of, taken_of, widened, made_one, taker_of, informed}
 
 -- ---- lists
 part_append : (who : ℕ → ℕ) (t : ℕ) (a b : List Numbered) → part who t (a ++ b) ≡ part who t a ++ part who t b
@@ -101,7 +101,7 @@ agrees_other p n a b j Spent ne h = tt
 
 -- ---- a push
 pub pushes : (n port takers m : ℕ) (posted : List Numbered) (known : List Share) (x : Numbered) → x.number ≡ length posted → length posted < 4294967295
-    → Pushes Kept n port (Posting takers m posted known) x (Pushed (Posting takers m posted known) x)
+    → Pushes Invariant n port (Posting takers m posted known) x (Pushed (Posting takers m posted known) x)
 pushes n port takers m posted known x num room items views free b at =
     let v : View = Posting takers m posted known in
     let w : View = Posting takers m (posted ++ x ∷ []) known in
@@ -132,7 +132,7 @@ pushes n port takers m posted known x num room items views free b at =
     )
 
 -- ---- a pop
-pub pops : (port takers t : ℕ) (got : List Numbered) → t < takers → Pops Kept port (Taking takers t got) (Popped (Taking takers t got))
+pub pops : (port takers t : ℕ) (got : List Numbered) → t < takers → Pops Invariant port (Taking takers t got) (Popped (Taking takers t got))
 pops port takers t got lt x items views b at =
     let v : View = Taking takers t got in
     let w : View = Taking takers t (got ++ x ∷ []) in
@@ -186,7 +186,7 @@ agrees_wider p n h j port Spent ne a mine all other = tt
 with_wider : (who : ℕ → ℕ) (total : ℕ) (xs : List Numbered) → AreWith who total xs → AreWith who (total + 1) xs
 with_wider who total xs all k d lt = let q = all k d lt in omega arith
 
-pub widens : (port takers : ℕ) → Forks Kept port (Posting takers 0 [] []) (Posting (takers + 1) 0 [] []) Spent
+pub widens : (port takers : ℕ) → Forks Invariant port (Posting takers 0 [] []) (Posting (takers + 1) 0 [] []) Spent
 widens port takers items views b at =
     let v : View = Posting takers 0 [] [] in
     let w : View = Posting (takers + 1) 0 [] [] in
@@ -204,7 +204,7 @@ widens port takers items views b at =
     record { poster = b.poster; total = b.total + 1; taken = b.taken; who = b.who; owner = b.owner; numbered = b.numbered; short = b.short; shared = with_wider b.who b.total b.taken b.shared; agrees = λ j u e. (all j u e).0; claims = λ j u e. (all j u e).1 }
 
 -- ---- a taker is made
-pub makes : (port takers m : ℕ) (posted : List Numbered) → Forks Kept port (Posting takers m posted []) (Posting takers (m + 1) posted []) (Taking takers m [])
+pub makes : (port takers m : ℕ) (posted : List Numbered) → Forks Invariant port (Posting takers m posted []) (Posting takers (m + 1) posted []) (Taking takers m [])
 makes port takers m posted items views b at =
     let v : View = Posting takers m posted [] in
     let w : View = Posting takers (m + 1) posted [] in
@@ -245,7 +245,7 @@ among_more xs a x o = ⊎_elim (λ (p : (o.0 < length xs) × (get_elem? xs o.0 �
 
 -- ---- the poster takes in a taker
 pub finishes : (port takers m : ℕ) (posted : List Numbered) (known : List Share) (other n s : ℕ) (got : List Numbered)
-    → Merges Kept port (Posting takers m posted known) other (Taking n s got) (Posting takers m posted (known ++ share s got ∷ [])) Spent
+    → Merges Invariant port (Posting takers m posted known) other (Taking n s got) (Posting takers m posted (known ++ share s got ∷ [])) Spent
 finishes port takers m posted known other n s got items views b at apart theirs =
     let v : View = Posting takers m posted known in
     let w : View = Posting takers m posted (known ++ share s got ∷ []) in
@@ -283,7 +283,7 @@ finishes port takers m posted known other n s got items views b at apart theirs 
     record { poster = b.poster; total = b.total; taken = b.taken; who = b.who; owner = owner; numbered = b.numbered; short = b.short; shared = b.shared; agrees = λ j u e. (all j u e).0; claims = λ j u e. (all j u e).1 }
 
 -- ---- the opening
-pub begins : Kept [] (Posting 0 0 [] [] ∷ [])
+pub begins : Invariant [] (Posting 0 0 [] [] ∷ [])
 begins =
     let Fits : ℕ → View → Type 0 = λ j u. Agrees 0 0 [] j u × ((k : ℕ) (l : List Numbered) → Claims u k l → (0 ≡ j) × ([] ≡ l)) in
     let v : View = Posting 0 0 [] [] in
@@ -293,7 +293,7 @@ begins =
     record { poster = 0; total = 0; taken = []; who = λ k. 0; owner = λ k. 0; numbered = tt; short = omega arith; shared = All-nil (λ (y : Numbered). 0 < 0); agrees = λ j u e. (all j u e).0; claims = λ j u e. (all j u e).1 }
 
 -- ---- what a look shows
-pub poster_sees : (port takers m : ℕ) (posted : List Numbered) (known : List Share) → Learns Kept port (Posting takers m posted known) (PosterKnows (Posting takers m posted known))
+pub poster_sees : (port takers m : ℕ) (posted : List Numbered) (known : List Share) → Learns Invariant port (Posting takers m posted known) (PosterKnows (Posting takers m posted known))
 poster_sees port takers m posted known items views b at =
     let v : View = Posting takers m posted known in
     let mine = b.agrees port v at in (
@@ -301,7 +301,7 @@ poster_sees port takers m posted known items views b at =
       λ x a. (b.claims port v at x.index x.taken (inr a)).1,
     )
 
-pub taker_sees : (port takers t : ℕ) (got : List Numbered) → Learns Kept port (Taking takers t got) (TakerLearns (Taking takers t got))
+pub taker_sees : (port takers t : ℕ) (got : List Numbered) → Learns Invariant port (Taking takers t got) (TakerLearns (Taking takers t got))
 taker_sees port takers t got items views b at =
     let v : View = Taking takers t got in (
       b.taken ++ items,
@@ -310,23 +310,23 @@ taker_sees port takers t got items views b at =
 
 -- ---- the same for a pass whose view is known by an equation
 pub posts : (n port takers m : ℕ) (v : View) (known : List Share) (x : Numbered) → v ≡ Posting takers m (posted_of v) known → x.number ≡ length (posted_of v) → length (posted_of v) < 4294967295
-    → Pushes Kept n port v x (Pushed v x) × Learns Kept port v (PosterSees v)
+    → Pushes Invariant n port v x (Pushed v x) × Learns Invariant port v (PosterSees v)
 posts n port takers m v known x e num room =
-    subst (λ (y : View). Pushes Kept n port y x (Pushed y x) × Learns Kept port y (PosterSees y)) (sym e)
+    subst (λ (y : View). Pushes Invariant n port y x (Pushed y x) × Learns Invariant port y (PosterSees y)) (sym e)
     (pushes n port takers m (posted_of v) known x num room, λ items views b at. (poster_sees port takers m (posted_of v) known items views b at).0)
 
-pub takes : (port takers t : ℕ) (v : View) → t < takers → v ≡ Taking takers t (taken_of v) → Pops Kept port v (Popped v) × Learns Kept port v (TakerLearns v)
-takes port takers t v lt e = subst (λ (y : View). Pops Kept port y (Popped y) × Learns Kept port y (TakerLearns y)) (sym e) (pops port takers t (taken_of v) lt, taker_sees port takers t (taken_of v))
+pub takes : (port takers t : ℕ) (v : View) → t < takers → v ≡ Taking takers t (taken_of v) → Pops Invariant port v (Popped v) × Learns Invariant port v (TakerLearns v)
+takes port takers t v lt e = subst (λ (y : View). Pops Invariant port y (Popped y) × Learns Invariant port y (TakerLearns y)) (sym e) (pops port takers t (taken_of v) lt, taker_sees port takers t (taken_of v))
 
-pub one_more : (port takers : ℕ) (v : View) → v ≡ Posting takers 0 [] [] → Forks Kept port v (widened v) Spent
-one_more port takers v e = subst (λ (y : View). Forks Kept port y (widened y) Spent) (sym e) (widens port takers)
+pub one_more : (port takers : ℕ) (v : View) → v ≡ Posting takers 0 [] [] → Forks Invariant port v (widened v) Spent
+one_more port takers v e = subst (λ (y : View). Forks Invariant port y (widened y) Spent) (sym e) (widens port takers)
 
-pub new_one : (port takers m : ℕ) (v : View) (posted : List Numbered) → v ≡ Posting takers m posted [] → Forks Kept port v (made_one v) (taker_of v)
-new_one port takers m v posted e = subst (λ (y : View). Forks Kept port y (made_one y) (taker_of y)) (sym e) (makes port takers m posted)
+pub new_one : (port takers m : ℕ) (v : View) (posted : List Numbered) → v ≡ Posting takers m posted [] → Forks Invariant port v (made_one v) (taker_of v)
+new_one port takers m v posted e = subst (λ (y : View). Forks Invariant port y (made_one y) (taker_of y)) (sym e) (makes port takers m posted)
 
 pub joins : (port takers m : ℕ) (v : View) (posted : List Numbered) (known : List Share) (other n s : ℕ) (w : View) (got : List Numbered)
-    → v ≡ Posting takers m posted known → w ≡ Taking n s got → Merges Kept port v other w (informed v w) Spent
-joins port takers m v posted known other n s w got e f = subst (λ (y : View × View). Merges Kept port y.0 other y.1 (informed y.0 y.1) Spent) (λ i. (sym e i, sym f i)) (finishes port takers m posted known other n s got)
+    → v ≡ Posting takers m posted known → w ≡ Taking n s got → Merges Invariant port v other w (informed v w) Spent
+joins port takers m v posted known other n s w got e f = subst (λ (y : View × View). Merges Invariant port y.0 other y.1 (informed y.0 y.1) Spent) (λ i. (sym e i, sym f i)) (finishes port takers m posted known other n s got)
 
-pub looks : (port takers m : ℕ) (v : View) (posted : List Numbered) (known : List Share) → v ≡ Posting takers m posted known → Learns Kept port v (PosterKnows v)
-looks port takers m v posted known e = subst (λ (y : View). Learns Kept port y (PosterKnows y)) (sym e) (poster_sees port takers m posted known)
+pub looks : (port takers m : ℕ) (v : View) (posted : List Numbered) (known : List Share) → v ≡ Posting takers m posted known → Learns Invariant port v (PosterKnows v)
+looks port takers m v posted known e = subst (λ (y : View). Learns Invariant port y (PosterKnows y)) (sym e) (poster_sees port takers m posted known)

@@ -38,7 +38,7 @@ Agrees poster total history pass Spent = Unit {0}
 
 -- What was posted is what was taken and then what is held, numbered without gaps. Each event that was taken is with one
 -- taker, and each taker belongs to one pass (`owner`), which knows all that the taker has
-pub record Kept (items : List Numbered) (views : List View) : Type 0 where
+pub record Invariant (items : List Numbered) (views : List View) : Type 0 where
   pub poster : ℕ
   pub total : ℕ
   pub taken : List Numbered

@@ -34,9 +34,9 @@ pub struct Shared;
 
 impl Protocol<Numbered, View> for Shared {
     ghost use Rattle.std.specs.Prelude.{[]};
-    ghost use Rattle.enet_events.specs.Rule.{Kept, posting};
+    ghost use Rattle.enet_events.specs.Rule.{Invariant, posting};
 
-    ghost holds = { λ items views. Kept items views };
+    ghost holds = { λ items views. Invariant items views };
 
     ghost first = { posting 0 0 [] [] };
 }

@@ -12,7 +12,7 @@ use Rattle.enet_fragment.specs.declared.assembly.Put.TheVariants.{New, Again, Wh
 use Rattle.enet_fragment.specs.Place.{is_sound, told_cut, place_of}
 use Rattle.enet_fragment.proofs.Places.{Sound, Sound-from_test, Fits, Fits-from_test}
 use Rattle.enet_fragment.proofs.Pieces.{length-pieces_in, list_all-pieces_in, is_some-pieces_in, joined-pieces_in}
-use Rattle.enet_fragment.specs.Making.{Making, count_of, nothing_yet, piece_at, IsWhole, joined, belongs, have_others_come, put_outcome, after_outcome, with_piece}
+use Rattle.enet_fragment.specs.PartialPacket.{PartialPacket, count_of, nothing_yet, piece_at, IsWhole, joined, belongs, have_others_come, put_outcome, after_outcome, with_piece}
 use Rattle.enet_fragment.specs.Assembly.{pieces_in, missing_in}
 use Rattle.enet_fragment.specs.Whole.{is_whole, whole_of, single_of}
 
@@ -53,13 +53,13 @@ put_outcome-first p =
     (λ h. others_first p.count p.number (Sound-from_test p h).below)
 
 -- a put changes neither the count nor the total
-pub count_of-after_outcome : (r : Put) (m : Making) (p : Place) (bytes : List ℕ) → count_of (after_outcome r m p bytes) ≡ count_of m
+pub count_of-after_outcome : (r : Put) (m : PartialPacket) (p : Place) (bytes : List ℕ) → count_of (after_outcome r m p bytes) ≡ count_of m
 count_of-after_outcome New m p bytes = length-set m.pieces p.number (Some bytes)
 count_of-after_outcome Whole m p bytes = length-set m.pieces p.number (Some bytes)
 count_of-after_outcome Again m p bytes = refl
 count_of-after_outcome Bad m p bytes = refl
 
-pub total-after_outcome : (r : Put) (m : Making) (p : Place) (bytes : List ℕ) → (after_outcome r m p bytes).total ≡ m.total
+pub total-after_outcome : (r : Put) (m : PartialPacket) (p : Place) (bytes : List ℕ) → (after_outcome r m p bytes).total ≡ m.total
 total-after_outcome New m p bytes = refl
 total-after_outcome Whole m p bytes = refl
 total-after_outcome Again m p bytes = refl
@@ -76,7 +76,7 @@ joined-cuts (p ∷ ps) (c ∷ cs) e h =
     ∙ ap (λ r. c ++ r) (joined-cuts ps cs (omega arith) (λ i k. h (suc i) (omega arith)))
 
 -- the test says what the words say
-pub IsWhole-tested : (m : Making) → IsTrue (is_whole m) ↔ IsWhole m
+pub IsWhole-tested : (m : PartialPacket) → IsTrue (is_whole m) ↔ IsWhole m
 IsWhole-tested m = (λ t. AllPass-from_list_all is_some m.pieces t, λ w. list_all-from_AllPass is_some m.pieces w)
 
 -- a whole packet
@@ -112,7 +112,7 @@ others (x ∷ rest) zero a b = refl
 others (Some x ∷ rest) (suc i) a b = others rest i a b
 others (None ∷ rest) (suc i) a b = refl
 
-pub is_whole-with_piece : (m : Making) (p : Place) (bytes : List ℕ) → is_whole (with_piece m p bytes) ≡ have_others_come m p.number
+pub is_whole-with_piece : (m : PartialPacket) (p : Place) (bytes : List ℕ) → is_whole (with_piece m p bytes) ≡ have_others_come m p.number
 unfolding have_others_come
 is_whole-with_piece m p bytes = others m.pieces p.number bytes []
 
@@ -129,12 +129,12 @@ new_of_outcome true false true e = cc
 new_of_outcome true false false e = refl
 new_of_outcome false came others e = cc
 
-pub is_whole-last : (m : Making) (p : Place) (bytes : List ℕ) → put_outcome m p ≡ Whole → is_whole (with_piece m p bytes) ≡ true
+pub is_whole-last : (m : PartialPacket) (p : Place) (bytes : List ℕ) → put_outcome m p ≡ Whole → is_whole (with_piece m p bytes) ≡ true
 unfolding put_outcome
 is_whole-last m p bytes e =
     is_whole-with_piece m p bytes ∙ whole_of_outcome (belongs m p) (is_some (piece_at m p.number)) (have_others_come m p.number) e
 
-pub is_whole-more : (m : Making) (p : Place) (bytes : List ℕ) → put_outcome m p ≡ New → is_whole (with_piece m p bytes) ≡ false
+pub is_whole-more : (m : PartialPacket) (p : Place) (bytes : List ℕ) → put_outcome m p ≡ New → is_whole (with_piece m p bytes) ≡ false
 unfolding put_outcome
 is_whole-more m p bytes e =
     is_whole-with_piece m p bytes ∙ new_of_outcome (belongs m p) (is_some (piece_at m p.number)) (have_others_come m p.number) e
@@ -165,13 +165,13 @@ alone-made p body h e l =
     ap (λ (q : Place). with_piece (nothing_yet q.count q.total) q body) same ∙ single-made body
 
 -- a piece that belongs to a packet has one of its numbers
-pub belongs-below : (m : Making) (p : Place) → belongs m p ≡ true → p.number < count_of m
+pub belongs-below : (m : PartialPacket) (p : Place) → belongs m p ≡ true → p.number < count_of m
 belongs-below m p h =
     let f : Fits m p = Fits-from_test m p h in
     omega (arith, f.sound.below, f.count)
 
 -- a piece doesn't change how many there are
-pub count_of-with_piece : (m : Making) (p : Place) (bytes : List ℕ) → count_of (with_piece m p bytes) ≡ count_of m
+pub count_of-with_piece : (m : PartialPacket) (p : Place) (bytes : List ℕ) → count_of (with_piece m p bytes) ≡ count_of m
 count_of-with_piece m p bytes = length-set m.pieces p.number (Some bytes)
 
 pub count_of-nothing_yet : (count total : ℕ) → count_of (nothing_yet count total) ≡ count

@@ -7,7 +7,7 @@ use Rattle.std.proofs.lemmas.List.Folds.{list_all-map}
 use Rattle.std.proofs.lemmas.Bool.Decides.{nat_tests}
 use Rattle.std.specs.List.{list_all}
 use Rattle.enet_fragment.specs.Assembly.{pieces_in, first_piece, marked, written_at, missing_in}
-use Rattle.enet_fragment.specs.Making.{joined}
+use Rattle.enet_fragment.specs.PartialPacket.{joined}
 
 -- the marks are those that are marked
 pub map-pieces_in : (cut : ℕ) (bytes : List ℕ) (came : List Bool) → map is_some (pieces_in cut bytes came) ≡ came

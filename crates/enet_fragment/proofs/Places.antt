@@ -5,7 +5,7 @@ use Rattle.enet_fragment.specs.declared.place.Place.{Place}
 use Rattle.std.proofs.Math.Nat.{div-le_self}
 use borrow.Author.Tests.{ltb-true, leb-true, eqb-true}
 use Rattle.enet_fragment.specs.Place.{told_cut, is_even, is_sound}
-use Rattle.enet_fragment.specs.Making.{Making, count_of, piece_at, is_same_cut, belongs, have_others_come, put_outcome}
+use Rattle.enet_fragment.specs.PartialPacket.{PartialPacket, count_of, piece_at, is_same_cut, belongs, have_others_come, put_outcome}
 use Rattle.enet_fragment.specs.declared.assembly.Put.{Put}
 use Rattle.enet_fragment.specs.declared.assembly.Put.TheVariants.{New, Again, Whole, Bad}
 
@@ -73,13 +73,13 @@ Sound-from_test p h =
     }
 
 -- what the test of a piece against a packet says
-pub record Fits (m : Making) (p : Place) : Type 0 where
+pub record Fits (m : PartialPacket) (p : Place) : Type 0 where
   pub sound : Sound p
   pub count : p.count ≡ count_of m
   pub total : p.total ≡ m.total
   pub cut : is_same_cut m.cut (told_cut p) ≡ true
 
-pub Fits-from_test : (m : Making) (p : Place) → belongs m p ≡ true → Fits m p
+pub Fits-from_test : (m : PartialPacket) (p : Place) → belongs m p ≡ true → Fits m p
 unfolding belongs
 Fits-from_test m p h =
     let sound : Bool = is_sound p in
@@ -97,15 +97,15 @@ Fits-from_test m p h =
     }
 
 -- the outcomes
-pub outcome_again : (m : Making) (p : Place) → belongs m p ≡ true → is_some (piece_at m p.number) ≡ true → Again ≡ put_outcome m p
+pub outcome_again : (m : PartialPacket) (p : Place) → belongs m p ≡ true → is_some (piece_at m p.number) ≡ true → Again ≡ put_outcome m p
 unfolding put_outcome
 outcome_again m p a b = rw (a, b) refl
 
-pub outcome_whole : (m : Making) (p : Place) → belongs m p ≡ true → is_some (piece_at m p.number) ≡ false → have_others_come m p.number ≡ true → Whole ≡ put_outcome m p
+pub outcome_whole : (m : PartialPacket) (p : Place) → belongs m p ≡ true → is_some (piece_at m p.number) ≡ false → have_others_come m p.number ≡ true → Whole ≡ put_outcome m p
 unfolding put_outcome
 outcome_whole m p a b c = rw (a, b, c) refl
 
-pub outcome_new : (m : Making) (p : Place) → belongs m p ≡ true → is_some (piece_at m p.number) ≡ false → have_others_come m p.number ≡ false → New ≡ put_outcome m p
+pub outcome_new : (m : PartialPacket) (p : Place) → belongs m p ≡ true → is_some (piece_at m p.number) ≡ false → have_others_come m p.number ≡ false → New ≡ put_outcome m p
 unfolding put_outcome
 outcome_new m p a b c = rw (a, b, c) refl
 
@@ -115,10 +115,10 @@ taken true (Some x) others r e h = ⊎_elim (λ f. cc) (λ f. cc) h
 taken false came others r e h = ⊎_elim (λ f. cc) (λ f. cc) h
 
 -- a piece that is put belongs to the packet and had not come
-pub put_outcome-taken : (m : Making) (p : Place) (r : Put) → r ≡ put_outcome m p → (r ≡ New) ⊎ (r ≡ Whole) → (belongs m p ≡ true) × (piece_at m p.number ≡ None)
+pub put_outcome-taken : (m : PartialPacket) (p : Place) (r : Put) → r ≡ put_outcome m p → (r ≡ New) ⊎ (r ≡ Whole) → (belongs m p ≡ true) × (piece_at m p.number ≡ None)
 unfolding put_outcome
 put_outcome-taken m p r e h = taken (belongs m p) (piece_at m p.number) (have_others_come m p.number) r e h
 
-pub outcome_bad : (m : Making) (p : Place) → belongs m p ≡ false → Bad ≡ put_outcome m p
+pub outcome_bad : (m : PartialPacket) (p : Place) → belongs m p ≡ false → Bad ≡ put_outcome m p
 unfolding put_outcome
 outcome_bad m p a = rw a refl

@@ -7,33 +7,33 @@ use borrow.Author.Tests.{eqb-true}
 use Rattle.std.specs.List.{list_all}
 use Rattle.enet_fragment.specs.declared.place.Place.{Place}
 use Rattle.enet_fragment.specs.Place.{told_cut}
-use Rattle.enet_fragment.specs.Making.{Making, count_of, piece_at, nothing_yet, IsWhole, joined, is_same_cut, is_of_size, belongs, have_others_come, with_piece, without_piece}
+use Rattle.enet_fragment.specs.PartialPacket.{PartialPacket, count_of, piece_at, nothing_yet, IsWhole, joined, is_same_cut, is_of_size, belongs, have_others_come, with_piece, without_piece}
 use Rattle.enet_fragment.specs.Assembly.{making_of, pieces_in, missing_in, written_at, AreKept}
 use Rattle.enet_fragment.proofs.Places.{Sound, Fits, Fits-from_test}
 use Rattle.enet_fragment.proofs.Pieces.{length-written_at, length-pieces_in, list_all-pieces_in, is_some-pieces_in, list_all-others, missing_in-le, missing_in-replicate, missing_in-set, missing_in-unset, pieces_in-none, pieces_in-unmarked, pieces_in-written, joined-pieces_in}
 
-pub count_of-making : (bytes : List ℕ) (came : List Bool) (cut : Option ℕ) (m : Making) → making_of bytes came cut ≡ m → count_of m ≡ length came
+pub count_of-making : (bytes : List ℕ) (came : List Bool) (cut : Option ℕ) (m : PartialPacket) → making_of bytes came cut ≡ m → count_of m ≡ length came
 count_of-making bytes came cut m v = ap count_of (sym v) ∙ length-pieces_in (unwrap_or cut 0) bytes came
 
-pub whole_test : (bytes : List ℕ) (came : List Bool) (missing : ℕ) (cut : Option ℕ) (m : Making) → making_of bytes came cut ≡ m → missing ≡ missing_in came → list_all is_some m.pieces ≡ eqb missing 0
+pub whole_test : (bytes : List ℕ) (came : List Bool) (missing : ℕ) (cut : Option ℕ) (m : PartialPacket) → making_of bytes came cut ≡ m → missing ≡ missing_in came → list_all is_some m.pieces ≡ eqb missing 0
 whole_test bytes came missing cut m v e =
-    ap (λ (q : Making). list_all is_some q.pieces) (sym v) ∙ (list_all-pieces_in (unwrap_or cut 0) bytes came ∙ ap (λ k. eqb k 0) (sym e))
+    ap (λ (q : PartialPacket). list_all is_some q.pieces) (sym v) ∙ (list_all-pieces_in (unwrap_or cut 0) bytes came ∙ ap (λ k. eqb k 0) (sym e))
 
-pub IsWhole-counted : (bytes : List ℕ) (came : List Bool) (missing : ℕ) (cut : Option ℕ) (m : Making) → making_of bytes came cut ≡ m → missing ≡ missing_in came → IsTrue (eqb missing 0) ↔ IsWhole m
+pub IsWhole-counted : (bytes : List ℕ) (came : List Bool) (missing : ℕ) (cut : Option ℕ) (m : PartialPacket) → making_of bytes came cut ≡ m → missing ≡ missing_in came → IsTrue (eqb missing 0) ↔ IsWhole m
 IsWhole-counted bytes came missing cut m v e =
     let tests = whole_test bytes came missing cut m v e in
     (λ t. AllPass-from_list_all is_some m.pieces (tests ∙ t), λ w. sym tests ∙ list_all-from_AllPass is_some m.pieces w)
 
-pub joined-making : (bytes : List ℕ) (came : List Bool) (missing : ℕ) (cut : Option ℕ) (m : Making) → making_of bytes came cut ≡ m → missing ≡ missing_in came → 0 < length came → IsWhole m → joined m.pieces ≡ bytes
+pub joined-making : (bytes : List ℕ) (came : List Bool) (missing : ℕ) (cut : Option ℕ) (m : PartialPacket) → making_of bytes came cut ≡ m → missing ≡ missing_in came → 0 < length came → IsWhole m → joined m.pieces ≡ bytes
 joined-making bytes came missing cut m v e some w =
     let tests = whole_test bytes came missing cut m v e in
     let none : missing ≡ 0 = eqb-true _ _ (sym tests ∙ list_all-from_AllPass is_some m.pieces w) in
-    ap (λ (q : Making). joined q.pieces) (sym v) ∙ joined-pieces_in (unwrap_or cut 0) bytes came some (omega arith)
+    ap (λ (q : PartialPacket). joined q.pieces) (sym v) ∙ joined-pieces_in (unwrap_or cut 0) bytes came some (omega arith)
 
-pub mark_of : (bytes : List ℕ) (came : List Bool) (cut : Option ℕ) (m : Making) (i : ℕ) → making_of bytes came cut ≡ m → is_some (piece_at m i) ≡ get_or came i false
+pub mark_of : (bytes : List ℕ) (came : List Bool) (cut : Option ℕ) (m : PartialPacket) (i : ℕ) → making_of bytes came cut ≡ m → is_some (piece_at m i) ≡ get_or came i false
 mark_of bytes came cut m i v = ap (λ q. is_some (piece_at q i)) (sym v) ∙ is_some-pieces_in (unwrap_or cut 0) bytes came i
 
-pub others_of : (bytes : List ℕ) (came : List Bool) (missing : ℕ) (cut : Option ℕ) (m : Making) (i : ℕ) → making_of bytes came cut ≡ m → missing ≡ missing_in came → i < length came → get_or came i false ≡ false → have_others_come m i ≡ eqb missing 1
+pub others_of : (bytes : List ℕ) (came : List Bool) (missing : ℕ) (cut : Option ℕ) (m : PartialPacket) (i : ℕ) → making_of bytes came cut ≡ m → missing ≡ missing_in came → i < length came → get_or came i false ≡ false → have_others_come m i ≡ eqb missing 1
 unfolding have_others_come
 others_of bytes came missing cut m i v e h f =
     ap (λ q. have_others_come q i) (sym v) ∙ (list_all-others (unwrap_or cut 0) bytes [] came i h f ∙ ap (λ k. eqb k 1) (sym e))
@@ -77,7 +77,7 @@ AreKept-unmarked bytes came missing cut i k h e =
       nothing_told = λ h. absurd (omega (arith, k.nothing_told h));
     }
 
-pub making_of-unmarked : (bytes : List ℕ) (came : List Bool) (cut : Option ℕ) (m : Making) (i : ℕ) → making_of bytes came cut ≡ m → making_of bytes (set came i false) cut ≡ without_piece m i
+pub making_of-unmarked : (bytes : List ℕ) (came : List Bool) (cut : Option ℕ) (m : PartialPacket) (i : ℕ) → making_of bytes came cut ≡ m → making_of bytes (set came i false) cut ≡ without_piece m i
 making_of-unmarked bytes came cut m i v =
     ap (λ q. record { total = length bytes; cut = cut; pieces = q }) (pieces_in-unmarked (unwrap_or cut 0) bytes came i)
     ∙ ap (λ q. without_piece q i) v
@@ -88,14 +88,14 @@ unset (None ∷ rest) zero h = refl
 unset (Some x ∷ rest) zero h = cc
 unset (x ∷ rest) (suc i) h = ap (λ r. x ∷ r) (unset rest i h)
 
-pub without_piece-missing : (m : Making) (i : ℕ) → is_some (piece_at m i) ≡ false → m ≡ without_piece m i
+pub without_piece-missing : (m : PartialPacket) (i : ℕ) → is_some (piece_at m i) ≡ false → m ≡ without_piece m i
 without_piece-missing m i h = ap (λ q. record { total = m.total; cut = m.cut; pieces = q }) (sym (unset m.pieces i h))
 
-pub total_of-making : (bytes : List ℕ) (came : List Bool) (cut : Option ℕ) (m : Making) → making_of bytes came cut ≡ m → m.total ≡ length bytes
-total_of-making bytes came cut m v = ap (λ (q : Making). q.total) (sym v)
+pub total_of-making : (bytes : List ℕ) (came : List Bool) (cut : Option ℕ) (m : PartialPacket) → making_of bytes came cut ≡ m → m.total ≡ length bytes
+total_of-making bytes came cut m v = ap (λ (q : PartialPacket). q.total) (sym v)
 
 -- the test of a size, against the lengths of the fields
-pub is_of_size-making : (bytes : List ℕ) (came : List Bool) (cut : Option ℕ) (m : Making) (p : Place) (count total : ℕ) → making_of bytes came cut ≡ m → count ≡ length came → total ≡ length bytes → (eqb p.count count && eqb p.total total) ≡ is_of_size m p
+pub is_of_size-making : (bytes : List ℕ) (came : List Bool) (cut : Option ℕ) (m : PartialPacket) (p : Place) (count total : ℕ) → making_of bytes came cut ≡ m → count ≡ length came → total ≡ length bytes → (eqb p.count count && eqb p.total total) ≡ is_of_size m p
 is_of_size-making bytes came cut m p count total v e f =
     ap (λ n. eqb p.count n && eqb p.total total) (e ∙ sym (count_of-making bytes came cut m v))
     ∙ ap (λ n. eqb p.count (count_of m) && eqb p.total n) (f ∙ sym (total_of-making bytes came cut m v))
@@ -119,7 +119,7 @@ record Added (bytes new : List ℕ) (came : List Bool) (p : Place) : Type 0 wher
   long : length (written_at p.offset new bytes) ≡ length bytes
   many : length (set came p.number true) ≡ length came
 
-added : (bytes new : List ℕ) (came : List Bool) (cut : Option ℕ) (m : Making) (p : Place) → making_of bytes came cut ≡ m → belongs m p ≡ true → p.len ≡ length new → Added bytes new came p
+added : (bytes new : List ℕ) (came : List Bool) (cut : Option ℕ) (m : PartialPacket) (p : Place) → making_of bytes came cut ≡ m → belongs m p ≡ true → p.len ≡ length new → Added bytes new came p
 added bytes new came cut m p v b l =
     let f : Fits m p = Fits-from_test m p b in
     let total : p.total ≡ length bytes = f.total ∙ total_of-making bytes came cut m v in
@@ -132,7 +132,7 @@ added bytes new came cut m p v b l =
       many = length-set came p.number true;
     }
 
-pub AreKept-added : (bytes new : List ℕ) (came : List Bool) (missing : ℕ) (cut : Option ℕ) (m : Making) (p : Place) → AreKept bytes came missing cut → making_of bytes came cut ≡ m → belongs m p ≡ true → piece_at m p.number ≡ None → p.len ≡ length new → AreKept (written_at p.offset new bytes) (set came p.number true) (missing - 1) (Some (told_cut p))
+pub AreKept-added : (bytes new : List ℕ) (came : List Bool) (missing : ℕ) (cut : Option ℕ) (m : PartialPacket) (p : Place) → AreKept bytes came missing cut → making_of bytes came cut ≡ m → belongs m p ≡ true → piece_at m p.number ≡ None → p.len ≡ length new → AreKept (written_at p.offset new bytes) (set came p.number true) (missing - 1) (Some (told_cut p))
 AreKept-added bytes new came missing cut m p k v b e l =
     let a : Added bytes new came p = added bytes new came cut m p v b l in
     let unmarked : get_or came p.number false ≡ false = sym (mark_of bytes came cut m p.number v) ∙ ap is_some e in
@@ -153,7 +153,7 @@ AreKept-added bytes new came missing cut m p k v b e l =
       nothing_told = λ h. cc;
     }
 
-pub making_of-added : (bytes new : List ℕ) (came : List Bool) (missing : ℕ) (cut : Option ℕ) (m : Making) (p : Place) → AreKept bytes came missing cut → making_of bytes came cut ≡ m → belongs m p ≡ true → p.len ≡ length new → making_of (written_at p.offset new bytes) (set came p.number true) (Some (told_cut p)) ≡ with_piece m p new
+pub making_of-added : (bytes new : List ℕ) (came : List Bool) (missing : ℕ) (cut : Option ℕ) (m : PartialPacket) (p : Place) → AreKept bytes came missing cut → making_of bytes came cut ≡ m → belongs m p ≡ true → p.len ≡ length new → making_of (written_at p.offset new bytes) (set came p.number true) (Some (told_cut p)) ≡ with_piece m p new
 making_of-added bytes new came missing cut m p k v b l =
     let f : Fits m p = Fits-from_test m p b in
     let a : Added bytes new came p = added bytes new came cut m p v b l in
@@ -161,9 +161,9 @@ making_of-added bytes new came missing cut m p k v b l =
     let begins : p.offset ≡ p.number * told_cut p = a.sound.begins in
     let count : p.count ≡ length came = a.count in
     let total : p.total ≡ length bytes = a.total in
-    let known : m.cut ≡ cut = ap (λ (q : Making). q.cut) (sym v) in
+    let known : m.cut ≡ cut = ap (λ (q : PartialPacket). q.cut) (sym v) in
     let same : is_same_cut cut (told_cut p) ≡ true = ap (λ c. is_same_cut c (told_cut p)) (sym known) ∙ f.cut in
-    let earlier : pieces_in (told_cut p) bytes came ≡ m.pieces = same_pieces bytes came cut (told_cut p) same (λ e. sym k.counted ∙ k.nothing_told e) ∙ ap (λ (q : Making). q.pieces) v in
+    let earlier : pieces_in (told_cut p) bytes came ≡ m.pieces = same_pieces bytes came cut (told_cut p) same (λ e. sym k.counted ∙ k.nothing_told e) ∙ ap (λ (q : PartialPacket). q.pieces) v in
     let room : length came * told_cut p ≤ length bytes + told_cut p = room_of (length came) (length came - 1) (told_cut p) (length bytes) (omega arith) (rw (← count, ← total) a.sound.room) in
     let written : pieces_in (told_cut p) (written_at p.offset new bytes) (set came p.number true) ≡ set m.pieces p.number (Some new) =
     ap (λ o. pieces_in (told_cut p) (written_at o new bytes) (set came p.number true)) begins
@@ -173,17 +173,17 @@ making_of-added bytes new came missing cut m p k v b l =
     ∙ ap (λ q. record { total = m.total; cut = Some (told_cut p); pieces = q }) written
 
 -- the same, of the fields as the code leaves them
-pub AreKept-after : (bytes new after : List ℕ) (came : List Bool) (missing : ℕ) (cut : Option ℕ) (m : Making) (p : Place) (told : ℕ) → after ≡ written_at p.offset new bytes → told ≡ told_cut p → AreKept bytes came missing cut → making_of bytes came cut ≡ m → belongs m p ≡ true → piece_at m p.number ≡ None → p.len ≡ length new → AreKept after (set came p.number true) (missing - 1) (Some told)
+pub AreKept-after : (bytes new after : List ℕ) (came : List Bool) (missing : ℕ) (cut : Option ℕ) (m : PartialPacket) (p : Place) (told : ℕ) → after ≡ written_at p.offset new bytes → told ≡ told_cut p → AreKept bytes came missing cut → making_of bytes came cut ≡ m → belongs m p ≡ true → piece_at m p.number ≡ None → p.len ≡ length new → AreKept after (set came p.number true) (missing - 1) (Some told)
 AreKept-after bytes new after came missing cut m p told e f k v b none l =
     rw (e, f) (AreKept-added bytes new came missing cut m p k v b none l)
 
-pub making_of-after : (bytes new after : List ℕ) (came : List Bool) (missing : ℕ) (cut : Option ℕ) (m : Making) (p : Place) (told : ℕ) → after ≡ written_at p.offset new bytes → told ≡ told_cut p → AreKept bytes came missing cut → making_of bytes came cut ≡ m → belongs m p ≡ true → p.len ≡ length new → making_of after (set came p.number true) (Some told) ≡ with_piece m p new
+pub making_of-after : (bytes new after : List ℕ) (came : List Bool) (missing : ℕ) (cut : Option ℕ) (m : PartialPacket) (p : Place) (told : ℕ) → after ≡ written_at p.offset new bytes → told ≡ told_cut p → AreKept bytes came missing cut → making_of bytes came cut ≡ m → belongs m p ≡ true → p.len ≡ length new → making_of after (set came p.number true) (Some told) ≡ with_piece m p new
 making_of-after bytes new after came missing cut m p told e f k v b l =
     ap (λ a. making_of a (set came p.number true) (Some told)) e
     ∙ (ap (λ t. making_of (written_at p.offset new bytes) (set came p.number true) (Some t)) f
     ∙ making_of-added bytes new came missing cut m p k v b l)
 
-pub missing-some : (bytes : List ℕ) (came : List Bool) (missing : ℕ) (cut : Option ℕ) (m : Making) (p : Place) → AreKept bytes came missing cut → making_of bytes came cut ≡ m → belongs m p ≡ true → piece_at m p.number ≡ None → 1 ≤ missing
+pub missing-some : (bytes : List ℕ) (came : List Bool) (missing : ℕ) (cut : Option ℕ) (m : PartialPacket) (p : Place) → AreKept bytes came missing cut → making_of bytes came cut ≡ m → belongs m p ≡ true → piece_at m p.number ≡ None → 1 ≤ missing
 missing-some bytes came missing cut m p k v b e =
     let f : Fits m p = Fits-from_test m p b in
     let unmarked : get_or came p.number false ≡ false = sym (mark_of bytes came cut m p.number v) ∙ ap is_some e in
@@ -191,7 +191,7 @@ missing-some bytes came missing cut m p k v b e =
     omega (arith, missing_in-set came p.number inside unmarked, k.counted)
 
 -- a piece that belongs to the packet has a mark
-pub inside_of : (bytes : List ℕ) (came : List Bool) (cut : Option ℕ) (m : Making) (p : Place) → making_of bytes came cut ≡ m → belongs m p ≡ true → p.number < length came
+pub inside_of : (bytes : List ℕ) (came : List Bool) (cut : Option ℕ) (m : PartialPacket) (p : Place) → making_of bytes came cut ≡ m → belongs m p ≡ true → p.number < length came
 inside_of bytes came cut m p v b =
     let f : Fits m p = Fits-from_test m p b in
     omega (arith, f.sound.below, f.count, count_of-making bytes came cut m v)

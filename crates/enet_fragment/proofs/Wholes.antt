@@ -6,13 +6,13 @@ use Rattle.std.proofs.lemmas.Bool.Decides.{nat_tests}
 use borrow.Author.Tests.{eqb-true}
 use Rattle.std.specs.List.{list_all}
 use Rattle.enet_fragment.specs.declared.place.Place.{Place}
-use Rattle.enet_fragment.specs.declared.gathering.State.{State}
-use Rattle.enet_fragment.specs.declared.gathering.State.TheVariants as states
+use Rattle.enet_fragment.specs.declared.partial_packet.State.{State}
+use Rattle.enet_fragment.specs.declared.partial_packet.State.TheVariants as states
 use Rattle.enet_fragment.specs.Place.{told_cut, is_sound}
-use Rattle.enet_fragment.specs.Making.{Making, count_of, piece_at, IsWhole, is_same_cut, belongs, with_piece, without_piece}
+use Rattle.enet_fragment.specs.PartialPacket.{PartialPacket, count_of, piece_at, IsWhole, is_same_cut, belongs, with_piece, without_piece}
 use Rattle.enet_fragment.specs.Assembly.{making_of, missing_in}
 use Rattle.enet_fragment.specs.Whole.{is_whole, whole_of}
-use Rattle.enet_fragment.specs.Gathering.{gathered, IsKept}
+use Rattle.enet_fragment.specs.Gathered.{gathered, IsKept}
 use Rattle.enet_fragment.proofs.Places.{Fits, Fits-from_test}
 use Rattle.enet_fragment.proofs.Pieces.{length-pieces_in, list_all-pieces_in}
 use Rattle.enet_fragment.proofs.Laws.{IsWhole-tested, count_of-whole_of, piece_at-whole_of, belongs-below}
@@ -25,12 +25,12 @@ all_marks (true ∷ rest) h = ap (λ r. true ∷ r) (all_marks rest h)
 all_marks (false ∷ rest) h = cc
 
 -- an assembly of which no mark is missing
-pub whole_of-making : (bytes : List ℕ) (came : List Bool) (missing : ℕ) (cut : Option ℕ) (m : Making) → making_of bytes came cut ≡ m → missing ≡ missing_in came → IsWhole m → whole_of bytes (count_of m) m.cut ≡ m
+pub whole_of-making : (bytes : List ℕ) (came : List Bool) (missing : ℕ) (cut : Option ℕ) (m : PartialPacket) → making_of bytes came cut ≡ m → missing ≡ missing_in came → IsWhole m → whole_of bytes (count_of m) m.cut ≡ m
 whole_of-making bytes came missing cut m v e w =
-    let tests : list_all is_some m.pieces ≡ eqb (missing_in came) 0 = ap (λ (q : Making). list_all is_some q.pieces) (sym v) ∙ list_all-pieces_in _ bytes came in
+    let tests : list_all is_some m.pieces ≡ eqb (missing_in came) 0 = ap (λ (q : PartialPacket). list_all is_some q.pieces) (sym v) ∙ list_all-pieces_in _ bytes came in
     let none : missing_in came ≡ 0 = eqb-true _ _ (sym tests ∙ list_all-from_AllPass is_some m.pieces w) in
     let many : count_of m ≡ length came = ap count_of (sym v) ∙ length-pieces_in _ bytes came in
-    let told : m.cut ≡ cut = ap (λ (q : Making). q.cut) (sym v) in
+    let told : m.cut ≡ cut = ap (λ (q : PartialPacket). q.cut) (sym v) in
     ap (λ n. whole_of bytes n m.cut) many
     ∙ (ap (λ c. whole_of bytes (length came) c) told
     ∙ (ap (λ marks. making_of bytes marks cut) (all_marks came none) ∙ v))
@@ -51,33 +51,33 @@ back [] i x h = refl
 back (y ∷ rest) zero x h = ap (λ z. z ∷ rest) (sym h)
 back (y ∷ rest) (suc i) x h = ap (λ r. y ∷ r) (back rest i x h)
 
-pub without_piece-with_piece : (m : Making) (p : Place) (bytes : List ℕ) → belongs m p ≡ true → piece_at m p.number ≡ None → IsSome m.cut → without_piece (with_piece m p bytes) p.number ≡ m
+pub without_piece-with_piece : (m : PartialPacket) (p : Place) (bytes : List ℕ) → belongs m p ≡ true → piece_at m p.number ≡ None → IsSome m.cut → without_piece (with_piece m p bytes) p.number ≡ m
 without_piece-with_piece m p bytes b e s =
     let f : Fits m p = Fits-from_test m p b in
     ap (λ c. record { total = m.total; cut = c; pieces = set (set m.pieces p.number (Some bytes)) p.number None }) (told m.cut (told_cut p) s f.cut)
     ∙ ap (λ q. record { total = m.total; cut = m.cut; pieces = q }) (back m.pieces p.number (Some bytes) e)
 
 -- what a gathering's state stands for, where it is whole
-pub whole_seen : (s : State) (m : Making) (body : List ℕ) (count : ℕ) (cut : Option ℕ) → gathered s ≡ m → s ≡ states.Whole body count cut → whole_of body count cut ≡ m
+pub whole_seen : (s : State) (m : PartialPacket) (body : List ℕ) (count : ℕ) (cut : Option ℕ) → gathered s ≡ m → s ≡ states.Whole body count cut → whole_of body count cut ≡ m
 whole_seen s m body count cut v e = sym (ap gathered e) ∙ v
 
 pub kept_seen : (s : State) (body : List ℕ) (count : ℕ) (cut : Option ℕ) → IsKept s → s ≡ states.Whole body count cut → (1 ≤ count) × (length body < 2 ^ 32)
 kept_seen s body count cut k e = subst (λ t. IsKept t) e k
 
 -- of a whole packet no piece is missing
-pub whole-misses_none : (body : List ℕ) (count : ℕ) (cut : Option ℕ) (m : Making) (p : Place) → whole_of body count cut ≡ m → belongs m p ≡ true → is_some (piece_at m p.number) ≡ true
+pub whole-misses_none : (body : List ℕ) (count : ℕ) (cut : Option ℕ) (m : PartialPacket) (p : Place) → whole_of body count cut ≡ m → belongs m p ≡ true → is_some (piece_at m p.number) ≡ true
 whole-misses_none body count cut m p v b =
     let many : count_of m ≡ count = ap count_of (sym v) ∙ count_of-whole_of body count cut in
     let below : p.number < count_of m = belongs-below m p b in
     let inside : ltb p.number count ≡ true = grind (arith, nat_tests) in
-    ap (λ (q : Making). is_some (piece_at q p.number)) (sym v) ∙ (piece_at-whole_of body count cut p.number ∙ inside)
+    ap (λ (q : PartialPacket). is_some (piece_at q p.number)) (sym v) ∙ (piece_at-whole_of body count cut p.number ∙ inside)
 
 -- the refused test
 refused : (b : Bool) → (IsTrue b → ⊥) → b ≡ false
 refused true h = absurd (h refl)
 refused false h = refl
 
-pub is_whole-refused : (m : Making) (r : Bool) → IsTrue r ↔ IsWhole m → r ≡ false → is_whole m ≡ false
+pub is_whole-refused : (m : PartialPacket) (r : Bool) → IsTrue r ↔ IsWhole m → r ≡ false → is_whole m ≡ false
 is_whole-refused m r h e =
     refused (is_whole m) (λ t.
     let told : r ≡ true = h.1 ((IsWhole-tested m).0 t) in

@@ -1,7 +1,7 @@
 -- What the fields of an assembly mean.
 use Rattle.std.specs.Prelude.{ℕ, zero, suc, ◌++◌, ◌+◌, ◌≡◌, ◌-◌, ◌*◌, ◌≤◌, ◌<◌, ◌^◌, Bool, if◌then◌else◌, Option, Some, None, List, [], ◌∷◌, length, take, drop, unwrap_or, true, false}
 use Rattle.std.specs.Option.{ForSome, ForNone}
-use Rattle.enet_fragment.specs.Making.{Making}
+use Rattle.enet_fragment.specs.PartialPacket.{PartialPacket}
 
 -- the value, where it is marked
 abbrev pub marked : {X : Type 0} → Bool → X → Option X
@@ -28,7 +28,7 @@ abbrev pub written_at : ℕ → List ℕ → List ℕ → List ℕ
 written_at offset bytes buffer = take offset buffer ++ (bytes ++ drop (offset + length bytes) buffer)
 
 -- the packet in the making that an assembly's fields stand for
-abbrev pub making_of : List ℕ → List Bool → Option ℕ → Making
+abbrev pub making_of : List ℕ → List Bool → Option ℕ → PartialPacket
 making_of bytes came cut = record { total = length bytes; cut = cut; pieces = pieces_in (unwrap_or cut 0) bytes came }
 
 -- what an assembly's fields keep

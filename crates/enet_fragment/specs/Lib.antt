@@ -1,7 +1,7 @@
 pub mod DataCommand
 pub mod Cutting
 pub mod Place
-pub mod Making
+pub mod PartialPacket
 pub mod Assembly
 pub mod Whole
-pub mod Gathering
+pub mod Gathered

@@ -3,7 +3,7 @@
 ghost use Rattle.std.specs.Prelude.{◌≡◌, ◌≤◌, ◌+◌, ◌↔◌, [], IsTrue, IsOk, IfOk, IfErr, is_some, length, replicate};
 ghost use Rattle.std.specs.Vec.{vec_capacity, vec_len};
 ghost use Rattle.enet_fragment.specs.Assembly.{written_at};
-ghost use Rattle.enet_fragment.specs.Making.{is_same_cut};
+ghost use Rattle.enet_fragment.specs.PartialPacket.{is_same_cut};
 
 use crate::Place;
 use bytes::Bytes;
@@ -24,7 +24,7 @@ pub enum Put {
     Bad,
 }
 
-/// A packet in the making. Contracts see it as a `Making`: its length, the length of its pieces once one of them has told
+/// A packet in the making. Contracts see it as a `PartialPacket`: its length, the length of its pieces once one of them has told
 /// it, and the bytes of the pieces that have come, by their numbers.
 #[derive(Drop)]
 pub struct Assembly {
@@ -35,11 +35,11 @@ pub struct Assembly {
 }
 
 impl Model for Assembly {
-    ghost use Rattle.enet_fragment.specs.Making.{Making, making_code};
+    ghost use Rattle.enet_fragment.specs.PartialPacket.{PartialPacket, partial_packet_code};
 
-    ghost Value = { Making };
+    ghost Value = { PartialPacket };
 
-    ghost coded = { making_code };
+    ghost coded = { partial_packet_code };
 
     ghost use Rattle.enet_fragment.specs.Assembly.{making_of, AreKept};
 
@@ -49,7 +49,7 @@ impl Model for Assembly {
 }
 
 impl Assembly {
-    ghost use Rattle.enet_fragment.specs.Making.{nothing_yet, put_outcome, after_put, without_piece, joined, IsWhole, belongs, is_of_size, with_piece, piece_at, count_of};
+    ghost use Rattle.enet_fragment.specs.PartialPacket.{nothing_yet, put_outcome, after_put, without_piece, joined, IsWhole, belongs, is_of_size, with_piece, piece_at, count_of};
     ghost use Rattle.enet_fragment.specs.Place.{place_of};
     ghost use Rattle.enet_fragment.specs.Whole.{whole_of};
 
@@ -73,7 +73,7 @@ impl Assembly {
     /// What `put` would answer for a piece with this place: Bad where the piece can't be one of this packet's, else Again
     /// where it has come, else Whole where every other piece has come, else New. It takes the time of a few tests,
     /// however large the packet is.
-    #[tactic(auto, unfolding(crate::specs::Making::put_outcome))]
+    #[tactic(auto, unfolding(crate::specs::PartialPacket::put_outcome))]
     pub fn foresee(&self, place: Place) -> Put
         ensures { result ≡ put_outcome self.now place }
     {
@@ -156,7 +156,7 @@ impl Assembly {
     }
 
     /// Whether a piece with this place can be one of this packet's.
-    #[tactic(auto, unfolding(crate::specs::Making::belongs))]
+    #[tactic(auto, unfolding(crate::specs::PartialPacket::belongs))]
     pub(crate) fn belongs(&self, place: Place) -> bool
         ensures { result ≡ belongs self.now place }
     {

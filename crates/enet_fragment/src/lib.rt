@@ -7,7 +7,7 @@
 //! of numbers that have come, and `put` changes exactly what `after_put` says, nothing for Again and Bad; `unmark` takes
 //! back one piece alone; `is_whole` is that the piece of every number has come; `finish` gives the pieces' bytes in the
 //! order of their numbers, and for want of memory hands back the same assembly; `Assembly::new` fails with E1 alone.
-//! `Gathering`, a packet that came or is coming, does the same, but the piece that makes it whole is finished in the call
+//! `PartialPacket`, a packet that came or is coming, does the same, but the piece that makes it whole is finished in the call
 //! that brings it (`add`), so that handing the body out (`into_body`) takes no memory. `DataCommand::command` is the command
 //! on the wire, and what is written so is read again as itself (`what_is_read_was_written`). A huge count or total is had in
 //! full or is E1, never a wrapped size.
@@ -20,13 +20,13 @@
 mod assembly;
 mod cutting;
 mod data;
-mod gathering;
+mod partial_packet;
 mod place;
 
 pub use assembly::{Assembly, Put};
 pub use cutting::{piece, pieces_make_the_body, plan};
 pub use data::{DataCommand, what_is_read_was_written};
-pub use gathering::Gathering;
+pub use partial_packet::PartialPacket;
 pub use place::Place;
 
 /// How many fragments a packet has at most (our profile).

@@ -12,7 +12,7 @@ use Rattle.enet_peer.specs.declared.parts.PeerEvent.{PeerEvent}
 use Rattle.enet_peer.specs.declared.parts.PeerEvent.TheVariants as told
 use Rattle.enet_peer.specs.declared.parts.PeerState.{PeerState}
 use Rattle.enet_peer.specs.declared.parts.PeerState.TheVariants as state
-use Rattle.enet_sender.specs.Carriage as carriage
+use Rattle.enet_sender.specs.CommandChoice as command_choice
 use Rattle.enet_peer.specs.Peering.{Peering}
 use Rattle.enet_peer.specs.Calls as peers
 use Rattle.enet_peer.specs.Next.{packet_after}
@@ -113,22 +113,22 @@ next-named c slots i name found is =
     ∙ ap (λ (o : Option ℕ). option_and_then (λ j. option_map (name_of j) (slice_get slots j)) o) (sym found)
 
 -- the refusal of a submission
-agrees-in : (slots : List SlotState) (i channel : ℕ) (s : SlotState) (p : Peering) (q : carriage.Packet) (o : Option Refusal)
+agrees-in : (slots : List SlotState) (i channel : ℕ) (s : SlotState) (p : Peering) (q : command_choice.Packet) (o : Option Refusal)
     → o ≡ refusal_of (put_back slots i (kept s (submitted_unless p channel q o)))
 agrees-in slots i channel s p q None = refl
 agrees-in slots i channel s p q (Some why) = refl
 
-agrees-peer : (slots : List SlotState) (i channel : ℕ) (s : SlotState) (q : carriage.Packet) (o : Option Peering)
+agrees-peer : (slots : List SlotState) (i channel : ℕ) (s : SlotState) (q : command_choice.Packet) (o : Option Peering)
     → refused_in channel (length q.body) o ≡ refusal_of (put_back slots i (on_peer_in s (submission channel q) o))
 agrees-peer slots i channel s q None = refl
 agrees-peer slots i channel s q (Some p) = agrees-in slots i channel s p q (peers.submission_refusal p channel (length q.body))
 
-agrees-slot : (slots : List SlotState) (i channel : ℕ) (q : carriage.Packet) (o : Option SlotState)
+agrees-slot : (slots : List SlotState) (i channel : ℕ) (q : command_choice.Packet) (o : Option SlotState)
     → refused_in channel (length q.body) (peer_in o) ≡ refusal_of (on_slot slots i (submission channel q) o)
 agrees-slot slots i channel q None = refl
 agrees-slot slots i channel q (Some s) = agrees-peer slots i channel s q s.peer
 
-pub agrees-named : (slots : List SlotState) (name : PeerRef) (channel len : ℕ) (q : carriage.Packet) → length q.body ≡ len
+pub agrees-named : (slots : List SlotState) (name : PeerRef) (channel len : ℕ) (q : command_choice.Packet) → length q.body ≡ len
     → submission_refusal slots name channel len ≡ refusal_of (on_named slots name (submission channel q))
 agrees-named slots name channel len q e =
     ap (λ (n : ℕ). submission_refusal slots name channel n) (sym e) ∙ agrees-slot slots name.slot channel q (slot_named slots name)

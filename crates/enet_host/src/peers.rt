@@ -5,7 +5,7 @@ ghost use Rattle.std.specs.Prelude.{◌≡◌, length};
 ghost use Rattle.std.specs.Option.{option_map};
 ghost use Rattle.enet_types.specs.declared.event.DisconnectMode.TheVariants.{Now, Ask, Later};
 ghost use Rattle.enet_outbox.specs.Outbox.{transit_of};
-ghost use Rattle.enet_sender.specs.Carriage.{Packet};
+ghost use Rattle.enet_sender.specs.CommandChoice.{Packet};
 ghost use Rattle.enet_host.specs.Host.{KeepsRest, named, slot_named};
 ghost use Rattle.enet_host.specs.Foretelling.{submission_refusal, refusal_of};
 ghost use Rattle.enet_slot.specs.Calls.{Submits, Does, DoesWithMemory, submission, leaving, throttling, pinging, waiting};

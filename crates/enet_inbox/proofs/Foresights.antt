@@ -7,7 +7,7 @@ use Rattle.enet_codec.specs.Message.{Message, Body, acknowledge, connect, verify
 use Rattle.enet_unsequenced.specs.Groups.{dispatches}
 use Rattle.enet_fragment.specs.DataCommand.{data_of}
 use Rattle.enet_inbox.specs.Inbox.{Inbox, is_full}
-use Rattle.enet_inbox.specs.Arrivals.{Arrival, Arrives, arrival, arrival_of, handled, is_kept, is_kept_of, stopped, unsequenced, unsequenced_taken}
+use Rattle.enet_inbox.specs.DataEffect.{DataEffect, Arrives, arrival, arrival_of, handled, is_kept, is_kept_of, stopped, unsequenced, unsequenced_taken}
 use Rattle.enet_inbox.specs.Kept.{HasFront}
 use Rattle.enet_inbox.specs.Parts.{foreseen, foreseen_of, seen_new, told, unsequenced_verdict}
 use Rattle.enet_inbox.specs.declared.arriving.Foreseen.{Foreseen}
@@ -18,7 +18,7 @@ use Rattle.enet_inbox.proofs.Stops.{Tells, arrival_stays, arrival_tells, quiet_s
 abbrev verdict_by : Bool → Bool → Bool → Bool → Result Bool Stop
 verdict_by far long new full = cond far (Err stop.BadChannel) (cond long (Err stop.BadFragment) (cond (not new) (Ok false) (cond full (Err stop.Waiting) (Ok true))))
 
-abbrev arrival_by : Bool → Bool → Bool → Bool → Inbox → Inbox → Arrival
+abbrev arrival_by : Bool → Bool → Bool → Bool → Inbox → Inbox → DataEffect
 arrival_by far long new full b taken =
     cond far (stopped b stop.BadChannel) (cond long (stopped b stop.BadFragment) (cond (not new) (handled b true) (cond full (stopped b stop.Waiting) (handled taken true))))
 
@@ -84,7 +84,7 @@ pub kept_is : (b : Inbox) (m : Message) (s : Foreseen) → HasFront b m.head.cha
 kept_is b m s h e = (is-of b m m.body h).kept s e
 
 -- a stop is that of the arrival
-arrives-as : (why : Stop) (kept : Bool) (a : Arrival) (b new : Inbox) → Tells a.answer → a.answer ≡ Err why → a.after ≡ b → new ≡ b → Arrives (Err why) kept a b new
+arrives-as : (why : Stop) (kept : Bool) (a : DataEffect) (b new : Inbox) → Tells a.answer → a.answer ≡ Err why → a.after ≡ b → new ≡ b → Arrives (Err why) kept a b new
 arrives-as stop.Memory kept a b new t e after same = absurd (t stop.Memory e refl)
 arrives-as stop.Short kept a b new t e after same = (sym e, same ∙ sym after)
 arrives-as stop.Compressed kept a b new t e after same = (sym e, same ∙ sym after)

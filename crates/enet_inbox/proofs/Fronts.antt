@@ -3,12 +3,12 @@ use Rattle.std.proofs.Common.{ℕ, zero, suc, ◌<◌, Bool, Option, Some, None,
 use Rattle.std.specs.FinMap.{get}
 use Rattle.enet_seq.specs.Numbering.{wire}
 use Rattle.enet_seq.specs.Windows.{after}
-use Rattle.enet_fragment.specs.Making.{count_of}
+use Rattle.enet_fragment.specs.PartialPacket.{count_of}
 use Rattle.enet_fragment.specs.declared.data.DataCommand.{DataCommand}
 use Rattle.enet_receiver.specs.declared.took.Took.{Took}
 use Rattle.enet_receiver.specs.declared.took.Took.TheVariants.{Held, Again, Outside, Bad, Waiting, Memory}
 use Rattle.enet_receiver.specs.Receiver.{Receiver, next_whole, with_dispatched, released_with, released}
-use Rattle.enet_receiver.specs.Reception.{outcome, place_read, added_at, received_with, received}
+use Rattle.enet_receiver.specs.DataOutcome.{outcome, place_read, added_at, received_with, received}
 
 fits : (number count : ℕ) → after number count < 65536
 fits number count = omega arith

@@ -14,14 +14,14 @@ use Rattle.enet_types.specs.declared.packet.Packet.{Packet}
 use Rattle.enet_types.specs.declared.refusal.Refusal.{Refusal}
 use Rattle.enet_unsequenced.specs.Groups.{Seen}
 use Rattle.enet_fragment.specs.declared.data.DataCommand.{DataCommand}
-use Rattle.enet_packets.specs.declared.coming.Coming.{Coming}
+use Rattle.enet_packets.specs.declared.incoming_packet.IncomingPacket.{IncomingPacket}
 use Rattle.enet_packets.specs.Packets.{bytes_of}
 use Rattle.enet_receiver.specs.Receiver.{held_bytes}
 use Rattle.enet_receiver.specs.declared.took.Foresight.{Foresight}
 use Rattle.enet_receiver.specs.Foresight.{ReceivingEnd, new_end, after_command}
 use Rattle.enet_inbox.specs.declared.arriving.Foreseen.{Foreseen}
 use Rattle.enet_inbox.specs.Inbox.{Inbox, empty_inbox, is_full, cleared, cleared_receiver, forgotten, narrowed}
-use Rattle.enet_inbox.specs.Arrivals.{emptied, packet_of, sequenced}
+use Rattle.enet_inbox.specs.DataEffect.{emptied, packet_of, sequenced}
 use Rattle.enet_inbox.specs.Parts.{foresight_on, foresight_of, foreseen_sequenced}
 use Rattle.enet_inbox.specs.Kept.{IsShort, IsInPlace, KeepsInbox, HasFront, held_in, bytes_in}
 use Rattle.enet_inbox.proofs.Fronts.{front_received}
@@ -154,8 +154,8 @@ sum_of_empty {X = X} f = sum_of_none f (entries (empty {X = X} {R = nat_cmp})) (
 
 nothing_held : (r : ReceivingEnd) → held_bytes (cleared_receiver r).receiver ≡ 0
 nothing_held r =
-    let one = sum_of_empty {X = Coming} (λ c. c.making.total) in
-    let two = sum_of_empty {X = FinMap nat_cmp Coming} bytes_of in
+    let one = sum_of_empty {X = IncomingPacket} (λ c. c.making.total) in
+    let two = sum_of_empty {X = FinMap nat_cmp IncomingPacket} bytes_of in
     omega arith
 
 new_in_place : (most channel : ℕ) → IsInPlace most channel (new_end channel most)

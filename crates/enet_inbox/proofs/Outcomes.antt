@@ -6,15 +6,15 @@ use Rattle.enet_types.specs.declared.stop.Stop.{Stop}
 use Rattle.enet_seq.specs.Numbering.{wire}
 use Rattle.enet_seq.specs.Windows.{acknowledges}
 use Rattle.enet_fragment.specs.declared.data.DataCommand.{DataCommand}
-use Rattle.enet_packets.specs.declared.coming.Coming.{Coming}
+use Rattle.enet_packets.specs.declared.incoming_packet.IncomingPacket.{IncomingPacket}
 use Rattle.enet_receiver.specs.declared.took.Took.{Took}
 use Rattle.enet_receiver.specs.declared.took.Took.TheVariants.{Held, Again, Outside, Bad, Waiting, Memory}
 use Rattle.enet_receiver.specs.declared.took.Foresight.{Foresight}
 use Rattle.enet_receiver.specs.Receiver.{Receiver}
-use Rattle.enet_receiver.specs.Reception.{outcome, outcome_at, outcome_of, place_read, came_at, is_piece, agrees_with, is_behind, came, is_handled}
+use Rattle.enet_receiver.specs.DataOutcome.{outcome, outcome_at, outcome_of, place_read, came_at, is_piece, agrees_with, is_behind, came, is_handled}
 use Rattle.enet_receiver.specs.Foresight.{ReceivingEnd, foreseen as foreseen_by, outcome_for, after_command}
 use Rattle.enet_inbox.specs.Inbox.{Inbox, is_full}
-use Rattle.enet_inbox.specs.Arrivals.{is_kept_as, is_kept_on, is_kept_sequenced, sequenced, sequenced_on, by_took, handed_over}
+use Rattle.enet_inbox.specs.DataEffect.{is_kept_as, is_kept_on, is_kept_sequenced, sequenced, sequenced_on, by_took, handed_over}
 use Rattle.enet_inbox.specs.Kept.{HasFront}
 use Rattle.enet_inbox.specs.Parts.{answer_by, answer_of, foresight_on, foresight_of, seen_by, seen_of, foreseen_sequenced, told}
 use Rattle.enet_inbox.specs.declared.arriving.Foreseen.{Foreseen}
@@ -23,7 +23,7 @@ one_of : (b : Bool) (x y : Took) → x ≢ Memory → y ≢ Memory → cond b x 
 one_of true x y p q = p
 one_of false x y p q = q
 
-of_known : (r : Receiver) (c : DataCommand) (full : Bool) (place : ℕ) (earlier : Option Coming) → outcome_of r c full place earlier ≢ Memory
+of_known : (r : Receiver) (c : DataCommand) (full : Bool) (place : ℕ) (earlier : Option IncomingPacket) → outcome_of r c full place earlier ≢ Memory
 of_known r c full place earlier =
     one_of (not (agrees_with earlier c)) Bad _ (λ e. cc)
     (one_of (is_behind r c place || came earlier c) Again _ (λ e. cc) (one_of (full && is_none earlier) Waiting Held (λ e. cc) (λ e. cc)))

@@ -7,10 +7,10 @@ use Rattle.enet_seq.specs.Windows.{acknowledges}
 use Rattle.enet_fragment.specs.declared.data.DataCommand.{DataCommand}
 use Rattle.enet_fragment.specs.DataCommand.{place_in_packet}
 use Rattle.enet_fragment.specs.Place.{is_sound, is_even, told_cut}
-use Rattle.enet_packets.specs.declared.coming.Coming.{Coming}
+use Rattle.enet_packets.specs.declared.incoming_packet.IncomingPacket.{IncomingPacket}
 use Rattle.enet_receiver.specs.declared.took.Took.TheVariants.{Held, Again, Bad}
 use Rattle.enet_receiver.specs.Receiver.{Receiver}
-use Rattle.enet_receiver.specs.Reception.{outcome_at, outcome_of, place_read, came_at, is_piece, is_behind, is_handled, acknowledged}
+use Rattle.enet_receiver.specs.DataOutcome.{outcome_at, outcome_of, place_read, came_at, is_piece, is_behind, is_handled, acknowledged}
 
 abbrev stand_in : ℕ → DataCommand
 stand_in number = record { reliable = false; number = number; count = 0; fragment = None; body = [] }
@@ -29,7 +29,7 @@ again_or_held : (b : Bool) → is_handled (cond b Again Held) ≡ true
 again_or_held true = refl
 again_or_held false = refl
 
-of_handled : (r : Receiver) (number place : ℕ) (earlier : Option Coming) → is_handled (outcome_of r (stand_in number) false place earlier) ≡ true
+of_handled : (r : Receiver) (number place : ℕ) (earlier : Option IncomingPacket) → is_handled (outcome_of r (stand_in number) false place earlier) ≡ true
 of_handled r number place None = again_or_held (is_behind r (stand_in number) place || false)
 of_handled r number place (Some e) = again_or_held (is_behind r (stand_in number) place || true)
 

@@ -11,7 +11,7 @@ use Rattle.enet_receiver.specs.declared.took.Took.{Took}
 use Rattle.enet_receiver.specs.declared.took.Took.TheVariants.{Held, Again, Outside, Bad, Waiting, Memory}
 use Rattle.enet_receiver.specs.Foresight.{ReceivingEnd, outcome_for}
 use Rattle.enet_inbox.specs.Inbox.{Inbox, is_full}
-use Rattle.enet_inbox.specs.Arrivals.{Arrival, arrival, arrival_of, sequenced, sequenced_on, by_took, unsequenced, unsequenced_taken, passed_over, passed_of, passed_sequenced, passed_on, passed_length, handled, stopped, is_kept, is_kept_as, is_kept_of, is_kept_on, is_kept_sequenced}
+use Rattle.enet_inbox.specs.DataEffect.{DataEffect, arrival, arrival_of, sequenced, sequenced_on, by_took, unsequenced, unsequenced_taken, passed_over, passed_of, passed_sequenced, passed_on, passed_length, handled, stopped, is_kept, is_kept_as, is_kept_of, is_kept_on, is_kept_sequenced}
 use Rattle.enet_inbox.proofs.Outcomes.{outcome_known}
 
 -- an answer that isn't want of memory
@@ -29,10 +29,10 @@ pub tells-err : (why : Stop) → why ≢ stop.Memory → Tells (Err why)
 tells-err why known other e m = known (cc)
 
 -- an arrival that stops the datagram leaves the inbox as it was, and no want of memory stops it
-abbrev Stays : Inbox → Arrival → Type 0
+abbrev Stays : Inbox → DataEffect → Type 0
 Stays b a = ((why : Stop) → a.answer ≡ Err why → a.after ≡ b) × Tells a.answer
 
-stays-if : (b : Inbox) (t : Bool) (x y : Arrival) → Stays b x → Stays b y → Stays b (cond t x y)
+stays-if : (b : Inbox) (t : Bool) (x y : DataEffect) → Stays b x → Stays b y → Stays b (cond t x y)
 stays-if b true x y p q = p
 stays-if b false x y p q = q
 

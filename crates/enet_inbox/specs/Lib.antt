@@ -1,5 +1,5 @@
 pub mod Inbox
-pub mod Arrivals
+pub mod DataEffect
 pub mod Kept
 pub mod Codes
 pub mod Parts

@@ -6,14 +6,14 @@ ghost use Rattle.enet_codec.specs.Message.{view};
 ghost use Rattle.enet_fragment.specs.DataCommand.{data_of};
 ghost use Rattle.enet_unsequenced.specs.Groups.{dispatches};
 ghost use Rattle.enet_inbox.specs.Inbox.{empty_inbox, is_full, cleared, forgotten, narrowed};
-ghost use Rattle.enet_inbox.specs.Arrivals.{arrival, sequenced, unsequenced_taken, passed_over, passed_length, passed_sequenced, is_kept, Arrives};
+ghost use Rattle.enet_inbox.specs.DataEffect.{arrival, sequenced, unsequenced_taken, passed_over, passed_length, passed_sequenced, is_kept, Arrives};
 ghost use Rattle.enet_inbox.specs.Parts.{foresight_of, unsequenced_verdict, foreseen, foreseen_sequenced, told};
 
 use crate::arriving::{Foreseen, acknowledges, seen};
 use crate::receivers::{clear_all, held_in, open_all};
 use crate::taking::{append, take_in};
 use enet_codec::{Command, Packet, Refusal, Stop};
-use enet_receiver::{Arriving, Foresight, Incoming};
+use enet_receiver::{ArrivingData, Foresight, Incoming};
 use enet_unsequenced::Groups;
 use std::alloc::Global;
 use std::collections::VecDeque;
@@ -207,7 +207,7 @@ impl Inbox {
     fn foresight(&self, command: &Command<'_>) -> Result<Foresight, Stop>
         ensures { result ≡ foresight_of self.now (view command.now).head.channel (data_of (view command.now)) }
     {
-        let Some(arriving) = Arriving::of(command) else {
+        let Some(arriving) = ArrivingData::of(command) else {
             return Err(Stop::BadCommand);
         };
         let channel = arriving.head.channel as usize;
@@ -232,7 +232,7 @@ impl Inbox {
         ensures taken { IsTrue result → self.new ≡ (sequenced self.old (view command.now).head.channel (data_of (view command.now))).after }
         ensures unchanged { result ≡ false → self.new ≡ self.old }
     {
-        let Some(arriving) = Arriving::of(command) else {
+        let Some(arriving) = ArrivingData::of(command) else {
             return false;
         };
         let full = self.is_full();
@@ -283,7 +283,7 @@ impl Inbox {
     fn pass_sequenced(&self, command: &Command<'_>) -> Result<bool, Stop>
         ensures { result ≡ passed_sequenced self.now (view command.now).head.channel (data_of (view command.now)) }
     {
-        let Some(arriving) = Arriving::of(command) else {
+        let Some(arriving) = ArrivingData::of(command) else {
             return Err(Stop::BadCommand);
         };
         let channel = arriving.head.channel as usize;

@@ -6,7 +6,7 @@ ghost use Rattle.enet_types.specs.declared.stop.Stop.{Stop};
 ghost use Rattle.enet_types.specs.declared.stop.Stop.TheVariants as stop;
 ghost use Rattle.enet_codec.specs.Message.{Message};
 ghost use Rattle.enet_inbox.specs.Inbox.{Inbox};
-ghost use Rattle.enet_inbox.specs.Arrivals.{arrival, is_kept, passed_over};
+ghost use Rattle.enet_inbox.specs.DataEffect.{arrival, is_kept, passed_over};
 
 /// A data command that stops its datagram changes nothing, nor does one of which nothing is kept; and neither a command that
 /// comes nor one that is passed over is stopped for want of memory where there is enough.

@@ -1,7 +1,7 @@
 //! All that comes to a peer in ENet 1.3: its channels' receivers, the unsequenced groups that came, and the packets that the
 //! user hasn't taken.
 //!
-//! Proved, exactly by specs/Inbox and specs/Arrivals: `data` (why a data command stops its datagram, in the order of the
+//! Proved, exactly by specs/Inbox and specs/DataEffect: `data` (why a data command stops its datagram, in the order of the
 //! tests, or whether it may be acknowledged, and the inbox after it; want of memory changes nothing and comes only where
 //! nothing else stops the command), `foresee`, `pass_over`, `take`, `next`, `clear`, `forget`, `narrow`, `open`; the bytes
 //! that wait are kept by a counter.

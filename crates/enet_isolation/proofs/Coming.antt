@@ -12,11 +12,11 @@ use Rattle.enet_receiver.specs.declared.took.Took.TheVariants as took
 use Rattle.enet_receiver.specs.Foresight.{ReceivingEnd, outcome_for}
 use Rattle.enet_unsequenced.specs.Groups.{dispatches}
 use Rattle.enet_inbox.specs.Inbox.{Inbox, is_full}
-use Rattle.enet_inbox.specs.Arrivals.{Arrival, by_took, sequenced_on, sequenced, unsequenced, unsequenced_taken, handled, arrival_of, arrival, passed_over}
-use Rattle.enet_inbox.specs.Arrivals as inbox
+use Rattle.enet_inbox.specs.DataEffect.{DataEffect, by_took, sequenced_on, sequenced, unsequenced, unsequenced_taken, handled, arrival_of, arrival, passed_over}
+use Rattle.enet_inbox.specs.DataEffect as inbox
 use Rattle.enet_peer.specs.Peering.{Peering}
 use Rattle.enet_peer.specs.Endings.{is_later}
-use Rattle.enet_peer.specs.Arrivals.{Outcome, stopped, answered, answered_at, is_answered_in, by_answer, by_arrival, on_data, by_body, obeyed, is_connect, is_allowed, on_acknowledge, on_verify_in, on_disconnect_in, on_bandwidth, on_throttle, Stops, wants_memory}
+use Rattle.enet_peer.specs.CommandEffect.{Outcome, stopped, answered, answered_at, is_answered_in, by_answer, by_arrival, on_data, by_body, obeyed, is_connect, is_allowed, on_acknowledge, on_verify_in, on_disconnect_in, on_bandwidth, on_throttle, Stops, wants_memory}
 use Rattle.std.specs.Prelude.{is_some}
 use Rattle.enet_datagram.specs.Handling.{Handles, nothing_left, no_command, stops, goes_on, one_more, counted}
 use Rattle.enet_slot.specs.Slot.{greatest}
@@ -24,10 +24,10 @@ use Rattle.enet_isolation.specs.Deeds.{AllAlone}
 use Rattle.enet_isolation.specs.Falling.{AreSpelled, comings}
 
 -- a stop leaves the inbox as it was
-abbrev pub Stays : Inbox → Arrival → Type 0
+abbrev pub Stays : Inbox → DataEffect → Type 0
 Stays b a = (why : Stop) → a.answer ≡ Err why → a.after ≡ b
 
-stays-if : (b : Inbox) (t : Bool) (x y : Arrival) → Stays b x → Stays b y → Stays b (cond t x y)
+stays-if : (b : Inbox) (t : Bool) (x y : DataEffect) → Stays b x → Stays b y → Stays b (cond t x y)
 stays-if b true x y f g = f
 stays-if b false x y f g = g
 
@@ -86,7 +86,7 @@ keeps-passed : (p : Peering) (m : Message) (sent : Option ℕ) (r : Result Bool 
 keeps-passed p m sent (Err why) = keeps-stopped p why
 keeps-passed p m sent (Ok may) = keeps-answered p p m sent may
 
-keeps-arrived : (p : Peering) (m : Message) (sent : Option ℕ) (a : Arrival) → Stays p.inbox a → (r : Result Bool Stop) → a.answer ≡ r → Keeps p (by_answer (record p { inbox = a.after }) m sent r)
+keeps-arrived : (p : Peering) (m : Message) (sent : Option ℕ) (a : DataEffect) → Stays p.inbox a → (r : Result Bool Stop) → a.answer ≡ r → Keeps p (by_answer (record p { inbox = a.after }) m sent r)
 keeps-arrived p m sent a stays (Err why) e = λ w g. inr (ap (λ (b : Inbox). record p { inbox = b }) (stays why e))
 keeps-arrived p m sent a stays (Ok may) e = keeps-answered p (record p { inbox = a.after }) m sent may
 

@@ -2,7 +2,7 @@
 use Rattle.std.proofs.Common.{◌≡◌, refl, sym, ap, ◌∙◌, Option, Some}
 use Rattle.enet_codec.specs.Message.{Message}
 use Rattle.enet_peer.specs.Peering.{Peering}
-use Rattle.enet_peer.specs.Arrivals.{obeyed}
+use Rattle.enet_peer.specs.CommandEffect.{obeyed}
 use Rattle.enet_connection.specs.Steps.{with_peer}
 use Rattle.enet_isolation.specs.Deeds as deed
 use Rattle.enet_isolation.specs.Deeds.{Deed, Alone}

@@ -4,7 +4,7 @@ use Rattle.enet_types.specs.declared.event.DisconnectMode.{DisconnectMode}
 use Rattle.enet_types.specs.declared.event.DisconnectMode.TheVariants as mode
 use Rattle.enet_types.specs.declared.refusal.Refusal.{Refusal}
 use Rattle.enet_types.specs.declared.refusal.Refusal.TheVariants as refusal
-use Rattle.enet_sender.specs.Carriage.{Packet}
+use Rattle.enet_sender.specs.CommandChoice.{Packet}
 use Rattle.enet_peer.specs.Peering.{Peering}
 use Rattle.enet_peer.specs.Calls.{is_connected, submission_refusal, submitted}
 use Rattle.enet_peer.specs.Calls as peers

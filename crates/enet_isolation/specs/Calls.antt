@@ -7,7 +7,7 @@ use Rattle.enet_types.specs.declared.event.PeerRef.{PeerRef}
 use Rattle.enet_types.specs.declared.event.Received.{Received}
 use Rattle.enet_types.specs.declared.refusal.Refusal.{Refusal}
 use Rattle.enet_types.specs.declared.refusal.Refusal.TheVariants as refusal
-use Rattle.enet_sender.specs.Carriage.{Packet}
+use Rattle.enet_sender.specs.CommandChoice.{Packet}
 use Rattle.enet_host.specs.Host.{Host, KeepsRest}
 use Rattle.enet_host.specs.Opening.{Connects}
 use Rattle.enet_host.specs.Receiving.{Receives}

@@ -6,7 +6,7 @@ use Rattle.enet_codec.specs.Message.{Message}
 use Rattle.enet_outbox.specs.Emission.{filled, datagram}
 use Rattle.enet_peer.specs.declared.parts.PeerEvent.{PeerEvent}
 use Rattle.enet_peer.specs.Peering.{Peering}
-use Rattle.enet_peer.specs.Arrivals.{Outcome, obeyed}
+use Rattle.enet_peer.specs.CommandEffect.{Outcome, obeyed}
 use Rattle.enet_peer.specs.Calls.{submission_refusal, submitted, pace_of, destination_of, gone_on, left, ticked, next_event}
 use Rattle.enet_connection.specs.Steps.{Way, leave_by, Setting, with_setting, MaySet}
 

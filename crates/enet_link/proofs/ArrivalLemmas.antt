@@ -11,14 +11,14 @@ use Rattle.enet_seq.proofs.WindowsLemmas.{near_is_inside, ahead_true, read_ahead
 use Rattle.enet_seq.specs.Numbering.{unbounded, number_read, start_read}
 use Rattle.enet_fragment.specs.declared.data.DataCommand.{DataCommand}
 use Rattle.enet_fragment.specs.DataCommand.{piece_of, place_in_packet}
-use Rattle.enet_fragment.specs.Making.{Making, count_of, with_piece}
-use Rattle.enet_packets.specs.declared.coming.Coming.{Coming}
+use Rattle.enet_fragment.specs.PartialPacket.{PartialPacket, count_of, with_piece}
+use Rattle.enet_packets.specs.declared.incoming_packet.IncomingPacket.{IncomingPacket}
 use Rattle.enet_packets.specs.Packets.{line_at, with_line}
-use Rattle.enet_receiver.specs.Reception.{is_piece, place_read, came_at, agrees_with, came, is_behind, outcome_of, outcome_at, outcome, earlier_or_new, with_more, with_added, added_at, received_with, received, is_handled}
+use Rattle.enet_receiver.specs.DataOutcome.{is_piece, place_read, came_at, agrees_with, came, is_behind, outcome_of, outcome_at, outcome, earlier_or_new, with_more, with_added, added_at, received_with, received, is_handled}
 use Rattle.enet_receiver.specs.Receiver.{Receiver, flushed, with_dispatched, released, all_released}
 use Rattle.enet_receiver.specs.declared.took.Took.{Took}
 use Rattle.enet_receiver.specs.declared.took.Took.TheVariants.{Bad, Outside, Again, Waiting, Held}
-use Rattle.enet_sender.specs.Carriage.{Carried}
+use Rattle.enet_sender.specs.CommandChoice.{ChosenPacket}
 use Rattle.enet_link.specs.Link.{wired}
 use Rattle.enet_link.proofs.Makings.{count_of-with, piece_at-nothing, piece_at-with_other, has_piece-some, has_piece-with_same, has_piece-with_more}
 use Rattle.enet_receiver.proofs.Maps.{get-insert_other, get-insert_same, get_inserted, two_numbers}
@@ -29,13 +29,13 @@ use Rattle.enet_link.proofs.ReceiverLemmas.{IsReceived, Within, Grows, Grows-sam
 use Rattle.enet_link.specs.Meant.{has_piece}
 
 -- what holds of a receiver after something came
-pub record Settled (mtu : ℕ) (cs : List Carried) (sent : ℕ) (old new : Receiver) : Type 0 where
+pub record Settled (mtu : ℕ) (cs : List ChosenPacket) (sent : ℕ) (old new : Receiver) : Type 0 where
   pub ready : Ready mtu cs new
   pub within : Within sent new
   pub grows : Grows old new
   pub lacks : Lacks new
 
-pub Settled-same : (mtu : ℕ) (cs : List Carried) (sent : ℕ) (r : Receiver) → Ready mtu cs r → Within sent r → Lacks r → Settled mtu cs sent r r
+pub Settled-same : (mtu : ℕ) (cs : List ChosenPacket) (sent : ℕ) (r : Receiver) → Ready mtu cs r → Within sent r → Lacks r → Settled mtu cs sent r r
 Settled-same mtu cs sent r k s l = record { ready = k; within = s; grows = Grows-same r; lacks = l }
 
 -- the front and what is held stay
@@ -48,7 +48,7 @@ Grows-flushed r s g = record { front = g.front; received = g.received }
 Lacks-flushed : (r : Receiver) → Lacks r → Lacks (flushed r)
 Lacks-flushed r l = l
 
-pub Settled-released : (mtu : ℕ) (cs : List Carried) (sent : ℕ) (r : Receiver) → Ready mtu cs r → Within sent r → Settled mtu cs sent r (all_released unbounded r)
+pub Settled-released : (mtu : ℕ) (cs : List ChosenPacket) (sent : ℕ) (r : Receiver) → Ready mtu cs r → Within sent r → Settled mtu cs sent r (all_released unbounded r)
 Settled-released mtu cs sent r k s =
     let most = len r.held in
     let both = released-keeps (λ x. Ready mtu cs x × Within sent x × Grows r x)
@@ -97,7 +97,7 @@ start_reads front start own sent low near high span below late = go (fragment_in
     go false e = inr (refl, elim (less_or_not front start) [ inl above ↦ absurd (outside e above) | inr at ↦ at ])
 
 -- the cases of an outcome where the place is read
-outcome_cases : (r : Receiver) (d : DataCommand) (full : Bool) (place : ℕ) (earlier : Option Coming)
+outcome_cases : (r : Receiver) (d : DataCommand) (full : Bool) (place : ℕ) (earlier : Option IncomingPacket)
     → ((outcome_of r d full place earlier ≡ Held) × (is_behind r d place ≡ false))
     ⊎ ((is_handled (outcome_of r d full place earlier) ≡ false) × ((outcome_of r d full place earlier ≡ Bad) ⊎ (outcome_of r d full place earlier ≡ Waiting)))
     ⊎ ((outcome_of r d full place earlier ≡ Again) × ((is_behind r d place ≡ true) ⊎ (came earlier d ≡ true)))
@@ -121,12 +121,12 @@ outcome_cases r d full place earlier =
     ]
 
 -- what a command of the log leaves: where it is considered, a reliable one was received
-pub record Arrived (mtu : ℕ) (cs : List Carried) (sent most : ℕ) (r : Receiver) (d : DataCommand) (full : Bool) : Type 0 where
+pub record Arrived (mtu : ℕ) (cs : List ChosenPacket) (sent most : ℕ) (r : Receiver) (d : DataCommand) (full : Bool) : Type 0 where
   pub settled : Settled mtu cs sent r (received unbounded most r (wired d) full)
   pub known : d.reliable ≡ true → is_handled (outcome unbounded most r (wired d) full) ≡ true → IsReceived (received unbounded most r (wired d) full) d.number
 
 -- by the outcome alone
-arrived_by : (mtu : ℕ) (cs : List Carried) (sent most : ℕ) (r : Receiver) (d : DataCommand) (full : Bool) → Ready mtu cs r → Within sent r → Lacks r
+arrived_by : (mtu : ℕ) (cs : List ChosenPacket) (sent most : ℕ) (r : Receiver) (d : DataCommand) (full : Bool) → Ready mtu cs r → Within sent r → Lacks r
     → ((outcome unbounded most r (wired d) full ≡ Held) × Settled mtu cs sent r (added_at unbounded r (wired d) (place_read unbounded r (wired d))) × (d.reliable ≡ true → IsReceived (added_at unbounded r (wired d) (place_read unbounded r (wired d))) d.number))
     ⊎ (((o : Took) × (outcome unbounded most r (wired d) full ≡ o) × ((o ≡ Bad) ⊎ (o ≡ Waiting) ⊎ (((o ≡ Outside) ⊎ (o ≡ Again)) × (d.reliable ≡ true → IsReceived r d.number)))))
     → Arrived mtu cs sent most r d full
@@ -150,7 +150,7 @@ arrived_by mtu cs sent most r d full k s l (inr w) = elim w.2 [
     }
 
 -- a number of a packet that the front reached is at or below the front
-reached : (mtu : ℕ) (cs : List Carried) (r : Receiver) (number count : ℕ) (c : Carried) → Ready mtu cs r → Stands cs number count c → c.reliable ≡ true → number < r.front → number + c.pieces ≤ r.front
+reached : (mtu : ℕ) (cs : List ChosenPacket) (r : Receiver) (number count : ℕ) (c : ChosenPacket) → Ready mtu cs r → Stands cs number count c → c.reliable ≡ true → number < r.front → number + c.pieces ≤ r.front
 reached mtu cs r number count c k st rel low =
     let p = k.passed in
     let e = p.count in
@@ -160,7 +160,7 @@ reached mtu cs r number count c k st rel low =
     omega arith
 
 -- what is added to a packet that stands behind the front
-added_reliable : (mtu : ℕ) (cs : List Carried) (sent : ℕ) (r : Receiver) (d : DataCommand) (p : IsPieceOf mtu cs d) → Ready mtu cs r → Within sent r → d.reliable ≡ true → d.number ≤ sent → r.front < p.number + 1
+added_reliable : (mtu : ℕ) (cs : List ChosenPacket) (sent : ℕ) (r : Receiver) (d : DataCommand) (p : IsPieceOf mtu cs d) → Ready mtu cs r → Within sent r → d.reliable ≡ true → d.number ≤ sent → r.front < p.number + 1
     → let after = all_released unbounded (with_added r (wired d) (p.number + 1) (with_more (earlier_or_new (came_at r (wired d) (p.number + 1)) (wired d)) (wired d))) in
     Settled mtu cs sent r after × IsReceived after d.number
 added_reliable mtu cs sent r d p k s rel high above =
@@ -169,7 +169,7 @@ added_reliable mtu cs sent r d p k s rel high above =
     let sd = says mtu cs d p in
     let cr : c.reliable ≡ true = sym sd.reliable ∙ rel in
     let own : d.number ≡ p.number + (p.index + 1) = sd.own ∙ ap (λ b. cond b (p.number + (p.index + 1)) p.number) cr in
-    let e : Coming = with_more (earlier_or_new (came_at r (wired d) start) (wired d)) (wired d) in
+    let e : IncomingPacket = with_more (earlier_or_new (came_at r (wired d) start) (wired d)) (wired d) in
     let cut : IsCut mtu c = k.cut c (Stands-has cs p.number p.count c p.stands) in
     let came' : came_at r (wired d) start ≡ get r.held start = ap (λ b. cond b (get r.held start) (get (line_at r.waiting start) d.count)) rel in
     let matches : Matches mtu e.making c = Matches-more mtu (came_at r (wired d) start) d c p.number p.count p.index p.inside sd (λ x t.
@@ -179,7 +179,7 @@ added_reliable mtu cs sent r d p k s rel high above =
     let qcut = k.cut q.packet (Stands-has cs q.number q.count q.packet q.stands) in
     let same : q.packet ≡ c = same_reliable cs p.number q.count p.count q.packet c (subst (λ z. Stands cs z q.count q.packet) n q.stands) p.stands q.reliable cr qcut.some' cut.some' in
     subst (λ y. Matches mtu x.making y) same q.matches) in
-    let before : Making = (earlier_or_new (came_at r (wired d) start) (wired d)).making in
+    let before : PartialPacket = (earlier_or_new (came_at r (wired d) start) (wired d)).making in
     let before_count : count_of before ≡ c.pieces = sym (count_of-with before (place_in_packet (wired d)) d.body) ∙ matches.count in
     let has : has_piece e.making p.index ≡ true = has_own (came_at r (wired d) start) sd.index_is (let a = p.inside in omega arith) in
     let mid : Receiver = record r { held = insert r.held start e } in
@@ -220,19 +220,19 @@ added_reliable mtu cs sent r d p k s rel high above =
     subst (λ x. Settled mtu cs sent r (all_released unbounded x) × IsReceived (all_released unbounded x) d.number) (sym is)
     (record { ready = after.ready; within = after.within; grows = Grows-trans r mid (all_released unbounded mid) grows after.grows; lacks = after.lacks }, ag.received d.number here)
   where
-    e0 : Coming
+    e0 : IncomingPacket
     e0 = with_more (earlier_or_new (came_at r (wired d) (p.number + 1)) (wired d)) (wired d)
 
     at_start : came_at r (wired d) (p.number + 1) ≡ get r.held (p.number + 1)
     at_start = ap (λ b. cond b (get r.held (p.number + 1)) (get (line_at r.waiting (p.number + 1)) d.count)) rel
 
-    has_own : (o : Option Coming) → (piece_of (wired d)).number ≡ p.index → p.index < count_of (earlier_or_new o (wired d)).making → has_piece (with_more (earlier_or_new o (wired d)) (wired d)).making p.index ≡ true
+    has_own : (o : Option IncomingPacket) → (piece_of (wired d)).number ≡ p.index → p.index < count_of (earlier_or_new o (wired d)).making → has_piece (with_more (earlier_or_new o (wired d)) (wired d)).making p.index ≡ true
     has_own o f low = subst (λ j. has_piece (with_piece (earlier_or_new o (wired d)).making (place_in_packet (wired d)) d.body) j ≡ true) f (has_piece-with_same (earlier_or_new o (wired d)).making (place_in_packet (wired d)) d.body (omega arith))
 
     own_is : d.number ≡ p.number + (p.index + 1)
     own_is = let sd = says mtu cs d p in sd.own ∙ ap (λ b. cond b (p.number + (p.index + 1)) p.number) (sym sd.reliable ∙ rel)
 
-    reach_of : (o : Option Coming) → came_at r (wired d) (p.number + 1) ≡ o → (i : ℕ) → has_piece (with_more (earlier_or_new o (wired d)) (wired d)).making i ≡ true → p.number + 1 + i ≤ sent
+    reach_of : (o : Option IncomingPacket) → came_at r (wired d) (p.number + 1) ≡ o → (i : ℕ) → has_piece (with_more (earlier_or_new o (wired d)) (wired d)).making i ≡ true → p.number + 1 + i ≤ sent
     reach_of o t i h =
         let sd = says mtu cs d p in
         let j = sd.index_is in
@@ -241,16 +241,16 @@ added_reliable mtu cs sent r d p k s rel high above =
           | inr apart ↦ before o t (ap is_some (sym (piece_at-with_other (earlier_or_new o (wired d)).making (place_in_packet (wired d)) d.body i apart)) ∙ h)
         ]
       where
-        before : (o : Option Coming) → came_at r (wired d) (p.number + 1) ≡ o → has_piece (earlier_or_new o (wired d)).making i ≡ true → p.number + 1 + i ≤ sent
+        before : (o : Option IncomingPacket) → came_at r (wired d) (p.number + 1) ≡ o → has_piece (earlier_or_new o (wired d)).making i ≡ true → p.number + 1 + i ≤ sent
         before None t h = absurd (let f = piece_at-nothing (piece_of (wired d)).count (piece_of (wired d)).total i in let g : true ≡ false = sym h ∙ ap is_some f in cc)
         before (Some x) t h = (s.held (p.number + 1) x (sym at_start ∙ t)).1 i h
 
-    reach : (n : ℕ) (x : Coming) (i : ℕ) → n ≡ p.number + 1 → e0 ≡ x → has_piece x.making i ≡ true → n + i ≤ sent
+    reach : (n : ℕ) (x : IncomingPacket) (i : ℕ) → n ≡ p.number + 1 → e0 ≡ x → has_piece x.making i ≡ true → n + i ≤ sent
     reach n x i a b h =
-        let y = reach_of (came_at r (wired d) (p.number + 1)) refl i (ap (λ (z : Coming). has_piece z.making i) b ∙ h) in
+        let y = reach_of (came_at r (wired d) (p.number + 1)) refl i (ap (λ (z : IncomingPacket). has_piece z.making i) b ∙ h) in
         omega arith
 
-    keeps : (m n : ℕ) (x : Coming) → get r.held n ≡ Some x → n ≡ p.number + 1 → has_piece x.making (m - n) ≡ true → has_piece e0.making (m - (p.number + 1)) ≡ true
+    keeps : (m n : ℕ) (x : IncomingPacket) → get r.held n ≡ Some x → n ≡ p.number + 1 → has_piece x.making (m - n) ≡ true → has_piece e0.making (m - (p.number + 1)) ≡ true
     keeps m n x t a h =
         let here : came_at r (wired d) (p.number + 1) ≡ Some x = at_start ∙ ap (get r.held) (sym a) ∙ t in
         let old : has_piece (earlier_or_new (came_at r (wired d) (p.number + 1)) (wired d)).making (m - (p.number + 1)) ≡ true =
@@ -258,7 +258,7 @@ added_reliable mtu cs sent r d p k s rel high above =
         has_piece-with_more (earlier_or_new (came_at r (wired d) (p.number + 1)) (wired d)).making (place_in_packet (wired d)) d.body (m - (p.number + 1)) old
 
 -- a reliable command of the log comes, near enough and in time
-pub Arrived-reliable : (mtu : ℕ) (cs : List Carried) (sent most : ℕ) (r : Receiver) (d : DataCommand) (full : Bool) → IsPieceOf mtu cs d → Ready mtu cs r → Within sent r → Lacks r
+pub Arrived-reliable : (mtu : ℕ) (cs : List ChosenPacket) (sent most : ℕ) (r : Receiver) (d : DataCommand) (full : Bool) → IsPieceOf mtu cs d → Ready mtu cs r → Within sent r → Lacks r
     → d.reliable ≡ true → d.number ≤ sent → sent ≤ r.front + 24575 → sent ≤ d.number + 32768 → Arrived mtu cs sent most r d full
 Arrived-reliable mtu cs sent most r d full p k s l rel high span late =
     let c = p.packet in
@@ -288,7 +288,7 @@ Arrived-reliable mtu cs sent most r d full p k s l rel high span late =
           | false ↦ (Bad, refl, inl refl)
         ]
 
-    came_index : (o : Option Coming) → came_at r (wired d) (p.number + 1) ≡ o → came o (wired d) ≡ true → d.number ≡ p.number + (p.index + 1) → (piece_of (wired d)).number ≡ p.index → IsReceived r d.number
+    came_index : (o : Option IncomingPacket) → came_at r (wired d) (p.number + 1) ≡ o → came o (wired d) ≡ true → d.number ≡ p.number + (p.index + 1) → (piece_of (wired d)).number ≡ p.index → IsReceived r d.number
     came_index None t h own idx = absurd (cc)
     came_index (Some x) t h own idx =
         let here : get r.held (p.number + 1) ≡ Some x = sym (ap (λ b. cond b (get r.held (p.number + 1)) (get (line_at r.waiting (p.number + 1)) d.count)) rel) ∙ t in
@@ -308,7 +308,7 @@ Arrived-reliable mtu cs sent most r d full p k s l rel high span late =
         or_cases true b e = inl refl
         or_cases false b e = inr e
 
-        single : (x : Coming) → get r.held (p.number + 1) ≡ Some x → is_none (wired d).fragment ≡ true → has_piece x.making p.index ≡ true
+        single : (x : IncomingPacket) → get r.held (p.number + 1) ≡ Some x → is_none (wired d).fragment ≡ true → has_piece x.making p.index ≡ true
         single x here none =
             let sd = says mtu cs d p in
             let one = sd.single none in
@@ -323,7 +323,7 @@ Arrived-reliable mtu cs sent most r d full p k s l rel high span late =
             let got = has_piece-some x.making i.0 i.1 in
             let qm = q.matches in
             let low : i.0 < q.packet.pieces = (qm.pieces i.0 got.0 got.1).0 in
-            let size : q.packet.pieces ≡ p.packet.pieces = ap (λ (y : Carried). y.pieces) same in
+            let size : q.packet.pieces ≡ p.packet.pieces = ap (λ (y : ChosenPacket). y.pieces) same in
             let inside = p.inside in
             let is : i.0 ≡ p.index = omega arith in
             subst (λ z. has_piece x.making z ≡ true) is i.1
@@ -370,7 +370,7 @@ Arrived-reliable mtu cs sent most r d full p k s l rel high span late =
         ]
 
 -- a piece is added to an unreliable packet
-added_unreliable : (mtu : ℕ) (cs : List Carried) (sent : ℕ) (r : Receiver) (d : DataCommand) (p : IsPieceOf mtu cs d) → Ready mtu cs r → Within sent r → d.reliable ≡ false
+added_unreliable : (mtu : ℕ) (cs : List ChosenPacket) (sent : ℕ) (r : Receiver) (d : DataCommand) (p : IsPieceOf mtu cs d) → Ready mtu cs r → Within sent r → d.reliable ≡ false
     → Settled mtu cs sent r (all_released unbounded (with_added r (wired d) p.number (with_more (earlier_or_new (came_at r (wired d) p.number) (wired d)) (wired d))))
 added_unreliable mtu cs sent r d p k s rel =
     let c = p.packet in
@@ -378,7 +378,7 @@ added_unreliable mtu cs sent r d p k s rel =
     let sd = says mtu cs d p in
     let cr : c.reliable ≡ false = sym sd.reliable ∙ rel in
     let count : d.count ≡ p.count + 1 = sd.unreliable ∙ ap (λ b. cond b 0 (p.count + 1)) cr in
-    let e : Coming = with_more (earlier_or_new (came_at r (wired d) n) (wired d)) (wired d) in
+    let e : IncomingPacket = with_more (earlier_or_new (came_at r (wired d) n) (wired d)) (wired d) in
     let came' : came_at r (wired d) n ≡ get (line_at r.waiting n) d.count = ap (λ b. cond b (get r.held n) (get (line_at r.waiting n) d.count)) rel in
     let matches : Matches mtu e.making c = Matches-more mtu (came_at r (wired d) n) d c p.number p.count p.index p.inside sd (λ x t.
     let q = k.waiting n d.count x (sym came' ∙ t) in
@@ -386,7 +386,7 @@ added_unreliable mtu cs sent r d p k s rel =
     let z : q.count ≡ p.count = omega arith in
     let same : q.packet ≡ c = same_unreliable mtu cs n p.count q.packet c k.cut (subst (λ y. Stands cs n y q.packet) z q.stands) p.stands q.reliable cr in
     subst (λ y. Matches mtu x.making y) same q.matches) in
-    let packets : FinMap nat_cmp Coming = insert (line_at r.waiting n) d.count e in
+    let packets : FinMap nat_cmp IncomingPacket = insert (line_at r.waiting n) d.count e in
     let mid : Receiver = record r { waiting = with_line r.waiting n packets } in
     let is : with_added r (wired d) n e ≡ mid = λ i. record r { held = if rel i then insert r.held n e else r.held; waiting = if rel i then r.waiting else with_line r.waiting n packets } in
     let ready : Ready mtu cs mid = record {
@@ -400,7 +400,7 @@ added_unreliable mtu cs sent r d p k s rel =
               | inl w ↦ subst (λ y. OfUnreliable mtu cs m q y.making) w.1 (record { packet = c; count = p.count; place = w.0 ∙ count; stands = subst (λ z. Stands cs z p.count c) (sym same) p.stands; reliable = cr; matches = matches })
               | inr w ↦ subst (λ z. OfUnreliable mtu cs z q x.making) (sym same) (k.waiting n q x w.1)
             ]
-        | inr apart ↦ k.waiting m q x (ap (λ (o : Option (FinMap nat_cmp Coming)). get (unwrap_or o empty) q) (sym (waiting-replaced_other r.waiting n m packets apart)) ∙ t)
+        | inr apart ↦ k.waiting m q x (ap (λ (o : Option (FinMap nat_cmp IncomingPacket)). get (unwrap_or o empty) q) (sym (waiting-replaced_other r.waiting n m packets apart)) ∙ t)
       ];
     } in
     let within : Within sent mid = record { front = s.front; held = s.held } in
@@ -410,7 +410,7 @@ added_unreliable mtu cs sent r d p k s rel =
     (record { ready = after.ready; within = after.within; grows = Grows-trans r mid (all_released unbounded mid) grows after.grows; lacks = after.lacks })
 
 -- an unreliable command of the log comes, near enough and in time
-pub Arrived-unreliable : (mtu : ℕ) (cs : List Carried) (sent most : ℕ) (r : Receiver) (d : DataCommand) (full : Bool) → IsPieceOf mtu cs d → Ready mtu cs r → Within sent r → Lacks r
+pub Arrived-unreliable : (mtu : ℕ) (cs : List ChosenPacket) (sent most : ℕ) (r : Receiver) (d : DataCommand) (full : Bool) → IsPieceOf mtu cs d → Ready mtu cs r → Within sent r → Lacks r
     → d.reliable ≡ false → d.number ≤ sent → sent ≤ r.front + 24575 → sent ≤ d.number + 32768 → Arrived mtu cs sent most r d full
 Arrived-unreliable mtu cs sent most r d full p k s l rel high span late =
     let sd = says mtu cs d p in
@@ -453,7 +453,7 @@ Arrived-unreliable mtu cs sent most r d full p k s l rel high span late =
           | inr (inr h) ↦ arrived_by mtu cs sent most r d full k s l (inr (Again, q ∙ h.0, inr (inr (inr refl, unknown))))
         ]
 
-pub Arrived-command : (mtu : ℕ) (cs : List Carried) (sent most : ℕ) (r : Receiver) (d : DataCommand) (full : Bool) → IsPieceOf mtu cs d → Ready mtu cs r → Within sent r → Lacks r
+pub Arrived-command : (mtu : ℕ) (cs : List ChosenPacket) (sent most : ℕ) (r : Receiver) (d : DataCommand) (full : Bool) → IsPieceOf mtu cs d → Ready mtu cs r → Within sent r → Lacks r
     → d.number ≤ sent → sent ≤ r.front + 24575 → sent ≤ d.number + 32768 → Arrived mtu cs sent most r d full
 Arrived-command mtu cs sent most r d full p k s l high span late =
     elim d.reliable as (λ b. d.reliable ≡ b → Arrived mtu cs sent most r d full) [
@@ -462,7 +462,7 @@ Arrived-command mtu cs sent most r d full p k s l high span late =
     ] refl
 
 -- a command's place is read as that of its packet, or as nothing
-pub place_as_meant : (mtu : ℕ) (cs : List Carried) (sent : ℕ) (r : Receiver) (d : DataCommand) (p : IsPieceOf mtu cs d) → Ready mtu cs r → r.front ≤ sent → d.number ≤ sent → sent ≤ r.front + 24575 → sent ≤ d.number + 32768
+pub place_as_meant : (mtu : ℕ) (cs : List ChosenPacket) (sent : ℕ) (r : Receiver) (d : DataCommand) (p : IsPieceOf mtu cs d) → Ready mtu cs r → r.front ≤ sent → d.number ≤ sent → sent ≤ r.front + 24575 → sent ≤ d.number + 32768
     → (place_read unbounded r (wired d) ≡ None) ⊎ (place_read unbounded r (wired d) ≡ Some (cond p.packet.reliable (p.number + 1) p.number))
 place_as_meant mtu cs sent r d p k front high span late =
     elim d.reliable as (λ b. d.reliable ≡ b → (place_read unbounded r (wired d) ≡ None) ⊎ (place_read unbounded r (wired d) ≡ Some (cond p.packet.reliable (p.number + 1) p.number))) [

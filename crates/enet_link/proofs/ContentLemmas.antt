@@ -9,13 +9,13 @@ use Rattle.std.specs.FinMap.{FinMap, get, insert, remove, len, entries, entries_
 use Rattle.std.specs.FinMap.Entries.{below_all}
 use Rattle.enet_seq.specs.Numbering.{unbounded}
 use Rattle.enet_fragment.specs.Cutting.{piece_length}
-use Rattle.enet_fragment.specs.Making.{Making, joined, count_of}
+use Rattle.enet_fragment.specs.PartialPacket.{PartialPacket, joined, count_of}
 use Rattle.enet_fragment.specs.Whole.{is_whole}
-use Rattle.enet_packets.specs.declared.coming.Coming.{Coming}
-use Rattle.enet_packets.specs.declared.coming.Dispatched.{Dispatched}
+use Rattle.enet_packets.specs.declared.incoming_packet.IncomingPacket.{IncomingPacket}
+use Rattle.enet_packets.specs.declared.incoming_packet.Dispatched.{Dispatched}
 use Rattle.enet_packets.specs.Packets.{line_at, with_line, fresh, last_fresh, handed_out}
 use Rattle.enet_receiver.specs.Receiver.{Receiver, flushed_from, flushed, without, with_passed, with_dispatched}
-use Rattle.enet_sender.specs.Carriage.{Carried}
+use Rattle.enet_sender.specs.CommandChoice.{ChosenPacket}
 pub use Rattle.enet_link.specs.Meant.{Matches, OfReliable, OfUnreliable}
 pub use Rattle.enet_link.specs.Steps.{bodies_of}
 use Rattle.enet_link.proofs.Lists.{Has}
@@ -27,29 +27,29 @@ use Rattle.enet_link.proofs.CarriageLemmas.{IsCut, AllCut, Stands, Stands-has, S
 use Rattle.enet_link.specs.Follows.{command_count, count_after}
 
 -- what is whole has the packet's bytes
-pub joined-whole : (mtu : ℕ) (m : Making) (c : Carried) → IsCut mtu c → Matches mtu m c → is_whole m ≡ true → joined m.pieces ≡ c.packet.body
+pub joined-whole : (mtu : ℕ) (m : PartialPacket) (c : ChosenPacket) → IsCut mtu c → Matches mtu m c → is_whole m ≡ true → joined m.pieces ≡ c.packet.body
 joined-whole mtu m c cut h w =
     joined-pieces (piece_length mtu) m.pieces c.packet.body (λ i bytes e. (h.pieces i bytes e).1) w
     ∙ ap (λ n. take (n * piece_length mtu) c.packet.body) h.count
     ∙ take_all (c.pieces * piece_length mtu) c.packet.body cut.covered
 
 -- the packets that the receiver went past, and those that it didn't
-pub record Passed (cs : List Carried) (front unreliable : ℕ) (bodies : List (List ℕ)) : Type 0 where
-  pub passed : List Carried
-  pub left : List Carried
+pub record Passed (cs : List ChosenPacket) (front unreliable : ℕ) (bodies : List (List ℕ)) : Type 0 where
+  pub passed : List ChosenPacket
+  pub left : List ChosenPacket
   pub whole : cs ≡ passed ++ left
   pub consumed : Consumed passed bodies
   pub count : command_count passed ≡ front
   pub last : count_after 0 passed ≡ unreliable
 
-pub record Ready (mtu : ℕ) (cs : List Carried) (r : Receiver) : Type 0 where
+pub record Ready (mtu : ℕ) (cs : List ChosenPacket) (r : Receiver) : Type 0 where
   pub cut : AllCut mtu cs
-  pub held : (n : ℕ) (e : Coming) → get r.held n ≡ Some e → OfReliable mtu cs n e.making
-  pub waiting : (n k : ℕ) (e : Coming) → get (line_at r.waiting n) k ≡ Some e → OfUnreliable mtu cs n k e.making
+  pub held : (n : ℕ) (e : IncomingPacket) → get r.held n ≡ Some e → OfReliable mtu cs n e.making
+  pub waiting : (n k : ℕ) (e : IncomingPacket) → get (line_at r.waiting n) k ≡ Some e → OfUnreliable mtu cs n k e.making
   pub passed : Passed cs r.front r.unreliable (bodies_of r.dispatched)
 
 -- the packet behind the front is dispatched, and unreliable ones before it are left out
-Passed-more : (mtu : ℕ) (cs : List Carried) (front unreliable : ℕ) (bodies : List (List ℕ)) (m : Making) → AllCut mtu cs → Passed cs front unreliable bodies → OfReliable mtu cs (front + 1) m → is_whole m ≡ true
+Passed-more : (mtu : ℕ) (cs : List ChosenPacket) (front unreliable : ℕ) (bodies : List (List ℕ)) (m : PartialPacket) → AllCut mtu cs → Passed cs front unreliable bodies → OfReliable mtu cs (front + 1) m → is_whole m ≡ true
     → Passed cs (front + count_of m) 0 (bodies ++ joined m.pieces ∷ [])
 Passed-more mtu cs front unreliable bodies m all p h w =
     let c = h.packet in
@@ -58,7 +58,7 @@ Passed-more mtu cs front unreliable bodies m all p h w =
     let at : Stands (p.passed ++ p.left) (command_count p.passed) h.count c = subst (λ n. Stands (p.passed ++ p.left) n h.count c) number (subst (λ l. Stands l h.number h.count c) p.whole h.stands) in
     let next : IsNext p.left c = Stands-next p.passed p.left h.count c h.reliable cut.some' at in
     let skipped = next.0 in let rest = next.1 in
-    let more : List Carried = skipped ++ c ∷ [] in
+    let more : List ChosenPacket = skipped ++ c ∷ [] in
     let body : joined m.pieces ≡ c.packet.body = joined-whole mtu m c cut h.matches w in
     let only : Consumed (c ∷ []) (joined m.pieces ∷ []) = inl ([], ap (λ b. b ∷ []) body, refl) in
     let of_skipped : AllCut mtu skipped = λ d g. all d (subst (λ l. Has l d) (sym p.whole) (Has-append_right p.passed p.left d (subst (λ l. Has l d) (sym next.2) (Has-append_left skipped (c ∷ rest) d g)))) in
@@ -72,7 +72,7 @@ Passed-more mtu cs front unreliable bodies m all p h w =
     }
 
 -- an unreliable packet of the front is dispatched, and earlier ones are left out
-Passed-unreliable : (mtu : ℕ) (cs : List Carried) (front unreliable count : ℕ) (bodies : List (List ℕ)) (m : Making) → AllCut mtu cs → Passed cs front unreliable bodies → OfUnreliable mtu cs front count m → is_whole m ≡ true → unreliable < count
+Passed-unreliable : (mtu : ℕ) (cs : List ChosenPacket) (front unreliable count : ℕ) (bodies : List (List ℕ)) (m : PartialPacket) → AllCut mtu cs → Passed cs front unreliable bodies → OfUnreliable mtu cs front count m → is_whole m ≡ true → unreliable < count
     → Passed cs front count (bodies ++ joined m.pieces ∷ [])
 Passed-unreliable mtu cs front unreliable count bodies m all p h w low =
     let c = h.packet in
@@ -81,7 +81,7 @@ Passed-unreliable mtu cs front unreliable count bodies m all p h w low =
     let at : Stands (p.passed ++ p.left) (command_count p.passed) h.count c = subst (λ n. Stands (p.passed ++ p.left) n h.count c) (sym p.count) (subst (λ l. Stands l front h.count c) p.whole h.stands) in
     let next : IsNextUnreliable p.passed p.left h.count c = Stands-next_unreliable mtu p.passed p.left h.count c of_passed h.reliable at (let e = p.last in let f = h.place in omega arith) in
     let skipped = next.0 in let rest = next.1 in
-    let more : List Carried = skipped ++ c ∷ [] in
+    let more : List ChosenPacket = skipped ++ c ∷ [] in
     let body : joined m.pieces ≡ c.packet.body = joined-whole mtu m c cut h.matches w in
     let only : Consumed (c ∷ []) (joined m.pieces ∷ []) = inl ([], ap (λ b. b ∷ []) body, refl) in
     let of_skipped : AllCut mtu skipped = λ d g. all d (subst (λ l. Has l d) (sym p.whole) (Has-append_right p.passed p.left d (subst (λ l. Has l d) (sym next.2) (Has-append_left skipped (c ∷ rest) d g)))) in
@@ -94,7 +94,7 @@ Passed-unreliable mtu cs front unreliable count bodies m all p h w low =
       last = ap (count_after 0) (sym (append_assoc p.passed skipped (c ∷ []))) ∙ count_after-push (p.passed ++ skipped) c ∙ ap (λ b. cond b 0 (count_after 0 (p.passed ++ skipped) + 1)) h.reliable ∙ ap (λ n. n + 1) next.4 ∙ sym h.place;
     }
 
-bodies_of-push : (ds : List Dispatched) (e : Coming) → bodies_of (ds ++ handed_out e ∷ []) ≡ bodies_of ds ++ joined e.making.pieces ∷ []
+bodies_of-push : (ds : List Dispatched) (e : IncomingPacket) → bodies_of (ds ++ handed_out e ∷ []) ≡ bodies_of ds ++ joined e.making.pieces ∷ []
 bodies_of-push ds e = map-append (λ (d : Dispatched). d.body) ds (handed_out e ∷ [])
 
 -- from where on they are dispatched
@@ -116,8 +116,8 @@ is_up a b t =
     ] refl t
 
 -- those that waited are dispatched
-Passed-fresh : (mtu : ℕ) (cs : List Carried) (front first last : ℕ) (ds : List Dispatched) (es : List (ℕ × Coming)) → AllCut mtu cs → T (is_sorted nat_cmp es)
-    → ((e : ℕ × Coming) → Has es e → OfUnreliable mtu cs front e.0 e.1.making) → ((e : ℕ × Coming) → Has es e → nat_le first e.0 ≡ nat_lt last e.0)
+Passed-fresh : (mtu : ℕ) (cs : List ChosenPacket) (front first last : ℕ) (ds : List Dispatched) (es : List (ℕ × IncomingPacket)) → AllCut mtu cs → T (is_sorted nat_cmp es)
+    → ((e : ℕ × IncomingPacket) → Has es e → OfUnreliable mtu cs front e.0 e.1.making) → ((e : ℕ × IncomingPacket) → Has es e → nat_le first e.0 ≡ nat_lt last e.0)
     → Passed cs front last (bodies_of ds) → Passed cs front (last_fresh last es) (bodies_of (ds ++ fresh first es))
 Passed-fresh mtu cs front first last ds [] all sorted h same p = subst (λ (x : List Dispatched). Passed cs front last (bodies_of x)) (sym (append-nil ds)) p
 Passed-fresh mtu cs front first last ds (e ∷ es) all sorted h same p =
@@ -148,17 +148,17 @@ Passed-fresh mtu cs front first last ds (e ∷ es) all sorted h same p =
     not_before p q x = grind (arith, nat_tests)
 
 -- what waits for a number after another number's packets were replaced
-pub waiting-replaced_same : (w : FinMap nat_cmp (FinMap nat_cmp Coming)) (n : ℕ) (packets : FinMap nat_cmp Coming) → unwrap_or (get (with_line w n packets) n) empty ≡ packets
+pub waiting-replaced_same : (w : FinMap nat_cmp (FinMap nat_cmp IncomingPacket)) (n : ℕ) (packets : FinMap nat_cmp IncomingPacket) → unwrap_or (get (with_line w n packets) n) empty ≡ packets
 waiting-replaced_same w n packets =
     elim (len packets == 0) as (λ b. (len packets == 0) ≡ b → unwrap_or (get (cond b (remove w n) (insert w n packets)) n) empty ≡ packets) [
-      | true ↦ λ t. ap (λ (o : Option (FinMap nat_cmp Coming)). unwrap_or o empty) (get-remove_same w n) ∙ sym (empty_of_len packets (zero_is (len packets) t))
-      | false ↦ λ t. ap (λ (o : Option (FinMap nat_cmp Coming)). unwrap_or o empty) (get-insert_same w n packets)
+      | true ↦ λ t. ap (λ (o : Option (FinMap nat_cmp IncomingPacket)). unwrap_or o empty) (get-remove_same w n) ∙ sym (empty_of_len packets (zero_is (len packets) t))
+      | false ↦ λ t. ap (λ (o : Option (FinMap nat_cmp IncomingPacket)). unwrap_or o empty) (get-insert_same w n packets)
     ] refl
   where
     zero_is : (k : ℕ) → (k == 0) ≡ true → k ≡ 0
     zero_is k t = grind (arith, nat_tests)
 
-pub waiting-replaced_other : (w : FinMap nat_cmp (FinMap nat_cmp Coming)) (n q : ℕ) (packets : FinMap nat_cmp Coming) → q ≢ n → get (with_line w n packets) q ≡ get w q
+pub waiting-replaced_other : (w : FinMap nat_cmp (FinMap nat_cmp IncomingPacket)) (n q : ℕ) (packets : FinMap nat_cmp IncomingPacket) → q ≢ n → get (with_line w n packets) q ≡ get w q
 waiting-replaced_other w n q packets apart =
     elim (len packets == 0) as (λ b. get (cond b (remove w n) (insert w n packets)) q ≡ get w q) [
       | true ↦ get-remove_other w n q apart
@@ -166,11 +166,11 @@ waiting-replaced_other w n q packets apart =
     ]
 
 -- what still waits waited before
-waiting-left : (w : FinMap nat_cmp (FinMap nat_cmp Coming)) (n k : ℕ) (o : Option (FinMap nat_cmp Coming)) (e : Coming) → ((m : FinMap nat_cmp Coming) → o ≡ Some m → get w n ≡ Some m) → get (unwrap_or o empty) k ≡ Some e → get (unwrap_or (get w n) empty) k ≡ Some e
-waiting-left w n k None e h t = absurd (let f : get (empty {X = Coming} {R = nat_cmp}) k ≡ None = get-empty nat_cmp k in cc)
-waiting-left w n k (Some m) e h t = ap (λ (o : Option (FinMap nat_cmp Coming)). get (unwrap_or o empty) k) (h m refl) ∙ t
+waiting-left : (w : FinMap nat_cmp (FinMap nat_cmp IncomingPacket)) (n k : ℕ) (o : Option (FinMap nat_cmp IncomingPacket)) (e : IncomingPacket) → ((m : FinMap nat_cmp IncomingPacket) → o ≡ Some m → get w n ≡ Some m) → get (unwrap_or o empty) k ≡ Some e → get (unwrap_or (get w n) empty) k ≡ Some e
+waiting-left w n k None e h t = absurd (let f : get (empty {X = IncomingPacket} {R = nat_cmp}) k ≡ None = get-empty nat_cmp k in cc)
+waiting-left w n k (Some m) e h t = ap (λ (o : Option (FinMap nat_cmp IncomingPacket)). get (unwrap_or o empty) k) (h m refl) ∙ t
 
-Ready-passed : (mtu : ℕ) (cs : List Carried) (r : Receiver) (c : Coming) → get r.held (r.front + 1) ≡ Some c → is_whole c.making ≡ true → Ready mtu cs r → Ready mtu cs (with_passed unbounded r c)
+Ready-passed : (mtu : ℕ) (cs : List ChosenPacket) (r : Receiver) (c : IncomingPacket) → get r.held (r.front + 1) ≡ Some c → is_whole c.making ≡ true → Ready mtu cs r → Ready mtu cs (with_passed unbounded r c)
 Ready-passed mtu cs r c e w k = record {
   cut = k.cut;
   held = λ n x t. k.held n x (get_without unbounded r.held (r.front + 1) (count_of c.making) n x t);
@@ -179,7 +179,7 @@ Ready-passed mtu cs r c e w k = record {
       (Passed-more mtu cs r.front r.unreliable (bodies_of r.dispatched) c.making k.cut k.passed (k.held (r.front + 1) c e) w);
 }
 
-Ready-flushed : (mtu : ℕ) (cs : List Carried) (first : ℕ) (r : Receiver) → Ready mtu cs r → ((q : ℕ) (x : Coming) → get (line_at r.waiting r.front) q ≡ Some x → nat_le first q ≡ nat_lt r.unreliable q) → Ready mtu cs (flushed_from first r)
+Ready-flushed : (mtu : ℕ) (cs : List ChosenPacket) (first : ℕ) (r : Receiver) → Ready mtu cs r → ((q : ℕ) (x : IncomingPacket) → get (line_at r.waiting r.front) q ≡ Some x → nat_le first q ≡ nat_lt r.unreliable q) → Ready mtu cs (flushed_from first r)
 Ready-flushed mtu cs first r k same_from =
     let keep : ℕ → Bool = nat_lt (last_fresh r.unreliable (entries (line_at r.waiting r.front))) in
     record {
@@ -191,18 +191,18 @@ Ready-flushed mtu cs first r k same_from =
             ap (λ m. get m q) (sym (waiting-replaced_same r.waiting r.front (retain_keys (line_at r.waiting r.front) keep)))
             ∙ subst (λ z. get (unwrap_or (get (with_line r.waiting r.front (retain_keys (line_at r.waiting r.front) keep)) z) empty) q ≡ Some x) same t in
             subst (λ z. OfUnreliable mtu cs z q x.making) (sym same) (k.waiting r.front q x (get_retained (line_at r.waiting r.front) keep q x here))
-        | inr apart ↦ k.waiting n q x (ap (λ (o : Option (FinMap nat_cmp Coming)). get (unwrap_or o empty) q) (sym (waiting-replaced_other r.waiting r.front n (retain_keys (line_at r.waiting r.front) keep) apart)) ∙ t)
+        | inr apart ↦ k.waiting n q x (ap (λ (o : Option (FinMap nat_cmp IncomingPacket)). get (unwrap_or o empty) q) (sym (waiting-replaced_other r.waiting r.front n (retain_keys (line_at r.waiting r.front) keep) apart)) ∙ t)
       ];
       passed = Passed-fresh mtu cs r.front first r.unreliable r.dispatched (entries (line_at r.waiting r.front)) k.cut (entries_sorted (line_at r.waiting r.front))
           (λ e h. k.waiting r.front e.0 e.1 (get_entry (line_at r.waiting r.front) e h))
           (λ e h. same_from e.0 e.1 (get_entry (line_at r.waiting r.front) e h)) k.passed;
     }
 
-pub Ready-dispatched : (mtu : ℕ) (cs : List Carried) (r : Receiver) (c : Coming) → get r.held (r.front + 1) ≡ Some c → is_whole c.making ≡ true → Ready mtu cs r → Ready mtu cs (with_dispatched unbounded r c)
+pub Ready-dispatched : (mtu : ℕ) (cs : List ChosenPacket) (r : Receiver) (c : IncomingPacket) → get r.held (r.front + 1) ≡ Some c → is_whole c.making ≡ true → Ready mtu cs r → Ready mtu cs (with_dispatched unbounded r c)
 Ready-dispatched mtu cs r c e w k =
     let passed = Ready-passed mtu cs r c e w k in
     let s : Receiver = with_passed unbounded r c in
     Ready-flushed mtu cs 0 s passed (λ q x there. (let one = (passed.waiting s.front q x there).place in both_above 0 0 q (omega arith) (omega arith)))
 
-pub Ready-flush : (mtu : ℕ) (cs : List Carried) (r : Receiver) → Ready mtu cs r → Ready mtu cs (flushed r)
+pub Ready-flush : (mtu : ℕ) (cs : List ChosenPacket) (r : Receiver) → Ready mtu cs r → Ready mtu cs (flushed r)
 Ready-flush mtu cs r k = Ready-flushed mtu cs (r.unreliable + 1) r k (λ q x _. above_same r.unreliable q)

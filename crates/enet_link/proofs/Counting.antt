@@ -2,7 +2,7 @@
 use Rattle.std.proofs.Common.{◌≡◌, ℕ, ◌+◌, Bool, true, false, cond, List, [], ◌∷◌, map, refl, sym, ap, ◌∙◌, arith}
 use Rattle.enet_seq.specs.Numbering.{unbounded}
 use Rattle.enet_fragment.specs.declared.data.DataCommand.{DataCommand}
-use Rattle.enet_sender.specs.Carriage.{Carried, carried}
+use Rattle.enet_sender.specs.CommandChoice.{ChosenPacket, carried}
 use Rattle.enet_sender.specs.Sender.{commands_of}
 use Rattle.enet_link.specs.Follows.{command_count}
 use Rattle.enet_link.specs.Link.{wired}
@@ -15,7 +15,7 @@ reliable_count-wired : (ds : List DataCommand) → reliable_count (map wired ds)
 reliable_count-wired [] = refl
 reliable_count-wired (d ∷ ds) = ap (λ n. cond d.reliable (n + 1) n) (reliable_count-wired ds)
 
-reliable_count-all : (mtu number count : ℕ) (cs : List Carried) → reliable_count (all_from mtu number count cs) ≡ command_count cs
+reliable_count-all : (mtu number count : ℕ) (cs : List ChosenPacket) → reliable_count (all_from mtu number count cs) ≡ command_count cs
 reliable_count-all mtu number count [] = refl
 reliable_count-all mtu number count (c ∷ cs) =
     let n : ℕ = cond c.reliable (number + c.pieces) number in

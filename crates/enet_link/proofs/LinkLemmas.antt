@@ -5,8 +5,8 @@ use Rattle.std.specs.Prelude.{nat_lt}
 use Rattle.enet_seq.specs.Numbering.{unbounded}
 use Rattle.enet_fragment.specs.declared.data.DataCommand.{DataCommand}
 use Rattle.enet_receiver.specs.Receiver.{Receiver}
-use Rattle.enet_receiver.specs.Reception.{received, outcome, is_handled}
-use Rattle.enet_sender.specs.Carriage.{Carried}
+use Rattle.enet_receiver.specs.DataOutcome.{received, outcome, is_handled}
+use Rattle.enet_sender.specs.CommandChoice.{ChosenPacket}
 use Rattle.enet_link.specs.Link.{Link, PutOut, Answer, accept, send, put_out, takes_in, queue_answer, put_answer, acknowledged, closed, is_late, number_below, wired}
 use Rattle.enet_link.proofs.Lists.{Has, Has-push_cases, Has-push_left, Has-push, Has-filter, Has-from_filter}
 use Rattle.enet_link.proofs.ContentLemmas.{Ready}
@@ -71,7 +71,7 @@ pub record Numbers (l : Link) : Type 0 where
   pub rises : Rises l.answers
   pub acks : (a : Answer) → Has l.acks a → IsLogged l a
 
-pub Numbers-accept : (l : Link) (c : Carried) → Numbers l → Numbers (accept l c)
+pub Numbers-accept : (l : Link) (c : ChosenPacket) → Numbers l → Numbers (accept l c)
 Numbers-accept l c g = record {
   unacked = g.unacked;
   removed = g.removed;

@@ -6,7 +6,7 @@ use Rattle.std.proofs.lemmas.List.{length-set, get_or-set_same, get_or-set_other
 use Rattle.std.specs.Prelude.{◌&&◌}
 use Rattle.std.specs.List.{list_all}
 use Rattle.enet_fragment.specs.declared.place.Place.{Place}
-use Rattle.enet_fragment.specs.Making.{Making, count_of, nothing_yet, piece_at, with_piece, joined}
+use Rattle.enet_fragment.specs.PartialPacket.{PartialPacket, count_of, nothing_yet, piece_at, with_piece, joined}
 use Rattle.enet_fragment.specs.Whole.{is_whole}
 use Rattle.enet_sender.specs.Sender.{piece_at as cut_piece}
 use Rattle.enet_link.specs.Meant.{has_piece}
@@ -15,7 +15,7 @@ use Rattle.enet_receiver.proofs.Maps.{two_numbers}
 pub count_of-nothing : (count total : ℕ) → count_of (nothing_yet count total) ≡ count
 count_of-nothing count total = length-replicate count None
 
-pub count_of-with : (m : Making) (p : Place) (bytes : List ℕ) → count_of (with_piece m p bytes) ≡ count_of m
+pub count_of-with : (m : PartialPacket) (p : Place) (bytes : List ℕ) → count_of (with_piece m p bytes) ≡ count_of m
 count_of-with m p bytes = length-set m.pieces p.number (Some bytes)
 
 -- nothing is in a packet of which nothing came
@@ -27,7 +27,7 @@ piece_at-nothing count total i = go count i
     go (suc n) zero = refl
     go (suc n) (suc i) = go n i
 
-pub has_piece-some : (m : Making) (i : ℕ) → has_piece m i ≡ true → (bytes : List ℕ) × (piece_at m i ≡ Some bytes)
+pub has_piece-some : (m : PartialPacket) (i : ℕ) → has_piece m i ≡ true → (bytes : List ℕ) × (piece_at m i ≡ Some bytes)
 has_piece-some m i h = go (piece_at m i) refl h
   where
     go : (o : Option (List ℕ)) → piece_at m i ≡ o → is_some o ≡ true → (bytes : List ℕ) × (piece_at m i ≡ Some bytes)
@@ -35,7 +35,7 @@ has_piece-some m i h = go (piece_at m i) refl h
     go (Some bytes) e k = (bytes, e)
 
 -- a piece that is there has a number below the count
-pub piece_at-below : (m : Making) (i : ℕ) (bytes : List ℕ) → piece_at m i ≡ Some bytes → i < count_of m
+pub piece_at-below : (m : PartialPacket) (i : ℕ) (bytes : List ℕ) → piece_at m i ≡ Some bytes → i < count_of m
 piece_at-below m i bytes e = go m.pieces i e
   where
     go : (xs : List (Option (List ℕ))) (i : ℕ) → get_or xs i None ≡ Some bytes → i < length xs
@@ -44,23 +44,23 @@ piece_at-below m i bytes e = go m.pieces i e
     go (x ∷ xs) (suc i) f = let rest = go xs i f in omega arith
 
 -- a piece that came
-pub piece_at-with_same : (m : Making) (p : Place) (bytes : List ℕ) → p.number < count_of m → piece_at (with_piece m p bytes) p.number ≡ Some bytes
+pub piece_at-with_same : (m : PartialPacket) (p : Place) (bytes : List ℕ) → p.number < count_of m → piece_at (with_piece m p bytes) p.number ≡ Some bytes
 piece_at-with_same m p bytes low = get_or-set_same m.pieces p.number (Some bytes) None low
 
-pub piece_at-with_other : (m : Making) (p : Place) (bytes : List ℕ) (i : ℕ) → i ≢ p.number → piece_at (with_piece m p bytes) i ≡ piece_at m i
+pub piece_at-with_other : (m : PartialPacket) (p : Place) (bytes : List ℕ) (i : ℕ) → i ≢ p.number → piece_at (with_piece m p bytes) i ≡ piece_at m i
 piece_at-with_other m p bytes i apart = get_or-set_other m.pieces p.number i (Some bytes) None apart
 
-pub piece_cases : (m : Making) (p : Place) (bytes : List ℕ) (i : ℕ) (found : List ℕ) → p.number < count_of m → piece_at (with_piece m p bytes) i ≡ Some found → ((i ≡ p.number) × (bytes ≡ found)) ⊎ ((i ≢ p.number) × (piece_at m i ≡ Some found))
+pub piece_cases : (m : PartialPacket) (p : Place) (bytes : List ℕ) (i : ℕ) (found : List ℕ) → p.number < count_of m → piece_at (with_piece m p bytes) i ≡ Some found → ((i ≡ p.number) × (bytes ≡ found)) ⊎ ((i ≢ p.number) × (piece_at m i ≡ Some found))
 piece_cases m p bytes i found low e = elim (two_numbers i p.number) [
   | inl same ↦ inl (same, (let f : Some bytes ≡ Some found = sym (piece_at-with_same m p bytes low) ∙ ap (piece_at (with_piece m p bytes)) (sym same) ∙ e in cc))
   | inr apart ↦ inr (apart, sym (piece_at-with_other m p bytes i apart) ∙ e)
 ]
 
 -- what came stays
-pub has_piece-with_same : (m : Making) (p : Place) (bytes : List ℕ) → p.number < count_of m → has_piece (with_piece m p bytes) p.number ≡ true
+pub has_piece-with_same : (m : PartialPacket) (p : Place) (bytes : List ℕ) → p.number < count_of m → has_piece (with_piece m p bytes) p.number ≡ true
 has_piece-with_same m p bytes low = ap is_some (piece_at-with_same m p bytes low)
 
-pub has_piece-with_more : (m : Making) (p : Place) (bytes : List ℕ) (i : ℕ) → has_piece m i ≡ true → has_piece (with_piece m p bytes) i ≡ true
+pub has_piece-with_more : (m : PartialPacket) (p : Place) (bytes : List ℕ) (i : ℕ) → has_piece m i ≡ true → has_piece (with_piece m p bytes) i ≡ true
 has_piece-with_more m p bytes i h = elim (two_numbers i p.number) [
   | inl same ↦
       let there = has_piece-some m i h in
@@ -74,7 +74,7 @@ parts true b k = (refl, k)
 parts false b k = absurd (cc)
 
 -- each piece of a whole packet came
-pub whole-has : (m : Making) (i : ℕ) → is_whole m ≡ true → i < count_of m → has_piece m i ≡ true
+pub whole-has : (m : PartialPacket) (i : ℕ) → is_whole m ≡ true → i < count_of m → has_piece m i ≡ true
 whole-has m i h low = go m.pieces i h low
   where
     go : (xs : List (Option (List ℕ))) (i : ℕ) → list_all is_some xs ≡ true → i < length xs → is_some (get_or xs i None) ≡ true
@@ -83,7 +83,7 @@ whole-has m i h low = go m.pieces i h low
     go (x ∷ xs) (suc i) h low = go xs i (parts (is_some x) (list_all is_some xs) h).1 (omega arith)
 
 -- one of another packet is missing
-pub missing : (m : Making) → is_whole m ≡ false → (i : ℕ) × (i < count_of m) × (has_piece m i ≡ false)
+pub missing : (m : PartialPacket) → is_whole m ≡ false → (i : ℕ) × (i < count_of m) × (has_piece m i ≡ false)
 missing m h = go m.pieces h
   where
     go : (xs : List (Option (List ℕ))) → list_all is_some xs ≡ false → (i : ℕ) × (i < length xs) × (is_some (get_or xs i None) ≡ false)

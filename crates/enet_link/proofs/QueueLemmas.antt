@@ -6,7 +6,7 @@ use Rattle.enet_codec.specs.declared.command.Fragment.{Fragment}
 use Rattle.enet_seq.specs.Numbering.{wire, unbounded}
 use Rattle.enet_fragment.specs.Cutting.{piece_length}
 use Rattle.enet_fragment.specs.declared.data.DataCommand.{DataCommand}
-use Rattle.enet_sender.specs.Carriage.{Carried, is_long}
+use Rattle.enet_sender.specs.CommandChoice.{ChosenPacket, is_long}
 use Rattle.enet_sender.specs.Sender.{command_at, commands_of, fragment_at, piece_at as cut_piece}
 use Rattle.enet_link.specs.Link.{wired, wired_fragment}
 pub use Rattle.enet_link.specs.Image.{reliable_count}
@@ -22,11 +22,11 @@ reliable_count-append (d ∷ a) b =
     elim d.reliable as (λ r. cond r (reliable_count (a ++ b) + 1) (reliable_count (a ++ b)) ≡ cond r (reliable_count a + 1) (reliable_count a) + reliable_count b) [ true ↦ omega arith | false ↦ omega arith ]
 
 -- all commands of packets, so many reliable commands and unreliable packets having gone before
-abbrev pub all_from : ℕ → ℕ → ℕ → List Carried → List DataCommand
+abbrev pub all_from : ℕ → ℕ → ℕ → List ChosenPacket → List DataCommand
 all_from mtu number count [] = []
 all_from mtu number count (c ∷ cs) = commands_of unbounded mtu number count c ++ all_from mtu (if c.reliable then number + c.pieces else number) (if c.reliable then 0 else count + 1) cs
 
-pub all-append : (mtu number count : ℕ) (a b : List Carried) → all_from mtu number count (a ++ b) ≡ all_from mtu number count a ++ all_from mtu (number + command_count a) (count_after count a) b
+pub all-append : (mtu number count : ℕ) (a b : List ChosenPacket) → all_from mtu number count (a ++ b) ≡ all_from mtu number count a ++ all_from mtu (number + command_count a) (count_after count a) b
 all-append mtu number count [] b = ap (λ n. all_from mtu n count b) (let e : number ≡ number + 0 = omega arith in e)
 all-append mtu number count (c ∷ a) b =
     let n : ℕ = cond c.reliable (number + c.pieces) number in
@@ -39,14 +39,14 @@ all-append mtu number count (c ∷ a) b =
 abbrev raw : Bool → ℕ → ℕ → Option Fragment → List ℕ → DataCommand
 raw reliable number count fragment body = record { reliable = reliable; number = number; count = count; fragment = fragment; body = body }
 
-abbrev piece : ℕ → Carried → ℕ → ℕ → Fragment
+abbrev piece : ℕ → ChosenPacket → ℕ → ℕ → Fragment
 piece mtu c start i = fragment_at (piece_length mtu) c start i
 
-wired-fragment : (mtu start x : ℕ) (c : Carried) (i : ℕ) (r l : Bool) → x ≡ cond r (start % 65536) start → cond l (Some (piece mtu c x i)) None ≡ option_map (wired_fragment r) (cond l (Some (piece mtu c start i)) None)
+wired-fragment : (mtu start x : ℕ) (c : ChosenPacket) (i : ℕ) (r l : Bool) → x ≡ cond r (start % 65536) start → cond l (Some (piece mtu c x i)) None ≡ option_map (wired_fragment r) (cond l (Some (piece mtu c start i)) None)
 wired-fragment mtu start x c i r true e = ap (λ z. Some (piece mtu c z i)) e
 wired-fragment mtu start x c i r false e = refl
 
-wired-kind : (mtu number count : ℕ) (c : Carried) (i : ℕ) (r : Bool) → let body = cut_piece (piece_length mtu) c.packet.body i in
+wired-kind : (mtu number count : ℕ) (c : ChosenPacket) (i : ℕ) (r : Bool) → let body = cut_piece (piece_length mtu) c.packet.body i in
     let left : DataCommand = raw r (cond r ((number % 65536 + (i + 1)) % 65536) (number % 65536)) (cond r 0 (count + 1)) (cond (is_long mtu c.packet) (Some (piece mtu c (cond r ((number % 65536 + 1) % 65536) (count + 1)) i)) None) body in
     left ≡ wired (raw r (cond r (number + (i + 1)) number) (cond r 0 (count + 1)) (cond (is_long mtu c.packet) (Some (piece mtu c (cond r (number + 1) (count + 1)) i)) None) body)
 wired-kind mtu number count c i true =
@@ -58,21 +58,21 @@ wired-kind mtu number count c i false =
     let f = wired-fragment mtu (count + 1) (count + 1) c i false (is_long mtu c.packet) refl in
     (λ j. raw false (number % 65536) (count + 1) (f j) (cut_piece (piece_length mtu) c.packet.body i))
 
-wired-command : (mtu number count : ℕ) (c : Carried) (i : ℕ) → command_at wire mtu (number % 65536) count c i ≡ wired (command_at unbounded mtu number count c i)
+wired-command : (mtu number count : ℕ) (c : ChosenPacket) (i : ℕ) → command_at wire mtu (number % 65536) count c i ≡ wired (command_at unbounded mtu number count c i)
 wired-command mtu number count c i = wired-kind mtu number count c i c.reliable
 
-wired-range : (mtu number count : ℕ) (c : Carried) (is : List ℕ) → map (command_at wire mtu (number % 65536) count c) is ≡ map wired (map (command_at unbounded mtu number count c) is)
+wired-range : (mtu number count : ℕ) (c : ChosenPacket) (is : List ℕ) → map (command_at wire mtu (number % 65536) count c) is ≡ map wired (map (command_at unbounded mtu number count c) is)
 wired-range mtu number count c [] = refl
 wired-range mtu number count c (i ∷ is) = λ j. wired-command mtu number count c i j ∷ wired-range mtu number count c is j
 
-pub wired-commands : (mtu number count : ℕ) (c : Carried) → commands_of wire mtu (number % 65536) count c ≡ map wired (commands_of unbounded mtu number count c)
+pub wired-commands : (mtu number count : ℕ) (c : ChosenPacket) → commands_of wire mtu (number % 65536) count c ≡ map wired (commands_of unbounded mtu number count c)
 wired-commands mtu number count c = wired-range mtu number count c (range_with_len 0 c.pieces)
 
-abbrev range : ℕ → ℕ → ℕ → Carried → ℕ → ℕ → List DataCommand
+abbrev range : ℕ → ℕ → ℕ → ChosenPacket → ℕ → ℕ → List DataCommand
 range mtu number count c from len = map (command_at unbounded mtu number count c) (range_with_len from len)
 
 -- the command behind `before` is one of the range, or stands behind it
-record Inside (mtu number count : ℕ) (c : Carried) (from len : ℕ) (before : List DataCommand) (d : DataCommand) : Type 0 where
+record Inside (mtu number count : ℕ) (c : ChosenPacket) (from len : ℕ) (before : List DataCommand) (d : DataCommand) : Type 0 where
   place : ℕ
   low : place < len
   command : d ≡ command_at unbounded mtu number count c (from + place)
@@ -91,7 +91,7 @@ one_more_of : (r : Bool) (i : ℕ) → cond r (cond r i 0 + 1) (cond r i 0) ≡ 
 one_more_of true i = refl
 one_more_of false i = refl
 
-in_range : (mtu number count : ℕ) (c : Carried) (from len : ℕ) (before : List DataCommand) (d : DataCommand) (behind rest : List DataCommand) → range mtu number count c from len ++ rest ≡ before ++ d ∷ behind
+in_range : (mtu number count : ℕ) (c : ChosenPacket) (from len : ℕ) (before : List DataCommand) (d : DataCommand) (behind rest : List DataCommand) → range mtu number count c from len ++ rest ≡ before ++ d ∷ behind
     → Inside mtu number count c from len before d ⊎ Beyond (range mtu number count c from len) before d behind rest
 in_range mtu number count c from zero before d behind rest e = inr (record { more = before; before_is = refl; rest_is = e })
 in_range mtu number count c from (suc len) [] d behind rest e =
@@ -113,18 +113,18 @@ in_range mtu number count c from (suc len) (x ∷ before) d behind rest e =
       | inr w ↦ inr (record { more = w.more; before_is = (λ j. sym same j ∷ w.before_is j); rest_is = w.rest_is })
     ]
 
-pub reliable_count-range : (mtu number count : ℕ) (c : Carried) (from len : ℕ) → reliable_count (range mtu number count c from len) ≡ cond c.reliable len 0
+pub reliable_count-range : (mtu number count : ℕ) (c : ChosenPacket) (from len : ℕ) → reliable_count (range mtu number count c from len) ≡ cond c.reliable len 0
 reliable_count-range mtu number count c from zero = none_of c.reliable
 reliable_count-range mtu number count c from (suc len) =
     let e : len + 1 ≡ suc len = omega arith in
     ap (λ k. cond c.reliable (k + 1) k) (reliable_count-range mtu number count c (from + 1) len) ∙ one_more_of c.reliable len ∙ ap (λ k. cond c.reliable k 0) e
 
 -- the command that stands behind some of all commands
-pub record Next (mtu : ℕ) (cs : List Carried) (before : List DataCommand) (d : DataCommand) : Type 0 where
+pub record Next (mtu : ℕ) (cs : List ChosenPacket) (before : List DataCommand) (d : DataCommand) : Type 0 where
   pub piece : IsPieceOf mtu cs d
   pub number : d.number ≡ cond d.reliable (reliable_count before + 1) (reliable_count before)
 
-all_next : (mtu : ℕ) (gone left : List Carried) (before : List DataCommand) (d : DataCommand) (behind : List DataCommand) → ((c : Carried) → Has left c → IsPlain mtu c)
+all_next : (mtu : ℕ) (gone left : List ChosenPacket) (before : List DataCommand) (d : DataCommand) (behind : List DataCommand) → ((c : ChosenPacket) → Has left c → IsPlain mtu c)
     → all_from mtu (command_count gone) (count_after 0 gone) left ≡ before ++ d ∷ behind
     → IsPieceOf mtu (gone ++ left) d × (d.number ≡ cond d.reliable (command_count gone + reliable_count before + 1) (command_count gone + reliable_count before))
 all_next mtu gone [] [] d behind plain e = absurd (cc)
@@ -173,7 +173,7 @@ all_next mtu gone (c ∷ left) before d behind plain e =
     total true m a b e f = omega arith
     total false m a b e f = omega arith
 
-pub next_command : (mtu : ℕ) (cs : List Carried) (before : List DataCommand) (d : DataCommand) (behind : List DataCommand) → ((c : Carried) → Has cs c → IsPlain mtu c) → all_from mtu 0 0 cs ≡ before ++ d ∷ behind → Next mtu cs before d
+pub next_command : (mtu : ℕ) (cs : List ChosenPacket) (before : List DataCommand) (d : DataCommand) (behind : List DataCommand) → ((c : ChosenPacket) → Has cs c → IsPlain mtu c) → all_from mtu 0 0 cs ≡ before ++ d ∷ behind → Next mtu cs before d
 next_command mtu cs before d behind plain e =
     let both = all_next mtu [] cs before d behind plain e in
     let z : 0 + reliable_count before ≡ reliable_count before = omega arith in

@@ -6,14 +6,14 @@ use Rattle.enet_seq.specs.Numbering.{unbounded}
 use Rattle.enet_fragment.specs.Cutting.{piece_length}
 use Rattle.enet_fragment.specs.DataCommand.{data_of, message_of}
 use Rattle.enet_fragment.specs.declared.data.DataCommand.{DataCommand}
-use Rattle.enet_sender.specs.Carriage.{Carried, is_long}
+use Rattle.enet_sender.specs.CommandChoice.{ChosenPacket, is_long}
 use Rattle.enet_sender.specs.Sender.{command_at, commands_of, fragment_at, piece_at as cut_piece}
 use Rattle.enet_link.specs.Link.{wired, wired_fragment}
 use Rattle.enet_link.specs.Meant.{IsPieceOf, IsReadAsItself}
 use Rattle.enet_link.proofs.Lists.{Has}
 
 -- command i of a packet on the wire, reliable or not, long or not
-abbrev on_wire : ℕ → ℕ → ℕ → Carried → ℕ → Bool → Bool → DataCommand
+abbrev on_wire : ℕ → ℕ → ℕ → ChosenPacket → ℕ → Bool → Bool → DataCommand
 on_wire mtu number count c i r l = record {
   reliable = r;
   number = cond r (number + (i + 1)) number % 65536;
@@ -22,7 +22,7 @@ on_wire mtu number count c i r l = record {
   body = cut_piece (piece_length mtu) c.packet.body i;
 }
 
-reads-command : (mtu number count : ℕ) (c : Carried) (i : ℕ) → IsReadAsItself (wired (command_at unbounded mtu number count c i))
+reads-command : (mtu number count : ℕ) (c : ChosenPacket) (i : ℕ) → IsReadAsItself (wired (command_at unbounded mtu number count c i))
 reads-command mtu number count c i channel = go c.reliable (is_long mtu c.packet)
   where
     go : (r l : Bool) → data_of (message_of channel (on_wire mtu number count c i r l)) ≡ Some (on_wire mtu number count c i r l)
@@ -32,7 +32,7 @@ reads-command mtu number count c i channel = go c.reliable (is_long mtu c.packet
     go false false = refl
 
 -- each command of a packet
-pub reads-commands : (mtu number count : ℕ) (c : Carried) (d : DataCommand) → Has (commands_of unbounded mtu number count c) d → IsReadAsItself (wired d)
+pub reads-commands : (mtu number count : ℕ) (c : ChosenPacket) (d : DataCommand) → Has (commands_of unbounded mtu number count c) d → IsReadAsItself (wired d)
 reads-commands mtu number count c d h = go (range_with_len 0 c.pieces) h
   where
     go : (is : List ℕ) → Has (map (command_at unbounded mtu number count c) is) d → IsReadAsItself (wired d)
@@ -40,5 +40,5 @@ reads-commands mtu number count c d h = go (range_with_len 0 c.pieces) h
     go (i ∷ is) (inl e) = subst (λ (x : DataCommand). IsReadAsItself (wired x)) e (reads-command mtu number count c i)
     go (i ∷ is) (inr h) = go is h
 
-pub reads-piece : (mtu : ℕ) (cs : List Carried) (d : DataCommand) → IsPieceOf mtu cs d → IsReadAsItself (wired d)
+pub reads-piece : (mtu : ℕ) (cs : List ChosenPacket) (d : DataCommand) → IsPieceOf mtu cs d → IsReadAsItself (wired d)
 reads-piece mtu cs d p = subst (λ (x : DataCommand). IsReadAsItself (wired x)) (sym p.command) (reads-command mtu p.number p.count p.packet p.index)

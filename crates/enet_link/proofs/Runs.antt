@@ -5,11 +5,11 @@ use Rattle.std.specs.Ordering.{nat_cmp}
 use Rattle.std.specs.FinMap.{FinMap, empty, get, get-empty}
 use Rattle.enet_seq.specs.Numbering.{wire, unbounded}
 use Rattle.enet_fragment.specs.declared.data.DataCommand.{DataCommand}
-use Rattle.enet_packets.specs.declared.coming.Coming.{Coming}
+use Rattle.enet_packets.specs.declared.incoming_packet.IncomingPacket.{IncomingPacket}
 use Rattle.enet_packets.specs.Packets.{line_at}
 use Rattle.enet_receiver.specs.Receiver.{nothing_received}
-use Rattle.enet_receiver.specs.Reception.{outcome, is_handled, place_read}
-use Rattle.enet_sender.specs.Carriage.{Carried}
+use Rattle.enet_receiver.specs.DataOutcome.{outcome, is_handled, place_read}
+use Rattle.enet_sender.specs.CommandChoice.{ChosenPacket}
 use Rattle.enet_sender.specs.declared.sent.Sent.{Sent}
 use Rattle.enet_link.specs.Link.{PutOut, is_late, number_below}
 use Rattle.enet_link.specs.WireLink.{WireLink}
@@ -26,7 +26,7 @@ use Rattle.enet_link.proofs.SoundSender.{Sound-submits, Sound-sends, Sound-drops
 use Rattle.enet_link.proofs.Sound.{Sound-puts_out, Sound-arrives, Sound-arrives_answered, Sound-logs_answer, Sound-answered, Sound-stops_sending, Sound-stops_receiving, Sound-drops_answers}
 use Rattle.enet_link.specs.Follows.{Follows}
 
-nothing_at : (n : ℕ) → get (empty {X = Coming} {R = nat_cmp}) n ≡ None
+nothing_at : (n : ℕ) → get (empty {X = IncomingPacket} {R = nat_cmp}) n ≡ None
 nothing_at n = get-empty nat_cmp n
 
 pub Sound-fresh : (mtu : ℕ) → Sound mtu fresh_link
@@ -46,8 +46,8 @@ Sound-fresh mtu = record {
   ready = record {
     cut = λ c h. absurd h;
     held = λ n e h. absurd (let f = nothing_at n in cc);
-    waiting = λ n k e h. absurd (let f : get (empty {X = FinMap nat_cmp Coming} {R = nat_cmp}) n ≡ None = get-empty nat_cmp n in
-        let g : get (line_at nothing_received.waiting n) k ≡ None = ap (λ (o : Option (FinMap nat_cmp Coming)). get (unwrap_or o empty) k) f ∙ nothing_at k in (let x : Some e ≡ None = sym h ∙ g in cc));
+    waiting = λ n k e h. absurd (let f : get (empty {X = FinMap nat_cmp IncomingPacket} {R = nat_cmp}) n ≡ None = get-empty nat_cmp n in
+        let g : get (line_at nothing_received.waiting n) k ≡ None = ap (λ (o : Option (FinMap nat_cmp IncomingPacket)). get (unwrap_or o empty) k) f ∙ nothing_at k in (let x : Some e ≡ None = sym h ∙ g in cc));
     passed = record { passed = []; left = []; whole = refl; consumed = refl; count = refl; last = refl };
   };
   shows = record {
@@ -94,7 +94,7 @@ Sound-runs mtu [] v w big s h = subst (λ x. Sound mtu x) h s
 Sound-runs mtu (e ∷ es) v w big s h = Sound-runs mtu es h.0 w big (Sound-happens mtu e v h.0 big s h.1) h.2
 
 -- the numbers of what is sent
-sent_numbers : (mtu : ℕ) (cs : List Carried) (ns : List ℕ) (sent : List Sent) → Images mtu cs ns sent → map (λ (p : Sent). p.command.number) sent ≡ map (λ n. n % 65536) ns
+sent_numbers : (mtu : ℕ) (cs : List ChosenPacket) (ns : List ℕ) (sent : List Sent) → Images mtu cs ns sent → map (λ (p : Sent). p.command.number) sent ≡ map (λ n. n % 65536) ns
 sent_numbers mtu cs [] [] h = refl
 sent_numbers mtu cs [] (p ∷ sent) h = absurd h
 sent_numbers mtu cs (n ∷ ns) [] h = absurd h

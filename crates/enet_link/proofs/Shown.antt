@@ -2,8 +2,8 @@
 use Rattle.std.proofs.Common.{◌≡◌, ℕ, ◌+◌, ◌%◌, ◌≤◌, true, false, List, [], ◌∷◌, ◌++◌, map, sym, ap, subst, ◌∙◌, ◌⊎◌}
 use Rattle.std.proofs.lemmas.List.{map-append}
 use Rattle.enet_fragment.specs.declared.data.DataCommand.{DataCommand}
-use Rattle.enet_packets.specs.declared.coming.Dispatched.{Dispatched}
-use Rattle.enet_sender.specs.Carriage.{Carried, carried}
+use Rattle.enet_packets.specs.declared.incoming_packet.Dispatched.{Dispatched}
+use Rattle.enet_sender.specs.CommandChoice.{ChosenPacket, carried}
 use Rattle.enet_sender.specs.Sender.{Sender}
 use Rattle.enet_sender.specs.declared.sent.Sent.{Sent}
 use Rattle.enet_link.specs.Follows.{command_count, count_after, Follows, FollowsCarried}
@@ -19,7 +19,7 @@ use Rattle.enet_link.proofs.LinkLemmas.{Numbers}
 use Rattle.enet_link.proofs.QueueLemmas.{reliable_count, all_from}
 
 -- the queue has the commands of what was submitted that didn't go
-pub record Queues (mtu : ℕ) (cs : List Carried) (sent : ℕ) (o : Sender) : Type 0 where
+pub record Queues (mtu : ℕ) (cs : List ChosenPacket) (sent : ℕ) (o : Sender) : Type 0 where
   pub gone : List DataCommand
   pub left : List DataCommand
   pub whole : all_from mtu 0 0 cs ≡ gone ++ left
@@ -29,14 +29,14 @@ pub record Queues (mtu : ℕ) (cs : List Carried) (sent : ℕ) (o : Sender) : Ty
   pub unreliable : o.unreliable ≡ count_after 0 cs
 
 -- a sent command is the one of this number
-pub record ImageOf (mtu : ℕ) (cs : List Carried) (n : ℕ) (p : Sent) : Type 0 where
+pub record ImageOf (mtu : ℕ) (cs : List ChosenPacket) (n : ℕ) (p : Sent) : Type 0 where
   pub meant : DataCommand
   pub piece : IsPieceOf mtu cs meant
   pub reliable : meant.reliable ≡ true
   pub number : meant.number ≡ n
   pub command : p.command ≡ wired meant
 
-abbrev pub Images : ℕ → List Carried → List ℕ → List Sent → Type 0
+abbrev pub Images : ℕ → List ChosenPacket → List ℕ → List Sent → Type 0
 Images mtu cs [] [] = Unit {0}
 Images mtu cs [] (p ∷ sent) = ⊥
 Images mtu cs (n ∷ ns) [] = ⊥
@@ -58,7 +58,7 @@ pub record Logged (l : Link) (e : PutOut) : Type 0 where
 
 pub record Shows (mtu : ℕ) (v : WireLink) (l : Link) : Type 0 where
   pub carried : l.carried ≡ carried mtu v.submitted
-  pub plain : (c : Carried) → Has l.carried c → IsPlain mtu c
+  pub plain : (c : ChosenPacket) → Has l.carried c → IsPlain mtu c
   pub greatest : v.greatest ≡ l.sent
   pub is_open : v.is_open ≡ l.is_open
   pub queues : v.is_sending ≡ true → Queues mtu l.carried l.sent v.outgoing
@@ -83,7 +83,7 @@ pub Sound-follows : (mtu : ℕ) (v : WireLink) → Sound mtu v → Follows mtu v
 Sound-follows mtu v s =
     let p = s.ready.passed in
     let d = s.shows.dispatched in
-    let all : FollowsCarried s.link.carried (bodies_of s.link.receiver.dispatched) = subst (λ (x : List Carried). FollowsCarried x (bodies_of s.link.receiver.dispatched)) (sym p.whole) (Follows-consumed p.passed p.left (bodies_of s.link.receiver.dispatched) p.consumed) in
+    let all : FollowsCarried s.link.carried (bodies_of s.link.receiver.dispatched) = subst (λ (x : List ChosenPacket). FollowsCarried x (bodies_of s.link.receiver.dispatched)) (sym p.whole) (Follows-consumed p.passed p.left (bodies_of s.link.receiver.dispatched) p.consumed) in
     let split : bodies_of s.link.receiver.dispatched ≡ bodies_of v.incoming.dispatched ++ bodies_of d.0 = ap bodies_of d.1 ∙ map-append (λ (x : Dispatched). x.body) v.incoming.dispatched d.0 in
     let part : FollowsCarried s.link.carried (bodies_of v.incoming.dispatched) = Follows-front s.link.carried (bodies_of v.incoming.dispatched) (bodies_of d.0) (subst (λ (x : List (List ℕ)). FollowsCarried s.link.carried x) split all) in
-    subst (λ (x : List Carried). FollowsCarried x (bodies_of v.incoming.dispatched)) s.shows.carried part
+    subst (λ (x : List ChosenPacket). FollowsCarried x (bodies_of v.incoming.dispatched)) s.shows.carried part

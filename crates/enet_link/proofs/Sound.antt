@@ -6,10 +6,10 @@ use Rattle.std.specs.List.{filter}
 use Rattle.enet_seq.specs.Numbering.{wire, unbounded}
 use Rattle.enet_fragment.specs.declared.data.DataCommand.{DataCommand}
 use Rattle.enet_fragment.specs.DataCommand.{piece_of}
-use Rattle.enet_packets.specs.declared.coming.Dispatched.{Dispatched}
+use Rattle.enet_packets.specs.declared.incoming_packet.Dispatched.{Dispatched}
 use Rattle.enet_receiver.specs.Receiver.{Receiver}
-use Rattle.enet_receiver.specs.Reception.{received, outcome, is_handled}
-use Rattle.enet_sender.specs.Carriage.{Carried}
+use Rattle.enet_receiver.specs.DataOutcome.{received, outcome, is_handled}
+use Rattle.enet_sender.specs.CommandChoice.{ChosenPacket}
 use Rattle.enet_sender.specs.Sender.{Sender, place_of, without_place}
 use Rattle.enet_sender.specs.declared.sent.Sent.{Sent}
 use Rattle.enet_link.specs.Link.{Link, PutOut, Answer, accept, send, put_out, takes_in, queue_answer, put_answer, closed, wired}
@@ -82,7 +82,7 @@ Sound-puts_out mtu v s = go v.making v s refl
 map_push : (as' : List Answer) (a : Answer) → map (λ (x : Answer). x.number % 65536) (as' ++ a ∷ []) ≡ map (λ (x : Answer). x.number % 65536) as' ++ (a.number % 65536) ∷ []
 map_push as' a = map-append (λ (x : Answer). x.number % 65536) as' (a ∷ [])
 
-wired-start : (mtu : ℕ) (cs : List Carried) (d : DataCommand) → IsPieceOf mtu cs d → (wired d).reliable ≡ true → (piece_of (wired d)).start < 65536
+wired-start : (mtu : ℕ) (cs : List ChosenPacket) (d : DataCommand) → IsPieceOf mtu cs d → (wired d).reliable ≡ true → (piece_of (wired d)).start < 65536
 wired-start mtu cs d p t =
     let sd = says mtu cs d p in
     let e = sd.start (sym sd.reliable ∙ t) in
@@ -236,7 +236,7 @@ abbrev Near : ℕ → List ℕ → Type 0
 Near last ns = (m : ℕ) → Has ns m → (m ≤ last) × (last < m + 8192)
 
 -- the one sent command of a wire number goes
-Images-without : (mtu last : ℕ) (cs : List Carried) (ns : List ℕ) (sent : List Sent) (w : ℕ) → IsRising ns → Near last ns → Images mtu cs ns sent → Images mtu cs (filter (λ m. not (m % 65536 == w)) ns) (drop_first (λ (p : Sent). p.command.number == w) sent)
+Images-without : (mtu last : ℕ) (cs : List ChosenPacket) (ns : List ℕ) (sent : List Sent) (w : ℕ) → IsRising ns → Near last ns → Images mtu cs ns sent → Images mtu cs (filter (λ m. not (m % 65536 == w)) ns) (drop_first (λ (p : Sent). p.command.number == w) sent)
 Images-without mtu last cs [] [] w r near i = tt
 Images-without mtu last cs [] (c ∷ sent) w r near i = absurd i
 Images-without mtu last cs (n ∷ ns) [] w r near i = absurd i

@@ -12,7 +12,7 @@ use Rattle.enet_fragment.specs.Cutting.{piece_length, piece_count}
 use Rattle.enet_fragment.proofs.Cuts.{piece_count-enough}
 use Rattle.enet_fragment.specs.declared.data.DataCommand.{DataCommand}
 use Rattle.enet_receiver.specs.Receiver.{Receiver}
-use Rattle.enet_sender.specs.Carriage.{Packet, Carried, carried, carried_from, carried_as, goes_reliable}
+use Rattle.enet_sender.specs.CommandChoice.{Packet, ChosenPacket, carried, carried_from, carried_as, goes_reliable}
 use Rattle.enet_sender.specs.Sender.{Sender, Next, commands_of, with_queued, again, begun, is_in_span, may_go, resent, first_sent, next_queued, next_resent, next_of, next, is_more, skipped, with_skipped, marked}
 use Rattle.enet_sender.specs.declared.sent.Sent.{Sent}
 use Rattle.enet_link.specs.Follows.{command_count, count_after}
@@ -62,11 +62,11 @@ IsPlain-carried mtu count p short = one_piece (length p.body) mtu short
 
 carried-push : (mtu count : ℕ) (ps : List Packet) (p : Packet) → carried_from mtu count (ps ++ p ∷ []) ≡ carried_from mtu count ps ++ carried_as mtu (count_after count (carried_from mtu count ps)) p ∷ []
 carried-push mtu count [] p = refl
-carried-push mtu count (x ∷ ps) p = ap (λ (l : List Carried). carried_as mtu count x ∷ l) (carried-push mtu (cond (goes_reliable mtu count x) 0 (count + 1)) ps p)
+carried-push mtu count (x ∷ ps) p = ap (λ (l : List ChosenPacket). carried_as mtu count x ∷ l) (carried-push mtu (cond (goes_reliable mtu count x) 0 (count + 1)) ps p)
 
 -- a packet is submitted
 
-Queues-submit : (mtu : ℕ) (cs : List Carried) (sent : ℕ) (o : Sender) (c : Carried) → Queues mtu cs sent o → Queues mtu (cs ++ c ∷ []) sent (with_queued wire mtu o c)
+Queues-submit : (mtu : ℕ) (cs : List ChosenPacket) (sent : ℕ) (o : Sender) (c : ChosenPacket) → Queues mtu cs sent o → Queues mtu (cs ++ c ∷ []) sent (with_queued wire mtu o c)
 Queues-submit mtu cs sent o c q =
     let new : List DataCommand = commands_of unbounded mtu (command_count cs) (count_after 0 cs) c in
     let on : commands_of wire mtu o.number o.unreliable c ≡ map wired new = (λ i. commands_of wire mtu (q.number i) (q.unreliable i) c) ∙ wired-commands mtu (command_count cs) (count_after 0 cs) c in
@@ -89,16 +89,16 @@ Queues-submit mtu cs sent o c q =
     last true = omega arith
     last false = omega arith
 
-ImageOf-more : (mtu : ℕ) (cs : List Carried) (x : Carried) (n : ℕ) (p : Sent) → ImageOf mtu cs n p → ImageOf mtu (cs ++ x ∷ []) n p
+ImageOf-more : (mtu : ℕ) (cs : List ChosenPacket) (x : ChosenPacket) (n : ℕ) (p : Sent) → ImageOf mtu cs n p → ImageOf mtu (cs ++ x ∷ []) n p
 ImageOf-more mtu cs x n p h = record { meant = h.meant; piece = IsPieceOf-more mtu cs x h.meant h.piece; reliable = h.reliable; number = h.number; command = h.command }
 
-Images-more : (mtu : ℕ) (cs : List Carried) (x : Carried) (ns : List ℕ) (sent : List Sent) → Images mtu cs ns sent → Images mtu (cs ++ x ∷ []) ns sent
+Images-more : (mtu : ℕ) (cs : List ChosenPacket) (x : ChosenPacket) (ns : List ℕ) (sent : List Sent) → Images mtu cs ns sent → Images mtu (cs ++ x ∷ []) ns sent
 Images-more mtu cs x [] [] h = tt
 Images-more mtu cs x [] (c ∷ sent) h = absurd h
 Images-more mtu cs x (n ∷ ns) [] h = absurd h
 Images-more mtu cs x (n ∷ ns) (c ∷ sent) h = (ImageOf-more mtu cs x n c h.0, Images-more mtu cs x ns sent h.1)
 
-Ready-accept : (mtu : ℕ) (cs : List Carried) (x : Carried) (r : Receiver) → IsCut mtu x → Ready mtu cs r → Ready mtu (cs ++ x ∷ []) r
+Ready-accept : (mtu : ℕ) (cs : List ChosenPacket) (x : ChosenPacket) (r : Receiver) → IsCut mtu x → Ready mtu cs r → Ready mtu (cs ++ x ∷ []) r
 Ready-accept mtu cs x r cut k = record {
   cut = λ c h. elim (Has-push_cases cs x c h) [ inl old ↦ k.cut c old | inr is ↦ subst (λ y. IsCut mtu y) is cut ];
   held = λ n e t. let h = k.held n e t in record { packet = h.packet; number = h.number; count = h.count; place = h.place; stands = more h.number h.count h.packet h.stands; reliable = h.reliable; matches = h.matches; begun = h.begun };
@@ -106,10 +106,10 @@ Ready-accept mtu cs x r cut k = record {
   passed = let p = k.passed in record { passed = p.passed; left = p.left ++ x ∷ []; whole = ap (λ l. l ++ x ∷ []) p.whole ∙ append_assoc p.passed p.left (x ∷ []); consumed = p.consumed; count = p.count; last = p.last };
 }
   where
-    more : (n k : ℕ) (c : Carried) → Stands cs n k c → Stands (cs ++ x ∷ []) n k c
+    more : (n k : ℕ) (c : ChosenPacket) → Stands cs n k c → Stands (cs ++ x ∷ []) n k c
     more n k c w = record { before = w.before; behind = w.behind ++ x ∷ []; number_is = w.number_is; count_is = w.count_is; whole = ap (λ l. l ++ x ∷ []) w.whole ∙ append_assoc w.before (c ∷ w.behind) (x ∷ []) }
 
-Pending-more : (mtu : ℕ) (l : Link) (x : Carried) (c : DataCommand) → Pending mtu l c → Pending mtu (accept l x) c
+Pending-more : (mtu : ℕ) (l : Link) (x : ChosenPacket) (c : DataCommand) → Pending mtu l c → Pending mtu (accept l x) c
 Pending-more mtu l x c k = record { meant = k.meant; piece = IsPieceOf-more mtu l.carried x k.meant k.piece; command = k.command; reliable = k.reliable; unreliable = k.unreliable }
 
 pub Sound-submits : (mtu : ℕ) (v : WireLink) (p : Packet) → 28 < mtu → Sound mtu v → v.is_sending ≡ true → (carried_as mtu v.outgoing.unreliable p).pieces ≤ 16384 → Sound mtu (submits mtu v p)
@@ -117,13 +117,13 @@ Sound-submits mtu v p big s sending few =
     let l = s.link in
     let h = s.shows in
     let q = h.queues sending in
-    let c : Carried = carried_as mtu v.outgoing.unreliable p in
+    let c : ChosenPacket = carried_as mtu v.outgoing.unreliable p in
     record {
       link = accept l c;
       numbers = Numbers-accept l c s.numbers;
       ready = Ready-accept mtu l.carried c l.receiver (IsCut-carried mtu v.outgoing.unreliable p big few) s.ready;
       shows = record {
-        carried = ap (λ (x : List Carried). x ++ c ∷ []) h.carried
+        carried = ap (λ (x : List ChosenPacket). x ++ c ∷ []) h.carried
             ∙ ap (λ n. carried mtu v.submitted ++ carried_as mtu n p ∷ []) (q.unreliable ∙ ap (count_after 0) h.carried)
             ∙ sym (carried-push mtu 0 v.submitted p);
         plain = λ x t. elim (Has-push_cases l.carried c x t) [ inl old ↦ h.plain x old | inr is ↦ subst (λ y. IsPlain mtu y) is (IsPlain-carried mtu v.outgoing.unreliable p) ];
@@ -181,7 +181,7 @@ next_cases now timeout transit most o n e = go (position (λ (p : Sent). p.trans
     go (Some i) k = from_sent i (slice_get o.sent i) refl k
 
 -- the head of the queue is the next of all commands
-record Heads (mtu : ℕ) (cs : List Carried) (sent : ℕ) (o : Sender) (c : DataCommand) (rest : List DataCommand) : Type 0 where
+record Heads (mtu : ℕ) (cs : List ChosenPacket) (sent : ℕ) (o : Sender) (c : DataCommand) (rest : List DataCommand) : Type 0 where
   meant : DataCommand
   gone : List DataCommand
   left : List DataCommand
@@ -194,7 +194,7 @@ record Heads (mtu : ℕ) (cs : List Carried) (sent : ℕ) (o : Sender) (c : Data
   last : o.number ≡ command_count cs % 65536
   unreliable : o.unreliable ≡ count_after 0 cs
 
-Heads-from : (mtu : ℕ) (cs : List Carried) (sent : ℕ) (o : Sender) (c : DataCommand) (rest : List DataCommand) → ((x : Carried) → Has cs x → IsPlain mtu x) → o.queued ≡ c ∷ rest → Queues mtu cs sent o → Heads mtu cs sent o c rest
+Heads-from : (mtu : ℕ) (cs : List ChosenPacket) (sent : ℕ) (o : Sender) (c : DataCommand) (rest : List DataCommand) → ((x : ChosenPacket) → Has cs x → IsPlain mtu x) → o.queued ≡ c ∷ rest → Queues mtu cs sent o → Heads mtu cs sent o c rest
 Heads-from mtu cs sent o c rest plain e q = go q.left q.whole (sym e ∙ q.queued)
   where
     go : (left : List DataCommand) → all_from mtu 0 0 cs ≡ q.gone ++ left → c ∷ rest ≡ map wired left → Heads mtu cs sent o c rest
@@ -216,7 +216,7 @@ Heads-from mtu cs sent o c rest plain e q = go q.left q.whole (sym e ∙ q.queue
         }
 
 -- the queue after its head went
-Queues-sent : (mtu : ℕ) (cs : List Carried) (sent : ℕ) (o : Sender) (c : DataCommand) (rest : List DataCommand) (sent' : List Sent) (h : Heads mtu cs sent o c rest)
+Queues-sent : (mtu : ℕ) (cs : List ChosenPacket) (sent : ℕ) (o : Sender) (c : DataCommand) (rest : List DataCommand) (sent' : List Sent) (h : Heads mtu cs sent o c rest)
     → Queues mtu cs (cond h.meant.reliable (sent + 1) sent) (record o { queued = rest; sent = sent' })
 Queues-sent mtu cs sent o c rest sent' h = record {
   gone = h.gone ++ h.meant ∷ [];
@@ -232,14 +232,14 @@ Queues-sent mtu cs sent o c rest sent' h = record {
     last true = omega arith
     last false = omega arith
 
-Images-push : (mtu : ℕ) (cs : List Carried) (ns : List ℕ) (sent : List Sent) (n : ℕ) (p : Sent) → Images mtu cs ns sent → ImageOf mtu cs n p → Images mtu cs (ns ++ n ∷ []) (sent ++ p ∷ [])
+Images-push : (mtu : ℕ) (cs : List ChosenPacket) (ns : List ℕ) (sent : List Sent) (n : ℕ) (p : Sent) → Images mtu cs ns sent → ImageOf mtu cs n p → Images mtu cs (ns ++ n ∷ []) (sent ++ p ∷ [])
 Images-push mtu cs [] [] n p h i = (i, tt)
 Images-push mtu cs [] (d ∷ sent) n p h i = absurd h
 Images-push mtu cs (m ∷ ns) [] n p h i = absurd h
 Images-push mtu cs (m ∷ ns) (d ∷ sent) n p h i = (h.0, Images-push mtu cs ns sent n p h.1 i)
 
 -- the span's test of the oldest is that of all
-room_from : (mtu : ℕ) (cs : List Carried) (ns : List ℕ) (sent : List Sent) (number last : ℕ) → Images mtu cs ns sent → IsRising ns → ((m : ℕ) → Has ns m → (m ≤ last) × (last < m + 8192)) → number ≡ (last + 1) % 65536 → is_in_span wire sent number ≡ true
+room_from : (mtu : ℕ) (cs : List ChosenPacket) (ns : List ℕ) (sent : List Sent) (number last : ℕ) → Images mtu cs ns sent → IsRising ns → ((m : ℕ) → Has ns m → (m ≤ last) × (last < m + 8192)) → number ≡ (last + 1) % 65536 → is_in_span wire sent number ≡ true
     → (m : ℕ) → Has ns m → last + 1 < m + 8192
 room_from mtu cs [] sent number last i r b e t m h = absurd h
 room_from mtu cs (n ∷ ns) [] number last i r b e t m h = absurd i
@@ -258,7 +258,7 @@ room_from mtu cs (n ∷ ns) (p ∷ sent) number last i r b e t m h =
     below : (p q : ℕ) → nat_lt p q ≡ true → p < q
     below p q x = grind (arith, nat_tests)
 
-Images-has : (mtu : ℕ) (cs : List Carried) (ns : List ℕ) (sent : List Sent) (p : Sent) → Images mtu cs ns sent → Has sent p → (n : ℕ) × Has ns n × ImageOf mtu cs n p
+Images-has : (mtu : ℕ) (cs : List ChosenPacket) (ns : List ℕ) (sent : List Sent) (p : Sent) → Images mtu cs ns sent → Has sent p → (n : ℕ) × Has ns n × ImageOf mtu cs n p
 Images-has mtu cs [] [] p i h = absurd h
 Images-has mtu cs [] (d ∷ sent) p i h = absurd i
 Images-has mtu cs (n ∷ ns) [] p i h = absurd h
@@ -266,7 +266,7 @@ Images-has mtu cs (n ∷ ns) (d ∷ sent) p i (inl e) = subst (λ (x : Sent). (m
 Images-has mtu cs (n ∷ ns) (d ∷ sent) p i (inr h) = let k = Images-has mtu cs ns sent p i.1 h in (k.0, inr k.1, k.2)
 
 -- a sent command is replaced by one that says the same
-Images-set : (mtu : ℕ) (cs : List Carried) (ns : List ℕ) (sent : List Sent) (i : ℕ) (p q : Sent) → Images mtu cs ns sent → slice_get sent i ≡ Some p → q.command ≡ p.command → Images mtu cs ns (slice_set sent i q)
+Images-set : (mtu : ℕ) (cs : List ChosenPacket) (ns : List ℕ) (sent : List Sent) (i : ℕ) (p q : Sent) → Images mtu cs ns sent → slice_get sent i ≡ Some p → q.command ≡ p.command → Images mtu cs ns (slice_set sent i q)
 Images-set mtu cs [] [] i p q h t e = absurd (cc)
 Images-set mtu cs [] (d ∷ sent) i p q h t e = absurd h
 Images-set mtu cs (n ∷ ns) [] i p q h t e = absurd h
@@ -276,7 +276,7 @@ Images-set mtu cs (n ∷ ns) (d ∷ sent) zero p q h t e =
     (record { meant = im.meant; piece = im.piece; reliable = im.reliable; number = im.number; command = e ∙ ap (λ (x : Sent). x.command) (sym same) ∙ im.command }, h.1)
 Images-set mtu cs (n ∷ ns) (d ∷ sent) (suc i) p q h t e = (h.0, Images-set mtu cs ns sent i p q h.1 t e)
 
-Images-map : (mtu : ℕ) (cs : List Carried) (ns : List ℕ) (sent : List Sent) (f : Sent → Sent) → ((p : Sent) → (f p).command ≡ p.command) → Images mtu cs ns sent → Images mtu cs ns (map f sent)
+Images-map : (mtu : ℕ) (cs : List ChosenPacket) (ns : List ℕ) (sent : List Sent) (f : Sent → Sent) → ((p : Sent) → (f p).command ≡ p.command) → Images mtu cs ns sent → Images mtu cs ns (map f sent)
 Images-map mtu cs [] [] f e h = tt
 Images-map mtu cs [] (p ∷ sent) f e h = absurd h
 Images-map mtu cs (n ∷ ns) [] f e h = absurd h

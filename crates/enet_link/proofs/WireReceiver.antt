@@ -11,12 +11,12 @@ use Rattle.enet_seq.specs.Numbering.{Numbering, wire, unbounded, number_read, st
 use Rattle.enet_fragment.specs.Whole.{is_whole}
 use Rattle.enet_fragment.specs.declared.data.DataCommand.{DataCommand}
 use Rattle.enet_fragment.specs.DataCommand.{piece_of, place_in_packet}
-use Rattle.enet_fragment.specs.Making.{nothing_yet}
+use Rattle.enet_fragment.specs.PartialPacket.{nothing_yet}
 use Rattle.enet_fragment.proofs.Places.{Sound-from_test}
-use Rattle.enet_fragment.specs.Making.{count_of}
-use Rattle.enet_packets.specs.declared.coming.Coming.{Coming}
+use Rattle.enet_fragment.specs.PartialPacket.{count_of}
+use Rattle.enet_packets.specs.declared.incoming_packet.IncomingPacket.{IncomingPacket}
 use Rattle.enet_packets.specs.Packets.{line_at, with_line, fresh, last_fresh, handed_out}
-use Rattle.enet_receiver.specs.Reception.{is_piece, place_read, came_at, agrees_with, came, is_behind, outcome_of, outcome_at, outcome, earlier_or_new, with_more, with_added, added_at, received_with, received, is_handled, acknowledged, dispatch_count}
+use Rattle.enet_receiver.specs.DataOutcome.{is_piece, place_read, came_at, agrees_with, came, is_behind, outcome_of, outcome_at, outcome, earlier_or_new, with_more, with_added, added_at, received_with, received, is_handled, acknowledged, dispatch_count}
 use Rattle.enet_receiver.specs.declared.took.Took.TheVariants.{Memory, Bad, Outside, Again, Waiting, Held}
 use Rattle.enet_receiver.specs.Receiver.{Receiver, nothing_received, cleared, flushed_from, flushed, without, with_passed, with_dispatched, next_whole, released_with, released, all_released}
 pub use Rattle.enet_link.specs.Image.{IsSized, AllSized, ShowsReceiver}
@@ -31,7 +31,7 @@ less_or_not a b = grind arith
 wire_behind : (v r : Receiver) → ShowsReceiver v r → (v.front + 1) % 65536 ≡ (r.front + 1) % 65536
 wire_behind v r s = let e = s.front in omega arith
 
-Shows-passed : (v r : Receiver) (c : Coming) → IsSized c → ShowsReceiver v r → ShowsReceiver (with_passed wire v c) (with_passed unbounded r c)
+Shows-passed : (v r : Receiver) (c : IncomingPacket) → IsSized c → ShowsReceiver v r → ShowsReceiver (with_passed wire v c) (with_passed unbounded r c)
 Shows-passed v r c size s =
     let k = (count_of c.making) in
     let f = r.front in
@@ -94,10 +94,10 @@ Shows-passed v r c size s =
     }
 
 -- the packets of one reliable number are looked up
-put_of : FinMap nat_cmp Coming → Option (FinMap nat_cmp Coming)
+put_of : FinMap nat_cmp IncomingPacket → Option (FinMap nat_cmp IncomingPacket)
 put_of packets = cond (len packets == 0) None (Some packets)
 
-get-with_waiting_same : (w : FinMap nat_cmp (FinMap nat_cmp Coming)) (n : ℕ) (packets : FinMap nat_cmp Coming) → get (with_line w n packets) n ≡ put_of packets
+get-with_waiting_same : (w : FinMap nat_cmp (FinMap nat_cmp IncomingPacket)) (n : ℕ) (packets : FinMap nat_cmp IncomingPacket) → get (with_line w n packets) n ≡ put_of packets
 unfolding put_of
 get-with_waiting_same w n packets =
     elim (len packets == 0) as (λ b. get (cond b (remove w n) (insert w n packets)) n ≡ cond b None (Some packets)) [
@@ -105,7 +105,7 @@ get-with_waiting_same w n packets =
       | false ↦ get-insert_same w n packets
     ]
 
-get-with_waiting_other : (w : FinMap nat_cmp (FinMap nat_cmp Coming)) (n q : ℕ) (packets : FinMap nat_cmp Coming) → q ≢ n → get (with_line w n packets) q ≡ get w q
+get-with_waiting_other : (w : FinMap nat_cmp (FinMap nat_cmp IncomingPacket)) (n q : ℕ) (packets : FinMap nat_cmp IncomingPacket) → q ≢ n → get (with_line w n packets) q ≡ get w q
 get-with_waiting_other w n q packets apart =
     elim (len packets == 0) as (λ b. get (cond b (remove w n) (insert w n packets)) q ≡ get w q) [
       | true ↦ get-remove_other w n q apart
@@ -114,10 +114,10 @@ get-with_waiting_other w n q packets apart =
 
 -- the packets that wait for the same number
 waiting_same : (v r : Receiver) (a : ℕ) → a ≤ 28671 → ShowsReceiver v r → line_at v.waiting ((r.front + a) % 65536) ≡ line_at r.waiting (r.front + a)
-waiting_same v r a low s = ap (λ (o : Option (FinMap nat_cmp Coming)). unwrap_or o empty) (s.waiting a (omega arith))
+waiting_same v r a low s = ap (λ (o : Option (FinMap nat_cmp IncomingPacket)). unwrap_or o empty) (s.waiting a (omega arith))
 
 -- the packets of a number near the front are replaced
-Shows-waiting : (v r : Receiver) (a : ℕ) (packets : FinMap nat_cmp Coming) → a ≤ 28671 → ShowsReceiver v r
+Shows-waiting : (v r : Receiver) (a : ℕ) (packets : FinMap nat_cmp IncomingPacket) → a ≤ 28671 → ShowsReceiver v r
     → ShowsReceiver (record v { waiting = with_line v.waiting ((r.front + a) % 65536) packets }) (record r { waiting = with_line r.waiting (r.front + a) packets })
 Shows-waiting v r a packets near s = record {
   front = s.front;
@@ -146,7 +146,7 @@ Shows-flushed_from first v r s =
     let zero' : r.front + 0 ≡ r.front = omega arith in
     let same : line_at v.waiting v.front ≡ line_at r.waiting r.front = ap (line_at v.waiting) here ∙ waiting_same v r 0 (omega arith) s ∙ ap (line_at r.waiting) zero' in
     let list : entries (line_at v.waiting v.front) ≡ entries (line_at r.waiting r.front) = ap entries same in
-    let left : FinMap nat_cmp Coming = retain_keys (line_at r.waiting r.front) (nat_lt (last_fresh r.unreliable (entries (line_at r.waiting r.front)))) in
+    let left : FinMap nat_cmp IncomingPacket = retain_keys (line_at r.waiting r.front) (nat_lt (last_fresh r.unreliable (entries (line_at r.waiting r.front)))) in
     let kept : retain_keys (line_at v.waiting v.front) (nat_lt (last_fresh v.unreliable (entries (line_at v.waiting v.front)))) ≡ left =
     λ i. retain_keys (same i) (nat_lt (last_fresh (s.unreliable i) (list i))) in
     let w = Shows-waiting v r 0 left (omega arith) s in
@@ -172,10 +172,10 @@ Shows-flushed_from first v r s =
 Shows-flushed : (v r : Receiver) → ShowsReceiver v r → ShowsReceiver (flushed v) (flushed r)
 Shows-flushed v r s = subst (λ n. ShowsReceiver (flushed_from (n + 1) v) (flushed r)) (sym s.unreliable) (Shows-flushed_from (r.unreliable + 1) v r s)
 
-pub Shows-dispatched : (v r : Receiver) (c : Coming) → IsSized c → ShowsReceiver v r → ShowsReceiver (with_dispatched wire v c) (with_dispatched unbounded r c)
+pub Shows-dispatched : (v r : Receiver) (c : IncomingPacket) → IsSized c → ShowsReceiver v r → ShowsReceiver (with_dispatched wire v c) (with_dispatched unbounded r c)
 Shows-dispatched v r c size s = Shows-flushed_from 0 (with_passed wire v c) (with_passed unbounded r c) (Shows-passed v r c size s)
 
-whole_is : (o : Option Coming) (c : Coming) → next_whole o ≡ Some c → o ≡ Some c
+whole_is : (o : Option IncomingPacket) (c : IncomingPacket) → next_whole o ≡ Some c → o ≡ Some c
 whole_is None c e = absurd (cc)
 whole_is (Some d) c e = elim (is_whole d.making) as (λ b. cond b (Some d) None ≡ Some c → Some d ≡ Some c) [ true ↦ λ k. k | false ↦ λ k. absurd (cc) ] e
 
@@ -191,7 +191,7 @@ Shows-released (suc most) v r s =
     ] refl)
 
 -- after a packet less is held
-smaller : (g : Numbering) (r : Receiver) (c : Coming) → g.after (g.after r.front 1) 0 ≡ g.after r.front 1 → IsSized c → get r.held (g.after r.front 1) ≡ Some c → len (with_dispatched g r c).held < len r.held
+smaller : (g : Numbering) (r : Receiver) (c : IncomingPacket) → g.after (g.after r.front 1) 0 ≡ g.after r.front 1 → IsSized c → get r.held (g.after r.front 1) ≡ Some c → len (with_dispatched g r c).held < len r.held
 smaller g r c z size e = len-without_first g r.held (g.after r.front 1) (count_of c.making) c z size.0 e
 
 -- numbers that go on as those of the wire or without bound do
@@ -306,7 +306,7 @@ outcome_same_at v r c full o p (inr w) s =
     ∙ sym (ap (outcome_at r c full) w.3)
 
 -- the packet of a command is replaced by one with a piece more
-Shows-added : (v r : Receiver) (c : DataCommand) (a : ℕ) (e : Coming) → a ≤ 28671 → (c.reliable ≡ true → (0 < a) × IsSized e) → ShowsReceiver v r
+Shows-added : (v r : Receiver) (c : DataCommand) (a : ℕ) (e : IncomingPacket) → a ≤ 28671 → (c.reliable ≡ true → (0 < a) × IsSized e) → ShowsReceiver v r
     → ShowsReceiver (with_added v c ((r.front + a) % 65536) e) (with_added r c (r.front + a) e)
 Shows-added v r c a e near above s =
     elim c.reliable as (λ b. c.reliable ≡ b → ShowsReceiver
@@ -321,9 +321,9 @@ Shows-added v r c a e near above s =
     apart_in_lap : (d : ℕ) → 0 < a → 0 < d → d ≤ 65536 → d ≢ a → (r.front + d) % 65536 ≢ (r.front + a) % 65536
     apart_in_lap d z low high n = λ k. grind arith
 
-    all_sized : (m : FinMap nat_cmp Coming) (q : ℕ) → IsSized e → AllSized m → AllSized (insert m q e)
+    all_sized : (m : FinMap nat_cmp IncomingPacket) (q : ℕ) → IsSized e → AllSized m → AllSized (insert m q e)
     all_sized m q size h n x t = elim (get_inserted m q n e x t) [
-      | inl is ↦ subst (λ (y : Coming). IsSized y) is.1 size
+      | inl is ↦ subst (λ (y : IncomingPacket). IsSized y) is.1 size
       | inr old ↦ h n x old.1
     ]
 
@@ -347,7 +347,7 @@ Shows-added v r c a e near above s =
     }
 
 -- a command that is held isn't behind the front
-not_behind : (r : Receiver) (c : DataCommand) (full : Bool) (place : ℕ) (earlier : Option Coming) → outcome_of r c full place earlier ≡ Held → is_behind r c place ≡ false
+not_behind : (r : Receiver) (c : DataCommand) (full : Bool) (place : ℕ) (earlier : Option IncomingPacket) → outcome_of r c full place earlier ≡ Held → is_behind r c place ≡ false
 not_behind r c full place earlier h =
     elim (agrees_with earlier c) as (λ x. cond (not x) Bad (cond (is_behind r c place || came earlier c) Again (cond (full && is_none earlier) Waiting Held)) ≡ Held → is_behind r c place ≡ false) [
       | false ↦ λ k. absurd (cc)
@@ -375,7 +375,7 @@ is_piece-sized most c h =
 sized_by : (m n : ℕ) → m ≡ n → (0 < m) × (m ≤ 16384) → (0 < n) × (n ≤ 16384)
 sized_by m n e h = subst (λ k. (0 < k) × (k ≤ 16384)) e h
 
-sized_more : (o : Option Coming) (c : DataCommand) → ((e : Coming) → o ≡ Some e → IsSized e) → (0 < (piece_of c).count) × ((piece_of c).count ≤ 16384) → IsSized (with_more (earlier_or_new o c) c)
+sized_more : (o : Option IncomingPacket) (c : DataCommand) → ((e : IncomingPacket) → o ≡ Some e → IsSized e) → (0 < (piece_of c).count) × ((piece_of c).count ≤ 16384) → IsSized (with_more (earlier_or_new o c) c)
 sized_more None c old new =
     let count : count_of (with_more (earlier_or_new None c) c).making ≡ (piece_of c).count =
     count_of-with (nothing_yet (piece_of c).count (piece_of c).total) (place_in_packet c) c.body ∙ count_of-nothing (piece_of c).count (piece_of c).total in
@@ -391,7 +391,7 @@ received_at v r c full o p (inr w) size s h =
     let n = r.front + a in
     let held : outcome_of r c full n (came_at r c n) ≡ Held = ap (outcome_at r c full) (sym w.3) ∙ h in
     let behind : is_behind r c n ≡ false = not_behind r c full n (came_at r c n) held in
-    let e : Coming = with_more (earlier_or_new (came_at r c n) c) c in
+    let e : IncomingPacket = with_more (earlier_or_new (came_at r c n) c) c in
     let sized : c.reliable ≡ true → IsSized e = λ k. sized_more (came_at r c n) c (λ x t. came_sized k x t) size in
     let added = Shows-added v r c a e w.1 (λ k. (above_front r c a behind k, sized k)) s in
     let both = Shows-all_released _ _ added in
@@ -399,7 +399,7 @@ received_at v r c full o p (inr w) size s h =
     (subst (λ x. ShowsReceiver (added_at wire v c (Some ((r.front + a) % 65536))) (added_at unbounded r c x)) (sym w.3)
     (subst (λ x. ShowsReceiver (all_released wire (with_added v c ((r.front + a) % 65536) (with_more (earlier_or_new x c) c))) (all_released unbounded (with_added r c n e))) (sym (came_at_same v r c a w.1 s)) both))
   where
-    came_sized : c.reliable ≡ true → (x : Coming) → came_at r c (r.front + w.0) ≡ Some x → IsSized x
+    came_sized : c.reliable ≡ true → (x : IncomingPacket) → came_at r c (r.front + w.0) ≡ Some x → IsSized x
     came_sized k x t = s.sized_true (r.front + w.0) x (sym (ap (λ b. cond b (get r.held (r.front + w.0)) (get (line_at r.waiting (r.front + w.0)) c.count)) k) ∙ t)
 
 pub Shows-received : (most : ℕ) (v r : Receiver) (c : DataCommand) (full : Bool) → c.number < 65536 → (c.reliable ≡ true → (piece_of c).start < 65536) → ShowsReceiver v r
@@ -442,10 +442,10 @@ Shows-dispatches most v r c full small small_start s =
     let old = s.dispatched in
     (λ i. length (new i) - length (old i))
 
-nothing_at : (n : ℕ) → get (empty {X = Coming} {R = nat_cmp}) n ≡ None
+nothing_at : (n : ℕ) → get (empty {X = IncomingPacket} {R = nat_cmp}) n ≡ None
 nothing_at n = get-empty nat_cmp n
 
-no_line_at : (n : ℕ) → get (empty {X = FinMap nat_cmp Coming} {R = nat_cmp}) n ≡ None
+no_line_at : (n : ℕ) → get (empty {X = FinMap nat_cmp IncomingPacket} {R = nat_cmp}) n ≡ None
 no_line_at n = get-empty nat_cmp n
 
 pub Shows-cleared : (v r : Receiver) → ShowsReceiver v r → ShowsReceiver (cleared v) (cleared r)

@@ -13,7 +13,7 @@ use Rattle.enet_rtt.specs.declared.expiry.Patience.{Patience}
 use Rattle.enet_rtt.specs.declared.expiry.Expiry.{Expiry}
 use Rattle.enet_rtt.specs.declared.expiry.Expiry.TheVariants.{No, Resend, End}
 use Rattle.enet_fragment.specs.declared.data.DataCommand.{DataCommand}
-use Rattle.enet_sender.specs.Carriage.{Packet, Carried, carried_as}
+use Rattle.enet_sender.specs.CommandChoice.{Packet, ChosenPacket, carried_as}
 use Rattle.enet_sender.specs.Sender.{Sender, Next, nothing_sent, command_at, commands_of, with_queued, submitted, again, begun, is_in_span, may_go, first_sent, next_queued, next_resent, next_of, next, is_after_first, is_more, skipped, with_skipped, place_of, without_place, acknowledged, size_of, size_at, acknowledged_bytes, bytes_in_transit, is_late, marked, with_marked, ends, lateness, after_lateness, cleared, left}
 use Rattle.enet_sender.specs.declared.sent.Sent.{Sent}
 use Rattle.enet_link.specs.Link.{wired, wired_fragment}
@@ -40,7 +40,7 @@ row-append : (before middle last : ℕ) (a b : List DataCommand) → IsRow befor
 row-append before middle last [] b r s = subst (λ n. IsRow n b last) (sym r) s
 row-append before middle last (c ∷ a) b r s = (r.0, row-append (cond c.reliable (before + 1) before) middle last a b r.1 s)
 
-row-range : (mtu number count : ℕ) (c : Carried) (from len : ℕ) → IsRow (cond c.reliable (number + from) number) (map (command_at unbounded mtu number count c) (range_with_len from len)) (cond c.reliable (number + (from + len)) number)
+row-range : (mtu number count : ℕ) (c : ChosenPacket) (from len : ℕ) → IsRow (cond c.reliable (number + from) number) (map (command_at unbounded mtu number count c) (range_with_len from len)) (cond c.reliable (number + (from + len)) number)
 row-range mtu number count c from zero = ap (λ n. cond c.reliable (number + n) number) (let e : from ≡ from + 0 = omega arith in e)
 row-range mtu number count c from (suc len) = (
   (λ t. ap (λ b. cond b (number + (from + 1)) number) t ∙ one ∙ sym (ap (λ b. cond b (number + from) number + 1) t)),
@@ -59,7 +59,7 @@ row-range mtu number count c from (suc len) = (
     further true = sym one
     further false = refl
 
-row-commands : (mtu number count : ℕ) (c : Carried) → IsRow number (commands_of unbounded mtu number count c) (cond c.reliable (number + c.pieces) number)
+row-commands : (mtu number count : ℕ) (c : ChosenPacket) → IsRow number (commands_of unbounded mtu number count c) (cond c.reliable (number + c.pieces) number)
 row-commands mtu number count c =
     let pieces : 0 + c.pieces ≡ c.pieces = omega arith in
     subst (λ n. IsRow n (commands_of unbounded mtu number count c) (cond c.reliable (number + c.pieces) number)) (start c.reliable)
@@ -91,7 +91,7 @@ in_order s before rising span row queued sent =
 
 -- a packet is submitted
 
-Shows-queued : (mtu : ℕ) (v s : Sender) (c : Carried) → ShowsSender v s → ShowsSender (with_queued wire mtu v c) (with_queued unbounded mtu s c)
+Shows-queued : (mtu : ℕ) (v s : Sender) (c : ChosenPacket) → ShowsSender v s → ShowsSender (with_queued wire mtu v c) (with_queued unbounded mtu s c)
 Shows-queued mtu v s c h =
     let o = h.in_order in
     let new : List DataCommand = commands_of unbounded mtu s.number s.unreliable c in

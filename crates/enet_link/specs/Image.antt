@@ -2,9 +2,9 @@
 use Rattle.std.specs.Prelude.{◌≡◌, ℕ, true, ◌+◌, ◌-◌, ◌%◌, ◌<◌, ◌≤◌, if◌then◌else◌, List, [], ◌∷◌, map, Option, Some, None}
 use Rattle.std.specs.Ordering.{nat_cmp}
 use Rattle.std.specs.FinMap.{FinMap, get}
-use Rattle.enet_fragment.specs.Making.{count_of}
+use Rattle.enet_fragment.specs.PartialPacket.{count_of}
 use Rattle.enet_fragment.specs.declared.data.DataCommand.{DataCommand}
-use Rattle.enet_packets.specs.declared.coming.Coming.{Coming}
+use Rattle.enet_packets.specs.declared.incoming_packet.IncomingPacket.{IncomingPacket}
 use Rattle.enet_receiver.specs.Receiver.{Receiver}
 use Rattle.enet_sender.specs.Sender.{Sender, Next}
 use Rattle.enet_sender.specs.declared.sent.Sent.{Sent}
@@ -13,11 +13,11 @@ use Rattle.enet_link.specs.Meant.{IsReadAsItself}
 use Rattle.enet_link.specs.Steps.{Has}
 
 -- a packet in the making has 1 to 16,384 pieces
-abbrev pub IsSized : Coming → Type 0
+abbrev pub IsSized : IncomingPacket → Type 0
 IsSized c = (0 < count_of c.making) × (count_of c.making ≤ 16384)
 
-abbrev pub AllSized : FinMap nat_cmp Coming → Type 0
-AllSized held = (n : ℕ) (c : Coming) → get held n ≡ Some c → IsSized c
+abbrev pub AllSized : FinMap nat_cmp IncomingPacket → Type 0
+AllSized held = (n : ℕ) (c : IncomingPacket) → get held n ≡ Some c → IsSized c
 
 -- v is how a receiver r of unbounded numbers is kept
 pub record ShowsReceiver (v r : Receiver) : Type 0 where

@@ -1,10 +1,10 @@
 -- What a link keeps true of the numbers that were meant.
 use Rattle.std.specs.Prelude.{◌≡◌, ℕ, true, false, ◌+◌, ◌-◌, ◌%◌, ◌<◌, ◌≤◌, ◌⊎◌, List, map, Some}
 use Rattle.std.specs.FinMap.{get}
-use Rattle.enet_packets.specs.declared.coming.Coming.{Coming}
+use Rattle.enet_packets.specs.declared.incoming_packet.IncomingPacket.{IncomingPacket}
 use Rattle.enet_packets.specs.Packets.{line_at}
 use Rattle.enet_receiver.specs.Receiver.{Receiver}
-use Rattle.enet_sender.specs.Carriage.{carried}
+use Rattle.enet_sender.specs.CommandChoice.{carried}
 use Rattle.enet_sender.specs.declared.sent.Sent.{Sent}
 use Rattle.enet_link.specs.Follows.{command_count}
 use Rattle.enet_link.specs.Link.{PutOut, is_late, number_below}
@@ -15,7 +15,7 @@ use Rattle.enet_link.specs.Steps.{Has}
 
 -- dispatched, or held as a piece
 abbrev pub IsReceived : Receiver → ℕ → Type 0
-IsReceived r m = (m ≤ r.front) ⊎ ((n : ℕ) × (e : Coming) × (get r.held n ≡ Some e) × (n ≤ m) × (has_piece e.making (m - n) ≡ true))
+IsReceived r m = (m ≤ r.front) ⊎ ((n : ℕ) × (e : IncomingPacket) × (get r.held n ≡ Some e) × (n ≤ m) × (has_piece e.making (m - n) ≡ true))
 
 -- there is a receiver of unbounded numbers that the link shows, and there are unbounded numbers that wait for their
 -- acknowledgements, such that
@@ -39,9 +39,9 @@ pub record Keeps (mtu : ℕ) (v : WireLink) : Type 0 where
   -- so it stays near what was sent: at most a packet and the span behind
   pub near : v.is_open ≡ true → v.greatest ≤ receiver.front + 24575
   -- all pieces that are held under one number are of one submitted packet
-  pub held : v.is_open ≡ true → (n : ℕ) (e : Coming) → get receiver.held n ≡ Some e → OfReliable mtu (carried mtu v.submitted) n e.making
+  pub held : v.is_open ≡ true → (n : ℕ) (e : IncomingPacket) → get receiver.held n ≡ Some e → OfReliable mtu (carried mtu v.submitted) n e.making
   -- so are those that wait under one number and one unreliable number
-  pub lines : v.is_open ≡ true → (n k : ℕ) (e : Coming) → get (line_at receiver.waiting n) k ≡ Some e → OfUnreliable mtu (carried mtu v.submitted) n k e.making
+  pub lines : v.is_open ≡ true → (n k : ℕ) (e : IncomingPacket) → get (line_at receiver.waiting n) k ≡ Some e → OfUnreliable mtu (carried mtu v.submitted) n k e.making
   -- the mark of a command of the log is not above the greatest number
   pub marks : (c : PutOut) → Has v.commands c → c.reach ≤ v.greatest
   -- every command of the log that isn't late was meant with the number below its mark, and is read so, or as nothing

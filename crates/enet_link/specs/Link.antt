@@ -3,10 +3,10 @@ use Rattle.std.specs.Prelude.{ℕ, Bool, false, ◌+◌, ◌-◌, ◌%◌, not, 
 use Rattle.std.specs.Option.{option_map}
 use Rattle.enet_codec.specs.declared.command.Fragment.{Fragment}
 use Rattle.enet_seq.specs.Numbering.{unbounded}
-use Rattle.enet_sender.specs.Carriage.{Carried}
+use Rattle.enet_sender.specs.CommandChoice.{ChosenPacket}
 use Rattle.enet_fragment.specs.declared.data.DataCommand.{DataCommand}
 use Rattle.enet_receiver.specs.Receiver.{Receiver}
-use Rattle.enet_receiver.specs.Reception.{received}
+use Rattle.enet_receiver.specs.DataOutcome.{received}
 
 -- a command that was put out: reach is the greatest number sent just after its datagram
 pub record PutOut : Type 0 where
@@ -19,7 +19,7 @@ pub record Answer : Type 0 where
   pub reach : ℕ
 
 pub record Link : Type 0 where
-  pub carried : List Carried  -- what was submitted
+  pub carried : List ChosenPacket  -- what was submitted
   pub sent : ℕ  -- the greatest number sent
   pub unacked : List ℕ  -- the numbers sent that no acknowledgement removed
   pub commands : List PutOut  -- every command ever put out
@@ -43,7 +43,7 @@ number_below reach number = reach - (reach + 65536 - number) % 65536
 abbrev pub is_late : ℕ → ℕ → ℕ → Bool
 is_late sent reach number = nat_lt 32768 (sent - number_below reach number)
 
-abbrev pub accept : Link → Carried → Link
+abbrev pub accept : Link → ChosenPacket → Link
 accept l c = record l { carried = l.carried ++ c ∷ [] }
 
 -- the next command is sent for the first time

@@ -2,36 +2,36 @@
 use Rattle.std.specs.Prelude.{◌≡◌, ℕ, Bool, true, false, ◌+◌, ◌<◌, ◌⊎◌, List, ◌∷◌, ◌++◌, Some, None, is_some, if◌then◌else◌}
 use Rattle.enet_seq.specs.Numbering.{unbounded}
 use Rattle.enet_fragment.specs.Cutting.{piece_length}
-use Rattle.enet_fragment.specs.Making.{Making, count_of, piece_at}
+use Rattle.enet_fragment.specs.PartialPacket.{PartialPacket, count_of, piece_at}
 use Rattle.enet_fragment.specs.declared.data.DataCommand.{DataCommand}
 use Rattle.enet_fragment.specs.DataCommand.{data_of, message_of}
 use Rattle.enet_receiver.specs.Receiver.{Receiver}
-use Rattle.enet_receiver.specs.Reception.{place_read}
-use Rattle.enet_sender.specs.Carriage.{Carried, is_long}
+use Rattle.enet_receiver.specs.DataOutcome.{place_read}
+use Rattle.enet_sender.specs.CommandChoice.{ChosenPacket, is_long}
 use Rattle.enet_sender.specs.Sender.{command_at, piece_at as cut_piece}
 use Rattle.enet_link.specs.Follows.{command_count, count_after}
 use Rattle.enet_link.specs.Link.{wired}
 
 -- the packet c stands behind so many reliable commands, and so many unreliable packets since the last reliable one
-pub record Stands (cs : List Carried) (number count : ℕ) (c : Carried) : Type 0 where
-  pub before : List Carried
-  pub behind : List Carried
+pub record Stands (cs : List ChosenPacket) (number count : ℕ) (c : ChosenPacket) : Type 0 where
+  pub before : List ChosenPacket
+  pub behind : List ChosenPacket
   pub whole : cs ≡ before ++ c ∷ behind
   pub number_is : command_count before ≡ number
   pub count_is : count_after 0 before ≡ count
 
 -- whether the piece of this number has come
-abbrev pub has_piece : Making → ℕ → Bool
+abbrev pub has_piece : PartialPacket → ℕ → Bool
 has_piece m i = is_some (piece_at m i)
 
 -- the pieces that came are pieces of the packet
-pub record Matches (mtu : ℕ) (m : Making) (c : Carried) : Type 0 where
+pub record Matches (mtu : ℕ) (m : PartialPacket) (c : ChosenPacket) : Type 0 where
   pub count : count_of m ≡ c.pieces
   pub pieces : (i : ℕ) (bytes : List ℕ) → piece_at m i ≡ Some bytes → (i < c.pieces) × (bytes ≡ cut_piece (piece_length mtu) c.packet.body i)
 
 -- a packet on its way is a reliable one of the list, of which this is the number of the first piece
-pub record OfReliable (mtu : ℕ) (cs : List Carried) (start : ℕ) (m : Making) : Type 0 where
-  pub packet : Carried
+pub record OfReliable (mtu : ℕ) (cs : List ChosenPacket) (start : ℕ) (m : PartialPacket) : Type 0 where
+  pub packet : ChosenPacket
   pub number : ℕ
   pub count : ℕ
   pub place : start ≡ number + 1
@@ -41,8 +41,8 @@ pub record OfReliable (mtu : ℕ) (cs : List Carried) (start : ℕ) (m : Making)
   pub begun : (i : ℕ) × (has_piece m i ≡ true)
 
 -- or an unreliable one of these numbers
-pub record OfUnreliable (mtu : ℕ) (cs : List Carried) (number unreliable : ℕ) (m : Making) : Type 0 where
-  pub packet : Carried
+pub record OfUnreliable (mtu : ℕ) (cs : List ChosenPacket) (number unreliable : ℕ) (m : PartialPacket) : Type 0 where
+  pub packet : ChosenPacket
   pub count : ℕ
   pub place : unreliable ≡ count + 1
   pub stands : Stands cs number count packet
@@ -50,12 +50,12 @@ pub record OfUnreliable (mtu : ℕ) (cs : List Carried) (number unreliable : ℕ
   pub matches : Matches mtu m packet
 
 -- a packet that isn't long goes in one command
-abbrev pub IsPlain : ℕ → Carried → Type 0
+abbrev pub IsPlain : ℕ → ChosenPacket → Type 0
 IsPlain mtu c = is_long mtu c.packet ≡ false → c.pieces ≡ 1
 
 -- a command of a packet of the list
-pub record IsPieceOf (mtu : ℕ) (cs : List Carried) (d : DataCommand) : Type 0 where
-  pub packet : Carried
+pub record IsPieceOf (mtu : ℕ) (cs : List ChosenPacket) (d : DataCommand) : Type 0 where
+  pub packet : ChosenPacket
   pub number : ℕ
   pub count : ℕ
   pub index : ℕ
@@ -65,7 +65,7 @@ pub record IsPieceOf (mtu : ℕ) (cs : List Carried) (d : DataCommand) : Type 0 
   pub command : d ≡ command_at unbounded mtu number count packet index
 
 -- a command on the wire was meant as one of the list, and its place is read as that of its packet, or as nothing
-pub record IsReadAsMeant (mtu : ℕ) (cs : List Carried) (r : Receiver) (c : DataCommand) : Type 0 where
+pub record IsReadAsMeant (mtu : ℕ) (cs : List ChosenPacket) (r : Receiver) (c : DataCommand) : Type 0 where
   pub meant : DataCommand
   pub piece : IsPieceOf mtu cs meant
   pub command : c ≡ wired meant

@@ -1,11 +1,11 @@
 -- What can happen to a link, one thing after another.
 use Rattle.std.specs.Prelude.{◌≡◌, ℕ, Bool, true, false, ◌≤◌, ◌⊎◌, List, [], ◌∷◌, ◌++◌, Some, map}
 use Rattle.enet_seq.specs.Numbering.{wire}
-use Rattle.enet_sender.specs.Carriage.{Packet, carried_as, fragment_limit}
+use Rattle.enet_sender.specs.CommandChoice.{Packet, carried_as, fragment_limit}
 use Rattle.enet_sender.specs.Sender.{Sender, Next, next, nothing_sent}
-use Rattle.enet_packets.specs.declared.coming.Dispatched.{Dispatched}
+use Rattle.enet_packets.specs.declared.incoming_packet.Dispatched.{Dispatched}
 use Rattle.enet_receiver.specs.Receiver.{Receiver, nothing_received}
-use Rattle.enet_receiver.specs.Reception.{acknowledged}
+use Rattle.enet_receiver.specs.DataOutcome.{acknowledged}
 use Rattle.enet_link.specs.Link.{PutOut, Answer, is_late}
 use Rattle.enet_link.specs.WireLink.{WireLink, submits, sends, drops, marks, puts_out, arrives, logs_answer, answered, stops_sending, stops_receiving, drops_answers}
 

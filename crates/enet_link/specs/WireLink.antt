@@ -1,12 +1,12 @@
 -- One channel from a sender to a receiver and the acknowledgements back, as the two ends and the log show it: with wire numbers.
 use Rattle.std.specs.Prelude.{ℕ, Bool, false, if◌then◌else◌, List, [], ◌∷◌, ◌++◌, map}
 use Rattle.enet_seq.specs.Numbering.{wire}
-use Rattle.enet_sender.specs.Carriage.{Packet}
+use Rattle.enet_sender.specs.CommandChoice.{Packet}
 use Rattle.enet_fragment.specs.declared.data.DataCommand.{DataCommand}
 use Rattle.enet_sender.specs.Sender.{Sender, Next, submitted, with_skipped, with_marked, acknowledged}
-use Rattle.enet_packets.specs.declared.coming.Dispatched.{Dispatched}
+use Rattle.enet_packets.specs.declared.incoming_packet.Dispatched.{Dispatched}
 use Rattle.enet_receiver.specs.Receiver.{Receiver}
-use Rattle.enet_receiver.specs.Reception.{received}
+use Rattle.enet_receiver.specs.DataOutcome.{received}
 use Rattle.enet_link.specs.Link.{PutOut, Answer}
 use Rattle.enet_link.specs.Greatest.{greatest_after}
 

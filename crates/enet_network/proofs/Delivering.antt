@@ -14,7 +14,7 @@ use Rattle.enet_fragment.specs.declared.data.DataCommand.{DataCommand}
 use Rattle.enet_fragment.specs.DataCommand.{data_of, read_of}
 use Rattle.enet_peer.specs.declared.parts.PeerState.TheVariants as state
 use Rattle.enet_peer.specs.Peering.{Peering}
-use Rattle.enet_peer.specs.Arrivals.{Outcome, Stops, obeyed, wants_memory}
+use Rattle.enet_peer.specs.CommandEffect.{Outcome, Stops, obeyed, wants_memory}
 use Rattle.enet_datagram.specs.Handling.{HandlesEach, one_more}
 use Rattle.enet_datagram.specs.Heading.{IsRead}
 use Rattle.enet_datagram.proofs.Each.{handles-each}

@@ -3,9 +3,9 @@ use Rattle.std.proofs.Common.{◌≡◌, ◌<◌, ◌≤◌, ℕ, zero, suc, ◌
 use Rattle.std.proofs.lemmas.Bool.Decides.{nat_tests}
 use Rattle.enet_types.specs.declared.event.PeerRef.{PeerRef}
 use Rattle.enet_types.specs.declared.packet.Packet.{Packet}
-use Rattle.enet_sender.specs.Carriage as carriage
+use Rattle.enet_sender.specs.CommandChoice as command_choice
 use Rattle.enet_outbox.specs.Outbox.{is_unsequenced}
-use Rattle.enet_packets.specs.declared.coming.Dispatched.{Dispatched}
+use Rattle.enet_packets.specs.declared.incoming_packet.Dispatched.{Dispatched}
 use Rattle.enet_link.specs.Follows.{Follows}
 use Rattle.enet_link.specs.Steps.{Has, bodies_of}
 use Rattle.enet_connection.specs.Connection.{End, of_channel, packets_of, in_sequence}
@@ -40,7 +40,7 @@ same-going : (mtu channel : ℕ) (qs : List Packet) → of_channel mtu channel (
 same-going mtu channel [] = refl
 same-going mtu channel (q ∷ qs) = by (q.channel == channel) refl (same-going mtu channel qs)
   where
-    content : carriage.Packet
+    content : command_choice.Packet
     content = record { flags = q.flags; body = q.body }
 
     in_turn : Bool
@@ -132,7 +132,7 @@ between o u from to k ko h channel = elim (less-or-not channel 256) [
         let came : in_sequence channel (packets_of to.events) ≡ in_sequence channel (taken_at channel u) =
         sym (same-come channel (packets_of to.events)) ∙ ap (in_sequence channel) (sym (ko.taken channel low)) in
         let first = by-mtu channel (mtu_in from.peer) (mtu_at o) from.submitted (bodies_of (in_sequence channel (packets_of to.events))) k.mtu (h channel) in
-        let second = subst (λ (l : List carriage.Packet). Follows (mtu_at o) l (bodies_of (in_sequence channel (packets_of to.events)))) sent first in
+        let second = subst (λ (l : List command_choice.Packet). Follows (mtu_at o) l (bodies_of (in_sequence channel (packets_of to.events)))) sent first in
         subst (λ (l : List Dispatched). Follows (mtu_at o) (of_channel (mtu_at o) channel (submitted_at channel o)) (bodies_of l)) came second
 
 -- both hosts

@@ -2,8 +2,8 @@
 use Rattle.std.proofs.Common.{◌≡◌, ℕ, ltb, leb, ◌||◌, Bool, true, false, cond, inl, inr, List, [], ◌∷◌, length, refl, sym, ap, subst, ◌∙◌, Option, Some, None, slice_get}
 use Rattle.enet_types.specs.declared.packet.Packet.{Packet}
 use Rattle.enet_fragment.specs.Cutting.{piece_count}
-use Rattle.enet_sender.specs.Carriage.{fragment_limit}
-use Rattle.enet_sender.specs.Carriage as carriage
+use Rattle.enet_sender.specs.CommandChoice.{fragment_limit}
+use Rattle.enet_sender.specs.CommandChoice as command_choice
 use Rattle.enet_sender.specs.Due.{SendingEnd}
 use Rattle.enet_outbox.specs.Outbox.{is_unsequenced, with_unsequenced, with_sequenced}
 use Rattle.enet_outbox.specs.Emission.{filled}
@@ -11,7 +11,7 @@ use Rattle.enet_peer.specs.declared.parts.PeerEvent.{PeerEvent}
 use Rattle.enet_peer.specs.declared.parts.PeerState.{PeerState}
 use Rattle.enet_peer.specs.declared.parts.PeerState.TheVariants as state
 use Rattle.enet_peer.specs.Peering.{Peering}
-use Rattle.enet_peer.specs.Arrivals.{obeyed}
+use Rattle.enet_peer.specs.CommandEffect.{obeyed}
 use Rattle.enet_peer.specs.Calls.{is_connected, submission_refusal, submitted, pace_of, gone_on, ticked, next_event}
 use Rattle.enet_connection.specs.Connection.{End}
 use Rattle.enet_connection.specs.Kept.{is_young}
@@ -47,7 +47,7 @@ steadies m = record {
   drops_data = λ p k now timeout transit most s n there due h. record { old = h.old; same = h.same };
 }
 
-steady-submitted : (m : ℕ) (p : Peering) (channel : ℕ) (q : carriage.Packet) → IsSteady m p → IsSteady m (submitted p channel q)
+steady-submitted : (m : ℕ) (p : Peering) (channel : ℕ) (q : command_choice.Packet) → IsSteady m p → IsSteady m (submitted p channel q)
 steady-submitted m p channel q h = by (is_unsequenced p.terms.mtu q)
   where
     at : (o : Option SendingEnd) → IsSteady m (record p { outbox = with_sequenced p.outbox p.terms.mtu channel q o })
@@ -106,7 +106,7 @@ connected-old : (s : PeerState) → is_connected s ≡ true → is_young s ≡ f
 connected-old state.Connected e = refl
 connected-old _ e = absurd (cc)
 
-pub mtu-submitted : (m : ℕ) (p r : Peering) (channel : ℕ) (q : carriage.Packet) (qs : List Packet) → submission_refusal p channel (length q.body) ≡ None → p.terms.mtu ≡ m → submitted p channel q ≡ r → GoesBy qs m r
+pub mtu-submitted : (m : ℕ) (p r : Peering) (channel : ℕ) (q : command_choice.Packet) (qs : List Packet) → submission_refusal p channel (length q.body) ≡ None → p.terms.mtu ≡ m → submitted p channel q ≡ r → GoesBy qs m r
 mtu-submitted m p r channel q qs fits same is =
     let a = accepted (is_connected p.state) (leb (length p.outbox.senders) channel) (ltb p.limits.max_packet (length q.body) || ltb fragment_limit (piece_count (length q.body) p.terms.mtu)) fits in
     let s = subst (IsSteady m) is (steady-submitted m p channel q (record { old = connected-old p.state a.0; same = same })) in

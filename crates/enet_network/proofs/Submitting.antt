@@ -5,7 +5,7 @@ use Rattle.std.proofs.lemmas.List.{map-append}
 use Rattle.enet_types.specs.declared.event.Event.{Event as Told}
 use Rattle.enet_types.specs.declared.event.PeerRef.{PeerRef}
 use Rattle.enet_types.specs.declared.packet.Packet.{Packet}
-use Rattle.enet_sender.specs.Carriage as carriage
+use Rattle.enet_sender.specs.CommandChoice as command_choice
 use Rattle.enet_peer.specs.declared.parts.PeerEvent.{PeerEvent}
 use Rattle.enet_peer.specs.declared.parts.PeerEvent.TheVariants as told
 use Rattle.enet_peer.specs.Peering.{Peering}
@@ -78,7 +78,7 @@ changes-as own far s b f e sure w = subst (λ (t : Bool). Went own far s (cond t
 
 -- a packet is submitted
 
-pub goes-submitted : (name : PeerRef) (channel mtu : ℕ) (q : carriage.Packet) (done : Unit {0}) (old new : Site) (e : HostEnd) (own far : End) → old.host.config.generations ≤ greatest
+pub goes-submitted : (name : PeerRef) (channel mtu : ℕ) (q : command_choice.Packet) (done : Unit {0}) (old new : Site) (e : HostEnd) (own far : End) → old.host.config.generations ≤ greatest
     → Acts (call.Submit name channel q (Ok done)) old.host new.host → KeepsLog old new e.connection → Shows old e own → mtu ≡ mtu_in (named old.host.slots name)
     → Went own far new (cond (is_same_name e.name name) (with_packet mtu (record { channel = channel; flags = q.flags; body = q.body }) e) e)
 goes-submitted name channel mtu q done old new e own far low acts same k goes-by = by (moved c old.host new.host e.name k.peer low acts k.shows)

@@ -6,7 +6,7 @@ use Rattle.enet_types.specs.declared.refusal.Refusal.{Refusal}
 use Rattle.enet_types.specs.declared.refusal.Refusal.TheVariants.{Memory, TooLarge}
 use Rattle.enet_fragment.specs.Cutting.{piece_length, piece_count}
 use Rattle.enet_sender.proofs.Courses.{piece_count-one}
-use Rattle.enet_sender.specs.Carriage.{Packet, fragment_limit}
+use Rattle.enet_sender.specs.CommandChoice.{Packet, fragment_limit}
 use Rattle.enet_sender.specs.Due.{SendingEnd, with_submitted}
 use Rattle.enet_outbox.specs.Outbox.{Outbox, is_unsequenced, submitted, with_sequenced, with_unsequenced}
 

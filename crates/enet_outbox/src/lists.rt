@@ -5,7 +5,7 @@ ghost use Rattle.std.specs.List.{range_with_len, list_all, list_any};
 ghost use Rattle.std.specs.VecDeque.{deque_len, deque_capacity};
 ghost use Rattle.enet_sender.specs.Sender as sender;
 ghost use Rattle.enet_sender.specs.Due.{SendingEnd, new_end, with_submitted};
-ghost use Rattle.enet_sender.specs.Carriage.{fragment_limit};
+ghost use Rattle.enet_sender.specs.CommandChoice.{fragment_limit};
 ghost use Rattle.enet_fragment.specs.Cutting.{piece_count};
 ghost use Rattle.enet_outbox.specs.Outbox.{cleared_sender, has_no_packet, has_no_reliable, marked_sender, matched_on};
 ghost use Rattle.enet_outbox.specs.Kept.{KeepsOutbox, with_accepted};

@@ -2,7 +2,7 @@
 
 ghost use Rattle.std.specs.Prelude.{◌≡◌, ◌+◌, ◌/◌, ◌%◌, ◌≤◌, ◌<◌, ◌⊎◌, ◌↔◌, ◌&&◌, ◌==◌, not, nat_lt, length, IsTrue, OnOk, OnErr, IfOk, IfErr, IsErrAnd};
 ghost use Rattle.enet_throttle.specs.Throttle.{with_interval, limited};
-ghost use Rattle.enet_sender.specs.Carriage.{fragment_limit};
+ghost use Rattle.enet_sender.specs.CommandChoice.{fragment_limit};
 ghost use Rattle.std.specs.List.{list_any};
 ghost use Rattle.enet_fragment.specs.Cutting.{piece_length, piece_count};
 ghost use Rattle.enet_sender.specs.Due.{SendingEnd};

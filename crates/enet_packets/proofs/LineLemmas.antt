@@ -14,14 +14,14 @@ use Rattle.std.proofs.lemmas.Map.Entries.{sum_by-insert_entry, sum_by-remove_ent
 use Rattle.std.proofs.lemmas.Map.Views.{IfSome-lookup_from_All, All-keys-insert_entry, All-values-insert_entry, All-map-remove_entry, All-values-set_value}
 use Rattle.enet_types.specs.declared.refusal.Refusal.{Refusal}
 use Rattle.enet_fragment.specs.declared.place.Place.{Place}
-use Rattle.enet_fragment.specs.Making.{with_piece, belongs, piece_at}
-use Rattle.enet_packets.specs.declared.coming.Coming.{Coming}
+use Rattle.enet_fragment.specs.PartialPacket.{with_piece, belongs, piece_at}
+use Rattle.enet_packets.specs.declared.incoming_packet.IncomingPacket.{IncomingPacket}
 use Rattle.enet_packets.specs.Kept.{KeepsLine, KeepsLines, KeepsWaiting, Settles, line_in, total_of}
 use Rattle.enet_packets.specs.Packets.{Lines, bytes_of, line_at, with_line, fresh, last_fresh, still_ahead}
 use Rattle.enet_packets.proofs.Maps.{get-from, entries-empty, sum_bounded, sum-over, len-over, get-insert_same, inserted_entry, remove-insert, len-new, sum-new, remove-absent, retained-empty}
 
 abbrev pub Line : Type 0
-Line = FinMap nat_cmp Coming
+Line = FinMap nat_cmp IncomingPacket
 
 abbrev pub LineEntries : Type 0
 LineEntries = List (ℕ × Line)
@@ -42,11 +42,11 @@ line_there es number line e = ap (λ (o : Option Line). unwrap_or o empty) e
 pub line_absent : (es : LineEntries) (number : ℕ) → lookup (is_at (nat_cmp number)) es ≡ None → line_in es number ≡ empty
 line_absent es number e = ap (λ (o : Option Line). unwrap_or o empty) e
 
-pub len_nothing : len (empty {X = Coming} {R = nat_cmp}) ≡ 0
-len_nothing = len-empty nat_cmp Coming
+pub len_nothing : len (empty {X = IncomingPacket} {R = nat_cmp}) ≡ 0
+len_nothing = len-empty nat_cmp IncomingPacket
 
 pub bytes_nothing : bytes_of empty ≡ 0
-bytes_nothing = ap (λ (es : List (ℕ × Coming)). sum_by total_of (values_of es)) entries-empty
+bytes_nothing = ap (λ (es : List (ℕ × IncomingPacket)). sum_by total_of (values_of es)) entries-empty
 
 weigh : (f : Line → ℕ) → f empty ≡ 0 → (o : Option Line) → unwrap_or (option_map f o) 0 ≡ f (unwrap_or o empty)
 weigh f z None = sym z
@@ -123,8 +123,8 @@ keeps-same es fs packets bytes number line next there same_len same_bytes is kee
     }
 
 -- a piece more leaves a line's size as it is
-pub same_size : (r : Result Unit Refusal) (line next : Line) (count : ℕ) (place : Place) (bytes : List ℕ) (P : Coming → Type 0) → IsSomeAnd (get line count) P
-    → OnOk r ((c : Coming) → get line count ≡ Some c → next ≡ insert line count (record { flags = c.flags; making = with_piece c.making place bytes }))
+pub same_size : (r : Result Unit Refusal) (line next : Line) (count : ℕ) (place : Place) (bytes : List ℕ) (P : IncomingPacket → Type 0) → IsSomeAnd (get line count) P
+    → OnOk r ((c : IncomingPacket) → get line count ≡ Some c → next ≡ insert line count (record { flags = c.flags; making = with_piece c.making place bytes }))
     → OnErr r (next ≡ line) → (len next ≡ len line) × (bytes_of next ≡ bytes_of line)
 same_size (Err _) line next count place bytes P there ok err = (ap (λ (m : Line). len m) err, ap bytes_of err)
 same_size (Ok _) line next count place bytes P there ok err =
@@ -152,7 +152,7 @@ pub nothing_kept : KeepsLine empty
 nothing_kept = let n = len_nothing in let b = bytes_nothing in record { few = omega arith; light = omega arith }
 
 -- a line with a packet in it isn't empty
-pub len-insert_some : (line : Line) (count : ℕ) (coming : Coming) → 0 < len (insert line count coming)
+pub len-insert_some : (line : Line) (count : ℕ) (coming : IncomingPacket) → 0 < len (insert line count coming)
 len-insert_some line count coming =
     elim (zero_or_more (len (insert line count coming))) [
       | inl none ↦ absurd (let there = get-insert_same line count coming in
@@ -165,7 +165,7 @@ len-insert_some line count coming =
     zero_or_more n = grind arith
 
 -- the piece belongs to the packet, in which it is missing
-abbrev pub fits_into : Place → Coming → Type 0
+abbrev pub fits_into : Place → IncomingPacket → Type 0
 fits_into place c = IsTrue (belongs c.making place) × (piece_at c.making place.number ≡ None)
 
 -- the line of a number that was just put there
@@ -214,7 +214,7 @@ settles-gone es fs gs number line low kept none is sorted without left gone keep
     }
 
 -- a line with one packet more
-pub grown : (es fs : LineEntries) (number count : ℕ) (coming : Coming) → number < 65536 → get (line_in es number) count ≡ None
+pub grown : (es fs : LineEntries) (number count : ℕ) (coming : IncomingPacket) → number < 65536 → get (line_in es number) count ≡ None
     → KeepsLine (insert (line_in es number) count coming) → fs ≡ insert_entry nat_cmp es number (insert (line_in es number) count coming)
     → IsStrictlySortedBy nat_cmp (keys_of fs) → KeepsLines es
     → KeepsLines fs × (sum_by len (values_of fs) ≡ sum_by len (values_of es) + 1) × (sum_by bytes_of (values_of fs) ≡ sum_by bytes_of (values_of es) + total_of coming)
@@ -231,10 +231,10 @@ none_from None e = refl
 none_from (Some x) e = absurd (cc)
 
 -- nothing is handed out of no line
-pub fresh_nothing : (first : ℕ) → fresh first (entries (empty {X = Coming} {R = nat_cmp})) ≡ []
+pub fresh_nothing : (first : ℕ) → fresh first (entries (empty {X = IncomingPacket} {R = nat_cmp})) ≡ []
 fresh_nothing first = ap (fresh first) entries-empty
 
-pub last_nothing : (last : ℕ) → last_fresh last (entries (empty {X = Coming} {R = nat_cmp})) ≡ last
+pub last_nothing : (last : ℕ) → last_fresh last (entries (empty {X = IncomingPacket} {R = nat_cmp})) ≡ last
 last_nothing last = ap (last_fresh last) entries-empty
 
 -- and there is none afterwards
@@ -242,6 +242,6 @@ pub nothing_settles : (lines : Lines) (number last : ℕ) → get lines number �
 nothing_settles lines number last absent =
     with_line-none lines number (still_ahead empty last) (ap (λ (m : Line). len m) (retained-empty (nat_lt last)) ∙ len_nothing) ∙ remove-absent lines number absent
 
-pub fits_there : (o : Option Coming) (c : Coming) (place : Place) → o ≡ Some c → belongs c.making place ≡ true → is_some (piece_at c.making place.number) ≡ false → IsSomeAnd o (fits_into place)
+pub fits_there : (o : Option IncomingPacket) (c : IncomingPacket) (place : Place) → o ≡ Some c → belongs c.making place ≡ true → is_some (piece_at c.making place.number) ≡ false → IsSomeAnd o (fits_into place)
 fits_there o c place there fits missing =
-    subst (λ (x : Option Coming). IsSomeAnd x (fits_into place)) (sym there) (fits, none_from (piece_at c.making place.number) missing)
+    subst (λ (x : Option IncomingPacket). IsSomeAnd x (fits_into place)) (sym there) (fits, none_from (piece_at c.making place.number) missing)

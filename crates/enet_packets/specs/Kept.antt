@@ -6,16 +6,16 @@ use Rattle.std.specs.Map.{keys_of, values_of, lookup}
 use Rattle.std.specs.BTreeMap.{is_at}
 use Rattle.std.specs.FinMap.{FinMap, len, empty, from_entries}
 use Rattle.enet_fragment.specs.Whole.{is_whole}
-use Rattle.enet_packets.specs.declared.coming.Coming.{Coming}
+use Rattle.enet_packets.specs.declared.incoming_packet.IncomingPacket.{IncomingPacket}
 use Rattle.enet_packets.specs.Packets.{bytes_of, with_line}
 
 -- how many bytes a packet has once it is whole
-abbrev pub total_of : Coming → ℕ
+abbrev pub total_of : IncomingPacket → ℕ
 total_of c = c.making.total
 
 -- no whole packet has a number above this one
-abbrev pub AreWholeUpTo : ℕ → List (ℕ × Coming) → Type 0
-AreWholeUpTo most entries = All (λ (e : ℕ × Coming). is_whole e.1.making ≡ true → e.0 ≤ most) entries
+abbrev pub AreWholeUpTo : ℕ → List (ℕ × IncomingPacket) → Type 0
+AreWholeUpTo most entries = All (λ (e : ℕ × IncomingPacket). is_whole e.1.making ≡ true → e.0 ≤ most) entries
 
 -- the number past which no packet is whole, once the packet of a number came or grew
 abbrev pub most_if : Bool → ℕ → ℕ → ℕ
@@ -26,36 +26,36 @@ most_with (Ok is_whole) most number = most_if is_whole most number
 most_with (Err why) most number = most
 
 -- The numbers rise and have 16 bits, the counter is the sum of the packets' bytes, and those past `most` are in the making.
-pub record KeepsPackets (entries : List (ℕ × Coming)) (bytes most : ℕ) : Type 0 where
+pub record KeepsPackets (entries : List (ℕ × IncomingPacket)) (bytes most : ℕ) : Type 0 where
   pub sorted : IsStrictlySortedBy nat_cmp (keys_of entries)
   pub numbers : All (λ (n : ℕ). n < 65536) (keys_of entries)
-  pub totals : All (λ (c : Coming). total_of c ≤ 2 ^ 32 - 1) (values_of entries)
+  pub totals : All (λ (c : IncomingPacket). total_of c ≤ 2 ^ 32 - 1) (values_of entries)
   pub counted : bytes ≡ sum_by total_of (values_of entries)
   pub whole : AreWholeUpTo most entries
 
 -- a line of packets has at most one for each number
-pub record KeepsLine (line : FinMap nat_cmp Coming) : Type 0 where
+pub record KeepsLine (line : FinMap nat_cmp IncomingPacket) : Type 0 where
   pub few : len line ≤ 65536
   pub light : bytes_of line ≤ 2 ^ 48 - 1
 
 -- The numbers of lines rise and have 16 bits.
-pub record KeepsLines (entries : List (ℕ × FinMap nat_cmp Coming)) : Type 0 where
+pub record KeepsLines (entries : List (ℕ × FinMap nat_cmp IncomingPacket)) : Type 0 where
   pub sorted : IsStrictlySortedBy nat_cmp (keys_of entries)
   pub numbers : All (λ (n : ℕ). n < 65536) (keys_of entries)
-  pub lines : All (λ (line : FinMap nat_cmp Coming). KeepsLine line) (values_of entries)
+  pub lines : All (λ (line : FinMap nat_cmp IncomingPacket). KeepsLine line) (values_of entries)
 
 -- The counters are the sums of the lines' packets and bytes.
-pub record KeepsWaiting (entries : List (ℕ × FinMap nat_cmp Coming)) (packets bytes : ℕ) : Type 0 where
+pub record KeepsWaiting (entries : List (ℕ × FinMap nat_cmp IncomingPacket)) (packets bytes : ℕ) : Type 0 where
   pub lines : KeepsLines entries
   pub packets_counted : packets ≡ sum_by len (values_of entries)
   pub bytes_counted : bytes ≡ sum_by bytes_of (values_of entries)
 
 -- the line of a number
-abbrev pub line_in : List (ℕ × FinMap nat_cmp Coming) → ℕ → FinMap nat_cmp Coming
+abbrev pub line_in : List (ℕ × FinMap nat_cmp IncomingPacket) → ℕ → FinMap nat_cmp IncomingPacket
 line_in entries number = unwrap_or (lookup (is_at (nat_cmp number)) entries) empty
 
 -- In the second list the line of this number is another one, or is gone if that is empty.
-pub record Settles (entries after : List (ℕ × FinMap nat_cmp Coming)) (number : ℕ) (line : FinMap nat_cmp Coming) : Type 0 where
+pub record Settles (entries after : List (ℕ × FinMap nat_cmp IncomingPacket)) (number : ℕ) (line : FinMap nat_cmp IncomingPacket) : Type 0 where
   pub is : from_entries after ≡ with_line (from_entries entries) number line
   pub lines : KeepsLines after
   pub packets : sum_by len (values_of after) + len (line_in entries number) ≡ sum_by len (values_of entries) + len line

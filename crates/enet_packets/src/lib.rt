@@ -9,10 +9,10 @@
 //! Only tested, by `check_peer`: that calls succeed with ample memory, and worked lines.
 #![tactic(auto)]
 
-mod coming;
+mod incoming_packet;
 mod packets;
 mod waiting;
 
-pub use coming::{Coming, Dispatched};
+pub use incoming_packet::{Dispatched, IncomingPacket};
 pub use packets::Packets;
 pub use waiting::Waiting;

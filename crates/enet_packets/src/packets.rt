@@ -7,10 +7,10 @@ ghost use Rattle.std.specs.BTreeMap as tree;
 ghost use Rattle.std.specs.FinMap as map;
 ghost use Rattle.std.specs.Map.{set_value};
 ghost use Rattle.std.specs.VecDeque.{deque_len, deque_capacity};
-ghost use Rattle.enet_fragment.specs.Making.{belongs, piece_at, with_piece};
+ghost use Rattle.enet_fragment.specs.PartialPacket.{belongs, piece_at, with_piece};
 ghost use Rattle.enet_fragment.specs.Whole.{is_whole};
 
-use crate::{Coming, Dispatched};
+use crate::{Dispatched, IncomingPacket};
 use enet_codec::Refusal;
 use enet_fragment::Place;
 use std::alloc::Global;
@@ -20,7 +20,7 @@ use std::marker::Model;
 /// Packets by their numbers. Contracts see it as a finite map.
 #[derive(Drop)]
 pub struct Packets {
-    packets: BTreeMap<u16, Coming>,
+    packets: BTreeMap<u16, IncomingPacket>,
     bytes: u64,
     /// No whole packet has a number above this one, so those past it are in the making and need not be looked at.
     last_whole: u16,
@@ -31,9 +31,9 @@ impl Model for Packets {
     ghost use Rattle.std.specs.FinMap.{FinMap, from_entries};
     ghost use Rattle.enet_packets.specs.Codes.{packets_code};
     ghost use Rattle.enet_packets.specs.Kept.{KeepsPackets};
-    ghost use Rattle.enet_packets.specs.declared.coming.Coming.{Coming};
+    ghost use Rattle.enet_packets.specs.declared.incoming_packet.IncomingPacket.{IncomingPacket};
 
-    ghost Value = { FinMap nat_cmp Coming };
+    ghost Value = { FinMap nat_cmp IncomingPacket };
 
     ghost coded = { packets_code };
 
@@ -42,12 +42,12 @@ impl Model for Packets {
     ghost invariant = { λ p. KeepsPackets p.packets.entries p.bytes p.last_whole };
 }
 
-ghost use Rattle.enet_packets.specs.declared.coming.Coming.{Coming};
+ghost use Rattle.enet_packets.specs.declared.incoming_packet.IncomingPacket.{IncomingPacket};
 ghost use Rattle.enet_packets.specs.Kept.{KeepsPackets, most_if, most_with};
 ghost use Rattle.enet_packets.specs.Packets.{bytes_of, fresh, last_fresh, still_ahead, handed_out};
 
 /// Adds a packet, where memory is not refused.
-fn put(packets: &mut BTreeMap<u16, Coming>, number: u16, coming: Coming) -> bool
+fn put(packets: &mut BTreeMap<u16, IncomingPacket>, number: u16, coming: IncomingPacket) -> bool
     ensures added { IsTrue result → packets.new.entries ≡ tree.insert_entry nat_cmp packets.old.entries number coming }
     ensures refused { result ≡ false → packets.new.entries ≡ packets.old.entries }
     ensures ordered { tree.IsOrdered nat_cmp packets.new }
@@ -60,14 +60,14 @@ fn put(packets: &mut BTreeMap<u16, Coming>, number: u16, coming: Coming) -> bool
 
 /// Adds a piece to the packet of this number. Answers whether that is whole then.
 fn add_piece(
-    packets: &mut BTreeMap<u16, Coming>,
+    packets: &mut BTreeMap<u16, IncomingPacket>,
     number: u16,
     place: Place,
     bytes: &[u8],
 ) -> Result<bool, Refusal>
     requires fits { place.len ≡ length bytes.now }
     requires there { IsSomeAnd (tree.get nat_cmp packets.old number) (λ c. IsTrue (belongs c.making place) × (piece_at c.making place.number ≡ None)) }
-    ensures ok { OnOk result ((c : Coming) → tree.get nat_cmp packets.old number ≡ Some c
+    ensures ok { OnOk result ((c : IncomingPacket) → tree.get nat_cmp packets.old number ≡ Some c
         → packets.new.entries ≡ set_value (tree.is_at (nat_cmp number)) packets.old.entries (record { flags = c.flags; making = with_piece c.making place bytes.now })) }
     ensures err { OnErr result (packets.new.entries ≡ packets.old.entries) }
     ensures memory { IfErr result (λ why. why ≡ Refusal.Memory) }
@@ -94,21 +94,24 @@ fn whole_up_to(last_whole: u16, number: u16, is_whole: bool) -> u16
 }
 
 /// Whether a packet is whole and its number above `last`.
-fn is_newer(number: u16, coming: &Coming, last: u16) -> bool
+fn is_newer(number: u16, coming: &IncomingPacket, last: u16) -> bool
     ensures { result ≡ (is_whole coming.now.making && nat_lt last number) }
 {
     coming.making.is_whole() && last < number
 }
 
 /// Whether a packet is handed out where those from `first` on are.
-fn is_fresh(number: u16, coming: &Coming, first: u32) -> bool
+fn is_fresh(number: u16, coming: &IncomingPacket, first: u32) -> bool
     ensures { result ≡ (is_whole coming.now.making && nat_le first number) }
 {
     coming.making.is_whole() && first <= u32::from(number)
 }
 
 /// Takes the first packet out, if its number is at most `until`.
-fn pop_up_to(packets: &mut BTreeMap<u16, Coming>, until: u16) -> Option<(u16, Coming)>
+fn pop_up_to(
+    packets: &mut BTreeMap<u16, IncomingPacket>,
+    until: u16,
+) -> Option<(u16, IncomingPacket)>
     ensures some { IfSome result (λ e. packets.old.entries ≡ e ∷ packets.new.entries) }
     ensures low { IfSome result (λ e. e.0 ≤ until) }
     ensures none { IfNone result (packets.new.entries ≡ packets.old.entries) }
@@ -122,7 +125,7 @@ fn pop_up_to(packets: &mut BTreeMap<u16, Coming>, until: u16) -> Option<(u16, Co
 }
 
 /// Hands a packet out if it is whole and its number at least `first`.
-fn hand_out(number: u16, coming: Coming, first: u32, dispatched: &mut VecDeque<Dispatched>)
+fn hand_out(number: u16, coming: IncomingPacket, first: u32, dispatched: &mut VecDeque<Dispatched>)
     requires { deque_len dispatched.old < deque_capacity dispatched.old }
     ensures items { dispatched.new.items ≡ (if is_whole coming.making && nat_le first number then dispatched.old.items ++ handed_out coming ∷ [] else dispatched.old.items) }
     ensures room { deque_len dispatched.new ≤ deque_len dispatched.old + 1 }
@@ -163,14 +166,14 @@ impl Packets {
     }
 
     /// The packet of this number.
-    pub fn get(&self, number: u16) -> Option<&Coming>
+    pub fn get(&self, number: u16) -> Option<&IncomingPacket>
         ensures { option_copied result ≡ map.get self.now number }
     {
         self.packets.get(&number)
     }
 
     /// Adds a packet under a number that has none. `Refusal::Memory` changes nothing.
-    pub fn insert(&mut self, number: u16, coming: Coming) -> Result<(), Refusal>
+    pub fn insert(&mut self, number: u16, coming: IncomingPacket) -> Result<(), Refusal>
         requires absent { map.get self.old number ≡ None }
         ensures ok { OnOk result (self.new ≡ map.insert self.old number coming) }
         ensures err { OnErr result (self.new ≡ self.old) }
@@ -193,7 +196,7 @@ impl Packets {
     pub fn add(&mut self, number: u16, place: Place, bytes: &[u8]) -> Result<(), Refusal>
         requires fits { place.len ≡ length bytes.now }
         requires there { IsSomeAnd (map.get self.old number) (λ c. IsTrue (belongs c.making place) × (piece_at c.making place.number ≡ None)) }
-        ensures ok { OnOk result ((c : Coming) → map.get self.old number ≡ Some c
+        ensures ok { OnOk result ((c : IncomingPacket) → map.get self.old number ≡ Some c
             → self.new ≡ map.insert self.old number (record { flags = c.flags; making = with_piece c.making place bytes.now })) }
         ensures err { OnErr result (self.new ≡ self.old) }
         ensures memory { IfErr result (λ why. why ≡ Refusal.Memory) }
@@ -204,7 +207,7 @@ impl Packets {
     }
 
     /// Takes the packet of this number out.
-    pub fn remove(&mut self, number: u16) -> Option<Coming>
+    pub fn remove(&mut self, number: u16) -> Option<IncomingPacket>
         ensures value { result ≡ map.get self.old number }
         ensures rest { self.new ≡ map.remove self.old number }
     {

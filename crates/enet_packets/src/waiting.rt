@@ -7,9 +7,9 @@ ghost use Rattle.std.specs.BTreeMap as tree;
 ghost use Rattle.std.specs.FinMap as map;
 ghost use Rattle.std.specs.Map.{remove_entry};
 ghost use Rattle.std.specs.VecDeque.{deque_len, deque_capacity};
-ghost use Rattle.enet_fragment.specs.Making.{belongs, piece_at, with_piece};
+ghost use Rattle.enet_fragment.specs.PartialPacket.{belongs, piece_at, with_piece};
 
-use crate::{Coming, Dispatched, Packets};
+use crate::{Dispatched, IncomingPacket, Packets};
 use enet_codec::Refusal;
 use enet_fragment::Place;
 use std::alloc::Global;
@@ -31,9 +31,9 @@ impl Model for Waiting {
     ghost use Rattle.std.specs.FinMap.{FinMap, from_entries};
     ghost use Rattle.enet_packets.specs.Codes.{waiting_code};
     ghost use Rattle.enet_packets.specs.Kept.{KeepsWaiting};
-    ghost use Rattle.enet_packets.specs.declared.coming.Coming.{Coming};
+    ghost use Rattle.enet_packets.specs.declared.incoming_packet.IncomingPacket.{IncomingPacket};
 
-    ghost Value = { FinMap nat_cmp (FinMap nat_cmp Coming) };
+    ghost Value = { FinMap nat_cmp (FinMap nat_cmp IncomingPacket) };
 
     ghost coded = { waiting_code };
 
@@ -42,7 +42,7 @@ impl Model for Waiting {
     ghost invariant = { λ w. KeepsWaiting w.lines.entries w.packets w.bytes };
 }
 
-ghost use Rattle.enet_packets.specs.declared.coming.Coming.{Coming};
+ghost use Rattle.enet_packets.specs.declared.incoming_packet.IncomingPacket.{IncomingPacket};
 ghost use Rattle.enet_packets.specs.Kept.{KeepsLines, KeepsLine, KeepsWaiting, Settles, line_in};
 ghost use Rattle.enet_packets.specs.Packets.{bytes_of, bytes_in, packets_in, fresh, last_fresh, still_ahead, line_at, with_line};
 
@@ -76,7 +76,7 @@ fn insert_into(
     lines: &mut BTreeMap<u16, Packets>,
     number: u16,
     count: u16,
-    coming: Coming,
+    coming: IncomingPacket,
 ) -> Result<(), Refusal>
     requires there { IsSome (tree.get nat_cmp lines.old number) }
     requires absent { map.get (line_in lines.old.entries number) count ≡ None }
@@ -98,7 +98,7 @@ fn begin(
     alloc: Global,
     number: u16,
     count: u16,
-    coming: Coming,
+    coming: IncomingPacket,
 ) -> Result<(), Refusal>
     requires absent { tree.get nat_cmp lines.old number ≡ None }
     ensures ok { OnOk result (lines.new.entries ≡ tree.insert_entry nat_cmp lines.old.entries number (map.insert map.empty count coming)) }
@@ -121,7 +121,7 @@ fn insert_at(
     alloc: Global,
     number: u16,
     count: u16,
-    coming: Coming,
+    coming: IncomingPacket,
 ) -> Result<(), Refusal>
     requires absent { map.get (line_in lines.old.entries number) count ≡ None }
     ensures ok { OnOk result (lines.new.entries ≡ tree.insert_entry nat_cmp lines.old.entries number (map.insert (line_in lines.old.entries number) count coming)) }
@@ -147,7 +147,7 @@ fn add_piece(
 ) -> Result<(), Refusal>
     requires fits { place.len ≡ length bytes.now }
     requires there { IsSomeAnd (map.get (line_in lines.old.entries number) count) (λ c. IsTrue (belongs c.making place) × (piece_at c.making place.number ≡ None)) }
-    ensures ok { OnOk result ((c : Coming) → map.get (line_in lines.old.entries number) count ≡ Some c
+    ensures ok { OnOk result ((c : IncomingPacket) → map.get (line_in lines.old.entries number) count ≡ Some c
         → lines.new.entries ≡ tree.insert_entry nat_cmp lines.old.entries number (map.insert (line_in lines.old.entries number) count (record { flags = c.flags; making = with_piece c.making place bytes.now }))) }
     ensures err { OnErr result (lines.new.entries ≡ lines.old.entries) }
     ensures memory { IfErr result (λ why. why ≡ Refusal.Memory) }
@@ -246,7 +246,7 @@ impl Waiting {
     }
 
     /// The packet of unreliable number `count` in the line of `number`.
-    pub fn get(&self, number: u16, count: u16) -> Option<&Coming>
+    pub fn get(&self, number: u16, count: u16) -> Option<&IncomingPacket>
         ensures { option_copied result ≡ map.get (line_at self.now number) count }
     {
         match self.lines.get(&number) {
@@ -256,7 +256,7 @@ impl Waiting {
     }
 
     /// Adds a packet to the line of `number`, which has none of unreliable number `count`. `Refusal::Memory` changes nothing.
-    pub fn insert(&mut self, number: u16, count: u16, coming: Coming) -> Result<(), Refusal>
+    pub fn insert(&mut self, number: u16, count: u16, coming: IncomingPacket) -> Result<(), Refusal>
         requires absent { map.get (line_at self.old number) count ≡ None }
         ensures ok { OnOk result (self.new ≡ with_line self.old number (map.insert (line_at self.old number) count coming)) }
         ensures one_more { OnOk result (packets_in self.new ≡ packets_in self.old + 1) }
@@ -281,7 +281,7 @@ impl Waiting {
     ) -> Result<(), Refusal>
         requires fits { place.len ≡ length bytes.now }
         requires there { IsSomeAnd (map.get (line_at self.old number) count) (λ c. IsTrue (belongs c.making place) × (piece_at c.making place.number ≡ None)) }
-        ensures ok { OnOk result ((c : Coming) → map.get (line_at self.old number) count ≡ Some c
+        ensures ok { OnOk result ((c : IncomingPacket) → map.get (line_at self.old number) count ≡ Some c
             → self.new ≡ with_line self.old number (map.insert (line_at self.old number) count (record { flags = c.flags; making = with_piece c.making place bytes.now }))) }
         ensures packets { packets_in self.new ≡ packets_in self.old }
         ensures err { OnErr result (self.new ≡ self.old) }

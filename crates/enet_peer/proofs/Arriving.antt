@@ -5,12 +5,12 @@ use Rattle.enet_types.specs.declared.stop.Stop.{Stop}
 use Rattle.enet_types.specs.declared.stop.Stop.TheVariants as stop
 use Rattle.enet_codec.specs.Message.{Message, Body, acknowledge, connect, verify_connect, disconnect, ping, send_reliable, send_unreliable, send_fragment, send_unsequenced, bandwidth_limit, throttle_configure, send_unreliable_fragment}
 use Rattle.enet_inbox.specs.Inbox.{Inbox}
-use Rattle.enet_inbox.specs.Arrivals.{arrival, passed_over}
-use Rattle.enet_inbox.specs.Arrivals as kept_in
+use Rattle.enet_inbox.specs.DataEffect.{arrival, passed_over}
+use Rattle.enet_inbox.specs.DataEffect as kept_in
 use Rattle.enet_inbox.proofs.Stops.{Tells, tells-if, tells-ok, tells-err, arrival_stays, arrival_tells, passed_tells, quiet_stays}
 use Rattle.enet_peer.specs.Peering.{Peering}
 use Rattle.enet_peer.specs.Endings.{is_later}
-use Rattle.enet_peer.specs.Arrivals.{Outcome, Stops, stopped, answered, answered_at, is_answered_in, is_connect, is_allowed, by_body, on_data, by_answer, by_arrival, obeyed, is_kept, wants_memory}
+use Rattle.enet_peer.specs.CommandEffect.{Outcome, Stops, stopped, answered, answered_at, is_answered_in, is_connect, is_allowed, by_body, on_data, by_answer, by_arrival, obeyed, is_kept, wants_memory}
 use Rattle.enet_peer.specs.Acting.{foreseen, foreseen_body, foreseen_data, taken_in, acted, acted_body, by_foresight}
 
 foreseen-data : (p : Peering) (m : Message) → Tells (foreseen_data p m)

@@ -31,8 +31,8 @@ use Rattle.enet_receiver.specs.declared.took.Took.TheVariants.{Held, Again, Outs
 use Rattle.enet_receiver.specs.Foresight.{ReceivingEnd, outcome_for, after_command}
 use Rattle.enet_receiver.specs.Foresight as receiving
 use Rattle.enet_inbox.specs.Inbox.{Inbox, is_full, cleared_receiver}
-use Rattle.enet_inbox.specs.Arrivals.{Arrival, handled, stopped as refused, unsequenced, unsequenced_taken, by_took, sequenced, sequenced_on, passed_over, arrival, arrival_of, emptied}
-use Rattle.enet_sender.specs.Carriage.{Packet}
+use Rattle.enet_inbox.specs.DataEffect.{DataEffect, handled, stopped as refused, unsequenced, unsequenced_taken, by_took, sequenced, sequenced_on, passed_over, arrival, arrival_of, emptied}
+use Rattle.enet_sender.specs.CommandChoice.{Packet}
 use Rattle.enet_sender.specs.declared.sent.Sent.{Sent}
 use Rattle.enet_sender.specs.Sender.{Sender, Next, next, with_skipped}
 use Rattle.enet_sender.specs.Sender as sender
@@ -54,7 +54,7 @@ use Rattle.enet_peer.specs.declared.parts.Limits.{Limits}
 use Rattle.enet_peer.specs.declared.parts.PeerEvent.{PeerEvent}
 use Rattle.enet_peer.specs.declared.parts.PeerEvent.TheVariants as event
 use Rattle.enet_peer.specs.Endings.{ended, freed, disconnecting, parting, settled, is_later, cut_off_in}
-use Rattle.enet_peer.specs.Arrivals.{Outcome, Obeys, wants_memory, answered, answered_at, is_answered_in, is_allowed, is_connect, obeyed, by_body, by_answer, by_arrival, on_data, stopped, sampled, with_answer, on_match, on_acknowledge, welcomed, on_verify_in, on_last_disconnect, on_disconnect_in}
+use Rattle.enet_peer.specs.CommandEffect.{Outcome, Obeys, wants_memory, answered, answered_at, is_answered_in, is_allowed, is_connect, obeyed, by_body, by_answer, by_arrival, on_data, stopped, sampled, with_answer, on_match, on_acknowledge, welcomed, on_verify_in, on_last_disconnect, on_disconnect_in}
 use Rattle.enet_peer.specs.Calls.{Leave, AtOnce, Parts, Asks, AsksLater, Refused, Leaves, left, Submits, submitted, PutsOut, after_timeouts, after_timeouts_by, is_pinged, ticked, is_connected, pace_of, destination_of, gone_on, gone_on_in, Taken, Takes, next_event, event_after, packet_event, last_event, with_bandwidth, with_throttle}
 use Rattle.enet_peer.specs.Reachable.{IsReachable, IsStill, IsStillIn, Keeps, WaitsIn}
 
@@ -312,16 +312,16 @@ disconnected-keeps p s h sent info k = answered-keeps p (record { head = h; body
 
 -- ---- a data command comes
 
-if-arrival : (b : Bool) (x y : Arrival) → At HandedOver x.after.receivers → At HandedOver y.after.receivers → At HandedOver (cond b x y).after.receivers
+if-arrival : (b : Bool) (x y : DataEffect) → At HandedOver x.after.receivers → At HandedOver y.after.receivers → At HandedOver (cond b x y).after.receivers
 if-arrival true x y a h = a
 if-arrival false x y a h = h
 
 unsequenced-hands : (b : Inbox) (channel group : ℕ) (payload : List ℕ) → At HandedOver b.receivers → At HandedOver (unsequenced b channel group payload).after.receivers
 unsequenced-hands b channel group payload h =
-    let took : Arrival = handled (unsequenced_taken b channel group payload) true in
-    let a3 : Arrival = cond (is_full b) (refused b stop.Waiting) took in
-    let a2 : Arrival = cond (not (dispatches b.seen group)) (handled b true) a3 in
-    let a1 : Arrival = cond (ltb b.max_packet (length payload)) (refused b stop.BadFragment) a2 in
+    let took : DataEffect = handled (unsequenced_taken b channel group payload) true in
+    let a3 : DataEffect = cond (is_full b) (refused b stop.Waiting) took in
+    let a2 : DataEffect = cond (not (dispatches b.seen group)) (handled b true) a3 in
+    let a1 : DataEffect = cond (ltb b.max_packet (length payload)) (refused b stop.BadFragment) a2 in
     if-arrival (leb (length b.receivers) channel) (refused b stop.BadChannel) a1 h
     (if-arrival (ltb b.max_packet (length payload)) (refused b stop.BadFragment) a2 h
     (if-arrival (not (dispatches b.seen group)) (handled b true) a3 h
@@ -365,9 +365,9 @@ body-keeps p h now sent (verify_connect v) k = answered-keeps (on_verify_in p.st
 body-keeps p h now sent (disconnect info) k = disconnected-keeps p p.state h sent info k
 body-keeps p h now sent ping k = answered-keeps p (record { head = h; body = ping }) sent true k
 body-keeps p h now sent (bandwidth_limit incoming outgoing) k =
-    answered-keeps (Rattle.enet_peer.specs.Arrivals.on_bandwidth p incoming) (record { head = h; body = bandwidth_limit incoming outgoing }) sent true k
+    answered-keeps (Rattle.enet_peer.specs.CommandEffect.on_bandwidth p incoming) (record { head = h; body = bandwidth_limit incoming outgoing }) sent true k
 body-keeps p h now sent (throttle_configure interval acceleration deceleration) k =
-    answered-keeps (Rattle.enet_peer.specs.Arrivals.on_throttle p interval acceleration deceleration) (record { head = h; body = throttle_configure interval acceleration deceleration }) sent true k
+    answered-keeps (Rattle.enet_peer.specs.CommandEffect.on_throttle p interval acceleration deceleration) (record { head = h; body = throttle_configure interval acceleration deceleration }) sent true k
 body-keeps p h now sent (send_reliable payload) k = data-keeps p (record { head = h; body = send_reliable payload }) sent k
 body-keeps p h now sent (send_unreliable n payload) k = data-keeps p (record { head = h; body = send_unreliable n payload }) sent k
 body-keeps p h now sent (send_fragment f payload) k = data-keeps p (record { head = h; body = send_fragment f payload }) sent k

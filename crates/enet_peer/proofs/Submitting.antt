@@ -4,7 +4,7 @@ use Rattle.std.proofs.lemmas.Bool.{ltb-false}
 use Rattle.enet_types.specs.declared.refusal.Refusal.{Refusal}
 use Rattle.enet_types.specs.declared.refusal.Refusal.TheVariants.{NotConnected, NoSuchChannel, TooLarge, Memory}
 use Rattle.enet_fragment.specs.Cutting.{piece_count}
-use Rattle.enet_sender.specs.Carriage.{Packet, fragment_limit}
+use Rattle.enet_sender.specs.CommandChoice.{Packet, fragment_limit}
 use Rattle.enet_peer.specs.Peering.{Peering}
 use Rattle.enet_peer.specs.Calls.{Refuses, Submits, submission_refusal, submitted}
 

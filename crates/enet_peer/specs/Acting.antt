@@ -1,16 +1,16 @@
--- The steps in which `command` does what `obeyed` of Arrivals says: what is foreseen of a command, room for its acknowledgement,
+-- The steps in which `command` does what `obeyed` of CommandEffect says: what is foreseen of a command, room for its acknowledgement,
 -- what it does, and that acknowledgement. The proof that these steps are `obeyed` stands on them, and nothing else.
 use Rattle.std.specs.Prelude.{◌≡◌, ℕ, ◌&&◌, ◌||◌, not, Bool, true, false, if◌then◌else◌, nat_lt, length, Option, Some, None, is_some, Result, Ok, Err}
 use Rattle.enet_types.specs.declared.stop.Stop.{Stop}
 use Rattle.enet_types.specs.declared.stop.Stop.TheVariants as stop
 use Rattle.enet_codec.specs.Message.{Message, Body, acknowledge, connect, verify_connect, disconnect, ping, bandwidth_limit, throttle_configure}
-use Rattle.enet_inbox.specs.Arrivals.{arrival, passed_over}
+use Rattle.enet_inbox.specs.DataEffect.{arrival, passed_over}
 use Rattle.enet_connect.specs.Verification.{confirmed}
 use Rattle.enet_peer.specs.declared.parts.PeerState.{PeerState}
 use Rattle.enet_peer.specs.declared.parts.PeerState.TheVariants as state
 use Rattle.enet_peer.specs.Peering.{Peering}
 use Rattle.enet_peer.specs.Endings.{is_later}
-use Rattle.enet_peer.specs.Arrivals.{Outcome, stopped, answered, is_acknowledge, is_connect, is_disconnect, is_allowed, on_acknowledge, on_verify_in, on_disconnect_in, on_bandwidth, on_throttle}
+use Rattle.enet_peer.specs.CommandEffect.{Outcome, stopped, answered, is_acknowledge, is_connect, is_disconnect, is_allowed, on_acknowledge, on_verify_in, on_disconnect_in, on_bandwidth, on_throttle}
 
 abbrev pub foreseen_data : Peering → Message → Result Bool Stop
 foreseen_data p m = if is_later p.state then passed_over p.inbox m else (arrival p.inbox m).answer

@@ -11,7 +11,7 @@ use Rattle.enet_rtt.specs.declared.expiry.Expiry.TheVariants.{No, Resend, End}
 use Rattle.enet_throttle.specs.Throttle.{with_interval, limited}
 use Rattle.enet_control.specs.declared.control.Control.TheVariants as control
 use Rattle.enet_fragment.specs.Cutting.{piece_count}
-use Rattle.enet_sender.specs.Carriage.{Packet, fragment_limit}
+use Rattle.enet_sender.specs.CommandChoice.{Packet, fragment_limit}
 use Rattle.enet_outbox.specs.declared.parts.Pace.{Pace}
 use Rattle.enet_outbox.specs.declared.parts.Destination.{Destination}
 use Rattle.enet_outbox.specs.Outbox.{Outbox, is_quiet, with_control, lateness, marked}

@@ -1,7 +1,7 @@
 pub mod Peering
 pub mod Peered
 pub mod Endings
-pub mod Arrivals
+pub mod CommandEffect
 pub mod Calls
 pub mod Acting
 pub mod Next

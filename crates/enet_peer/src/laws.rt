@@ -8,13 +8,13 @@ ghost use Rattle.enet_types.specs.declared.refusal.Refusal.{Refusal};
 ghost use Rattle.enet_types.specs.declared.stop.Stop.{Stop};
 ghost use Rattle.enet_connect.specs.declared.server.Server.{Server};
 ghost use Rattle.enet_connect.specs.declared.terms.Terms.{Terms};
-ghost use Rattle.enet_sender.specs.Carriage.{Packet};
+ghost use Rattle.enet_sender.specs.CommandChoice.{Packet};
 ghost use Rattle.enet_outbox.specs.declared.parts.Acknowledgement.{Acknowledgement};
 ghost use Rattle.enet_peer.specs.declared.parts.Limits.{Limits};
 ghost use Rattle.enet_peer.specs.declared.parts.PeerEvent.{PeerEvent};
 ghost use Rattle.enet_peer.specs.declared.parts.PeerState.TheVariants.{Connected, DisconnectLater};
 ghost use Rattle.enet_peer.specs.Peering.{Peering, answering, connecting, joined};
-ghost use Rattle.enet_peer.specs.Arrivals.{Obeys, obeyed, wants_memory};
+ghost use Rattle.enet_peer.specs.CommandEffect.{Obeys, obeyed, wants_memory};
 ghost use Rattle.enet_peer.specs.Calls.{Leave, Leaves, PutsOut, Submits, Takes, is_connected, left, next_event, ticked, with_bandwidth, with_ping_interval, with_throttle, with_throttle_limit, with_timeout};
 ghost use Rattle.enet_peer.specs.Reachable.{Answers, IsAnswering, IsReachable, answer_to};
 

@@ -1,6 +1,6 @@
 //! The machine of one peer in ENet 1.3: what each command, datagram, moment and call makes of it.
 //!
-//! Proved, each exactly by the definitions of specs/ (Peering, Arrivals, Endings, Calls, Next): `command` makes of the peer
+//! Proved, each exactly by the definitions of specs/ (Peering, CommandEffect, Endings, Calls, Next): `command` makes of the peer
 //! what the rules say of that command in that state, and no other change; the stop is the first that applies, an
 //! acknowledgement is queued exactly where they say so, and want of memory changes nothing and comes only where no earlier
 //! test stops the command (`Obeys`, `obeyed`). `emit` puts out what the outbox's definition says and then goes on
@@ -19,7 +19,7 @@
 //! `check_hosts`: captures.
 #![tactic(auto)]
 
-mod arrivals;
+mod effects;
 mod endings;
 mod events;
 mod laws;

@@ -2,7 +2,7 @@
 
 ghost use Rattle.std.specs.Prelude.{◌≡◌, ◌≤◌, nat_lt, length};
 ghost use Rattle.enet_fragment.specs.Cutting.{planned, piece_count};
-ghost use Rattle.enet_sender.specs.Carriage.{fragment_limit};
+ghost use Rattle.enet_sender.specs.CommandChoice.{fragment_limit};
 ghost use Rattle.enet_peer.specs.Calls.{is_connected, submission_refusal, Submits, pace_of, destination_of, gone_on, PutsOut};
 
 use crate::{Peer, PeerState};

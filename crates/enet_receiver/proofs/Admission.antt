@@ -8,16 +8,16 @@ use Rattle.enet_seq.specs.Numbering.{wire}
 use Rattle.enet_seq.specs.Windows.{ahead, after, in_window}
 use Rattle.enet_seq.proofs.WindowsLemmas.{inside_is_near}
 use Rattle.enet_fragment.specs.Place.{is_sound}
-use Rattle.enet_fragment.specs.Making.{count_of, nothing_yet, piece_at, belongs}
+use Rattle.enet_fragment.specs.PartialPacket.{count_of, nothing_yet, piece_at, belongs}
 use Rattle.enet_fragment.specs.declared.data.DataCommand.{DataCommand}
 use Rattle.enet_fragment.specs.DataCommand.{piece_of, place_in_packet}
 use Rattle.enet_fragment.proofs.Places.{Sound-from_test, Fits-from_test}
 use Rattle.enet_fragment.proofs.Laws.{count_of-with_piece, count_of-nothing_yet}
-use Rattle.enet_packets.specs.declared.coming.Coming.{Coming}
+use Rattle.enet_packets.specs.declared.incoming_packet.IncomingPacket.{IncomingPacket}
 use Rattle.enet_packets.specs.Packets.{line_at, with_line}
 use Rattle.enet_receiver.specs.declared.took.Took.TheVariants.{Held, Again, Bad, Waiting}
 use Rattle.enet_receiver.specs.Receiver.{Receiver}
-use Rattle.enet_receiver.specs.Reception.{outcome, outcome_at, outcome_of, place_read, came_at, is_piece, agrees_with, came, is_behind, earlier_or_new, with_more, with_added}
+use Rattle.enet_receiver.specs.DataOutcome.{outcome, outcome_at, outcome_of, place_read, came_at, is_piece, agrees_with, came, is_behind, earlier_or_new, with_more, with_added}
 use Rattle.enet_receiver.specs.Parts.{grown_at, with_stored}
 use Rattle.enet_receiver.specs.Admitted.{Admitted, IsInside}
 use Rattle.enet_receiver.specs.Kept.{IsHeld, Keeps}
@@ -30,7 +30,7 @@ fragment_facts true x y e f = absurd (cc)
 fragment_facts false x y e f = (e, f)
 
 -- a later piece belongs to its packet, and is missing
-pub earlier_facts : (e : Coming) (c : DataCommand) → agrees_with (Some e) c ≡ true → came (Some e) c ≡ false
+pub earlier_facts : (e : IncomingPacket) (c : DataCommand) → agrees_with (Some e) c ≡ true → came (Some e) c ≡ false
     → (belongs e.making (place_in_packet c) ≡ true) × (is_some (piece_at e.making (piece_of c).number) ≡ false)
 earlier_facts e c agrees missing = fragment_facts (is_none c.fragment) (belongs e.making (place_in_packet c)) (is_some (piece_at e.making (piece_of c).number)) agrees missing
 
@@ -86,7 +86,7 @@ apart_ahead : (front place : ℕ) → front < 65536 → place < 65536 → eqb pl
 apart_ahead front place a b e = grind (arith, nat_tests)
 
 -- the packet with the piece more
-pub record IsGrown (most : ℕ) (e : Coming) : Type 0 where
+pub record IsGrown (most : ℕ) (e : IncomingPacket) : Type 0 where
   pub some_piece : 1 ≤ count_of e.making
   pub few_pieces : count_of e.making ≤ 16384
   pub small : e.making.total ≤ most
@@ -100,33 +100,33 @@ grown_new most c t =
     let limit : (piece_of c).count ≤ 16384 = parts.within_limit in
     record { some_piece = omega arith; few_pieces = omega arith; small = sound.1 }
 
-pub grown_more : (most : ℕ) (c : DataCommand) (e : Coming) → IsGrown most e → IsGrown most (with_more e c)
+pub grown_more : (most : ℕ) (c : DataCommand) (e : IncomingPacket) → IsGrown most e → IsGrown most (with_more e c)
 grown_more most c e g =
     let count : count_of (with_more e c).making ≡ count_of e.making = count_of-with_piece e.making (place_in_packet c) c.body in
     record { some_piece = omega arith; few_pieces = omega arith; small = g.small }
 
-pub small_new : (most : ℕ) (c : DataCommand) (o : Option Coming) → is_piece most c ≡ true → ((e : Coming) → o ≡ Some e → e.making.total ≤ most) → (with_more (earlier_or_new o c) c).making.total ≤ most
+pub small_new : (most : ℕ) (c : DataCommand) (o : Option IncomingPacket) → is_piece most c ≡ true → ((e : IncomingPacket) → o ≡ Some e → e.making.total ≤ most) → (with_more (earlier_or_new o c) c).making.total ≤ most
 small_new most c None t h = (piece_sound most c t).1
 small_new most c (Some e) t h = h e refl
 
-pub grown : (most : ℕ) (c : DataCommand) (o : Option Coming) → is_piece most c ≡ true → ((e : Coming) → o ≡ Some e → IsGrown most e) → IsGrown most (with_more (earlier_or_new o c) c)
+pub grown : (most : ℕ) (c : DataCommand) (o : Option IncomingPacket) → is_piece most c ≡ true → ((e : IncomingPacket) → o ≡ Some e → IsGrown most e) → IsGrown most (with_more (earlier_or_new o c) c)
 grown most c None t h = grown_new most c t
 grown most c (Some e) t h = grown_more most c e (h e refl)
 
 -- a reliable piece
-Keeps-held : (most : ℕ) (r : Receiver) (place : ℕ) (e : Coming) → Keeps most r → place < 65536 → 1 ≤ ahead r.front place → ahead r.front place ≤ 28671 → IsGrown most e → Keeps most (record r { held = insert r.held place e })
+Keeps-held : (most : ℕ) (r : Receiver) (place : ℕ) (e : IncomingPacket) → Keeps most r → place < 65536 → 1 ≤ ahead r.front place → ahead r.front place ≤ 28671 → IsGrown most e → Keeps most (record r { held = insert r.held place e })
 Keeps-held most r place e k low near far g = record {
   packet = k.packet;
   wire = k.wire;
   held = λ q x f. elim (get_inserted r.held place q e x f) [
-    | inl same ↦ subst (λ (p : ℕ). IsHeld r.front most p x) (sym same.0) (subst (λ (y : Coming). IsHeld r.front most place y) same.1 (record { wire = low; near = near; far = far; some_piece = g.some_piece; few_pieces = g.few_pieces; small = g.small }))
+    | inl same ↦ subst (λ (p : ℕ). IsHeld r.front most p x) (sym same.0) (subst (λ (y : IncomingPacket). IsHeld r.front most place y) same.1 (record { wire = low; near = near; far = far; some_piece = g.some_piece; few_pieces = g.few_pieces; small = g.small }))
     | inr other ↦ k.held q x other.1
   ];
   waiting = k.waiting;
 }
 
 -- an unreliable one
-Keeps-waiting : (most : ℕ) (r : Receiver) (place count : ℕ) (e : Coming) → Keeps most r → place < 65536 → ahead r.front place ≤ 28671 → count < 65536 → e.making.total ≤ most
+Keeps-waiting : (most : ℕ) (r : Receiver) (place count : ℕ) (e : IncomingPacket) → Keeps most r → place < 65536 → ahead r.front place ≤ 28671 → count < 65536 → e.making.total ≤ most
     → Keeps most (with_added r (record { reliable = false; number = place; count = count; fragment = None; body = [] }) place e)
 Keeps-waiting most r place count e k low far small total = record {
   packet = k.packet;
@@ -137,7 +137,7 @@ Keeps-waiting most r place count e k low far small total = record {
       wire = omega arith;
       far = subst (λ p. ahead r.front p ≤ 28671) (sym same.0) far;
       packets = λ n x h. elim (get_inserted (line_at r.waiting place) count n e x (ap (λ (l : Line). get l n) same.1 ∙ h)) [
-        | inl here ↦ record { wire = omega arith; small = subst (λ (y : Coming). y.making.total ≤ most) here.1 total }
+        | inl here ↦ record { wire = omega arith; small = subst (λ (y : IncomingPacket). y.making.total ≤ most) here.1 total }
         | inr there ↦ packets_at most r place n x k there.1
       ];
     }
@@ -152,7 +152,7 @@ apart_behind place front true low t e = elim (eqb place front) as (λ b. (b && t
 -- a command that is taken in leaves all inside the window
 pub Keeps-stored : (most : ℕ) (r : Receiver) (c : DataCommand) (place : ℕ) → Keeps most r → IsInside r.front place → c.count < 65536 → Admitted most r c place → Keeps most (with_stored r c place)
 Keeps-stored most r c place k inside count a =
-    let e : Coming = grown_at r c place in
+    let e : IncomingPacket = grown_at r c place in
     elim c.reliable as (λ b. c.reliable ≡ b → Keeps most (record r {
       held = cond b (insert r.held place e) r.held;
       waiting = cond b r.waiting (with_line r.waiting place (insert (line_at r.waiting place) c.count e));
@@ -172,7 +172,7 @@ Keeps-stored most r c place k inside count a =
 pub grown_count : (most : ℕ) (r : Receiver) (c : DataCommand) (place : ℕ) → Admitted most r c place → count_of (grown_at r c place).making ≡ (piece_of c).count
 grown_count most r c place a = go (came_at r c place) a.agrees a.missing
   where
-    go : (o : Option Coming) → agrees_with o c ≡ true → came o c ≡ false → count_of (with_more (earlier_or_new o c) c).making ≡ (piece_of c).count
+    go : (o : Option IncomingPacket) → agrees_with o c ≡ true → came o c ≡ false → count_of (with_more (earlier_or_new o c) c).making ≡ (piece_of c).count
     go None agrees missing = count_of-with_piece (nothing_yet (piece_of c).count (piece_of c).total) (place_in_packet c) c.body ∙ count_of-nothing_yet (piece_of c).count (piece_of c).total
     go (Some e) agrees missing =
         count_of-with_piece e.making (place_in_packet c) c.body

@@ -5,7 +5,7 @@ use Rattle.enet_seq.specs.Windows.{acknowledges}
 use Rattle.enet_fragment.specs.declared.data.DataCommand.{DataCommand}
 use Rattle.enet_receiver.specs.declared.took.Took.{Took}
 use Rattle.enet_receiver.specs.declared.took.Took.TheVariants.{Held}
-use Rattle.enet_receiver.specs.Reception.{outcome, is_handled, dispatch_count}
+use Rattle.enet_receiver.specs.DataOutcome.{outcome, is_handled, dispatch_count}
 use Rattle.enet_receiver.specs.Foresight.{ReceivingEnd, foreseen}
 use Rattle.enet_receiver.specs.Parts.{answered_with}
 use Rattle.enet_receiver.proofs.Foreseen.{dispatches-none}

@@ -9,7 +9,7 @@ use Rattle.std.specs.Option.{is_some}
 use Rattle.std.specs.Result.{is_ok, OnOk}
 use Rattle.std.specs.FinMap.{FinMap, get, insert, remove, len, entries, values, contains_key, len-insert, len-remove, len-entries, contains_key-keys}
 use Rattle.enet_seq.specs.Windows.{ahead}
-use Rattle.enet_packets.specs.declared.coming.Coming.{Coming}
+use Rattle.enet_packets.specs.declared.incoming_packet.IncomingPacket.{IncomingPacket}
 use Rattle.enet_packets.specs.Packets.{bytes_of, packets_in, bytes_in}
 use Rattle.enet_receiver.specs.Receiver.{Receiver, held_bytes}
 use Rattle.enet_receiver.specs.Kept.{IsLine, Keeps}
@@ -140,7 +140,7 @@ packets_fit most r k =
 line_bytes : (most : ℕ) (front number : ℕ) (line : Line) → IsLine front most number line → bytes_of line ≤ 65536 * most
 line_bytes most front number line is =
     let few = line_fits most front number line is in
-    let sum = sum_values-le (λ (c : Coming). c.making.total) most line (λ q x there. (is.packets q x there).small) in
+    let sum = sum_values-le (λ (c : IncomingPacket). c.making.total) most line (λ q x there. (is.packets q x there).small) in
     let bound : len line * most ≤ 65536 * most = mul-le-mul_right most few in
     omega arith
 
@@ -148,7 +148,7 @@ pub bytes_fit : (most : ℕ) (r : Receiver) → most < 2 ^ 32 → Keeps most r �
 bytes_fit most r small k =
     let held = held_fit most r k in
     let lines = lines_fit most r k in
-    let one = sum_values-le (λ (c : Coming). c.making.total) most r.held (λ q x there. (k.held q x there).small) in
+    let one = sum_values-le (λ (c : IncomingPacket). c.making.total) most r.held (λ q x there. (k.held q x there).small) in
     let bound_one : len r.held * most ≤ 65535 * most = mul-le-mul_right most (omega arith) in
     let two : bytes_in r.waiting ≤ len r.waiting * (65536 * most) = sum_values-le bytes_of (65536 * most) r.waiting (λ q line there. line_bytes most r.front q line (k.waiting q line there)) in
     let bound_two : len r.waiting * (65536 * most) ≤ 65535 * (65536 * most) = mul-le-mul_right (65536 * most) (omega arith) in

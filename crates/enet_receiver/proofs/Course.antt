@@ -4,9 +4,9 @@ use Rattle.std.specs.Ordering.{nat_cmp}
 use Rattle.std.specs.FinMap.{FinMap, get, entries, empty}
 use Rattle.enet_seq.specs.Numbering.{wire}
 use Rattle.enet_seq.specs.Windows.{after}
-use Rattle.enet_fragment.specs.Making.{count_of}
-use Rattle.enet_packets.specs.declared.coming.Coming.{Coming}
-use Rattle.enet_packets.specs.declared.coming.Dispatched.{Dispatched}
+use Rattle.enet_fragment.specs.PartialPacket.{count_of}
+use Rattle.enet_packets.specs.declared.incoming_packet.IncomingPacket.{IncomingPacket}
+use Rattle.enet_packets.specs.declared.incoming_packet.Dispatched.{Dispatched}
 use Rattle.enet_packets.specs.Packets.{Lines, line_at, fresh, still_ahead, handed_out}
 use Rattle.enet_receiver.specs.Receiver.{Receiver, without, with_passed, with_dispatched, next_whole, released_with, released, flushed_from, flushed, flushed_last, front_line}
 use Rattle.enet_receiver.specs.Walk.{pieces_of, fresh_at, walk_with, walk, walked, chain_or_line}
@@ -16,16 +16,16 @@ use Rattle.enet_receiver.proofs.Released.{whole_is, released-keeps, released-non
 use Rattle.enet_receiver.proofs.Fresh.{fresh_again}
 
 -- a packet that is held so far past the base
-pub record IsNear (x : ℕ) (c : Coming) : Type 0 where
+pub record IsNear (x : ℕ) (c : IncomingPacket) : Type 0 where
   pub far : x ≤ 28671
   pub some_piece : 1 ≤ count_of c.making
   pub few_pieces : count_of c.making ≤ 16384
 
-pub record AllNear (base : ℕ) (held : FinMap nat_cmp Coming) : Type 0 where
-  pub near : (x : ℕ) (c : Coming) → x < 65536 → get held ((base + x) % 65536) ≡ Some c → IsNear x c
+pub record AllNear (base : ℕ) (held : FinMap nat_cmp IncomingPacket) : Type 0 where
+  pub near : (x : ℕ) (c : IncomingPacket) → x < 65536 → get held ((base + x) % 65536) ≡ Some c → IsNear x c
 
 -- a receiver in the course of the turns: what is past its front is as it was
-pub record OnCourse (base : ℕ) (held : FinMap nat_cmp Coming) (lines : Lines) (s : Receiver) (d : ℕ) : Type 0 where
+pub record OnCourse (base : ℕ) (held : FinMap nat_cmp IncomingPacket) (lines : Lines) (s : Receiver) (d : ℕ) : Type 0 where
   pub at : s.front ≡ (base + d) % 65536
   pub short : d ≤ 45054
   pub same_held : (x : ℕ) → d < x → x < 65536 → get s.held ((base + x) % 65536) ≡ get held ((base + x) % 65536)
@@ -56,18 +56,18 @@ line_past : (w : Lines) (base d count x n : ℕ) → n ≡ (base + d) % 65536 �
 line_past w base d count x n at low high = ap (λ o. unwrap_or o empty) (get_past w base d count x n at low high)
 
 -- the packet just past the front is one that was held before
-pub due_before : (base : ℕ) (held : FinMap nat_cmp Coming) (lines : Lines) (s : Receiver) (d : ℕ) → OnCourse base held lines s d → get s.held (after s.front 1) ≡ get held ((base + (d + 1)) % 65536)
+pub due_before : (base : ℕ) (held : FinMap nat_cmp IncomingPacket) (lines : Lines) (s : Receiver) (d : ℕ) → OnCourse base held lines s d → get s.held (after s.front 1) ≡ get held ((base + (d + 1)) % 65536)
 due_before base held lines s d on =
     let short = on.short in
     ap (get s.held) (next_number base d s.front on.at) ∙ on.same_held (d + 1) (omega arith) (omega arith)
 
-pub next_near : (base : ℕ) (held : FinMap nat_cmp Coming) (lines : Lines) (s : Receiver) (d : ℕ) (c : Coming) → AllNear base held → OnCourse base held lines s d
+pub next_near : (base : ℕ) (held : FinMap nat_cmp IncomingPacket) (lines : Lines) (s : Receiver) (d : ℕ) (c : IncomingPacket) → AllNear base held → OnCourse base held lines s d
     → next_whole (get s.held (after s.front 1)) ≡ Some c → IsNear (d + 1) c
 next_near base held lines s d c near on e =
     let short = on.short in
     near.near (d + 1) c (omega arith) (sym (due_before base held lines s d on) ∙ (whole_is (get s.held (after s.front 1)) c e).0)
 
-pub on_course : (base : ℕ) (held : FinMap nat_cmp Coming) (lines : Lines) (s : Receiver) (d : ℕ) (c : Coming) → AllNear base held → OnCourse base held lines s d
+pub on_course : (base : ℕ) (held : FinMap nat_cmp IncomingPacket) (lines : Lines) (s : Receiver) (d : ℕ) (c : IncomingPacket) → AllNear base held → OnCourse base held lines s d
     → next_whole (get s.held (after s.front 1)) ≡ Some c → OnCourse base held lines (with_dispatched wire s c) (d + count_of c.making)
 on_course base held lines s d c near on e =
     let is = next_near base held lines s d c near on e in
@@ -91,7 +91,7 @@ on_course base held lines s d c near on e =
     }
 
 -- the line of the new front is as it was before
-passed_line : (base : ℕ) (held : FinMap nat_cmp Coming) (lines : Lines) (s : Receiver) (d : ℕ) (c : Coming) → AllNear base held → OnCourse base held lines s d
+passed_line : (base : ℕ) (held : FinMap nat_cmp IncomingPacket) (lines : Lines) (s : Receiver) (d : ℕ) (c : IncomingPacket) → AllNear base held → OnCourse base held lines s d
     → next_whole (get s.held (after s.front 1)) ≡ Some c → front_line (with_passed wire s c) ≡ line_at lines (after s.front (count_of c.making))
 passed_line base held lines s d c near on e =
     let is = next_near base held lines s d c near on e in
@@ -115,7 +115,7 @@ regroup : (total a f w r : ℕ) → total ≡ (a + (1 + f)) + r → f ≡ w → 
 regroup total a f w r e g = omega arith
 
 -- how many packets so many turns dispatch
-pub course_count : (n : ℕ) (base : ℕ) (held : FinMap nat_cmp Coming) (lines : Lines) (s : Receiver) (d : ℕ) → AllNear base held → OnCourse base held lines s d
+pub course_count : (n : ℕ) (base : ℕ) (held : FinMap nat_cmp IncomingPacket) (lines : Lines) (s : Receiver) (d : ℕ) → AllNear base held → OnCourse base held lines s d
     → length (released wire n s).dispatched ≡ length s.dispatched + walk n None held lines s.front
 unfolding released walk
 course_count zero base held lines s d near on = sym (add-zero (length s.dispatched))
@@ -160,7 +160,7 @@ at_base front h = omega arith
 pub starts : (s : Receiver) → s.front < 65536 → OnCourse s.front s.held s.waiting s 0
 starts s low = record { at = at_base s.front low; short = omega arith; same_held = λ x _ _. refl; same_lines = λ x _ _. refl }
 
-walk_some : (n : ℕ) (s : Receiver) (c : Coming) → next_whole (get s.held (after s.front 1)) ≡ Some c → 1 ≤ walk (suc n) None s.held s.waiting s.front
+walk_some : (n : ℕ) (s : Receiver) (c : IncomingPacket) → next_whole (get s.held (after s.front 1)) ≡ Some c → 1 ≤ walk (suc n) None s.held s.waiting s.front
 unfolding walk
 walk_some n s c e =
     subst (λ o. 1 ≤ walk_with (walk n None s.held s.waiting) None s.waiting s.front (pieces_of o)) (sym e) (omega arith)

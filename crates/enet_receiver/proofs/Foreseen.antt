@@ -9,19 +9,19 @@ use Rattle.enet_fragment.specs.declared.place.Place.{Place}
 use Rattle.enet_fragment.specs.declared.assembly.Put.{Put}
 use Rattle.enet_fragment.specs.declared.assembly.Put.TheVariants.{New, Whole, Bad}
 use Rattle.enet_fragment.specs.Place.{is_sound}
-use Rattle.enet_fragment.specs.Making.{count_of, nothing_yet, with_piece, put_outcome, have_others_come}
+use Rattle.enet_fragment.specs.PartialPacket.{count_of, nothing_yet, with_piece, put_outcome, have_others_come}
 use Rattle.enet_fragment.specs.Whole.{is_whole}
 use Rattle.enet_fragment.specs.declared.data.DataCommand.{DataCommand}
 use Rattle.enet_fragment.specs.DataCommand.{piece_of, place_in_packet}
 use Rattle.enet_fragment.proofs.Laws.{put_outcome-first, is_whole-last, is_whole-more, belongs-below}
 use Rattle.enet_fragment.proofs.Places.{outcome_whole, outcome_new}
-use Rattle.enet_packets.specs.declared.coming.Coming.{Coming}
+use Rattle.enet_packets.specs.declared.incoming_packet.IncomingPacket.{IncomingPacket}
 use Rattle.enet_packets.specs.Packets.{line_at, with_line, fresh}
 use Rattle.enet_receiver.specs.declared.foreseeing.Completed.{Completed}
 use Rattle.enet_receiver.specs.declared.took.Took.{Took}
 use Rattle.enet_receiver.specs.declared.took.Took.TheVariants.{Held}
 use Rattle.enet_receiver.specs.Receiver.{Receiver, next_whole, all_released, flushed}
-use Rattle.enet_receiver.specs.Reception.{outcome, received, received_with, came_at, agrees_with, came, dispatch_count, added_at, earlier_or_new, with_more}
+use Rattle.enet_receiver.specs.DataOutcome.{outcome, received, received_with, came_at, agrees_with, came, dispatch_count, added_at, earlier_or_new, with_more}
 use Rattle.enet_receiver.specs.Parts.{grown_at, with_stored}
 use Rattle.enet_receiver.specs.Kept.{Keeps}
 use Rattle.enet_receiver.specs.Admitted.{Admitted, IsInside}
@@ -42,7 +42,7 @@ missing_one (p ∷ ps) zero low none = ap (λ b. b && list_all is_some ps) none
 missing_one (p ∷ ps) (suc i) low none =
     elim (is_some p) as (λ b. (b && list_all is_some ps) ≡ false) [ true ↦ missing_one ps i (omega arith) none | false ↦ refl ]
 
-earlier_not_whole : (o : Option Coming) (c : DataCommand) → agrees_with o c ≡ true → came o c ≡ false → not_whole o
+earlier_not_whole : (o : Option IncomingPacket) (c : DataCommand) → agrees_with o c ≡ true → came o c ≡ false → not_whole o
 earlier_not_whole None c agrees missing = tt
 earlier_not_whole (Some e) c agrees missing =
     let facts = earlier_facts e c agrees missing in
@@ -61,12 +61,12 @@ completes_first most r c place a none =
     ap (λ o. is_whole (with_more (earlier_or_new o c) c).making) none ∙ whole_first (place_in_packet c) c.body (piece_sound most c a.piece).0
 
 -- and a later one
-pub completes_last : (most : ℕ) (r : Receiver) (c : DataCommand) (place : ℕ) (e : Coming) (outcome : Put) → Admitted most r c place → came_at r c place ≡ Some e
+pub completes_last : (most : ℕ) (r : Receiver) (c : DataCommand) (place : ℕ) (e : IncomingPacket) (outcome : Put) → Admitted most r c place → came_at r c place ≡ Some e
     → outcome ≡ put_outcome e.making (place_in_packet c) → outcome ≡ Whole → is_whole (grown_at r c place).making ≡ true
 completes_last most r c place e outcome a there is whole =
     ap (λ o. is_whole (with_more (earlier_or_new o c) c).making) there ∙ is_whole-last e.making (place_in_packet c) c.body (sym is ∙ whole)
 
-pub completes_not : (most : ℕ) (r : Receiver) (c : DataCommand) (place : ℕ) (e : Coming) (outcome : Put) → Admitted most r c place → came_at r c place ≡ Some e
+pub completes_not : (most : ℕ) (r : Receiver) (c : DataCommand) (place : ℕ) (e : IncomingPacket) (outcome : Put) → Admitted most r c place → came_at r c place ≡ Some e
     → outcome ≡ put_outcome e.making (place_in_packet c) → outcome ≢ Whole → is_whole (grown_at r c place).making ≡ false
 completes_not most r c place e outcome a there is apart =
     let facts = earlier_facts e c (ap (λ o. agrees_with o c) (sym there) ∙ a.agrees) (ap (λ o. came o c) (sym there) ∙ a.missing) in
@@ -78,11 +78,11 @@ completes_not most r c place e outcome a there is apart =
     ] refl
 
 -- what is whole at a number once the piece is added
-whole_pieces : (b : Bool) (g : Coming) → is_whole g.making ≡ b → pieces_of (next_whole (Some g)) ≡ cond b (Some (count_of g.making)) None
+whole_pieces : (b : Bool) (g : IncomingPacket) → is_whole g.making ≡ b → pieces_of (next_whole (Some g)) ≡ cond b (Some (count_of g.making)) None
 whole_pieces true g e = ap (λ b. pieces_of (cond b (Some g) None)) e
 whole_pieces false g e = ap (λ b. pieces_of (cond b (Some g) None)) e
 
-no_pieces : (o : Option Coming) → not_whole o → pieces_of (next_whole o) ≡ None
+no_pieces : (o : Option IncomingPacket) → not_whole o → pieces_of (next_whole o) ≡ None
 no_pieces None h = refl
 no_pieces (Some e) h = ap (λ b. pieces_of (cond b (Some e) None)) h
 
@@ -141,7 +141,7 @@ pub record SeesAs (o : Option Completed) (r s : Receiver) : Type 0 where
 
 pub sees_as : (o : Option Completed) (most : ℕ) (r : Receiver) (c : DataCommand) (place : ℕ) → Admitted most r c place → Completes o r c place → SeesAs o r (with_stored r c place)
 sees_as o most r c place a k =
-    let g : Coming = grown_at r c place in
+    let g : IncomingPacket = grown_at r c place in
     elim c.reliable as (λ b. c.reliable ≡ b → SeesAs o r (record r {
       held = cond b (insert r.held place g) r.held;
       waiting = cond b r.waiting (with_line r.waiting place (insert (line_at r.waiting place) c.count g));

@@ -6,7 +6,7 @@ use Rattle.std.specs.FinMap.{get, insert, entries, get-entries, find, put, entri
 use Rattle.std.specs.FinMap.Entries.{by_order}
 use Rattle.std.proofs.lemmas.Bool.Decides.{nat_tests}
 use Rattle.enet_fragment.specs.Whole.{is_whole}
-use Rattle.enet_packets.specs.declared.coming.Coming.{Coming}
+use Rattle.enet_packets.specs.declared.incoming_packet.IncomingPacket.{IncomingPacket}
 use Rattle.enet_packets.specs.Packets.{fresh, last_fresh, still_ahead, handed_out}
 use Rattle.enet_receiver.proofs.Lists.{Has}
 use Rattle.enet_receiver.proofs.Maps.{apart_numbers, two_numbers}
@@ -14,10 +14,10 @@ use Rattle.enet_receiver.proofs.Entries.{get_entry, get_retained}
 use Rattle.enet_receiver.proofs.LineLemmas.{Line}
 
 abbrev pub Entries : Type 0
-Entries = List (ℕ × Coming)
+Entries = List (ℕ × IncomingPacket)
 
 -- whether an entry is dispatched, from a number on
-abbrev pub is_due : ℕ → ℕ × Coming → Bool
+abbrev pub is_due : ℕ → ℕ × IncomingPacket → Bool
 is_due first e = is_whole e.1.making && leb first e.0
 
 last_fresh-ge : (u : ℕ) (es : Entries) → u ≤ last_fresh u es
@@ -33,11 +33,11 @@ last_fresh-ge u (x ∷ es) =
     go false b e low high = low
 
 -- none that is whole is above the last one that is dispatched
-last_fresh-top : (u : ℕ) (es : Entries) (e : ℕ × Coming) → Has es e → is_whole e.1.making ≡ true → e.0 ≤ last_fresh u es
+last_fresh-top : (u : ℕ) (es : Entries) (e : ℕ × IncomingPacket) → Has es e → is_whole e.1.making ≡ true → e.0 ≤ last_fresh u es
 last_fresh-top u [] e h w = absurd h
 last_fresh-top u (x ∷ es) e (inl is) w =
-    let same : x.0 ≡ e.0 = ap (λ (y : ℕ × Coming). y.0) is in
-    let whole : is_whole x.1.making ≡ true = ap (λ (y : ℕ × Coming). is_whole y.1.making) is ∙ w in
+    let same : x.0 ≡ e.0 = ap (λ (y : ℕ × IncomingPacket). y.0) is in
+    let whole : is_whole x.1.making ≡ true = ap (λ (y : ℕ × IncomingPacket). is_whole y.1.making) is ∙ w in
     go (is_whole x.1.making) (ltb u x.0) refl whole same (last_fresh-ge x.0 es) (last_fresh-ge u es)
   where
     go : (v b : Bool) → ltb u x.0 ≡ b → v ≡ true → x.0 ≡ e.0 → x.0 ≤ last_fresh x.0 es → u ≤ last_fresh u es → e.0 ≤ cond (v && b) (last_fresh x.0 es) (last_fresh u es)
@@ -51,7 +51,7 @@ last_fresh-top u (x ∷ es) e (inr h) w =
     go true a c = a
     go false a c = c
 
-nothing_due : (first : ℕ) (es : Entries) → ((e : ℕ × Coming) → Has es e → is_due first e ≡ false) → fresh first es ≡ []
+nothing_due : (first : ℕ) (es : Entries) → ((e : ℕ × IncomingPacket) → Has es e → is_due first e ≡ false) → fresh first es ≡ []
 nothing_due first [] h = refl
 nothing_due first (x ∷ es) h =
     ap (λ b. cond b (handed_out x.1 ∷ fresh first es) (fresh first es)) (h x (inl refl)) ∙ nothing_due first es (λ e k. h e (inr k))
@@ -59,7 +59,7 @@ nothing_due first (x ∷ es) h =
 tied : (q k : ℕ) → eq_by_cmp nat_cmp q k ≡ true → q ≡ k
 tied q k e = elim (two_numbers q k) [ inl same ↦ same | inr apart ↦ absurd (let f = apart_numbers q k apart in cc) ]
 
-find-entry : (es : Entries) (q : ℕ) (c : Coming) → find nat_cmp q es ≡ Some c → Has es (q, c)
+find-entry : (es : Entries) (q : ℕ) (c : IncomingPacket) → find nat_cmp q es ≡ Some c → Has es (q, c)
 find-entry [] q c e = absurd (cc)
 find-entry (x ∷ es) q c e =
     elim (eq_by_cmp nat_cmp q x.0) as (λ b. eq_by_cmp nat_cmp q x.0 ≡ b → cond b (Some x.1) (find nat_cmp q es) ≡ Some c → Has (x ∷ es) (q, c)) [
@@ -68,7 +68,7 @@ find-entry (x ∷ es) q c e =
     ] refl e
 
 -- what is found at a number is an entry
-pub entry_at : (m : Line) (q : ℕ) (c : Coming) → get m q ≡ Some c → Has (entries m) (q, c)
+pub entry_at : (m : Line) (q : ℕ) (c : IncomingPacket) → get m q ≡ Some c → Has (entries m) (q, c)
 entry_at m q c e = find-entry (entries m) q c (sym (get-entries m q) ∙ e)
 
 low_test : (w : Bool) (last k : ℕ) → (w ≡ true → k ≤ last) → (w && leb (last + 1) k) ≡ false
@@ -99,7 +99,7 @@ length-fresh first (x ∷ es) = go (is_due first x) (length-fresh first es)
 abbrev pub one_if : Bool → ℕ
 one_if b = cond b 1 0
 
-abbrev pub not_whole : Option Coming → Type 0
+abbrev pub not_whole : Option IncomingPacket → Type 0
 not_whole None = Unit {0}
 not_whole (Some c) = is_whole c.making ≡ false
 
@@ -118,7 +118,7 @@ apart_here : (q k : ℕ) → nat_cmp q k ≡ Greater → eq_by_cmp nat_cmp q k �
 apart_here q k e = grind (arith, nat_cmp_total)
 
 -- a packet more, where none that is whole was
-due_count-put : (first k : ℕ) (g : Coming) (es : Entries) → not_whole (find nat_cmp k es) → due_count first (put nat_cmp k g es) ≡ due_count first es + one_if (is_due first (k, g))
+due_count-put : (first k : ℕ) (g : IncomingPacket) (es : Entries) → not_whole (find nat_cmp k es) → due_count first (put nat_cmp k g es) ≡ due_count first es + one_if (is_due first (k, g))
 unfolding due_count
 due_count-put first k g [] h = plus_first (is_due first (k, g)) 0
 due_count-put first k g (x ∷ es) h =
@@ -136,7 +136,7 @@ due_count-put first k g (x ∷ es) h =
     ] refl
 
 -- how many are dispatched of a line with a packet more
-pub fresh-insert : (first k : ℕ) (g : Coming) (line : Line) → not_whole (get line k)
+pub fresh-insert : (first k : ℕ) (g : IncomingPacket) (line : Line) → not_whole (get line k)
     → length (fresh first (entries (insert line k g))) ≡ length (fresh first (entries line)) + one_if (is_due first (k, g))
 fresh-insert first k g line h =
     length-fresh first (entries (insert line k g))

@@ -4,11 +4,11 @@ use Rattle.std.specs.Ordering.{nat_cmp}
 use Rattle.std.specs.FinMap.{FinMap, get, len, empty, get-empty}
 use Rattle.enet_seq.specs.Numbering.{wire}
 use Rattle.enet_seq.specs.Windows.{ahead, after}
-use Rattle.enet_fragment.specs.Making.{count_of}
-use Rattle.enet_packets.specs.declared.coming.Coming.{Coming}
+use Rattle.enet_fragment.specs.PartialPacket.{count_of}
+use Rattle.enet_packets.specs.declared.incoming_packet.IncomingPacket.{IncomingPacket}
 use Rattle.enet_packets.specs.Packets.{line_at, still_ahead}
 use Rattle.enet_receiver.specs.Receiver.{Receiver, without, with_passed, with_dispatched, released, all_released, flushed_from, flushed_last, front_line, cleared}
-use Rattle.enet_packets.specs.declared.coming.Dispatched.{Dispatched}
+use Rattle.enet_packets.specs.declared.incoming_packet.Dispatched.{Dispatched}
 use Rattle.enet_receiver.specs.Parts.{receiver_of}
 use Rattle.enet_receiver.specs.Kept.{IsWaiting, Keeps}
 use Rattle.enet_receiver.specs.Laws.{HavePieces}
@@ -49,7 +49,7 @@ ahead_past front q count a b h = omega arith
 after_fits : (n count : ℕ) → after n count < 65536
 after_fits n count = omega arith
 
-pub Keeps-passed : (most : ℕ) (r : Receiver) (c : Coming) → Keeps most r → Keeps most (with_passed wire r c)
+pub Keeps-passed : (most : ℕ) (r : Receiver) (c : IncomingPacket) → Keeps most r → Keeps most (with_passed wire r c)
 Keeps-passed most r c k = record {
   packet = k.packet;
   wire = after_fits r.front (count_of c.making);
@@ -70,7 +70,7 @@ zero_ahead : (front : ℕ) → front < 65536 → ahead front front ≡ 0
 zero_ahead front h = omega arith
 
 -- what waits for the front is as small as ever
-pub packets_at : (most : ℕ) (r : Receiver) (q k : ℕ) (c : Coming) → Keeps most r → get (line_at r.waiting q) k ≡ Some c → IsWaiting most k c
+pub packets_at : (most : ℕ) (r : Receiver) (q k : ℕ) (c : IncomingPacket) → Keeps most r → get (line_at r.waiting q) k ≡ Some c → IsWaiting most k c
 packets_at most r q k c kept e =
     let found = in_line (get r.waiting q) k c e in
     (kept.waiting q found.0 found.1).packets k c found.2
@@ -90,7 +90,7 @@ Keeps-flushed first most r k = record {
   ];
 }
 
-pub Keeps-dispatched : (most : ℕ) (r : Receiver) (c : Coming) → Keeps most r → Keeps most (with_dispatched wire r c)
+pub Keeps-dispatched : (most : ℕ) (r : Receiver) (c : IncomingPacket) → Keeps most r → Keeps most (with_dispatched wire r c)
 Keeps-dispatched most r c k = Keeps-flushed 0 most (with_passed wire r c) (Keeps-passed most r c k)
 
 pub Keeps-all_released : (most : ℕ) (r : Receiver) → Keeps most r → Keeps most (all_released wire r)
@@ -100,7 +100,7 @@ pub Keeps-new : (most : ℕ) (out : List Dispatched) → most < 2 ^ 32 → Keeps
 Keeps-new most out small = record {
   packet = small;
   wire = omega arith;
-  held = λ q c e. absurd (let n = get-empty {X = Coming} nat_cmp q in cc);
+  held = λ q c e. absurd (let n = get-empty {X = IncomingPacket} nat_cmp q in cc);
   waiting = λ q c e. absurd (let n = get-empty {X = Line} nat_cmp q in cc);
 }
 
@@ -108,6 +108,6 @@ pub Keeps-cleared : (most : ℕ) (r : Receiver) → Keeps most r → Keeps most 
 Keeps-cleared most r k = record {
   packet = k.packet;
   wire = k.wire;
-  held = λ q c e. absurd (let n = get-empty {X = Coming} nat_cmp q in cc);
+  held = λ q c e. absurd (let n = get-empty {X = IncomingPacket} nat_cmp q in cc);
   waiting = λ q c e. absurd (let n = get-empty {X = Line} nat_cmp q in cc);
 }

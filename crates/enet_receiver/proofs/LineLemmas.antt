@@ -3,12 +3,12 @@ use Rattle.std.proofs.Common.{◌≡◌, ◌≢◌, ℕ, eqb, true, false, cond,
 use Rattle.std.specs.Ordering.{nat_cmp}
 use Rattle.std.specs.FinMap.{FinMap, get, insert, remove, len, empty, empty_of_len, get-empty}
 use Rattle.std.proofs.lemmas.Bool.Decides.{nat_tests}
-use Rattle.enet_packets.specs.declared.coming.Coming.{Coming}
+use Rattle.enet_packets.specs.declared.incoming_packet.IncomingPacket.{IncomingPacket}
 use Rattle.enet_packets.specs.Packets.{Lines, line_at, with_line}
 use Rattle.enet_receiver.proofs.Maps.{get_removed, get_inserted, get-remove_other, get-remove_same, get-insert_other, get-insert_same}
 
 abbrev pub Line : Type 0
-Line = FinMap nat_cmp Coming
+Line = FinMap nat_cmp IncomingPacket
 
 -- a line after a change of one
 pub get_with_line : (w : Lines) (n : ℕ) (line : Line) (q : ℕ) (l : Line) → get (with_line w n line) q ≡ Some l → ((q ≡ n) × (line ≡ l)) ⊎ ((q ≢ n) × (get w q ≡ Some l))
@@ -19,8 +19,8 @@ get_with_line w n line q l e =
     ] e
 
 -- what is in a line
-pub in_line : (o : Option Line) (k : ℕ) (c : Coming) → get (unwrap_or o empty) k ≡ Some c → (line : Line) × (o ≡ Some line) × (get line k ≡ Some c)
-in_line None k c e = absurd (let f : get (empty {X = Coming} {R = nat_cmp}) k ≡ None = get-empty nat_cmp k in cc)
+pub in_line : (o : Option Line) (k : ℕ) (c : IncomingPacket) → get (unwrap_or o empty) k ≡ Some c → (line : Line) × (o ≡ Some line) × (get line k ≡ Some c)
+in_line None k c e = absurd (let f : get (empty {X = IncomingPacket} {R = nat_cmp}) k ≡ None = get-empty nat_cmp k in cc)
 in_line (Some line) k c e = (line, refl, e)
 
 pub line_at-other : (w : Lines) (n : ℕ) (line : Line) (q : ℕ) → q ≢ n → line_at (with_line w n line) q ≡ line_at w q

@@ -3,14 +3,14 @@ use Rattle.std.proofs.Common.{◌≡◌, ℕ, zero, suc, ◌+◌, ◌<◌, ◌�
 use Rattle.std.specs.Ordering.{nat_cmp}
 use Rattle.std.specs.FinMap.{FinMap, get, len, empty_of_len, get-empty, entries}
 use Rattle.enet_seq.specs.Numbering.{Numbering, wire, unbounded}
-use Rattle.enet_fragment.specs.Making.{count_of}
+use Rattle.enet_fragment.specs.PartialPacket.{count_of}
 use Rattle.enet_fragment.specs.Whole.{is_whole}
 use Rattle.enet_fragment.specs.declared.data.DataCommand.{DataCommand}
-use Rattle.enet_packets.specs.declared.coming.Coming.{Coming}
-use Rattle.enet_packets.specs.declared.coming.Dispatched.{Dispatched}
+use Rattle.enet_packets.specs.declared.incoming_packet.IncomingPacket.{IncomingPacket}
+use Rattle.enet_packets.specs.declared.incoming_packet.Dispatched.{Dispatched}
 use Rattle.enet_packets.specs.Packets.{handed_out, fresh}
 use Rattle.enet_receiver.specs.Receiver.{Receiver, with_passed, with_dispatched, next_whole, released_with, released, all_released, flushed_from, flushed, front_line}
-use Rattle.enet_receiver.specs.Reception.{outcome, received_with, place_read, came_at, with_added, with_more, earlier_or_new, added_at}
+use Rattle.enet_receiver.specs.DataOutcome.{outcome, received_with, place_read, came_at, with_added, with_more, earlier_or_new, added_at}
 use Rattle.enet_receiver.specs.declared.took.Took.{Took}
 use Rattle.enet_receiver.specs.declared.took.Took.TheVariants.{Held, Again, Outside, Bad, Waiting, Memory}
 use Rattle.enet_receiver.specs.Laws.{HavePieces, NothingIsDue, with_earlier, DoesTheSame}
@@ -26,34 +26,34 @@ wire_begins n = omega arith
 pub unbounded_begins : Begins unbounded
 unbounded_begins n = omega arith
 
-pub whole_is : (o : Option Coming) (c : Coming) → next_whole o ≡ Some c → (o ≡ Some c) × (is_whole c.making ≡ true)
+pub whole_is : (o : Option IncomingPacket) (c : IncomingPacket) → next_whole o ≡ Some c → (o ≡ Some c) × (is_whole c.making ≡ true)
 whole_is None c e = absurd (cc)
 whole_is (Some d) c e =
     elim (is_whole d.making) as (λ b. is_whole d.making ≡ b → cond b (Some d) None ≡ Some c → (Some d ≡ Some c) × (is_whole c.making ≡ true)) [
-      | true ↦ λ t f. (f, (let same : d ≡ c = cc in subst (λ (x : Coming). is_whole x.making ≡ true) same t))
+      | true ↦ λ t f. (f, (let same : d ≡ c = cc in subst (λ (x : IncomingPacket). is_whole x.making ≡ true) same t))
       | false ↦ λ t f. absurd (cc)
     ] refl e
 
-pub due : Numbering → Receiver → Option Coming
+pub due : Numbering → Receiver → Option IncomingPacket
 due g r = next_whole (get r.held (g.after r.front 1))
 
 pub due-is : (g : Numbering) (r : Receiver) → due g r ≡ next_whole (get r.held (g.after r.front 1))
 unfolding due
 due-is g r = refl
 
-pub nothing_held : (m : FinMap nat_cmp Coming) (k : ℕ) → len m ≤ 0 → get m k ≡ None
+pub nothing_held : (m : FinMap nat_cmp IncomingPacket) (k : ℕ) → len m ≤ 0 → get m k ≡ None
 nothing_held m k h = ap (λ x. get x k) (empty_of_len m (omega arith)) ∙ get-empty nat_cmp k
 
-pub HavePieces-dispatched : (g : Numbering) (r : Receiver) (c : Coming) → HavePieces r → HavePieces (with_dispatched g r c)
+pub HavePieces-dispatched : (g : Numbering) (r : Receiver) (c : IncomingPacket) → HavePieces r → HavePieces (with_dispatched g r c)
 HavePieces-dispatched g r c h = λ q x e. h q x (get_without g r.held (g.after r.front 1) (count_of c.making) q x e)
 
-pub fewer_held : (g : Numbering) (r : Receiver) (c : Coming) → Begins g → HavePieces r → next_whole (get r.held (g.after r.front 1)) ≡ Some c → len (with_dispatched g r c).held < len r.held
+pub fewer_held : (g : Numbering) (r : Receiver) (c : IncomingPacket) → Begins g → HavePieces r → next_whole (get r.held (g.after r.front 1)) ≡ Some c → len (with_dispatched g r c).held < len r.held
 fewer_held g r c begins h e =
     let there = (whole_is (get r.held (g.after r.front 1)) c e).0 in
     let some_piece : 1 ≤ count_of c.making = h (g.after r.front 1) c there in
     len-without_first g r.held (g.after r.front 1) (count_of c.making) c (begins r.front) (omega arith) there
 
-pub released-some : (g : Numbering) (n : ℕ) (r : Receiver) (c : Coming) → next_whole (get r.held (g.after r.front 1)) ≡ Some c → released g (suc n) r ≡ released g n (with_dispatched g r c)
+pub released-some : (g : Numbering) (n : ℕ) (r : Receiver) (c : IncomingPacket) → next_whole (get r.held (g.after r.front 1)) ≡ Some c → released g (suc n) r ≡ released g n (with_dispatched g r c)
 unfolding released
 released-some g n r c e = ap (released_with (released g n) g r) e
 
@@ -75,7 +75,7 @@ released-enough g (suc j) (suc k) r begins h a b =
     ] refl
 
 -- one turn of the loop that releases
-pub all_released-some : (g : Numbering) (r : Receiver) (c : Coming) → Begins g → HavePieces r → next_whole (get r.held (g.after r.front 1)) ≡ Some c → all_released g r ≡ all_released g (with_dispatched g r c)
+pub all_released-some : (g : Numbering) (r : Receiver) (c : IncomingPacket) → Begins g → HavePieces r → next_whole (get r.held (g.after r.front 1)) ≡ Some c → all_released g r ≡ all_released g (with_dispatched g r c)
 all_released-some g r c begins h e =
     let less = fewer_held g r c begins h e in
     let d : Receiver = with_dispatched g r c in
@@ -87,7 +87,7 @@ pub all_released-none : (g : Numbering) (r : Receiver) → next_whole (get r.hel
 all_released-none g r e = ap flushed (released-none g (len r.held) r e)
 
 -- what each dispatch keeps is kept
-pub released-keeps : (g : Numbering) (P : Receiver → Type 0) → ((r : Receiver) (c : Coming) → next_whole (get r.held (g.after r.front 1)) ≡ Some c → P r → P (with_dispatched g r c))
+pub released-keeps : (g : Numbering) (P : Receiver → Type 0) → ((r : Receiver) (c : IncomingPacket) → next_whole (get r.held (g.after r.front 1)) ≡ Some c → P r → P (with_dispatched g r c))
     → (n : ℕ) (r : Receiver) → P r → P (released g n r)
 unfolding released
 released-keeps g P step zero r h = h
@@ -114,7 +114,7 @@ nothing_is_due g r begins h = nothing_due g (len r.held) r begins h (omega arith
 flushed-earlier : (first : ℕ) (xs : List Dispatched) (r : Receiver) → flushed_from first (with_earlier xs r) ≡ with_earlier xs (flushed_from first r)
 flushed-earlier first xs r = ap (λ out. record (flushed_from first r) { dispatched = out }) (append_assoc xs r.dispatched (fresh first (entries (front_line r))))
 
-dispatched-earlier : (g : Numbering) (xs : List Dispatched) (r : Receiver) (c : Coming) → with_dispatched g (with_earlier xs r) c ≡ with_earlier xs (with_dispatched g r c)
+dispatched-earlier : (g : Numbering) (xs : List Dispatched) (r : Receiver) (c : IncomingPacket) → with_dispatched g (with_earlier xs r) c ≡ with_earlier xs (with_dispatched g r c)
 dispatched-earlier g xs r c =
     let s : Receiver = with_passed g r c in
     ap (λ (out : List Dispatched). flushed_from 0 (record s { dispatched = out })) (append_assoc xs r.dispatched (handed_out c ∷ []))

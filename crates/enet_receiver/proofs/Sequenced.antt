@@ -6,16 +6,16 @@ use Rattle.std.specs.Option.{is_some}
 use Rattle.std.specs.FinMap.{get, insert, empty, get-empty, entries, len}
 use Rattle.enet_seq.specs.Numbering.{Numbering}
 use Rattle.enet_fragment.specs.declared.data.DataCommand.{DataCommand}
-use Rattle.enet_fragment.specs.Making.{count_of}
+use Rattle.enet_fragment.specs.PartialPacket.{count_of}
 use Rattle.enet_fragment.specs.Whole.{is_whole}
-use Rattle.enet_packets.specs.declared.coming.Coming.{Coming}
-use Rattle.enet_packets.specs.declared.coming.Dispatched.{Dispatched}
+use Rattle.enet_packets.specs.declared.incoming_packet.IncomingPacket.{IncomingPacket}
+use Rattle.enet_packets.specs.declared.incoming_packet.Dispatched.{Dispatched}
 use Rattle.enet_packets.specs.Packets.{line_at, with_line, fresh, handed_out, still_ahead}
 use Rattle.enet_receiver.specs.declared.took.Took.{Took}
 use Rattle.enet_receiver.specs.declared.took.Took.TheVariants.{Held, Again, Outside, Bad, Waiting, Memory}
 use Rattle.enet_receiver.specs.Sequenced.{IsSequenced, AreSequenced, HasSequenced}
 use Rattle.enet_receiver.specs.Receiver.{Receiver, nothing_received, cleared, front_line, flushed_from, flushed_last, without, with_passed, next_whole, released, all_released}
-use Rattle.enet_receiver.specs.Reception.{outcome, received, received_with, place_read, came_at, flags_of, earlier_or_new, with_more, with_added, added_at}
+use Rattle.enet_receiver.specs.DataOutcome.{outcome, received, received_with, place_read, came_at, flags_of, earlier_or_new, with_more, with_added, added_at}
 use Rattle.enet_receiver.proofs.Lists.{Has}
 use Rattle.enet_receiver.proofs.Entries.{get_entry, get_retained}
 use Rattle.enet_receiver.proofs.Maps.{two_numbers, get_inserted}
@@ -27,7 +27,7 @@ pub sequenced-append : (xs ys : List Dispatched) → AreSequenced xs → AreSequ
 sequenced-append [] ys a b = b
 sequenced-append (x ∷ xs) ys a b = (a.0, sequenced-append xs ys a.1 b)
 
-sequenced-fresh : (first : ℕ) (es : List (ℕ × Coming)) → ((e : ℕ × Coming) → Has es e → IsSequenced e.1) → AreSequenced (fresh first es)
+sequenced-fresh : (first : ℕ) (es : List (ℕ × IncomingPacket)) → ((e : ℕ × IncomingPacket) → Has es e → IsSequenced e.1) → AreSequenced (fresh first es)
 sequenced-fresh first [] h = tt
 sequenced-fresh first (e ∷ es) h =
     let rest = sequenced-fresh first es (λ x k. h x (inr k)) in
@@ -35,12 +35,12 @@ sequenced-fresh first (e ∷ es) h =
 
 pub sequenced-nothing : HasSequenced nothing_received
 sequenced-nothing = record {
-  held = λ n c e. absurd (let f = get-empty {X = Coming} nat_cmp n in cc);
+  held = λ n c e. absurd (let f = get-empty {X = IncomingPacket} nat_cmp n in cc);
   waiting = λ n k c e. absurd (let f = in-empty n k c e in f);
   dispatched = tt;
 }
   where
-    in-empty : (n k : ℕ) (c : Coming) → get (line_at nothing_received.waiting n) k ≡ Some c → ⊥
+    in-empty : (n k : ℕ) (c : IncomingPacket) → get (line_at nothing_received.waiting n) k ≡ Some c → ⊥
     in-empty n k c e = let l = in_line (get nothing_received.waiting n) k c e in let none = get-empty {X = Line} nat_cmp n in let there : get nothing_received.waiting n ≡ Some l.0 = l.1 in cc
 
 pub sequenced-cleared : (r : Receiver) → AreSequenced r.dispatched → HasSequenced (cleared r)
@@ -59,7 +59,7 @@ sequenced-flushed first r k = record {
       (sequenced-fresh first (entries (front_line r)) (λ e h. k.waiting r.front e.0 e.1 (get_entry (front_line r) e h)));
 }
 
-sequenced-passed : (g : Numbering) (r : Receiver) (c : Coming) → IsSequenced c → HasSequenced r → HasSequenced (with_passed g r c)
+sequenced-passed : (g : Numbering) (r : Receiver) (c : IncomingPacket) → IsSequenced c → HasSequenced r → HasSequenced (with_passed g r c)
 sequenced-passed g r c flag k = record {
   held = λ n x e. k.held n x (get_without g r.held (g.after r.front 1) (count_of c.making) n x e);
   waiting = λ n j x e. (let l = in_line (get (without g r.waiting r.front (count_of c.making)) n) j x e in
@@ -68,7 +68,7 @@ sequenced-passed g r c flag k = record {
   dispatched = sequenced-append r.dispatched (handed_out c ∷ []) k.dispatched (flag, tt);
 }
 
-whole-there : (o : Option Coming) (c : Coming) → next_whole o ≡ Some c → o ≡ Some c
+whole-there : (o : Option IncomingPacket) (c : IncomingPacket) → next_whole o ≡ Some c → o ≡ Some c
 whole-there None c e = absurd (cc)
 whole-there (Some d) c e = elim (is_whole d.making) as (λ b. cond b (Some d) None ≡ Some c → Some d ≡ Some c) [ true ↦ λ f. f | false ↦ λ f. absurd (cc) ] e
 
@@ -88,20 +88,20 @@ new-flags c = by c.reliable (is_some c.fragment)
 sequenced-grown : (r : Receiver) (c : DataCommand) (place : ℕ) → HasSequenced r → IsSequenced (with_more (earlier_or_new (came_at r c place) c) c)
 sequenced-grown r c place k = go (came_at r c place) (by c.reliable)
   where
-    by : (b : Bool) → (e : Coming) → cond b (get r.held place) (get (line_at r.waiting place) c.count) ≡ Some e → IsSequenced e
+    by : (b : Bool) → (e : IncomingPacket) → cond b (get r.held place) (get (line_at r.waiting place) c.count) ≡ Some e → IsSequenced e
     by true e h = k.held place e h
     by false e h = k.waiting place c.count e h
 
-    go : (o : Option Coming) → ((e : Coming) → o ≡ Some e → IsSequenced e) → IsSequenced (with_more (earlier_or_new o c) c)
+    go : (o : Option IncomingPacket) → ((e : IncomingPacket) → o ≡ Some e → IsSequenced e) → IsSequenced (with_more (earlier_or_new o c) c)
     go None h = new-flags c
     go (Some e) h = h e refl
 
-sequenced-added : (r : Receiver) (c : DataCommand) (place : ℕ) (e : Coming) → IsSequenced e → HasSequenced r → HasSequenced (with_added r c place e)
+sequenced-added : (r : Receiver) (c : DataCommand) (place : ℕ) (e : IncomingPacket) → IsSequenced e → HasSequenced r → HasSequenced (with_added r c place e)
 sequenced-added r c place e flag k = by c.reliable
   where
     by : (b : Bool) → HasSequenced (record r { held = cond b (insert r.held place e) r.held; waiting = cond b r.waiting (with_line r.waiting place (insert (line_at r.waiting place) c.count e)) })
     by true = record {
-      held = λ n x h. elim (get_inserted r.held place n e x h) [ inl new ↦ subst (λ (y : Coming). IsSequenced y) new.1 flag | inr old ↦ k.held n x old.1 ];
+      held = λ n x h. elim (get_inserted r.held place n e x h) [ inl new ↦ subst (λ (y : IncomingPacket). IsSequenced y) new.1 flag | inr old ↦ k.held n x old.1 ];
       waiting = k.waiting;
       dispatched = k.dispatched;
     }
@@ -111,7 +111,7 @@ sequenced-added r c place e flag k = by c.reliable
           held = k.held;
           waiting = λ n j x h. elim (two_numbers n place) [
             | inl same ↦ (let f : get line j ≡ Some x = ap (λ (l : Line). get l j) (sym (line_at-same r.waiting place line)) ∙ ap (λ i. get (line_at (with_line r.waiting place line) i) j) (sym same) ∙ h in
-                elim (get_inserted (line_at r.waiting place) c.count j e x f) [ inl new ↦ subst (λ (y : Coming). IsSequenced y) new.1 flag | inr old ↦ k.waiting place j x old.1 ])
+                elim (get_inserted (line_at r.waiting place) c.count j e x f) [ inl new ↦ subst (λ (y : IncomingPacket). IsSequenced y) new.1 flag | inr old ↦ k.waiting place j x old.1 ])
             | inr apart ↦ k.waiting n j x (ap (λ (l : Line). get l j) (sym (line_at-other r.waiting place line n apart)) ∙ h)
           ];
           dispatched = k.dispatched;

@@ -7,24 +7,24 @@ use Rattle.enet_seq.specs.Numbering.{wire, number_read, start_read}
 use Rattle.enet_seq.specs.Windows.{ahead, after, in_window, fragment_in_window}
 use Rattle.enet_fragment.specs.declared.data.DataCommand.{DataCommand}
 use Rattle.enet_fragment.specs.DataCommand.{piece_of}
-use Rattle.enet_packets.specs.declared.coming.Coming.{Coming}
-use Rattle.enet_packets.specs.declared.coming.Dispatched.{Dispatched}
+use Rattle.enet_packets.specs.declared.incoming_packet.IncomingPacket.{IncomingPacket}
+use Rattle.enet_packets.specs.declared.incoming_packet.Dispatched.{Dispatched}
 use Rattle.enet_packets.specs.Packets.{Lines}
 use Rattle.enet_receiver.specs.declared.foreseeing.Completed.{Completed}
 use Rattle.enet_receiver.specs.declared.took.Took.TheVariants.{Held, Outside, Bad}
 use Rattle.enet_receiver.specs.Receiver.{Receiver, all_released}
-use Rattle.enet_receiver.specs.Reception.{outcome, outcome_at, is_piece, received, received_with, place_read, added_at, dispatch_count}
+use Rattle.enet_receiver.specs.DataOutcome.{outcome, outcome_at, is_piece, received, received_with, place_read, added_at, dispatch_count}
 use Rattle.enet_receiver.specs.Parts.{receiver_of, holding, with_stored, with_kept}
 use Rattle.enet_receiver.specs.Kept.{Keeps}
 use Rattle.enet_receiver.specs.Admitted.{Admitted, IsInside}
 use Rattle.enet_receiver.specs.Walk.{walked, Completes}
-use Rattle.enet_receiver.specs.Arriving.{own_place}
+use Rattle.enet_receiver.specs.ArrivingData.{own_place}
 use Rattle.enet_receiver.specs.Foresight.{ReceivingEnd, after_command}
 use Rattle.enet_receiver.proofs.Admission.{Keeps-stored, admitted, short_piece, read_back, inside_number}
 use Rattle.enet_receiver.proofs.Foreseen.{dispatches-is}
 
 -- the receiver once the piece is added
-pub stored_is : (front unreliable : ℕ) (held : FinMap nat_cmp Coming) (waiting : Lines) (out : List Dispatched) (c : DataCommand) (place : ℕ) (held_then : FinMap nat_cmp Coming) (waiting_then : Lines)
+pub stored_is : (front unreliable : ℕ) (held : FinMap nat_cmp IncomingPacket) (waiting : Lines) (out : List Dispatched) (c : DataCommand) (place : ℕ) (held_then : FinMap nat_cmp IncomingPacket) (waiting_then : Lines)
     → holding held_then waiting_then ≡ with_stored (holding held waiting) c place
     → receiver_of front unreliable held_then waiting_then out ≡ with_stored (receiver_of front unreliable held waiting out) c place
 stored_is front unreliable held waiting out c place held_then waiting_then e = λ i. receiver_of front unreliable (e i).held (e i).waiting out
@@ -38,7 +38,7 @@ dispatches-at zero most o r c full place e k inside count a made held = absurd (
 dispatches-at (suc n) most o r c full place e k inside count a made held = dispatches-is n most o r c full place k inside count a made held (omega arith)
 
 -- what is kept once the piece is added, and room was made for what is dispatched
-pub kept_then : (most front unreliable : ℕ) (held : FinMap nat_cmp Coming) (waiting : Lines) (out room : List Dispatched) (c : DataCommand) (place : ℕ) (held_then : FinMap nat_cmp Coming) (waiting_then : Lines)
+pub kept_then : (most front unreliable : ℕ) (held : FinMap nat_cmp IncomingPacket) (waiting : Lines) (out room : List Dispatched) (c : DataCommand) (place : ℕ) (held_then : FinMap nat_cmp IncomingPacket) (waiting_then : Lines)
     → Keeps most (receiver_of front unreliable held waiting out) → Admitted most (receiver_of front unreliable held waiting out) c place → IsInside front place → c.count < 65536
     → room ≡ out → holding held_then waiting_then ≡ with_stored (holding held waiting) c place
     → Keeps most (receiver_of front unreliable held_then waiting_then room)

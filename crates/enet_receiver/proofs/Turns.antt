@@ -6,9 +6,9 @@ use Rattle.std.specs.Cmp.{nat_cmp_total}
 use Rattle.std.specs.FinMap.{FinMap, get, remove, len, entries, contains_key, len-remove}
 use Rattle.enet_seq.specs.Numbering.{wire}
 use Rattle.enet_seq.specs.Windows.{after}
-use Rattle.enet_fragment.specs.Making.{count_of}
-use Rattle.enet_packets.specs.declared.coming.Coming.{Coming}
-use Rattle.enet_packets.specs.declared.coming.Dispatched.{Dispatched}
+use Rattle.enet_fragment.specs.PartialPacket.{count_of}
+use Rattle.enet_packets.specs.declared.incoming_packet.IncomingPacket.{IncomingPacket}
+use Rattle.enet_packets.specs.declared.incoming_packet.Dispatched.{Dispatched}
 use Rattle.enet_packets.specs.Packets.{Lines, line_at, with_line, fresh, last_fresh, still_ahead, handed_out}
 use Rattle.enet_receiver.specs.Receiver.{Receiver, without, next_whole, with_passed, with_dispatched, flushed_from, flushed}
 use Rattle.enet_receiver.specs.Parts.{receiver_of}
@@ -16,7 +16,7 @@ use Rattle.enet_receiver.proofs.Without.{len-without, without-first}
 use Rattle.enet_receiver.proofs.Released.{whole_is, wire_begins, nothing_held}
 
 -- what is held once the packet was taken out and its numbers went
-pub held_after : (held taken passed : FinMap nat_cmp Coming) (next count : ℕ) (front : ℕ) (c : Coming) → next ≡ after front 1 → taken ≡ remove held next → passed ≡ without wire taken (after front 1) count
+pub held_after : (held taken passed : FinMap nat_cmp IncomingPacket) (next count : ℕ) (front : ℕ) (c : IncomingPacket) → next ≡ after front 1 → taken ≡ remove held next → passed ≡ without wire taken (after front 1) count
     → count ≡ count_of c.making → 1 ≤ count → passed ≡ without wire held (after front 1) (count_of c.making)
 held_after held taken passed next count front c at is goes many some_piece =
     goes
@@ -24,7 +24,7 @@ held_after held taken passed next count front c at is goes many some_piece =
     ∙ without-first wire held (after front 1) count (wire_begins front) some_piece
     ∙ ap (without wire held (after front 1)) many
 
-none_there : (m : FinMap nat_cmp Coming) (k : ℕ) (c : Coming) → get m k ≡ Some c → 1 ≤ len m
+none_there : (m : FinMap nat_cmp IncomingPacket) (k : ℕ) (c : IncomingPacket) → get m k ≡ Some c → 1 ≤ len m
 none_there m k c e = go (len m) refl
   where
     go : (n : ℕ) → len m ≡ n → 1 ≤ n
@@ -36,7 +36,7 @@ one_fewer true n m t e h = omega arith
 one_fewer false n m t e h = absurd (cc)
 
 -- and it is less
-pub fewer_after : (held taken passed : FinMap nat_cmp Coming) (next count : ℕ) (front : ℕ) (c : Coming) → next_whole (get held next) ≡ Some c → taken ≡ remove held next → passed ≡ without wire taken (after front 1) count
+pub fewer_after : (held taken passed : FinMap nat_cmp IncomingPacket) (next count : ℕ) (front : ℕ) (c : IncomingPacket) → next_whole (get held next) ≡ Some c → taken ≡ remove held next → passed ≡ without wire taken (after front 1) count
     → len passed + 1 ≤ len held
 fewer_after held taken passed next count front c whole is goes =
     let there = (whole_is (get held next) c whole).0 in
@@ -47,7 +47,7 @@ fewer_after held taken passed next count front c whole is goes =
     omega arith
 
 -- the receiver after a turn
-pub turn_is : (r : Receiver) (c : Coming) (front last : ℕ) (held : FinMap nat_cmp Coming) (passed flushed_lines : Lines) (pushed out : List Dispatched)
+pub turn_is : (r : Receiver) (c : IncomingPacket) (front last : ℕ) (held : FinMap nat_cmp IncomingPacket) (passed flushed_lines : Lines) (pushed out : List Dispatched)
     → front ≡ after r.front (count_of c.making)
     → held ≡ without wire r.held (after r.front 1) (count_of c.making)
     → passed ≡ without wire r.waiting r.front (count_of c.making)
@@ -64,7 +64,7 @@ turn_is r c front last held passed flushed_lines pushed out e1 e2 e3 e4 e5 e6 e7
     flush ∙ ap (flushed_from 0) before
 
 -- the receiver at the end
-pub end_is : (r : Receiver) (last : ℕ) (held : FinMap nat_cmp Coming) (lines : Lines) (out : List Dispatched)
+pub end_is : (r : Receiver) (last : ℕ) (held : FinMap nat_cmp IncomingPacket) (lines : Lines) (out : List Dispatched)
     → held ≡ r.held
     → out ≡ r.dispatched ++ fresh (r.unreliable + 1) (entries (line_at r.waiting r.front))
     → last ≡ last_fresh r.unreliable (entries (line_at r.waiting r.front))

@@ -4,7 +4,7 @@ use Rattle.enet_seq.specs.Numbering.{wire}
 use Rattle.enet_seq.specs.Windows.{ahead}
 use Rattle.enet_fragment.specs.declared.data.DataCommand.{DataCommand}
 use Rattle.enet_receiver.specs.Receiver.{Receiver}
-use Rattle.enet_receiver.specs.Reception.{place_read, came_at, is_piece, agrees_with, came, is_behind}
+use Rattle.enet_receiver.specs.DataOutcome.{place_read, came_at, is_piece, agrees_with, came, is_behind}
 
 -- a place inside the window
 pub record IsInside (front place : ℕ) : Type 0 where

@@ -3,8 +3,8 @@ use Rattle.std.specs.Prelude.{ℕ, List, refl}
 use Rattle.std.specs.Coded.{Coded, code_by, coded×, coded_ℕ, coded_list}
 use Rattle.std.specs.Ordering.{nat_cmp}
 use Rattle.std.specs.FinMap.{FinMap}
-use Rattle.enet_packets.specs.declared.coming.Coming.{Coming}
-use Rattle.enet_packets.specs.declared.coming.Dispatched.{Dispatched}
+use Rattle.enet_packets.specs.declared.incoming_packet.IncomingPacket.{IncomingPacket}
+use Rattle.enet_packets.specs.declared.incoming_packet.Dispatched.{Dispatched}
 use Rattle.enet_packets.specs.Packets.{Lines}
 use Rattle.enet_packets.specs.Codes.{packets_code, waiting_code}
 use Rattle.enet_receiver.specs.Receiver.{Receiver}
@@ -17,7 +17,7 @@ dispatched_code =
 
 abbrev pub receiver_code : Coded Receiver
 receiver_code =
-    code_by (ℕ × (ℕ × (FinMap nat_cmp Coming × (Lines × List Dispatched))))
+    code_by (ℕ × (ℕ × (FinMap nat_cmp IncomingPacket × (Lines × List Dispatched))))
     (coded× coded_ℕ (coded× coded_ℕ (coded× packets_code (coded× waiting_code (coded_list dispatched_code)))))
     (λ r. (r.front, (r.unreliable, (r.held, (r.waiting, r.dispatched)))))
     (λ p. record { front = p.0; unreliable = p.1.0; held = p.1.1.0; waiting = p.1.1.1.0; dispatched = p.1.1.1.1 }) (λ _. refl)

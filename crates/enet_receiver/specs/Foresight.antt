@@ -8,7 +8,7 @@ use Rattle.enet_receiver.specs.declared.took.Took.{Took}
 use Rattle.enet_receiver.specs.declared.took.Took.TheVariants.{Held, Bad, Memory}
 use Rattle.enet_receiver.specs.declared.took.Foresight.{Foresight}
 use Rattle.enet_receiver.specs.Receiver.{Receiver, nothing_received}
-use Rattle.enet_receiver.specs.Reception.{outcome, received, acknowledged, dispatch_count}
+use Rattle.enet_receiver.specs.DataOutcome.{outcome, received, acknowledged, dispatch_count}
 
 -- a receiver of a channel, for packets of at most so many bytes
 pub record ReceivingEnd : Type 0 where

@@ -2,16 +2,16 @@
 use Rattle.std.specs.Prelude.{◌≡◌, ℕ, ◌≤◌, ◌++◌, Bool, List, Some, None}
 use Rattle.std.specs.FinMap.{get}
 use Rattle.enet_seq.specs.Numbering.{Numbering}
-use Rattle.enet_fragment.specs.Making.{count_of}
+use Rattle.enet_fragment.specs.PartialPacket.{count_of}
 use Rattle.enet_fragment.specs.declared.data.DataCommand.{DataCommand}
-use Rattle.enet_packets.specs.declared.coming.Coming.{Coming}
-use Rattle.enet_packets.specs.declared.coming.Dispatched.{Dispatched}
+use Rattle.enet_packets.specs.declared.incoming_packet.IncomingPacket.{IncomingPacket}
+use Rattle.enet_packets.specs.declared.incoming_packet.Dispatched.{Dispatched}
 use Rattle.enet_receiver.specs.Receiver.{Receiver, next_whole, all_released}
-use Rattle.enet_receiver.specs.Reception.{received}
+use Rattle.enet_receiver.specs.DataOutcome.{received}
 
 -- each packet that is held has a piece
 abbrev pub HavePieces : Receiver → Type 0
-HavePieces r = (number : ℕ) (c : Coming) → get r.held number ≡ Some c → 1 ≤ count_of c.making
+HavePieces r = (number : ℕ) (c : IncomingPacket) → get r.held number ≡ Some c → 1 ≤ count_of c.making
 
 -- once all is released, no whole packet stands just past the front
 abbrev pub NothingIsDue : Numbering → Receiver → Type 0

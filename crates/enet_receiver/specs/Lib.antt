@@ -1,7 +1,7 @@
 pub mod Receiver
-pub mod Reception
+pub mod DataOutcome
 pub mod Foresight
-pub mod Arriving
+pub mod ArrivingData
 pub mod Kept
 pub mod Codes
 pub mod Walk

@@ -3,8 +3,8 @@ use Rattle.std.specs.Prelude.{ℕ, ◌%◌, ◌&&◌, List, [], ◌∷◌}
 use Rattle.std.specs.Ordering.{nat_cmp}
 use Rattle.std.specs.FinMap.{FinMap}
 use Rattle.enet_types.specs.declared.packet.Packet.{Packet}
-use Rattle.enet_packets.specs.declared.coming.Coming.{Coming}
-use Rattle.enet_packets.specs.declared.coming.Dispatched.{Dispatched}
+use Rattle.enet_packets.specs.declared.incoming_packet.IncomingPacket.{IncomingPacket}
+use Rattle.enet_packets.specs.declared.incoming_packet.Dispatched.{Dispatched}
 use Rattle.enet_packets.specs.Packets.{Lines}
 use Rattle.enet_fragment.specs.declared.data.DataCommand.{DataCommand}
 use Rattle.enet_receiver.specs.Receiver.{Receiver, all_released}
@@ -13,18 +13,18 @@ use Rattle.enet_seq.specs.Windows.{acknowledges}
 use Rattle.enet_receiver.specs.declared.took.Took.{Took}
 use Rattle.enet_receiver.specs.declared.took.Foresight.{Foresight}
 use Rattle.enet_receiver.specs.Foresight.{ReceivingEnd}
-use Rattle.enet_receiver.specs.Reception.{is_handled, came_at, earlier_or_new, with_more, with_added}
+use Rattle.enet_receiver.specs.DataOutcome.{is_handled, came_at, earlier_or_new, with_more, with_added}
 
-abbrev pub receiver_of : ℕ → ℕ → FinMap nat_cmp Coming → Lines → List Dispatched → Receiver
+abbrev pub receiver_of : ℕ → ℕ → FinMap nat_cmp IncomingPacket → Lines → List Dispatched → Receiver
 receiver_of front unreliable held waiting dispatched =
     record { front = front; unreliable = unreliable; held = held; waiting = waiting; dispatched = dispatched }
 
 -- what is held and what waits, without the rest
-abbrev pub holding : FinMap nat_cmp Coming → Lines → Receiver
+abbrev pub holding : FinMap nat_cmp IncomingPacket → Lines → Receiver
 holding held waiting = receiver_of 0 0 held waiting []
 
 -- the packet of a command once its piece is added
-abbrev pub grown_at : Receiver → DataCommand → ℕ → Coming
+abbrev pub grown_at : Receiver → DataCommand → ℕ → IncomingPacket
 grown_at r c place = with_more (earlier_or_new (came_at r c place) c) c
 
 -- its piece is added

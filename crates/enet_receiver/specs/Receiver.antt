@@ -3,16 +3,16 @@ use Rattle.std.specs.Prelude.{ℕ, suc, zero, ◌+◌, if◌then◌else◌, List
 use Rattle.std.specs.Ordering.{nat_cmp}
 use Rattle.std.specs.FinMap.{FinMap, get, remove, len, empty, entries}
 use Rattle.enet_seq.specs.Numbering.{Numbering}
-use Rattle.enet_fragment.specs.Making.{count_of}
+use Rattle.enet_fragment.specs.PartialPacket.{count_of}
 use Rattle.enet_fragment.specs.Whole.{is_whole}
-use Rattle.enet_packets.specs.declared.coming.Coming.{Coming}
-use Rattle.enet_packets.specs.declared.coming.Dispatched.{Dispatched}
+use Rattle.enet_packets.specs.declared.incoming_packet.IncomingPacket.{IncomingPacket}
+use Rattle.enet_packets.specs.declared.incoming_packet.Dispatched.{Dispatched}
 use Rattle.enet_packets.specs.Packets.{Lines, handed_out, bytes_of, bytes_in, line_at, with_line, fresh, last_fresh, still_ahead}
 
 pub record Receiver : Type 0 where
   pub front : ℕ  -- the number of the last reliable command dispatched
   pub unreliable : ℕ  -- the last unreliable number dispatched since
-  pub held : FinMap nat_cmp Coming  -- reliable packets, by the number of their first piece
+  pub held : FinMap nat_cmp IncomingPacket  -- reliable packets, by the number of their first piece
   pub waiting : Lines  -- unreliable packets, by reliable number, then by unreliable number
   pub dispatched : List Dispatched
 
@@ -20,7 +20,7 @@ abbrev pub nothing_received : Receiver
 nothing_received = record { front = 0; unreliable = 0; held = empty; waiting = empty; dispatched = [] }
 
 -- the unreliable packets that go with the front
-abbrev pub front_line : Receiver → FinMap nat_cmp Coming
+abbrev pub front_line : Receiver → FinMap nat_cmp IncomingPacket
 front_line r = line_at r.waiting r.front
 
 -- the last unreliable number once they are dispatched
@@ -45,7 +45,7 @@ without g packets number zero = packets
 without g packets number (suc count) = remove (without g packets number count) (g.after number count)
 
 -- the front goes to the last number of the packet just past it: what is held for its numbers goes, and what waits for a number before that
-abbrev pub with_passed : Numbering → Receiver → Coming → Receiver
+abbrev pub with_passed : Numbering → Receiver → IncomingPacket → Receiver
 with_passed g r c = record {
   front = g.after r.front (count_of c.making);
   unreliable = 0;
@@ -55,15 +55,15 @@ with_passed g r c = record {
 }
 
 -- the packet just past the front is dispatched, and then the whole unreliable ones that waited for it, number 0 among them
-abbrev pub with_dispatched : Numbering → Receiver → Coming → Receiver
+abbrev pub with_dispatched : Numbering → Receiver → IncomingPacket → Receiver
 with_dispatched g r c = flushed_from 0 (with_passed g r c)
 
 -- the packet just past the front, where it is whole
-abbrev pub next_whole : Option Coming → Option Coming
+abbrev pub next_whole : Option IncomingPacket → Option IncomingPacket
 next_whole None = None
 next_whole (Some c) = if is_whole c.making then Some c else None
 
-abbrev pub released_with : (Receiver → Receiver) → Numbering → Receiver → Option Coming → Receiver
+abbrev pub released_with : (Receiver → Receiver) → Numbering → Receiver → Option IncomingPacket → Receiver
 released_with rest g r None = r
 released_with rest g r (Some c) = rest (with_dispatched g r c)
 

@@ -3,17 +3,17 @@ use Rattle.std.specs.Prelude.{◌≡◌, ℕ, zero, suc, ◌+◌, Bool, true, fa
 use Rattle.std.specs.Ordering.{nat_cmp}
 use Rattle.std.specs.FinMap.{FinMap, get, entries}
 use Rattle.enet_seq.specs.Windows.{after}
-use Rattle.enet_fragment.specs.Making.{count_of}
+use Rattle.enet_fragment.specs.PartialPacket.{count_of}
 use Rattle.enet_fragment.specs.Whole.{is_whole}
 use Rattle.enet_fragment.specs.declared.data.DataCommand.{DataCommand}
-use Rattle.enet_packets.specs.declared.coming.Coming.{Coming}
+use Rattle.enet_packets.specs.declared.incoming_packet.IncomingPacket.{IncomingPacket}
 use Rattle.enet_packets.specs.Packets.{Lines, line_at, fresh}
 use Rattle.enet_receiver.specs.declared.foreseeing.Completed.{Completed}
 use Rattle.enet_receiver.specs.Receiver.{Receiver, next_whole}
 use Rattle.enet_receiver.specs.Parts.{grown_at}
 
 -- how many pieces a packet has
-abbrev pub pieces_of : Option Coming → Option ℕ
+abbrev pub pieces_of : Option IncomingPacket → Option ℕ
 pieces_of None = None
 pieces_of (Some c) = Some (count_of c.making)
 
@@ -27,7 +27,7 @@ pieces_or None pieces = pieces
 pieces_or (Some p) pieces = Some p.pieces
 
 -- how many pieces the packet of a number has, if it is whole
-abbrev pub pieces_at : Option Completed → FinMap nat_cmp Coming → ℕ → Option ℕ
+abbrev pub pieces_at : Option Completed → FinMap nat_cmp IncomingPacket → ℕ → Option ℕ
 pieces_at completed held number = if is_held_at completed number then pieces_or completed None else pieces_of (next_whole (get held number))
 
 -- whether the packet that is made whole goes with this number, and is not before the first that is dispatched
@@ -44,7 +44,7 @@ walk_with rest completed waiting front None = 0
 walk_with rest completed waiting front (Some pieces) = 1 + fresh_at completed waiting (after front pieces) 0 + rest (after front pieces)
 
 -- the whole packets just past the front, with the unreliable ones that go with them
-unfoldable pub walk : ℕ → Option Completed → FinMap nat_cmp Coming → Lines → ℕ → ℕ
+unfoldable pub walk : ℕ → Option Completed → FinMap nat_cmp IncomingPacket → Lines → ℕ → ℕ
 walk zero completed held waiting front = 0
 walk (suc turns) completed held waiting front = walk_with (walk turns completed held waiting) completed waiting front (pieces_at completed held (after front 1))
 
@@ -53,7 +53,7 @@ chain_or_line zero line = line
 chain_or_line (suc chain) line = suc chain
 
 -- all that is dispatched
-abbrev pub walked : ℕ → Option Completed → FinMap nat_cmp Coming → Lines → ℕ → ℕ → ℕ
+abbrev pub walked : ℕ → Option Completed → FinMap nat_cmp IncomingPacket → Lines → ℕ → ℕ → ℕ
 walked turns completed held waiting front unreliable =
     chain_or_line (walk turns completed held waiting front) (fresh_at completed waiting front (unreliable + 1))
 

@@ -6,22 +6,22 @@ ghost use Rattle.enet_codec.specs.Message.{view};
 ghost use Rattle.enet_seq.specs.Numbering.{wire};
 ghost use Rattle.enet_fragment.specs.DataCommand.{data_of};
 ghost use Rattle.enet_fragment.specs.Whole.{is_whole};
-ghost use Rattle.enet_receiver.specs.Arriving.{data_command};
+ghost use Rattle.enet_receiver.specs.ArrivingData.{data_command};
 ghost use Rattle.enet_receiver.specs.Admitted.{Admitted, IsInside};
 ghost use Rattle.enet_receiver.specs.Parts.{with_first, with_kept, grown_at, answered_with};
 ghost use Rattle.enet_receiver.specs.Walk.{Completes};
 ghost use Rattle.enet_receiver.specs.Receiver.{held_bytes, cleared};
-ghost use Rattle.enet_receiver.specs.Reception.{outcome, outcome_of, place_read, came_at, is_behind, is_handled, dispatch_count};
+ghost use Rattle.enet_receiver.specs.DataOutcome.{outcome, outcome_of, place_read, came_at, is_behind, is_handled, dispatch_count};
 ghost use Rattle.enet_receiver.specs.Foresight.{new_end, data_if, is_reliable, is_unreliable, is_fragment, is_unreliable_fragment, outcome_for, after_command, WouldBeHeld, Receives, foreseen};
 
-use crate::arriving::Arriving;
+use crate::arriving_data::ArrivingData;
 use crate::foreseeing::{Completed, dispatches};
 use crate::releasing::release;
 use crate::storing::{make_room, store};
 use crate::{Foresight, Took};
 use enet_codec::{Command, Packet, Refusal};
 use enet_fragment::Put;
-use enet_packets::{Coming, Dispatched, Packets, Waiting};
+use enet_packets::{Dispatched, IncomingPacket, Packets, Waiting};
 use enet_seq::{acknowledges, fragment_in_window, in_window};
 use std::alloc::Global;
 use std::collections::VecDeque;
@@ -106,7 +106,7 @@ impl Incoming {
         let Command::SendReliable { head, payload } = command else {
             return Took::Bad;
         };
-        let arriving = Arriving {
+        let arriving = ArrivingData {
             head: *head,
             reliable: true,
             count: 0,
@@ -129,7 +129,7 @@ impl Incoming {
         else {
             return Took::Bad;
         };
-        let arriving = Arriving {
+        let arriving = ArrivingData {
             head: *head,
             reliable: false,
             count: *unreliable,
@@ -153,7 +153,7 @@ impl Incoming {
         else {
             return Took::Bad;
         };
-        let arriving = Arriving {
+        let arriving = ArrivingData {
             head: *head,
             reliable: true,
             count: 0,
@@ -176,7 +176,7 @@ impl Incoming {
         else {
             return Took::Bad;
         };
-        let arriving = Arriving {
+        let arriving = ArrivingData {
             head: *head,
             reliable: false,
             count: fragment.start,
@@ -195,7 +195,7 @@ impl Incoming {
     pub fn foresee(&self, command: &Command<'_>, full: bool) -> Foresight
         ensures { result ≡ foreseen self.now (data_of (view command.now)) full }
     {
-        let Some(arriving) = Arriving::of(command) else {
+        let Some(arriving) = ArrivingData::of(command) else {
             return Foresight {
                 took: Took::Bad,
                 acknowledged: false,
@@ -220,7 +220,7 @@ impl Incoming {
         ensures unchanged { result ≡ false → self.new ≡ self.old }
     {
         let _held = &self.held;
-        let Some(arriving) = Arriving::of(command) else {
+        let Some(arriving) = ArrivingData::of(command) else {
             return false;
         };
         self.keep(arriving, arriving.own_place())
@@ -256,7 +256,7 @@ impl Incoming {
     }
 
     /// Takes a command in.
-    fn receive(&mut self, arriving: Arriving<'_>, full: bool) -> Took
+    fn receive(&mut self, arriving: ArrivingData<'_>, full: bool) -> Took
         ensures { Receives (Some (data_command arriving.entry)) full result self.old self.new }
     {
         match self.admit(arriving, full) {
@@ -273,7 +273,7 @@ impl Incoming {
 
     /// Keeps a command that is taken in, and dispatches what that completes. False, with nothing changed, where memory is
     /// refused.
-    fn keep(&mut self, arriving: Arriving<'_>, place: u16) -> bool
+    fn keep(&mut self, arriving: ArrivingData<'_>, place: u16) -> bool
         requires short { length arriving.payload.now < 2 ^ 32 }
         requires admitted { Admitted self.old.max_packet self.old.receiver (data_command arriving) place }
         requires inside { IsInside self.old.receiver.front place }
@@ -315,7 +315,7 @@ impl Incoming {
 
     /// The number under which a command's packet is held or for which it waits, if it would be taken in; else what becomes of
     /// it, with ample memory.
-    fn admit(&self, arriving: Arriving<'_>, full: bool) -> Result<u16, Took>
+    fn admit(&self, arriving: ArrivingData<'_>, full: bool) -> Result<u16, Took>
         ensures held { IfOk result (λ place. (outcome wire self.now.max_packet self.now.receiver (data_command arriving.entry) full ≡ Took.Held) × (place_read wire self.now.receiver (data_command arriving.entry) ≡ Some place)) }
         ensures inside { IfOk result (λ place. IsInside self.now.receiver.front place) }
         ensures short { IfOk result (λ _. length arriving.entry.payload.now < 2 ^ 32) }
@@ -335,7 +335,7 @@ impl Incoming {
     }
 
     /// The number under which its packet is held, or for which it waits, if it is inside the window.
-    fn place_read(&self, arriving: Arriving<'_>) -> Option<u16>
+    fn place_read(&self, arriving: ArrivingData<'_>) -> Option<u16>
         ensures value { result ≡ place_read wire self.now.receiver (data_command arriving.entry) }
         ensures inside { IfSome result (λ place. IsInside self.now.receiver.front place) }
     {
@@ -348,7 +348,7 @@ impl Incoming {
     }
 
     /// What came of its packet.
-    fn earlier(&self, arriving: Arriving<'_>, place: u16) -> Option<&Coming>
+    fn earlier(&self, arriving: ArrivingData<'_>, place: u16) -> Option<&IncomingPacket>
         ensures { option_copied result ≡ came_at self.now.receiver (data_command arriving.entry) place }
     {
         if arriving.reliable {
@@ -359,14 +359,14 @@ impl Incoming {
     }
 
     /// Whether its packet was dispatched, or has fallen behind.
-    fn is_behind(&self, arriving: Arriving<'_>, place: u16) -> bool
+    fn is_behind(&self, arriving: ArrivingData<'_>, place: u16) -> bool
         ensures { result ≡ is_behind self.now.receiver (data_command arriving.entry) place }
     {
         place == self.front && (arriving.reliable || arriving.count <= self.unreliable)
     }
 
     /// What becomes of it at its place.
-    fn outcome_of(&self, arriving: Arriving<'_>, full: bool, place: u16) -> Took
+    fn outcome_of(&self, arriving: ArrivingData<'_>, full: bool, place: u16) -> Took
         requires { length arriving.payload.now < 2 ^ 32 }
         ensures value { result ≡ outcome_of self.now.receiver (data_command arriving.entry) full place (came_at self.now.receiver (data_command arriving.entry) place) }
         ensures known { result ≢ Took.Memory }
@@ -386,7 +386,7 @@ impl Incoming {
     }
 
     /// The packet that a command makes whole once it is taken in, if it does.
-    fn completed(&self, arriving: Arriving<'_>, place: u16) -> Option<Completed>
+    fn completed(&self, arriving: ArrivingData<'_>, place: u16) -> Option<Completed>
         requires short { length arriving.payload.now < 2 ^ 32 }
         requires admitted { Admitted self.now.max_packet self.now.receiver (data_command arriving) place }
         ensures { Completes result self.now.receiver (data_command arriving.entry) place }
@@ -403,7 +403,7 @@ impl Incoming {
     }
 
     /// Whether a command that is taken in makes its packet whole.
-    fn completes(&self, arriving: Arriving<'_>, place: u16) -> bool
+    fn completes(&self, arriving: ArrivingData<'_>, place: u16) -> bool
         requires short { length arriving.payload.now < 2 ^ 32 }
         requires admitted { Admitted self.now.max_packet self.now.receiver (data_command arriving) place }
         ensures { result ≡ is_whole (grown_at self.now.receiver (data_command arriving.entry) place).making }
@@ -418,7 +418,7 @@ impl Incoming {
     }
 
     /// How many packets a command that is taken in dispatches.
-    fn dispatches(&self, arriving: Arriving<'_>, place: u16) -> u32
+    fn dispatches(&self, arriving: ArrivingData<'_>, place: u16) -> u32
         requires short { length arriving.payload.now < 2 ^ 32 }
         requires admitted { Admitted self.now.max_packet self.now.receiver (data_command arriving) place }
         requires inside { IsInside self.now.receiver.front place }

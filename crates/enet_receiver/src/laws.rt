@@ -4,9 +4,9 @@
 ghost use Rattle.std.specs.Prelude.{ℕ, Bool, List};
 ghost use Rattle.enet_seq.specs.Numbering.{Numbering, wire, unbounded};
 ghost use Rattle.enet_fragment.specs.declared.data.DataCommand.{DataCommand};
-ghost use Rattle.enet_packets.specs.declared.coming.Dispatched.{Dispatched};
+ghost use Rattle.enet_packets.specs.declared.incoming_packet.Dispatched.{Dispatched};
 ghost use Rattle.enet_receiver.specs.Receiver.{Receiver, nothing_received, cleared};
-ghost use Rattle.enet_receiver.specs.Reception.{received};
+ghost use Rattle.enet_receiver.specs.DataOutcome.{received};
 ghost use Rattle.enet_receiver.specs.Laws.{HavePieces, NothingIsDue, DoesTheSame};
 ghost use Rattle.enet_receiver.specs.Sequenced.{AreSequenced, HasSequenced};
 

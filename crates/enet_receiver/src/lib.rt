@@ -1,18 +1,18 @@
 //! One channel's receiver in ENet 1.3: it dispatches reliable packets in the order of their numbers, each once and whole,
 //! and unreliable ones in their places between them.
 //!
-//! Proved, each exactly by the definitions of specs/Receiver and specs/Reception: `Incoming`'s four receptions (`reliable`,
+//! Proved, each exactly by the definitions of specs/Receiver and specs/DataOutcome: `Incoming`'s four receptions (`reliable`,
 //! `unreliable`, `fragment`, `unreliable_fragment`: the first outcome that applies, `took`, and the receiver after it,
 //! `held`; every other outcome changes nothing, `unchanged`; Memory comes only where the command would be held, `memory`),
 //! `foresee` (outcome, whether the window lets it be acknowledged, how many packets it dispatches), `take_in` (what was
-//! foreseen to be held is, and is not looked at again), `held`, `pop`, `clear`, `open`; and `Arriving::of` (which sequenced
+//! foreseen to be held is, and is not looked at again), `held`, `pop`, `clear`, `open`; and `ArrivingData::of` (which sequenced
 //! data command a command is). Laws: as many turns as packets are held are enough to dispatch all that is due
 //! (`turns_suffice`), and what was dispatched before makes no difference (`earlier_dispatches_do_not_matter`); what comes in
 //! sequence never has the flags 2 of an unsequenced packet (`sequenced_has_other_flags`).
 //! Only tested, in `check_numbers` and `check_peer`: that calls succeed with ample memory, and the worked scripts of one channel.
 #![tactic(auto)]
 
-mod arriving;
+mod arriving_data;
 mod foreseeing;
 mod incoming;
 mod laws;
@@ -20,7 +20,7 @@ mod releasing;
 mod storing;
 mod took;
 
-pub use arriving::Arriving;
+pub use arriving_data::ArrivingData;
 pub use incoming::Incoming;
 pub use laws::{earlier_dispatches_do_not_matter, sequenced_has_other_flags, turns_suffice};
 pub use took::{Foresight, Took};

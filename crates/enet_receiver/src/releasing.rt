@@ -11,12 +11,12 @@ ghost use Rattle.enet_receiver.specs.Receiver.{without, next_whole, all_released
 ghost use Rattle.enet_receiver.specs.Laws.{HavePieces};
 ghost use Rattle.enet_receiver.specs.Parts.{receiver_of};
 
-use enet_packets::{Coming, Dispatched, Packets, Waiting};
+use enet_packets::{Dispatched, IncomingPacket, Packets, Waiting};
 use enet_seq::after;
 use std::collections::VecDeque;
 
 /// Takes the packet of this number away, if it is whole.
-fn take_whole(held: &mut Packets, number: u16) -> Option<Coming>
+fn take_whole(held: &mut Packets, number: u16) -> Option<IncomingPacket>
     ensures value { result ≡ next_whole (get held.old number) }
     ensures some { OnSome result (held.new ≡ remove held.old number) }
     ensures none { IfNone result (held.new ≡ held.old) }

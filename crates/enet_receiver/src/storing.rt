@@ -6,14 +6,14 @@ ghost use Rattle.std.specs.VecDeque.{deque_len, deque_capacity};
 ghost use Rattle.enet_fragment.specs.Place.{is_sound};
 ghost use Rattle.enet_fragment.specs.DataCommand.{place_in_packet};
 ghost use Rattle.enet_packets.specs.Packets.{line_at, with_line, packets_in};
-ghost use Rattle.enet_receiver.specs.Arriving.{data_command};
-ghost use Rattle.enet_receiver.specs.Reception.{agrees_with, came, came_at, earlier_or_new, with_more};
+ghost use Rattle.enet_receiver.specs.ArrivingData.{data_command};
+ghost use Rattle.enet_receiver.specs.DataOutcome.{agrees_with, came, came_at, earlier_or_new, with_more};
 ghost use Rattle.enet_receiver.specs.Parts.{holding, with_stored};
 
-use crate::arriving::Arriving;
+use crate::arriving_data::ArrivingData;
 use enet_codec::Refusal;
-use enet_fragment::Gathering;
-use enet_packets::{Coming, Dispatched, Packets, Waiting};
+use enet_fragment::PartialPacket;
+use enet_packets::{Dispatched, IncomingPacket, Packets, Waiting};
 use std::alloc::Global;
 use std::collections::VecDeque;
 
@@ -33,13 +33,13 @@ pub(crate) fn make_room(
 }
 
 /// The packet of which this is the first piece that came.
-fn begun(alloc: Global, arriving: Arriving<'_>) -> Result<Coming, Refusal>
+fn begun(alloc: Global, arriving: ArrivingData<'_>) -> Result<IncomingPacket, Refusal>
     requires short { length arriving.payload.now < 2 ^ 32 }
     requires sound { IsTrue (is_sound (place_in_packet (data_command arriving))) }
     ensures { IfOk result (λ coming. coming ≡ with_more (earlier_or_new None (data_command arriving.entry)) (data_command arriving.entry)) }
 {
-    let making = Gathering::first(alloc, arriving.place(), arriving.payload)?;
-    Ok(Coming {
+    let making = PartialPacket::first(alloc, arriving.place(), arriving.payload)?;
+    Ok(IncomingPacket {
         flags: arriving.flags(),
         making,
     })
@@ -50,7 +50,7 @@ fn hold(
     alloc: Global,
     held: &mut Packets,
     number: u16,
-    arriving: Arriving<'_>,
+    arriving: ArrivingData<'_>,
 ) -> Result<(), Refusal>
     requires short { length arriving.payload.now < 2 ^ 32 }
     requires sound { IsTrue (is_sound (place_in_packet (data_command arriving))) }
@@ -71,7 +71,7 @@ fn wait(
     alloc: Global,
     waiting: &mut Waiting,
     number: u16,
-    arriving: Arriving<'_>,
+    arriving: ArrivingData<'_>,
 ) -> Result<(), Refusal>
     requires short { length arriving.payload.now < 2 ^ 32 }
     requires sound { IsTrue (is_sound (place_in_packet (data_command arriving))) }
@@ -95,7 +95,7 @@ pub(crate) fn store(
     held: &mut Packets,
     waiting: &mut Waiting,
     number: u16,
-    arriving: Arriving<'_>,
+    arriving: ArrivingData<'_>,
 ) -> bool
     requires short { length arriving.payload.now < 2 ^ 32 }
     requires sound { IsTrue (is_sound (place_in_packet (data_command arriving))) }

@@ -6,7 +6,7 @@ use Rattle.enet_fragment.specs.Cutting.{piece_length}
 use Rattle.enet_fragment.specs.declared.data.DataCommand.{DataCommand}
 use Rattle.enet_codec.specs.declared.command.Fragment.{Fragment}
 use Rattle.enet_sender.specs.declared.course.Course.{Course}
-use Rattle.enet_sender.specs.Carriage.{Carried, carried_as}
+use Rattle.enet_sender.specs.CommandChoice.{ChosenPacket, carried_as}
 use Rattle.enet_sender.specs.Sender.{piece_at}
 
 -- the number by which the pieces of the packet find one another
@@ -34,7 +34,7 @@ abbrev pub course_commands : Course → List ℕ → List DataCommand
 course_commands s body = map (piece_command s body) (range_with_len 0 s.pieces)
 
 -- the course of a packet, the last reliable number and the unreliable number before it being given
-abbrev pub course_of : ℕ → ℕ → ℕ → Carried → Course
+abbrev pub course_of : ℕ → ℕ → ℕ → ChosenPacket → Course
 course_of mtu number unreliable c = record {
   reliable = c.reliable;
   number = number;

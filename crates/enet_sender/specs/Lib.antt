@@ -1,4 +1,4 @@
-pub mod Carriage
+pub mod CommandChoice
 pub mod Sender
 pub mod Due
 pub mod Kept

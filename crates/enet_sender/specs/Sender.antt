@@ -11,7 +11,7 @@ use Rattle.enet_fragment.specs.Cutting.{piece_length}
 use Rattle.enet_fragment.specs.declared.data.DataCommand.{DataCommand}
 use Rattle.enet_sender.specs.declared.sent.Sent.{Sent}
 use Rattle.enet_sender.specs.declared.outgoing.Left.{Left}
-use Rattle.enet_sender.specs.Carriage.{Packet, Carried, carried_as, is_long}
+use Rattle.enet_sender.specs.CommandChoice.{Packet, ChosenPacket, carried_as, is_long}
 
 pub record Sender : Type 0 where
   pub number : ℕ  -- the last reliable number given
@@ -26,12 +26,12 @@ nothing_sent = record { number = 0; unreliable = 0; queued = []; sent = [] }
 abbrev pub piece_at : ℕ → List ℕ → ℕ → List ℕ
 piece_at size body i = take size (drop (i * size) body)
 
-abbrev pub fragment_at : ℕ → Carried → ℕ → ℕ → Fragment
+abbrev pub fragment_at : ℕ → ChosenPacket → ℕ → ℕ → Fragment
 fragment_at size c start i = record { start = start; count = c.pieces; number = i; total = length c.packet.body; offset = i * size }
 
 -- command i of a packet, the last reliable number and the unreliable number before it being given. A reliable piece has a
 -- number of its own, the pieces of an unreliable packet share theirs
-abbrev pub command_at : Numbering → ℕ → ℕ → ℕ → Carried → ℕ → DataCommand
+abbrev pub command_at : Numbering → ℕ → ℕ → ℕ → ChosenPacket → ℕ → DataCommand
 command_at g mtu number count c i = record {
   reliable = c.reliable;
   number = if c.reliable then g.after number (i + 1) else number;
@@ -40,10 +40,10 @@ command_at g mtu number count c i = record {
   body = piece_at (piece_length mtu) c.packet.body i;
 }
 
-abbrev pub commands_of : Numbering → ℕ → ℕ → ℕ → Carried → List DataCommand
+abbrev pub commands_of : Numbering → ℕ → ℕ → ℕ → ChosenPacket → List DataCommand
 commands_of g mtu number count c = map (command_at g mtu number count c) (range_with_len 0 c.pieces)
 
-abbrev pub with_queued : Numbering → ℕ → Sender → Carried → Sender
+abbrev pub with_queued : Numbering → ℕ → Sender → ChosenPacket → Sender
 with_queued g mtu s c = record {
   number = if c.reliable then g.after s.number c.pieces else s.number;
   unreliable = if c.reliable then 0 else s.unreliable + 1;

@@ -1,7 +1,7 @@
 //! One channel's sender in ENet 1.3: it numbers the commands of each packet, sends them in their order, sends reliable ones
 //! again, and keeps them until they are acknowledged.
 //!
-//! Proved, each exactly by the definitions of specs/Sender and specs/Carriage: `Outgoing::submit` (how a packet goes, its
+//! Proved, each exactly by the definitions of specs/Sender and specs/CommandChoice: `Outgoing::submit` (how a packet goes, its
 //! commands and their numbers, all or none; E5 exactly above 16,384 pieces, `too_large`; a refused body comes back and
 //! nothing has changed, `refused`), `next_due` (the first due resend, else the head of the queue exactly where the sender's
 //! span and the bytes in transit let it go, written where it fits; NoRoom and Nothing change nothing), `skip`,

@@ -5,7 +5,7 @@ ghost use Rattle.std.specs.List.{position, list_any};
 ghost use Rattle.enet_sender.specs.declared.sent.Sent.{Sent};
 ghost use Rattle.enet_fragment.specs.Cutting.{piece_count};
 ghost use Rattle.enet_seq.specs.Numbering.{wire};
-ghost use Rattle.enet_sender.specs.Carriage.{fragment_limit};
+ghost use Rattle.enet_sender.specs.CommandChoice.{fragment_limit};
 ghost use Rattle.enet_sender.specs.Sender.{next, next_queued, next_resent, acknowledged, acknowledged_bytes, with_skipped, with_marked, lateness, after_lateness, ends, is_late, cleared, left};
 ghost use Rattle.enet_sender.specs.Due.{new_end, with_submitted, Did};
 

@@ -5,7 +5,7 @@ use Rattle.enet_types.specs.declared.event.PeerRef.{PeerRef}
 use Rattle.enet_types.specs.declared.packet.Packet.{Packet}
 use Rattle.enet_types.specs.declared.refusal.Refusal.{Refusal}
 use Rattle.enet_types.specs.declared.refusal.Refusal.TheVariants.{NoSuchPeer}
-use Rattle.enet_sender.specs.Carriage as carriage
+use Rattle.enet_sender.specs.CommandChoice as command_choice
 use Rattle.enet_peer.specs.Peering.{Peering}
 use Rattle.enet_connection.specs.Law.{mtu_in}
 use Rattle.enet_host.specs.Host.{Host, named}
@@ -45,8 +45,8 @@ ok-of : {S : Type 0} (r : Result S Refusal) → None ≡ refusal_of r → is_ok 
 ok-of (Ok s) is = refl
 ok-of (Err why) is = absurd (let y : ◌≡◌ {A = Option Refusal} None (Some why) = is in cc)
 
-pub is-open : {S : Type 0} (outcome : PeerRef → carriage.Packet → Result S Refusal) (name peer : PeerRef) (flags : ℕ) (body copy : List ℕ) (len : ℕ) → name ≡ peer → copy ≡ body → len ≡ length body
-    → ((q : carriage.Packet) → length q.body ≡ len → None ≡ refusal_of (outcome peer q)) → is_ok (outcome name (record { flags = flags; body = copy })) ≡ true
+pub is-open : {S : Type 0} (outcome : PeerRef → command_choice.Packet → Result S Refusal) (name peer : PeerRef) (flags : ℕ) (body copy : List ℕ) (len : ℕ) → name ≡ peer → copy ≡ body → len ≡ length body
+    → ((q : command_choice.Packet) → length q.body ≡ len → None ≡ refusal_of (outcome peer q)) → is_ok (outcome name (record { flags = flags; body = copy })) ≡ true
 is-open outcome name peer flags body copy len same content long agrees =
     subst (λ (n : PeerRef). is_ok (outcome n (record { flags = flags; body = copy })) ≡ true) (sym same)
     (ok-of (outcome peer (record { flags = flags; body = copy })) (agrees (record { flags = flags; body = copy }) (ap length content ∙ sym long)))

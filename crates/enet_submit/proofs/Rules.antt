@@ -11,7 +11,7 @@ use Rattle.enet_submit.specs.declared.rule.SeatLog.{SeatLog}
 use Rattle.enet_submit.specs.declared.rule.View.{View}
 use Rattle.enet_submit.specs.declared.rule.View.TheVariants.{Draining, Sending, Spent}
 use Rattle.enet_submit.specs.History.{of, CountsFrom, IsHistory}
-use Rattle.enet_submit.specs.Rule.{with_sent, log, Among, Knows, Agrees, Kept, Submitted, Took, Shows, TakenIs, TakenComesFirst, seats_in, sent_in, taken_in, widened, made_one, new_seat, informed}
+use Rattle.enet_submit.specs.Rule.{with_sent, log, Among, Knows, Agrees, Invariant, Submitted, Took, Shows, TakenIs, TakenComesFirst, seats_in, sent_in, taken_in, widened, made_one, new_seat, informed}
 
 -- ---- lists
 of_append : (s : ℕ) (a b : List Submission) → of s (a ++ b) ≡ of s a ++ of s b
@@ -78,7 +78,7 @@ taken_is d t a p (Draining n m got known) h = h.2
 taken_is d t a p (Sending s n l) h = tt
 taken_is d t a p Spent h = tt
 
-pub learns : (port : ℕ) (v : View) → v ≢ Spent → Learns Kept port v (Shows v)
+pub learns : (port : ℕ) (v : View) → v ≢ Spent → Learns Invariant port v (Shows v)
 learns port v ne items views b at = let a = b.agrees port v at in (
   b.taken,
   subst (λ t. IsHistory t (b.taken ++ items)) (total_is b.drain b.seats b.taken port v ne a) b.history,
@@ -94,7 +94,7 @@ set_there (x ∷ xs) (suc i) a b e = set_there xs i a b e
 
 -- ---- a push
 pub pushes : (n port s t : ℕ) (l : List Submission) (x : Submission) → s < t → x.seat ≡ s → x.number ≡ length l → length l < 4294967295
-    → Pushes Kept n port (Sending s t l) x (Submitted (Sending s t l) x)
+    → Pushes Invariant n port (Sending s t l) x (Submitted (Sending s t l) x)
 pushes n port s t l x lt is num room items views free b at =
     let mine = b.known port (Sending s t l) at s l (refl, refl) in
     let total : t ≡ b.seats = b.agrees port (Sending s t l) at in
@@ -103,7 +103,7 @@ pushes n port s t l x lt is num room items views free b at =
     let size : length (of x.seat h) ≡ length l = ap length here in
     let more : (b.taken ++ items) ++ x ∷ [] ≡ b.taken ++ (items ++ x ∷ []) = append_assoc b.taken items (x ∷ []) in
     let w : View = Sending s t (l ++ x ∷ []) in
-    let after : Kept (items ++ x ∷ []) (set views port w) = record {
+    let after : Invariant (items ++ x ∷ []) (set views port w) = record {
       drain = b.drain;
       seats = b.seats;
       taken = b.taken;
@@ -150,7 +150,7 @@ seam_number t a x xs s =
     let z : length (of x.seat (a ++ x ∷ xs)) ≤ 4294967295 = s.countable x.seat in
     (omega arith, omega (arith, length-append (of x.seat a) (x ∷ of x.seat xs)))
 
-pub pops : (port t m : ℕ) (got : List Submission) (known : List SeatLog) → Pops Kept port (Draining t m got known) (Took (Draining t m got known))
+pub pops : (port t m : ℕ) (got : List Submission) (known : List SeatLog) → Pops Invariant port (Draining t m got known) (Took (Draining t m got known))
 pops port t m got known x items views b at =
     let mine = b.agrees port (Draining t m got known) at in
     let w : View = Draining t m (got ++ x ∷ []) known in
@@ -159,7 +159,7 @@ pops port t m got known x items views b at =
     let seat = seam_within b.seats b.taken x items b.history in
     let size : length (of x.seat got) ≡ length (of x.seat b.taken) = ap (λ l. length (of x.seat l)) mine.2 in
     let total : t ≡ b.seats = mine.1 in
-    let after : Kept items (set views port w) = record {
+    let after : Invariant items (set views port w) = record {
       drain = b.drain;
       seats = b.seats;
       taken = b.taken ++ x ∷ [];
@@ -187,7 +187,7 @@ agrees_wider d t a j p (Sending s n l) ne h mine all other = absurd (other (sym 
 agrees_wider d t a j p Spent ne h mine all other = tt
 
 -- one more seat is to come
-pub widens : (port t : ℕ) → Forks Kept port (Draining t 0 [] []) (Draining (t + 1) 0 [] []) Spent
+pub widens : (port t : ℕ) → Forks Invariant port (Draining t 0 [] []) (Draining (t + 1) 0 [] []) Spent
 widens port t items views b at =
     let v : View = Draining t 0 [] [] in
     let w : View = Draining (t + 1) 0 [] [] in
@@ -223,7 +223,7 @@ moved_else : (owner : ℕ → ℕ) (m to k : ℕ) → k ≢ m → moved owner m 
 moved_else owner m to k e = ap (λ b. cond b to (owner k)) (ne_eqb k m e)
 
 -- a seat is made
-pub makes : (port t m : ℕ) → Forks Kept port (Draining t m [] []) (Draining t (m + 1) [] []) (Sending m t [])
+pub makes : (port t m : ℕ) → Forks Invariant port (Draining t m [] []) (Draining t (m + 1) [] []) (Sending m t [])
 makes port t m items views b at =
     let v : View = Draining t m [] [] in
     let w : View = Draining t (m + 1) [] [] in
@@ -274,7 +274,7 @@ among_more xs a x o = ⊎_elim (λ (p : (o.0 < length xs) × (get_elem? xs o.0 �
 
 -- the drain takes in a seat
 pub finishes : (port t m : ℕ) (got : List Submission) (known : List SeatLog) (other s n : ℕ) (sent : List Submission)
-    → Merges Kept port (Draining t m got known) other (Sending s n sent) (Draining t m got (known ++ log s sent ∷ [])) Spent
+    → Merges Invariant port (Draining t m got known) other (Sending s n sent) (Draining t m got (known ++ log s sent ∷ [])) Spent
 finishes port t m got known other s n sent items views b at apart theirs =
     let v : View = Draining t m got known in
     let w : View = Draining t m got (known ++ log s sent ∷ []) in
@@ -320,7 +320,7 @@ finishes port t m got known other s n sent items views b at apart theirs =
     }
 
 -- ---- the opening
-pub begins : Kept [] (Draining 0 0 [] [] ∷ [])
+pub begins : Invariant [] (Draining 0 0 [] [] ∷ [])
 begins =
     let Fits : ℕ → View → Type 0 = λ j u. Agrees 0 0 [] j u × ((k : ℕ) (l : List Submission) → Knows u k l → (0 ≡ j) × ([] ≡ l)) in
     let v : View = Draining 0 0 [] [] in
@@ -339,30 +339,30 @@ begins =
 
 -- ---- the same for a pass whose view is known by an equation
 pub submits : (n port : ℕ) (v : View) (s t : ℕ) (x : Submission) → v ≡ Sending s t (sent_in v) → s < t → x.seat ≡ s → x.number ≡ length (sent_in v) → length (sent_in v) < 4294967295
-    → Pushes Kept n port v x (Submitted v x) × Learns Kept port v (Shows v)
+    → Pushes Invariant n port v x (Submitted v x) × Learns Invariant port v (Shows v)
 submits n port v s t x e lt is num room = (
-  subst (λ (y : View). Pushes Kept n port y x (Submitted y x)) (sym e) (pushes n port s t (sent_in v) x lt is num room),
+  subst (λ (y : View). Pushes Invariant n port y x (Submitted y x)) (sym e) (pushes n port s t (sent_in v) x lt is num room),
   learns port v (λ z. cc),
 )
 
-pub takes : (port : ℕ) (v : View) (t m : ℕ) (known : List SeatLog) → v ≡ Draining t m (taken_in v) known → Pops Kept port v (Took v) × Learns Kept port v (Shows v)
+pub takes : (port : ℕ) (v : View) (t m : ℕ) (known : List SeatLog) → v ≡ Draining t m (taken_in v) known → Pops Invariant port v (Took v) × Learns Invariant port v (Shows v)
 takes port v t m known e = (
-  subst (λ (y : View). Pops Kept port y (Took y)) (sym e) (pops port t m (taken_in v) known),
+  subst (λ (y : View). Pops Invariant port y (Took y)) (sym e) (pops port t m (taken_in v) known),
   learns port v (λ z. cc),
 )
 
-pub one_more : (port : ℕ) (v : View) (t : ℕ) → v ≡ Draining t 0 [] [] → Forks Kept port v (widened v) Spent
-one_more port v t e = subst (λ (y : View). Forks Kept port y (widened y) Spent) (sym e) (widens port t)
+pub one_more : (port : ℕ) (v : View) (t : ℕ) → v ≡ Draining t 0 [] [] → Forks Invariant port v (widened v) Spent
+one_more port v t e = subst (λ (y : View). Forks Invariant port y (widened y) Spent) (sym e) (widens port t)
 
-pub new_one : (port : ℕ) (v : View) (t m : ℕ) → v ≡ Draining t m [] [] → Forks Kept port v (made_one v) (new_seat v)
-new_one port v t m e = subst (λ (y : View). Forks Kept port y (made_one y) (new_seat y)) (sym e) (makes port t m)
+pub new_one : (port : ℕ) (v : View) (t m : ℕ) → v ≡ Draining t m [] [] → Forks Invariant port v (made_one v) (new_seat v)
+new_one port v t m e = subst (λ (y : View). Forks Invariant port y (made_one y) (new_seat y)) (sym e) (makes port t m)
 
 pub joins : (port : ℕ) (v : View) (t m : ℕ) (got : List Submission) (known : List SeatLog) (other : ℕ) (w : View) (s n : ℕ) (sent : List Submission)
-    → v ≡ Draining t m got known → w ≡ Sending s n sent → Merges Kept port v other w (informed v w) Spent
+    → v ≡ Draining t m got known → w ≡ Sending s n sent → Merges Invariant port v other w (informed v w) Spent
 joins port v t m got known other w s n sent e f =
-    subst (λ (y : View × View). Merges Kept port y.0 other y.1 (informed y.0 y.1) Spent) (λ i. (sym e i, sym f i)) (finishes port t m got known other s n sent)
+    subst (λ (y : View × View). Merges Invariant port y.0 other y.1 (informed y.0 y.1) Spent) (λ i. (sym e i, sym f i)) (finishes port t m got known other s n sent)
 
-pub looks : (port : ℕ) (v : View) (t m : ℕ) (got : List Submission) (known : List SeatLog) → v ≡ Draining t m got known → Learns Kept port v (Shows v)
+pub looks : (port : ℕ) (v : View) (t m : ℕ) (got : List Submission) (known : List SeatLog) → v ≡ Draining t m got known → Learns Invariant port v (Shows v)
 looks port v t m got known e = learns port v (λ z. cc)
 
 -- ---- the law on every moment

@@ -58,7 +58,7 @@ Agrees drain seats taken pass (Sending seat n sent) = n ≡ seats
 Agrees drain seats taken pass Spent = Unit {0}
 
 -- What was taken and what is held make a history. There is one drain. Each seat belongs to one token, which knows all that the seat was told Ok, and just that is in the history
-pub record Kept (held : List Submission) (views : List View) : Type 0 where
+pub record Invariant (held : List Submission) (views : List View) : Type 0 where
   pub drain : ℕ
   pub seats : ℕ
   pub taken : List Submission
@@ -127,7 +127,7 @@ Took v x w =
 -- what a seat was told Ok is its part of the history, and begins with what was taken of it
 abbrev pub TakenComesFirst : Type 0
 TakenComesFirst =
-    (held : List Submission) (views : List View) → Kept held views
+    (held : List Submission) (views : List View) → Invariant held views
     → (i seats made : ℕ) (taken : List Submission) (finished : List SeatLog) → get_elem? views i ≡ some (draining seats made taken finished)
     → (j seat n : ℕ) (sent : List Submission) → get_elem? views j ≡ some (sending seat n sent)
     → (sent ≡ of seat (taken ++ held)) × StartsWith sent (of seat taken)

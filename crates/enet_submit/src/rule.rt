@@ -35,9 +35,9 @@ pub struct InOrder;
 
 impl Protocol<Submission, View> for InOrder {
     ghost use Rattle.std.specs.Prelude.{[]};
-    ghost use Rattle.enet_submit.specs.Rule.{Kept, draining};
+    ghost use Rattle.enet_submit.specs.Rule.{Invariant, draining};
 
-    ghost holds = { Kept };
+    ghost holds = { Invariant };
 
     ghost first = { draining 0 0 [] [] };
 }

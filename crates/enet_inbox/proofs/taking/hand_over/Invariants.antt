@@ -1,6 +1,6 @@
 use Rattle.std.proofs.Common.{◌≡◌, ◌+◌, ◌≤◌, ◌++◌, All, length, map}
 use Rattle.std.specs.VecDeque.{deque_len, deque_capacity}
-use Rattle.enet_inbox.specs.Arrivals.{packet_of, emptied}
+use Rattle.enet_inbox.specs.DataEffect.{packet_of, emptied}
 use Rattle.enet_inbox.specs.Kept.{IsShort, bytes_in}
 use Rattle.enet_inbox.proofs.taking.hand_over.Given as goal
 

@@ -2,8 +2,8 @@ use Rattle.std.proofs.Common.{◌≡◌, ◌+◌, ◌<◌, [], ◌∷◌, ◌++�
 use Rattle.std.specs.FinMap.{get, len, entries}
 use Rattle.enet_seq.specs.Numbering.{wire}
 use Rattle.enet_seq.specs.Windows.{after}
-use Rattle.enet_fragment.specs.Making.{count_of}
-use Rattle.enet_packets.specs.declared.coming.Dispatched.{Dispatched}
+use Rattle.enet_fragment.specs.PartialPacket.{count_of}
+use Rattle.enet_packets.specs.declared.incoming_packet.Dispatched.{Dispatched}
 use Rattle.enet_packets.specs.Packets.{line_at, fresh}
 use Rattle.enet_receiver.specs.Receiver.{Receiver, without, next_whole, all_released}
 use Rattle.enet_receiver.specs.Parts.{receiver_of}

@@ -1,7 +1,7 @@
 use Rattle.std.proofs.Common.{◌≡◌, ◌≤◌, ◌+◌, arith}
 use Rattle.std.specs.FinMap.{insert, len}
-use Rattle.enet_receiver.specs.Arriving.{data_command}
-use Rattle.enet_receiver.specs.Reception.{with_more, earlier_or_new}
+use Rattle.enet_receiver.specs.ArrivingData.{data_command}
+use Rattle.enet_receiver.specs.DataOutcome.{with_more, earlier_or_new}
 use Rattle.std.specs.FinMap.{get}
 use Rattle.enet_receiver.proofs.Bounds.{from_ok, len_inserted}
 use Rattle.enet_receiver.proofs.storing.store.Goals as goal

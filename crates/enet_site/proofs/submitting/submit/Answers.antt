@@ -1,6 +1,6 @@
 use Rattle.enet_slot.specs.Calls.{submission}
 use Rattle.enet_host.specs.Calls.{on_named}
-use Rattle.enet_sender.specs.Carriage as carriage
+use Rattle.enet_sender.specs.CommandChoice as command_choice
 use Rattle.enet_types.specs.declared.event.PeerRef.{PeerRef}
 use Rattle.enet_site.proofs.Submits.{has-end, at-place, is-open, refused-so, submitted-on, kept-submitted, channel-inside}
 use Rattle.enet_site.proofs.submitting.submit.Goals as goal
@@ -18,7 +18,7 @@ submit_to-requires-clause-open c =
     let p = at-place c.own.inside.ends.items c.deref.result.now c.args.peer c.place_of.result c.unwrap_or-place.result c.index_mut-end.result.now c.deref.ensures.value c.place_of.ensures.first
     (has-end c.args.host.now c.args.own.now c.own.inside.log.items c.own.inside.ends.items c.args.peer c.args.channel c.len.result c.own.view_is c.requires c.in_default.ensures.refusal)
     c.unwrap_or-place.ensures c.index_mut-end.ensures.value in
-    is-open (λ (n : PeerRef) (q : carriage.Packet). on_named c.args.host.now.slots n (submission c.args.channel q)) c.index_mut-end.result.now.name c.args.peer c.args.flags c.args.body.now c.in-Ok.body c.len.result
+    is-open (λ (n : PeerRef) (q : command_choice.Packet). on_named c.args.host.now.slots n (submission c.args.channel q)) c.index_mut-end.result.now.name c.args.peer c.args.flags c.args.body.now c.in-Ok.body c.len.result
     p.named c.in-Ok.ensures.cases c.len.ensures.value c.in_default.ensures.agrees
 
 pub invariant_of-own : goal.invariant_of-own

@@ -1,5 +1,5 @@
 use Rattle.std.proofs.Common.{◌≡◌, length, arith}
-use Rattle.enet_fragment.specs.Making.{count_of}
+use Rattle.enet_fragment.specs.PartialPacket.{count_of}
 use Rattle.enet_fragment.proofs.Views.{count_of-making}
 use Rattle.enet_fragment.proofs.assembly.Assembly.count.Goals as goal
 

@@ -4,8 +4,8 @@ use Rattle.std.specs.Ordering.{nat_cmp}
 use Rattle.std.specs.FinMap.{FinMap, entries, len, from_entries, retain_keys}
 use Rattle.std.specs.FinMap.Entries.{where_key}
 use Rattle.std.proofs.lemmas.List.{append-nil}
-use Rattle.enet_packets.specs.declared.coming.Coming.{Coming}
-use Rattle.enet_packets.specs.declared.coming.Dispatched.{Dispatched}
+use Rattle.enet_packets.specs.declared.incoming_packet.IncomingPacket.{IncomingPacket}
+use Rattle.enet_packets.specs.declared.incoming_packet.Dispatched.{Dispatched}
 use Rattle.enet_packets.specs.Kept.{AreWholeUpTo, KeepsPackets, total_of}
 use Rattle.enet_packets.specs.Packets.{fresh, last_fresh}
 use Rattle.enet_packets.proofs.Maps.{entries-sorted, len-sorted, retained}
@@ -13,7 +13,7 @@ use Rattle.enet_packets.proofs.PacketLemmas.{Entries, keeps-pop, left_after, non
 use Rattle.enet_packets.proofs.packets.Packets.dispatch.Goals as goal
 
 abbrev Map : Type 0
-Map = FinMap nat_cmp Coming
+Map = FinMap nat_cmp IncomingPacket
 
 pub loop-number-init : goal.loop-number-init
 loop-number-init c =
@@ -36,7 +36,7 @@ pub loop-number-preserved : goal.loop-number-preserved
 loop-number-preserved c =
     let es = c.loop-number.self-inside.packets.entries in
     let fs = c.pop_up_to.new.packets.entries in
-    let e : ℕ × Coming = (c.in-Some.number, c.in-Some.coming) in
+    let e : ℕ × IncomingPacket = (c.in-Some.number, c.in-Some.coming) in
     let out = c.loop-number.dispatched.items in
     let first = c.args.first in
     let bytes = c.loop-number.self-inside.bytes in

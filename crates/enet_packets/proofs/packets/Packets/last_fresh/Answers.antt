@@ -1,7 +1,7 @@
 use Rattle.std.proofs.Common.{◌≡◌, ℕ, cond, sym, ap, subst, ◌∙◌, rules}
 use Rattle.std.specs.Ordering.{nat_cmp}
 use Rattle.std.specs.FinMap.{FinMap, entries}
-use Rattle.enet_packets.specs.declared.coming.Coming.{Coming}
+use Rattle.enet_packets.specs.declared.incoming_packet.IncomingPacket.{IncomingPacket}
 use Rattle.std.specs.List.Sorted.{IsStrictlySortedBy}
 use Rattle.std.specs.Map.{keys_of}
 use Rattle.enet_packets.specs.Kept.{AreWholeUpTo}
@@ -14,7 +14,7 @@ pub loop-number-init : goal.loop-number-init
 loop-number-init c =
     let start : c.into_iter-number-iterator.result ≡ c.self.inside.packets.entries = search rules in
     record {
-      so_far = ap (last_fresh c.args.last) (start ∙ sym (entries-sorted c.self.inside.packets.entries c.self.invariant.sorted) ∙ ap (λ (m : FinMap nat_cmp Coming). entries m) c.self.view_is);
+      so_far = ap (last_fresh c.args.last) (start ∙ sym (entries-sorted c.self.inside.packets.entries c.self.invariant.sorted) ∙ ap (λ (m : FinMap nat_cmp IncomingPacket). entries m) c.self.view_is);
       sorted = subst (λ (xs : Entries). IsStrictlySortedBy nat_cmp (keys_of xs)) (sym start) c.self.invariant.sorted;
       whole = subst (λ (xs : Entries). AreWholeUpTo c.self.inside.last_whole xs) (sym start) c.self.invariant.whole;
     }
@@ -28,7 +28,7 @@ returns-then-number-self c =
 pub loop-number-preserved-then-is_newer : goal.loop-number-preserved-then-is_newer
 loop-number-preserved-then-is_newer c =
     let l = c.loop-number in
-    let e : ℕ × Coming = (c.in-Some.number.now, c.in-Some.coming.now) in
+    let e : ℕ × IncomingPacket = (c.in-Some.number.now, c.in-Some.coming.now) in
     let left = left_after c.self.inside.last_whole l.number-iterator e c.next.new.self c.in-Some.ensures.steps l.invariant.sorted l.invariant.whole in
     record {
       so_far =
@@ -41,7 +41,7 @@ loop-number-preserved-then-is_newer c =
 pub loop-number-preserved : goal.loop-number-preserved
 loop-number-preserved c =
     let l = c.loop-number in
-    let e : ℕ × Coming = (c.in-Some.number.now, c.in-Some.coming.now) in
+    let e : ℕ × IncomingPacket = (c.in-Some.number.now, c.in-Some.coming.now) in
     let left = left_after c.self.inside.last_whole l.number-iterator e c.next.new.self c.in-Some.ensures.steps l.invariant.sorted l.invariant.whole in
     record {
       so_far =

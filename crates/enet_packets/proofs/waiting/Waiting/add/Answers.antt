@@ -1,8 +1,8 @@
 use Rattle.std.proofs.Common.{◌≡◌, sym, ap, subst, ◌∙◌}
 use Rattle.std.specs.Option.{IsSomeAnd}
 use Rattle.std.specs.FinMap.{len, get, insert, from_entries}
-use Rattle.enet_fragment.specs.Making.{with_piece}
-use Rattle.enet_packets.specs.declared.coming.Coming.{Coming}
+use Rattle.enet_fragment.specs.PartialPacket.{with_piece}
+use Rattle.enet_packets.specs.declared.incoming_packet.IncomingPacket.{IncomingPacket}
 use Rattle.enet_packets.specs.Kept.{line_in}
 use Rattle.enet_packets.specs.Packets.{Lines, packets_in, line_at, with_line}
 use Rattle.enet_packets.proofs.Maps.{inserted_entry, values-sorted}
@@ -20,7 +20,7 @@ pub returns-clause-ok : goal.returns-clause-ok
 returns-clause-ok c = on_ok c.add_piece.result _ _ (λ h coming e.
     let es = c.self.inside.lines.entries in
     let number = c.args.number in
-    let more : Coming = record { flags = coming.flags; making = with_piece coming.making c.args.place c.args.bytes.now } in
+    let more : IncomingPacket = record { flags = coming.flags; making = with_piece coming.making c.args.place c.args.bytes.now } in
     let at : line_at c.args.self.now number ≡ line_in es number = ap (λ (m : Lines). line_at m number) (sym c.self.view_is) ∙ line-is es number in
     inserted_entry es c.add_piece.new.lines.entries number _ (h coming (ap (λ (m : Line). get m c.args.count) (sym at) ∙ e))
     ∙ sym (with_line-some (from_entries es) number _ (len-insert_some (line_in es number) c.args.count more))

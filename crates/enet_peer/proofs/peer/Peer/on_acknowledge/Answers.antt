@@ -4,7 +4,7 @@ use Rattle.enet_outbox.specs.Outbox.{Outbox}
 use Rattle.enet_peer.specs.contracts.peer.Peer.{the_view}
 use Rattle.enet_peer.specs.Peering.{Peering}
 use Rattle.enet_peer.specs.Peered.{Peered}
-use Rattle.enet_peer.specs.Arrivals.{on_acknowledge, on_match}
+use Rattle.enet_peer.specs.CommandEffect.{on_acknowledge, on_match}
 use Rattle.enet_peer.proofs.Unmatched.{unmatched}
 use Rattle.enet_peer.proofs.peer.Peer.on_acknowledge.Goals as goal
 

@@ -1,6 +1,6 @@
 use Rattle.std.proofs.Common.{refl, sym, ap, ◌∙◌}
 use Rattle.enet_codec.specs.declared.command.Fragment.{Fragment}
-use Rattle.enet_receiver.specs.Arriving.{data_command}
+use Rattle.enet_receiver.specs.ArrivingData.{data_command}
 use Rattle.enet_receiver.proofs.Admission.{grown_count}
 use Rattle.enet_receiver.proofs.incoming.Incoming.completed.Goals as goal
 

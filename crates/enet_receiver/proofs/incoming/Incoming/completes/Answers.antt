@@ -1,7 +1,7 @@
 use Rattle.std.proofs.Common.{eqb, sym, ap, ◌∙◌}
 use Rattle.enet_codec.specs.declared.command.Fragment.{Fragment}
-use Rattle.enet_receiver.specs.Arriving.{data_command}
-use Rattle.enet_fragment.specs.Making.{put_outcome}
+use Rattle.enet_receiver.specs.ArrivingData.{data_command}
+use Rattle.enet_fragment.specs.PartialPacket.{put_outcome}
 use Rattle.enet_receiver.proofs.Foreseen.{completes_first, completes_last, completes_not}
 use Rattle.enet_receiver.proofs.incoming.Incoming.completes.Goals as goal
 

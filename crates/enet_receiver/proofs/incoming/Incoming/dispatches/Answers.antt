@@ -1,5 +1,5 @@
 use Rattle.std.proofs.Common.{refl, ◌∙◌, subst, sym, arith}
-use Rattle.enet_receiver.specs.Arriving.{data_command}
+use Rattle.enet_receiver.specs.ArrivingData.{data_command}
 use Rattle.enet_receiver.specs.Foresight.{ReceivingEnd}
 use Rattle.enet_receiver.specs.Admitted.{Admitted, IsInside}
 use Rattle.enet_receiver.specs.Parts.{receiver_of}

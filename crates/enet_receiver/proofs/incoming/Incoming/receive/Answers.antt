@@ -1,4 +1,4 @@
-use Rattle.enet_receiver.specs.Arriving.{data_command}
+use Rattle.enet_receiver.specs.ArrivingData.{data_command}
 use Rattle.enet_receiver.proofs.Admission.{admitted}
 use Rattle.enet_receiver.proofs.incoming.Incoming.receive.Goals as goal
 

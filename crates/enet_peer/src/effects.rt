@@ -1,0 +1,382 @@
+//! The commands that come to a peer.
+
+ghost use Rattle.std.specs.Prelude.{◌≡◌, ◌≤◌, ◌&&◌, IsTrue, OnOk, OnErr, IfOk, IfErr, Ok, Some, None, is_some, true};
+ghost use Rattle.enet_codec.specs.Message.{view};
+ghost use Rattle.enet_inbox.specs.Parts.{told};
+ghost use Rattle.enet_inbox.specs.Parts as coming;
+ghost use Rattle.enet_peer.specs.Acting.{foreseen, foreseen_data, taken_in, acted, may_be_answered, wants_place, is_welcomed_by, may_clear, Replies};
+ghost use Rattle.enet_peer.specs.Peered.{places_of};
+ghost use Rattle.enet_peer.specs.CommandEffect.{obeyed, wants_memory, is_kept, Obeys, answered, is_allowed, is_answered_in, on_acknowledge, on_verify_in, on_disconnect_in, on_bandwidth, on_throttle, sampled, with_answer};
+
+use crate::{Peer, PeerState};
+use enet_codec::{Command, Head, Stop, Verify};
+use enet_connect::confirm;
+use enet_control::Control;
+use enet_inbox::Foreseen;
+use enet_outbox::{Acknowledgement, Matched};
+use enet_rtt::round_trip_sample;
+use enet_throttle::window_of;
+
+/// What becomes of a command that is no data: it may be acknowledged, and the inbox keeps nothing of it.
+const NOTHING_KEPT: Foreseen = Foreseen {
+    acknowledged: true,
+    kept: false,
+    dispatches: 0,
+};
+
+/// Whether a peer in this state takes this command in; a CONNECT is refused before.
+fn is_allowed(state: PeerState, command: &Command<'_>) -> bool
+    ensures { result ≡ is_allowed state (view command.now).body }
+{
+    match state {
+        PeerState::Connected => true,
+        PeerState::DisconnectLater => !matches!(
+            command,
+            Command::SendFragment { .. } | Command::SendUnreliableFragment { .. }
+        ),
+        PeerState::Connecting
+        | PeerState::Answering
+        | PeerState::Disconnecting
+        | PeerState::AckDisconnect => matches!(
+            command,
+            Command::Acknowledge { .. } | Command::VerifyConnect { .. } | Command::Disconnect { .. }
+        ),
+        PeerState::Free | PeerState::Ended | PeerState::Parting => false,
+    }
+}
+
+/// Whether a command is acknowledged that left the peer in this state.
+fn is_answered_in(state: PeerState, command: &Command<'_>) -> bool
+    ensures { result ≡ is_answered_in state (view command.now).body }
+{
+    match state {
+        PeerState::Connected | PeerState::DisconnectLater => true,
+        PeerState::AckDisconnect => matches!(command, Command::Disconnect { .. }),
+        _ => false,
+    }
+}
+
+/// What a command begins with.
+fn head_of(command: &Command<'_>) -> Head
+    ensures { result ≡ (view command.now).head }
+{
+    match *command {
+        Command::Acknowledge { head, .. }
+        | Command::Connect { head, .. }
+        | Command::VerifyConnect { head, .. }
+        | Command::Disconnect { head, .. }
+        | Command::Ping { head }
+        | Command::SendReliable { head, .. }
+        | Command::SendUnreliable { head, .. }
+        | Command::SendFragment { head, .. }
+        | Command::SendUnsequenced { head, .. }
+        | Command::BandwidthLimit { head, .. }
+        | Command::ThrottleConfigure { head, .. }
+        | Command::SendUnreliableFragment { head, .. } => head,
+    }
+}
+
+impl Peer {
+    /// Takes a command in that came at the time `now`, in milliseconds, in a datagram that tells this sent time or none.
+    /// Where it asks for an acknowledgement and may have one, that waits from then on to be put out.
+    ///
+    /// A stop is the first that applies: S6 for a CONNECT; S7 where the peer's state does not allow the command; for a data
+    /// command S8 where there is no such channel, S9 where its payload is too long or its fragment is bad, and S10 where it
+    /// begins a packet while too much waits (not where the peer is to disconnect later); S11 where memory is refused (our
+    /// profile). After these nothing has changed. S12 comes last, where the command is to be acknowledged and the datagram tells
+    /// no sent time: it took effect (our profile).
+    pub fn command(
+        &mut self,
+        now: u32,
+        sent: Option<u16>,
+        command: &Command<'_>,
+    ) -> Result<(), Stop>
+        ensures { Obeys result (wants_memory self.old.peer now sent (view command.now)) (obeyed self.old.peer now sent (view command.now)) self.old.peer self.new.peer }
+    {
+        let foreseen = self.foresee(command)?;
+        self.make_room(sent, command, foreseen.acknowledged)?;
+        self.act(now, sent.is_some(), command, foreseen)?;
+        self.answer(sent, command, foreseen.acknowledged)
+    }
+
+    /// Why a command stops its datagram before it has an effect, or what becomes of it.
+    fn foresee(&self, command: &Command<'_>) -> Result<Foreseen, Stop>
+        ensures answer { told result ≡ foreseen self.now.peer (view command.now) }
+        ensures kept { IfOk result (λ what. what.kept ≡ is_kept self.now.peer (view command.now)) }
+        ensures value { IfOk result (λ what. IsTrue what.kept → coming.foreseen self.now.peer.inbox (view command.now) ≡ Ok what) }
+    {
+        if let Command::Connect { .. } = command {
+            return Err(Stop::BadCommand);
+        }
+        if !is_allowed(self.state, command) {
+            return Err(Stop::NotConnected);
+        }
+        match command {
+            Command::SendReliable { .. }
+            | Command::SendUnreliable { .. }
+            | Command::SendFragment { .. }
+            | Command::SendUnsequenced { .. }
+            | Command::SendUnreliableFragment { .. } => self.foresee_data(command),
+            _ => Ok(NOTHING_KEPT),
+        }
+    }
+
+    /// The same of a data command. A peer that is to disconnect later passes it over.
+    fn foresee_data(&self, command: &Command<'_>) -> Result<Foreseen, Stop>
+        ensures answer { told result ≡ foreseen_data self.now.peer (view command.now) }
+        ensures kept { IfOk result (λ what. what.kept ≡ is_kept self.now.peer (view command.now)) }
+        ensures value { IfOk result (λ what. IsTrue what.kept → coming.foreseen self.now.peer.inbox (view command.now) ≡ Ok what) }
+    {
+        if self.state == PeerState::DisconnectLater {
+            let acknowledged = self.inbox.pass_over(command)?;
+            return Ok(Foreseen {
+                acknowledged,
+                ..NOTHING_KEPT
+            });
+        }
+        self.inbox.foresee(command)
+    }
+
+    /// Makes room for the acknowledgement of a command that asks for one and may have it, where it may need a place of its
+    /// own. S11 where memory is refused, with nothing changed.
+    fn make_room(&mut self, sent: Option<u16>, command: &Command<'_>, may: bool) -> Result<(), Stop>
+        ensures peer { self.new.peer ≡ self.old.peer }
+        ensures room { OnOk result (IsTrue (may_be_answered sent (view command.now) may && wants_place self.old.peer (view command.now).body) → 1 ≤ self.new.acknowledgement_room) }
+        ensures grows { self.old.acknowledgement_room ≤ self.new.acknowledgement_room }
+        ensures memory { IfErr result (λ why. why ≡ Stop.Memory) }
+        ensures wanted { IfErr result (λ _. IsTrue (may_be_answered sent (view command.now) may && wants_place self.old.peer (view command.now).body)) }
+    {
+        let may_be_answered = head_of(command).acknowledge && sent.is_some() && may;
+        if may_be_answered
+            && self.wants_place(command)
+            && self.outbox.reserve_acknowledgement().is_err()
+        {
+            return Err(Stop::Memory);
+        }
+        Ok(())
+    }
+
+    /// Whether the acknowledgement of a command may need a place beside those that wait: not where the command leaves a state
+    /// in which none is given, nor where it takes all that wait away.
+    fn wants_place(&self, command: &Command<'_>) -> bool
+        ensures { result ≡ wants_place self.now.peer (view command.now).body }
+    {
+        match self.state {
+            PeerState::Connected | PeerState::DisconnectLater => {
+                !matches!(command, Command::Disconnect { .. })
+                    || !self.outbox.has_acknowledgements()
+            }
+            PeerState::Connecting => {
+                self.is_welcomed_by(command) && !self.outbox.has_acknowledgements()
+            }
+            PeerState::Answering => matches!(command, Command::Acknowledge { .. }),
+            PeerState::AckDisconnect => matches!(command, Command::Disconnect { .. }),
+            PeerState::Disconnecting | PeerState::Free | PeerState::Ended | PeerState::Parting =>
+                false,
+        }
+    }
+
+    /// Whether a command is a server's answer that stands by what was asked for.
+    fn is_welcomed_by(&self, command: &Command<'_>) -> bool
+        ensures { result ≡ is_welcomed_by self.now.peer (view command.now).body }
+    {
+        match command {
+            Command::VerifyConnect { verify, .. } => confirm(&self.offer, verify).is_some(),
+            _ => false,
+        }
+    }
+
+    /// Does what a command asks for, all but its acknowledgement. S11 where memory is refused, with nothing changed.
+    fn act(
+        &mut self,
+        now: u32,
+        tells: bool,
+        command: &Command<'_>,
+        what: Foreseen,
+    ) -> Result<(), Stop>
+        requires kept { what.kept ≡ is_kept self.old.peer (view command.now) }
+        requires value { IsTrue what.kept → coming.foreseen self.old.peer.inbox (view command.now) ≡ Ok what }
+        ensures done { OnOk result (self.new.peer ≡ acted self.old.peer now tells (view command.now)) }
+        ensures refused { OnErr result (self.new.peer ≡ self.old.peer) }
+        ensures memory { IfErr result (λ why. why ≡ Stop.Memory) }
+        ensures kept { IfErr result (λ _. is_kept self.old.peer (view command.now) ≡ true) }
+        ensures acknowledgement_room { self.old.acknowledgement_room ≤ self.new.acknowledgement_room }
+        ensures places { IsTrue (may_clear (view command.now).body) → places_of self.old ≤ places_of self.new }
+    {
+        match *command {
+            Command::Acknowledge {
+                head,
+                received_number,
+                received_time,
+            } => self.on_acknowledge(now, head.channel, received_number, received_time),
+            Command::VerifyConnect { verify, .. } => self.on_verify(&verify),
+            Command::Disconnect { head, info } => {
+                self.on_disconnect(head.acknowledge && tells, info)
+            }
+            Command::BandwidthLimit { incoming, .. } => self.on_bandwidth(incoming),
+            Command::ThrottleConfigure {
+                interval,
+                acceleration,
+                deceleration,
+                ..
+            } => self.on_throttle(interval, acceleration, deceleration),
+            Command::Connect { .. } | Command::Ping { .. } => {}
+            Command::SendReliable { .. }
+            | Command::SendUnreliable { .. }
+            | Command::SendFragment { .. }
+            | Command::SendUnsequenced { .. }
+            | Command::SendUnreliableFragment { .. } => return self.take_in(command, what),
+        }
+        Ok(())
+    }
+
+    /// Queues the acknowledgement of a command that took effect, where it asks for one and may have it. S12 where the
+    /// datagram tells no sent time.
+    fn answer(&mut self, sent: Option<u16>, command: &Command<'_>, may: bool) -> Result<(), Stop>
+        requires room { IsTrue (may_be_answered sent (view command.now) may && is_answered_in self.old.peer.state (view command.now).body) → 1 ≤ self.old.acknowledgement_room }
+        ensures { Replies result (answered self.old.peer (view command.now) sent may) self.new.peer }
+    {
+        let head = head_of(command);
+        if !(head.acknowledge && may && is_answered_in(self.state, command)) {
+            return Ok(());
+        }
+        let Some(time) = sent else {
+            return Err(Stop::NoSentTime);
+        };
+        self.outbox.acknowledge(Acknowledgement {
+            channel: head.channel,
+            number: head.number,
+            time,
+        });
+        Ok(())
+    }
+
+    /// An acknowledgement comes; one that matches nothing has no effect.
+    fn on_acknowledge(&mut self, now: u32, channel: u8, number: u16, time: u16)
+        ensures peer { self.new.peer ≡ on_acknowledge self.old.peer now channel number time }
+        ensures acknowledgement_room { self.old.acknowledgement_room ≤ self.new.acknowledgement_room }
+    {
+        match self.outbox.matched(channel, number) {
+            Matched::Nothing => {}
+            Matched::Data => {
+                self.sample(now, time);
+                self.settle();
+            }
+            Matched::Control(what) => {
+                self.sample(now, time);
+                self.with_answer(what);
+                self.settle();
+            }
+        }
+    }
+
+    /// A round trip was measured, by the sent time that an acknowledgement repeats.
+    fn sample(&mut self, now: u32, time: u16)
+        ensures peer { self.new.peer ≡ sampled self.old.peer now time }
+        ensures acknowledgement_room { self.new.acknowledgement_room ≡ self.old.acknowledgement_room }
+    {
+        let measured = round_trip_sample(now, time);
+        self.timing.sample(measured);
+        self.heard = now;
+        self.outbox.sample(
+            now,
+            measured,
+            self.timing.round_trip(),
+            self.timing.variance(),
+        );
+    }
+
+    /// An acknowledged command of channel 0xFF: VERIFY_CONNECT completes a server's connection, DISCONNECT ends one.
+    fn with_answer(&mut self, what: Control)
+        ensures peer { self.new.peer ≡ with_answer self.old.peer.state what self.old.peer }
+        ensures acknowledgement_room { self.old.acknowledgement_room ≤ self.new.acknowledgement_room }
+    {
+        match (self.state, what) {
+            (PeerState::Answering, Control::VerifyConnect(_)) => {
+                self.state = PeerState::Connected;
+                self.greeting = Some(self.info);
+            }
+            (PeerState::Disconnecting, Control::Disconnect { .. }) => self.end(0),
+            _ => {}
+        }
+    }
+
+    /// A server's answer comes: a client's connection stands, or it has ended where the answer is not what was asked for.
+    fn on_verify(&mut self, verify: &Verify)
+        ensures peer { self.new.peer ≡ on_verify_in self.old.peer.state self.old.peer verify.now }
+        ensures acknowledgement_room { self.old.acknowledgement_room ≤ self.new.acknowledgement_room }
+        ensures places { places_of self.old ≤ places_of self.new }
+    {
+        if self.state != PeerState::Connecting {
+            return;
+        }
+        let Some(terms) = confirm(&self.offer, verify) else {
+            self.end(0);
+            return;
+        };
+        self.state = PeerState::Connected;
+        self.terms = terms;
+        self.other_incoming = verify.incoming_bandwidth;
+        self.greeting = Some(0);
+        self.inbox.narrow(terms.channels);
+        self.outbox.clear();
+        self.outbox.narrow(terms.channels);
+    }
+
+    /// DISCONNECT comes. Where it can be acknowledged, its acknowledgement is to be sent yet; else the connection has ended.
+    fn on_disconnect(&mut self, answerable: bool, info: u32)
+        ensures peer { self.new.peer ≡ on_disconnect_in self.old.peer.state self.old.peer answerable info }
+        ensures acknowledgement_room { self.old.acknowledgement_room ≤ self.new.acknowledgement_room }
+        ensures places { places_of self.old ≤ places_of self.new }
+    {
+        match self.state {
+            PeerState::Connected | PeerState::DisconnectLater => {
+                if answerable {
+                    self.drop_all();
+                    self.state = PeerState::AckDisconnect;
+                    self.info = info;
+                } else {
+                    self.end(info);
+                }
+            }
+            PeerState::Connecting | PeerState::Disconnecting => self.end(info),
+            PeerState::Answering => self.free(),
+            _ => {}
+        }
+    }
+
+    /// The other end tells its incoming bandwidth, in bytes per second.
+    fn on_bandwidth(&mut self, incoming: u32)
+        ensures peer { self.new.peer ≡ on_bandwidth self.old.peer incoming }
+        ensures acknowledgement_room { self.new.acknowledgement_room ≡ self.old.acknowledgement_room }
+    {
+        self.other_incoming = incoming;
+        self.terms.window = window_of(self.limits.outgoing, incoming);
+    }
+
+    /// The other end sets the throttle's numbers.
+    fn on_throttle(&mut self, interval: u32, acceleration: u32, deceleration: u32)
+        ensures peer { self.new.peer ≡ on_throttle self.old.peer interval acceleration deceleration }
+        ensures acknowledgement_room { self.new.acknowledgement_room ≡ self.old.acknowledgement_room }
+    {
+        self.outbox
+            .configure_throttle(interval, acceleration, deceleration);
+    }
+
+    /// Takes a data command in that nothing stops, where something of it is kept. S11 where memory is refused, with nothing
+    /// changed.
+    fn take_in(&mut self, command: &Command<'_>, what: Foreseen) -> Result<(), Stop>
+        requires kept { what.kept ≡ is_kept self.old.peer (view command.now) }
+        requires value { IsTrue what.kept → coming.foreseen self.old.peer.inbox (view command.now) ≡ Ok what }
+        ensures done { OnOk result (self.new.peer ≡ taken_in self.old.peer (view command.now)) }
+        ensures refused { OnErr result (self.new.peer ≡ self.old.peer) }
+        ensures memory { IfErr result (λ why. why ≡ Stop.Memory) }
+        ensures kept { IfErr result (λ _. is_kept self.old.peer (view command.now) ≡ true) }
+        ensures acknowledgement_room { self.new.acknowledgement_room ≡ self.old.acknowledgement_room }
+    {
+        if !what.kept {
+            return Ok(());
+        }
+        self.inbox.take_in(command, what)
+    }
+}

@@ -1,7 +1,0 @@
-use Rattle.std.proofs.Common.{sym}
-use Rattle.enet_receiver.specs.Arriving.{data_command}
-use Rattle.enet_receiver.proofs.Admission.{too_long}
-use Rattle.enet_receiver.proofs.arriving.Arriving.is_piece.Goals as goal
-
-pub returns-then-self-most-clause-value : goal.returns-then-self-most-clause-value
-returns-then-self-most-clause-value c = sym (too_long c.args.most (data_command c.args.self) c.if-self-most.true)
