@@ -2,6 +2,7 @@
 use Rattle.std.specs.Prelude.{List, ◌++◌}
 use Rattle.crossbeam_queue.specs.Fifo.{Held}
 use Rattle.enet_submit.specs.declared.order.Order.{Order}
+use Rattle.enet_submit.specs.declared.order.Submission.{Submission}
 use Rattle.enet_submit.specs.declared.queue.SubmitQueue.{SubmitQueue}
 use Rattle.enet_submit.specs.Words.{sent}
 use Rattle.enet_events.specs.declared.numbered.Numbered.{Numbered}
@@ -21,9 +22,13 @@ inbox_queue inbox = inbox.queue.now
 abbrev pub waiting_at : Desk → List Order
 waiting_at desk = desk.waiting.items
 
+-- what the seat of a desk submitted
+abbrev pub submitted_at : Desk → List Submission
+submitted_at desk = sent desk.seat
+
 -- what a desk was asked: what its seat submitted, and then what waits
 abbrev pub asked : Desk → List Order
-asked desk = orders (sent desk.seat) ++ waiting_at desk
+asked desk = orders (submitted_at desk) ++ waiting_at desk
 
 -- by what an inbox takes
 abbrev pub taker_of : Inbox → TakerState

@@ -1,6 +1,6 @@
 //! A seat with the orders that wait for room, and the bell that tells the service of what was submitted.
 ghost use Rattle.std.specs.Prelude.{◌≡◌, ◌++◌, ◌∷◌, [], OnOk, OnErr, IfErr, IsTrue, ◌↔◌, ◌<◌, length};
-ghost use Rattle.enet_submit.specs.Words.{IsSeatOf, IsFinishedOf, sent, all_sent};
+ghost use Rattle.enet_submit.specs.Words.{IsSeatOf, IsFinishedOf, sent, all_sent, limit_of};
 ghost use Rattle.enet_bridge.specs.Ends.{orders};
 
 use crate::waiting::{Pumped, pump};
@@ -23,7 +23,7 @@ pub struct Desk<'a> {
 }
 
 impl<'a> Desk<'a> {
-    ghost use Rattle.enet_bridge.specs.Holding.{asked, waiting_at, desk_queue};
+    ghost use Rattle.enet_bridge.specs.Holding.{asked, waiting_at, submitted_at, desk_queue};
 
     /// A desk at which nothing waits. The bell is that of the wire on which the service waits.
     pub fn new(alloc: Global, queue: &'a SubmitQueue, seat: Seat, bell: &'a Bell) -> Desk<'a>
@@ -74,6 +74,7 @@ impl<'a> Desk<'a> {
         ensures kept { asked self.new ≡ asked self.old }
         ensures all { result ≡ Pumped.All → waiting_at self.new ≡ [] }
         ensures full { result ≡ Pumped.Full → 0 < length (waiting_at self.new) }
+        ensures spent { result ≡ Pumped.Spent → length (submitted_at self.new) ≡ limit_of (desk_queue self.new) }
         ensures queue { desk_queue self.new ≡ desk_queue self.old }
     {
         pump(rt, self.queue, &mut self.seat, &mut self.waiting)

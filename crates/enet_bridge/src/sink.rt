@@ -39,7 +39,7 @@ impl Model for MemorySink {
 }
 
 impl MemorySink {
-    ghost use Rattle.std.specs.Prelude.{◌≡◌, ◌++◌, []};
+    ghost use Rattle.std.specs.Prelude.{◌≡◌, ◌++◌, [], None};
     ghost use Rattle.std.specs.Option.{option_to_list};
 
     /// An empty list for so many events.
@@ -55,6 +55,7 @@ impl MemorySink {
     /// The oldest event, which leaves the list, or None where it is empty.
     pub fn take(&mut self) -> Option<Event>
         ensures first { self.old.events ≡ option_to_list result ++ self.new.events }
+        ensures none { result ≡ None → self.old.events ≡ [] }
         ensures same { self.new.capacity ≡ self.old.capacity }
     {
         self.events.pop_front()

@@ -233,7 +233,7 @@ impl Inbox {
         ensures unchanged { result ≡ false → self.new ≡ self.old }
     {
         let Some(arriving) = ArrivingData::of(command) else {
-            return false;
+            unreachable!()
         };
         let full = self.is_full();
         let receiver = &mut self.receivers[arriving.head.channel as usize];

@@ -221,7 +221,7 @@ impl Incoming {
     {
         let _held = &self.held;
         let Some(arriving) = ArrivingData::of(command) else {
-            return false;
+            unreachable!()
         };
         self.keep(arriving, arriving.own_place())
     }

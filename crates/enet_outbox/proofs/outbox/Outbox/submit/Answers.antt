@@ -1,7 +1,7 @@
 use Rattle.std.proofs.Common.{◌≡◌, ◌<◌, ◌/◌, ◌%◌, Bool, ◌&&◌, not, eqb, ltb, length, ap, sym, subst, ◌∙◌, true, false}
 use Rattle.std.proofs.lemmas.Result.{on_ok_weaker}
 use Rattle.enet_fragment.specs.Cutting.{piece_length}
-use Rattle.enet_sender.specs.Carriage.{Packet}
+use Rattle.enet_sender.specs.CommandChoice.{Packet}
 use Rattle.enet_outbox.specs.contracts.outbox.Outbox.{the_view}
 use Rattle.enet_outbox.specs.Outbox.{Outbox, Sending, is_unsequenced, submitted}
 use Rattle.enet_outbox.proofs.Submitting.{there, submitted-on, one_piece, other_refusal}
