@@ -7,8 +7,7 @@ use Rattle.enet_peer.specs.declared.parts.PeerEvent.{PeerEvent}
 use Rattle.enet_peer.specs.declared.parts.PeerEvent.TheVariants as told
 use Rattle.enet_slot.specs.Calls.{event_of}
 use Rattle.enet_connection.specs.Law.{AreLast, IsOneLife}
-use Rattle.enet_network.specs.Headline.{IsLife}
-use Rattle.check_outcome.specs.Life.{AreLastOf}
+use Rattle.check_outcome.specs.Life.{AreLastOf, IsSomeLife}
 
 pub is-empty : (es : List Event) → length es ≡ 0 → es ≡ []
 is-empty [] h = refl
@@ -33,20 +32,20 @@ last-of name (told.Connect info ∷ es) h = absurd h
 last-of name (told.Receive q ∷ es) h = (refl, last-of name es h)
 last-of name (told.Disconnect info ∷ es) h = (refl, ap (map (event_of name)) h)
 
-pub life_none : IsLife false []
-life_none = record { name = record { slot = 0; generation = 0 }; events = []; told = refl; life = tt }
+pub life_none : IsSomeLife []
+life_none = record { name = record { slot = 0; generation = 0 }; life = record { events = []; told = refl; life = tt } }
 
-pub life_connect : (name : PeerRef) (info : ℕ) (rest : List Event) → AreLastOf name rest → IsLife false (events.Connect name info ∷ rest)
+pub life_connect : (name : PeerRef) (info : ℕ) (rest : List Event) → AreLastOf name rest → IsSomeLife (events.Connect name info ∷ rest)
 life_connect name info rest h =
     let more = tells-last name rest h in
-    record { name = name; events = told.Connect info ∷ more.0; told = ap (λ (es : List Event). events.Connect name info ∷ es) more.1; life = more.2 }
+    record { name = name; life = record { events = told.Connect info ∷ more.0; told = ap (λ (es : List Event). events.Connect name info ∷ es) more.1; life = more.2 } }
 
-pub life_disconnect : (name : PeerRef) (info : ℕ) (rest : List Event) → rest ≡ [] → IsLife false (events.Disconnect name info ∷ rest)
+pub life_disconnect : (name : PeerRef) (info : ℕ) (rest : List Event) → rest ≡ [] → IsSomeLife (events.Disconnect name info ∷ rest)
 life_disconnect name info rest none =
-    record { name = name; events = told.Disconnect info ∷ []; told = ap (λ (es : List Event). events.Disconnect name info ∷ es) none; life = refl }
+    record { name = name; life = record { events = told.Disconnect info ∷ []; told = ap (λ (es : List Event). events.Disconnect name info ∷ es) none; life = refl } }
 
-pub connect_life : (peer : PeerRef) (info : ℕ) (rest : List Event) → IsLife false (events.Connect peer info ∷ rest) → AreLastOf peer rest
-connect_life peer info rest h = by h.name h.events h.told h.life
+pub connect_life : (peer : PeerRef) (info : ℕ) (rest : List Event) → IsSomeLife (events.Connect peer info ∷ rest) → AreLastOf peer rest
+connect_life peer info rest h = by h.name h.life.events h.life.told h.life.life
   where
     by : (name : PeerRef) (es : List PeerEvent) → events.Connect peer info ∷ rest ≡ map (event_of name) es → IsOneLife false es → AreLastOf peer rest
     by name [] e l = absurd (cc)
@@ -57,8 +56,8 @@ connect_life peer info rest h = by h.name h.events h.told h.life
     by name (told.Receive q ∷ es) e l = absurd l
     by name (told.Disconnect i ∷ es) e l = absurd (cc)
 
-pub disconnect_life : (peer : PeerRef) (info : ℕ) (rest : List Event) → IsLife false (events.Disconnect peer info ∷ rest) → rest ≡ []
-disconnect_life peer info rest h = by h.name h.events h.told h.life
+pub disconnect_life : (peer : PeerRef) (info : ℕ) (rest : List Event) → IsSomeLife (events.Disconnect peer info ∷ rest) → rest ≡ []
+disconnect_life peer info rest h = by h.name h.life.events h.life.told h.life.life
   where
     by : (name : PeerRef) (es : List PeerEvent) → events.Disconnect peer info ∷ rest ≡ map (event_of name) es → IsOneLife false es → rest ≡ []
     by name [] e l = absurd (cc)

@@ -1,9 +1,9 @@
-//! Whether what happened in a world of two hosts is what the headline promises: tests that are proved to be the network's own
-//! definitions, over the lists that the world lends. By these drawn lists are judged.
+//! Whether what happened in a world of two hosts is what the headline promises: tests whose contracts are built of the network's
+//! own definitions, for a given mtu, over the lists that the world lends. By these drawn lists are judged.
 //!
 //! Proved: `follows` is true exactly where the packets that were taken of a channel follow those that were submitted on it
-//! (`FollowsFrom`, which from the first packet on is `Follows`), `is_life` exactly where a user's events are one life (`IsLife`), and
-//! `is_sound` exactly where both hold at each connection, side and channel (`IsSound`).
+//! (`FollowsFrom`, which from the first packet on is `Follows`), `is_life` exactly where a user's events are one life of some peer
+//! (`IsSomeLife`), and `is_sound` exactly where both hold at each connection, side and channel (`IsSound`).
 //! Only tested, by `check_lists`: that worked cases are judged as by hand.
 #![tactic(auto)]
 

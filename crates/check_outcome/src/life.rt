@@ -1,8 +1,7 @@
 //! Whether what a user was told of a connection is one life.
 
-ghost use Rattle.std.specs.Prelude.{◌≡◌, ◌↔◌, false, IsTrue};
-ghost use Rattle.enet_network.specs.Headline.{IsLife};
-ghost use Rattle.check_outcome.specs.Life.{AreLastOf};
+ghost use Rattle.std.specs.Prelude.{◌≡◌, ◌↔◌, IsTrue};
+ghost use Rattle.check_outcome.specs.Life.{AreLastOf, IsSomeLife};
 
 use enet_types::{Event, PeerRef};
 
@@ -23,7 +22,7 @@ fn are_last_of(name: PeerRef, events: &[Event]) -> bool
 /// Whether the events that a user took of a connection are one life's, all of one peer: at most one Connect, and only first; packets
 /// only after it; at most one Disconnect, and only last.
 pub fn is_life(events: &[Event]) -> bool
-    ensures { IsTrue result ↔ IsLife false events.now }
+    ensures { IsTrue result ↔ IsSomeLife events.now }
 {
     let Some((first, rest)) = events.split_first() else {
         return true;

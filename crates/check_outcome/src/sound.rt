@@ -6,8 +6,8 @@ ghost use Rattle.check_outcome.specs.Sound.{AreInOrder, IsInOrderAt, IsSideSound
 
 use crate::following::follows;
 use crate::life::is_life;
-use enet_world::{Side, World};
 use enet_types::Packet;
+use enet_world::{Side, World};
 
 /// Whether all packets are of this channel.
 fn are_on(channel: u8, packets: &[Packet]) -> bool

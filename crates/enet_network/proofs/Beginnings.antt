@@ -30,7 +30,6 @@ use Rattle.enet_host.specs.Host.{Host}
 use Rattle.enet_slot.specs.Giving.{unused_slot, is_available, offer_from, server_from, asking, answering}
 use Rattle.enet_host.specs.Opening.{available, Connects, no_channel, no_slot, no_memory, asks}
 use Rattle.enet_slot.specs.Hearing.{no_peer}
-use Rattle.enet_slot.specs.Hearing.{Hears as HearsCommands}
 use Rattle.enet_host.specs.Receiving.{offer_refused, Offers, Arrives}
 use Rattle.enet_host.specs.Receiving as receiving
 use Rattle.enet_isolation.proofs.Lists.{get-set, get-set_other, get-within}
@@ -40,7 +39,7 @@ use Rattle.enet_network.specs.Law.{HasNothingOf, Asked, Begins, Answered}
 use Rattle.enet_network.specs.Log.{Logged, Kept, fresh_kept, fresh_channels, fresh_greatest, kept_at, greatest_at}
 use Rattle.enet_network.specs.Network.{HostEnd, Site, fresh_end}
 use Rattle.enet_network.specs.Shown.{IsLogged, Shows, ShowsFar}
-use Rattle.enet_network.specs.Steps.{BringsOne, Brought, end_in, end_at, begun_in}
+use Rattle.enet_network.specs.Steps.{BringsOne, Brought, end_in, end_in_slot, begun_in}
 use Rattle.enet_network.proofs.Marked.{behind}
 use Rattle.enet_network.proofs.Peers.{shows-held}
 use Rattle.enet_network.proofs.Submitting.{same-some}
@@ -129,7 +128,7 @@ counts o h = by (nat_le no_peer o.outgoing_peer) (is_channel_count o.channels) h
 -- nothing begins in a slot that is free
 pub none-in : (x : ℕ) (i : ℕ) (new : Host) (s : SlotState) (f : HostEnd) → slice_get new.slots i ≡ Some s → s.peer ≡ None → Has (begun_in x (Some i) new) f → ⊥
 none-in x i new s f there none h =
-    subst (λ (o : Option Peering). Has (end_in x i s o) f → ⊥) (sym none) (λ y. y) (subst (λ (o : Option SlotState). Has (end_at x i o) f) there h)
+    subst (λ (o : Option Peering). Has (end_in x i s o) f → ⊥) (sym none) (λ y. y) (subst (λ (o : Option SlotState). Has (end_in_slot x i o) f) there h)
 
 vacant-there : (c : Config) (slots : List SlotState) (i : ℕ) (s : SlotState) → available c slots ≡ Some i → slice_get slots i ≡ Some s → s.peer ≡ None
 vacant-there c slots i s free there = (is_open c slots i s free there).0
@@ -168,7 +167,7 @@ begins from k d old new f far commands header o j s sent shown none read offer f
     put = the-offer l.puts commands o offer (behind d.text l.header header read.front commands (messages_of l.puts) read.split read.spelled l.spelled)
 
     is : fresh_end d.connection (name_of j t) ≡ f
-    is = one-of (subst (λ (x : Option SlotState). Has (end_at d.connection j x) f) there' h)
+    is = one-of (subst (λ (x : Option SlotState). Has (end_in_slot d.connection j x) f) there' h)
       where
         one-of : Has (fresh_end d.connection (name_of j t) ∷ []) f → fresh_end d.connection (name_of j t) ≡ f
         one-of (inl e) = e

@@ -87,8 +87,8 @@ in-time senders takers own far d k f t late x there = record {
     channel : ℕ
     channel = x.message.head.channel
 
-    not-late : (mark : Mark) → channel < 255 → mark_of x.message ≡ Some mark → lateness.is_late (greatest_at senders) (greatest_at takers) (record mark { reach = x.reach }) ≡ false
-    not-late mark low is = none-of (lateness.is_late (greatest_at senders) (greatest_at takers)) d.marks (record mark { reach = x.reach }) late (k.marked x mark there low is)
+    not-late : (mark : Mark) → channel < 255 → mark_of x.message ≡ Some mark → lateness.is_late_command (greatest_at senders) (greatest_at takers) (record mark { reach = x.reach }) ≡ false
+    not-late mark low is = none-of (lateness.is_late_command (greatest_at senders) (greatest_at takers)) d.marks (record mark { reach = x.reach }) late (k.marked x mark there low is)
 
     data-in-time : (c : DataCommand) → data_of x.message ≡ Some c → channel < 255 → link.is_late (sent_on channel far) x.reach c.number ≡ false
     data-in-time c is low = ap (λ (g : ℕ). link.is_late g x.reach c.number) (sym (f channel low)) ∙ not-late (mark_as Data channel c.number) low (data-mark-by x.message.head x.message.body c is)

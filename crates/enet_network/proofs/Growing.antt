@@ -15,7 +15,7 @@ use Rattle.enet_isolation.specs.Calls.{Call}
 use Rattle.enet_isolation.specs.Calls as call
 use Rattle.enet_network.specs.Log.{Logged}
 use Rattle.enet_network.specs.Network.{HostEnd, Site, fresh_end, is_same_name, with_end, numbers_of}
-use Rattle.enet_network.specs.Steps.{Happening, Calls, Hears, Happens, Called, Logs, BringsOne, ends_after, after_event, with_packet, with_event, end_in, end_at, begun_in, begun}
+use Rattle.enet_network.specs.Steps.{Happening, Calls, Hears, Happens, Called, Logs, BringsOne, ends_after, after_event, with_packet, with_event, end_in, end_in_slot, begun_in, begun}
 use Rattle.enet_network.proofs.OneThing.{Has-append_left, event-ends}
 
 -- the ends that begin
@@ -128,7 +128,7 @@ in-end x i s (Some p) f (inr h) = absurd h
 pub begun-is : (x : ℕ) (old new : Host) (f : HostEnd) → Has (begun x old new) f → (i : ℕ) × (s : SlotState) × (available old.config old.slots ≡ Some i) × (slice_get new.slots i ≡ Some s) × (f ≡ fresh_end x (name_of i s))
 begun-is x old new f h = by (available old.config old.slots) refl h
   where
-    at : (i : ℕ) → available old.config old.slots ≡ Some i → (o : Option SlotState) → slice_get new.slots i ≡ o → Has (end_at x i o) f
+    at : (i : ℕ) → available old.config old.slots ≡ Some i → (o : Option SlotState) → slice_get new.slots i ≡ o → Has (end_in_slot x i o) f
         → (i : ℕ) × (s : SlotState) × (available old.config old.slots ≡ Some i) × (slice_get new.slots i ≡ Some s) × (f ≡ fresh_end x (name_of i s))
     at i free None is y = absurd y
     at i free (Some s) is y = (i, s, free, is, in-end x i s s.peer f y)

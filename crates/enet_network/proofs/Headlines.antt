@@ -3,6 +3,8 @@ use Rattle.std.proofs.Common.{◌≡◌, ◌<◌, ◌≤◌, ℕ, zero, suc, ◌
 use Rattle.std.proofs.lemmas.Bool.Decides.{nat_tests}
 use Rattle.enet_types.specs.declared.event.PeerRef.{PeerRef}
 use Rattle.enet_types.specs.declared.packet.Packet.{Packet}
+use Rattle.enet_peer.specs.declared.parts.PeerEvent.{PeerEvent}
+use Rattle.enet_peer.specs.declared.parts.PeerEvent.TheVariants as told
 use Rattle.enet_sender.specs.CommandChoice as command_choice
 use Rattle.enet_outbox.specs.Outbox.{is_unsequenced}
 use Rattle.enet_packets.specs.declared.incoming_packet.Dispatched.{Dispatched}
@@ -14,7 +16,7 @@ use Rattle.enet_connection.specs.Steps.{no_end}
 use Rattle.enet_slot.specs.Calls.{event_of}
 use Rattle.enet_network.specs.declared.event.Side.{Side}
 use Rattle.enet_network.specs.declared.event.Side.TheVariants.{A, B}
-use Rattle.enet_network.specs.Headline.{end_at, submitted_at, taken_at, events_at, mtu_at, AreEnds, AreOn, IsInOrder, IsLife, HasHeadline}
+use Rattle.enet_network.specs.Headline.{end_at, submitted_at, taken_at, events_at, received, mtu_at, AreEnds, AreOn, IsInOrder, IsLife, HasHeadline}
 use Rattle.enet_network.specs.Law.{ShowsAt, LawfulEither, IsPaired, OfEachRun, OfEachJoinedRun, OfEachList, OfEachJoinedList}
 use Rattle.enet_network.specs.Log.{Kept, fresh_kept, kept_at}
 use Rattle.enet_network.specs.Network.{HostEnd, Site, end_of}
@@ -68,6 +70,13 @@ kept-outside [] i h = refl
 kept-outside (x ∷ xs) zero h = absurd (omega arith)
 kept-outside (x ∷ xs) (suc i) h = kept-outside xs i (omega arith)
 
+-- the packets of a peer's events are those that are told
+same-received : (name : PeerRef) (es : List PeerEvent) → received (map (event_of name) es) ≡ packets_of es
+same-received name [] = refl
+same-received name (told.Connect info ∷ es) = same-received name es
+same-received name (told.Receive q ∷ es) = ap (λ (qs : List Packet). q ∷ qs) (same-received name es)
+same-received name (told.Disconnect info ∷ es) = same-received name es
+
 -- what is handed out of an end that a host has, or hasn't, is an end's of the law
 
 record Hands (o : Option HostEnd) (own : End) : Type 0 where
@@ -75,8 +84,7 @@ record Hands (o : Option HostEnd) (own : End) : Type 0 where
   taken : (channel : ℕ) → channel < 256 → taken_at channel o ≡ on_channel channel (packets_of own.events)
   outside : (channel : ℕ) → 256 ≤ channel → (submitted_at channel o ≡ []) × (taken_at channel o ≡ [])
   mtu : (own.submitted ≡ []) ⊎ (mtu_in own.peer ≡ mtu_at o)
-  name : PeerRef
-  events : events_at o ≡ map (event_of name) own.events
+  received : received (events_at o) ≡ packets_of own.events
 
 hands-some : (s : Site) (e : HostEnd) (own : End) → Shows s e own → Hands (Some e) own
 hands-some s e own k = record {
@@ -84,8 +92,7 @@ hands-some s e own k = record {
   taken = k.taken;
   outside = λ channel far. (let none = kept-outside e.channels channel (let long = k.long in omega arith) in (ap (λ (y : Kept). y.submitted) none, ap (λ (y : Kept). y.taken) none));
   mtu = elim k.mtu [ inl none ↦ inl none | inr goes ↦ inr (ap mtu_in k.has ∙ goes.1) ];
-  name = e.name;
-  events = k.events;
+  received = ap received k.events ∙ same-received e.name own.events;
 }
 
 hands-none : Hands None no_end
@@ -94,8 +101,7 @@ hands-none = record {
   taken = λ channel low. refl;
   outside = λ channel far. (refl, refl);
   mtu = inl refl;
-  name = record { slot = 0; generation = 0 };
-  events = refl;
+  received = refl;
 }
 
 hands-at : (s : Site) (count x : ℕ) (own : End) → IsHost s count → ShowsAt s x own → Hands (end_of x s.ends) own
@@ -149,8 +155,15 @@ life-of : (j : Bool) (a b : End) → LawfulEither j a b → IsOneLife j a.events
 life-of j a b (inl l) = l.life_one
 life-of j a b (inr l) = l.life_two
 
-at-end : (j : Bool) (o u : Option HostEnd) (one two : End) → Hands o one → Hands u two → LawfulEither j one two → ((channel : ℕ) → IsInOrder o u channel) × IsLife j (events_at o)
-at-end j o u one two k ko l = (between o u one two k ko (order-of j one two l), record { name = k.name; events = one.events; told = k.events; life = life-of j one two l })
+-- the packets of an end are those of its events
+told-of : (o : Option HostEnd) (own : End) → Hands o own → (channel : ℕ) → channel < 256 → taken_at channel o ≡ on_channel channel (received (events_at o))
+told-of o own k channel low = k.taken channel low ∙ ap (on_channel channel) (sym k.received)
+
+abbrev Outcome : Option HostEnd → Option HostEnd → Type 0
+Outcome o u = ((channel : ℕ) → IsInOrder o u channel) × ((channel : ℕ) → channel < 256 → taken_at channel o ≡ on_channel channel (received (events_at o)))
+
+at-end : (j : Bool) (o u : Option HostEnd) (one two : End) → Hands o one → Hands u two → LawfulEither j one two → Outcome o u
+at-end j o u one two k ko l = (between o u one two k ko (order-of j one two l), told-of o one k)
 
 life-none : (j : Bool) → IsOneLife j []
 life-none true = tt
@@ -172,8 +185,7 @@ paired joined w s x = elim (less-or-not x w.count) [
     none : (site : Site) → IsHost site w.count → w.count ≤ x → (e : HostEnd) → Has site.ends e → e.connection ≡ x → ⊥
     none site k far e h of = let low : e.connection < w.count = k.below e h in omega arith
 
-at-side : (joined : Bool) (w : World) → Sound (λ x. joined && x == 0) w → (x : ℕ) (side : Side)
-    → ((channel : ℕ) → IsInOrder (end_at w x side) (end_at w x (other side)) channel) × IsLife (joined && x == 0) (events_at (end_at w x side))
+at-side : (joined : Bool) (w : World) → Sound (λ x. joined && x == 0) w → (x : ℕ) (side : Side) → Outcome (end_at w x side) (end_at w x (other side))
 at-side joined w s x A =
     let p = paired joined w s x in
     at-end (joined && x == 0) (end_of x w.a.ends) (end_of x w.b.ends) p.one p.two (hands-at w.a w.count x p.one s.a p.here) (hands-at w.b w.count x p.two s.b p.there) p.lawful
@@ -181,9 +193,30 @@ at-side joined w s x B =
     let p = paired joined w s x in
     at-end (joined && x == 0) (end_of x w.b.ends) (end_of x w.a.ends) p.two p.one (hands-at w.b w.count x p.two s.b p.there) (hands-at w.a w.count x p.one s.a p.here) (swapped-law (joined && x == 0) p.one p.two p.lawful)
 
+-- one end
+
+shown-as : (s : Site) (count : ℕ) (e : HostEnd) (own : End) → IsHost s count → Has s.ends e → ShowsAt s e.connection own → Shows s e own
+shown-as s count e own k h (inl shown) = subst (λ (z : HostEnd). Shows s z own) (k.apart e h shown.0 shown.1 (inr shown.2)) shown.3
+shown-as s count e own k h (inr none) = absurd (none.0 e h refl)
+
+life-by : (j : Bool) (s : Site) (e : HostEnd) (own far : End) → Shows s e own → LawfulEither j own far → IsLife j e.name e.events
+life-by j s e own far k l = record { events = own.events; told = k.events; life = life-of j own far l }
+
+one-life : (joined : Bool) (w : World) → Sound (λ x. joined && x == 0) w → (side : Side) (e : HostEnd) → Has (site_of w side).ends e → IsLife (joined && e.connection == 0) e.name e.events
+one-life joined w s A e h =
+    let p = paired joined w s e.connection in
+    life-by (joined && e.connection == 0) w.a e p.one p.two (shown-as w.a w.count e p.one s.a h p.here) p.lawful
+one-life joined w s B e h =
+    let p = paired joined w s e.connection in
+    life-by (joined && e.connection == 0) w.b e p.two p.one (shown-as w.b w.count e p.two s.b h p.there) (swapped-law (joined && e.connection == 0) p.one p.two p.lawful)
+
 only-one : (joined : Bool) (w : World) → Sound (λ x. joined && x == 0) w → (side : Side) (e : HostEnd) → Has (site_of w side).ends e → end_at w e.connection side ≡ Some e
 only-one joined w s A e h = (let k = s.a in end-there w.a.ends e h (k.apart e h))
 only-one joined w s B e h = (let k = s.b in end-there w.b.ends e h (k.apart e h))
+
+one-name : (joined : Bool) (w : World) → Sound (λ x. joined && x == 0) w → (side : Side) (e f : HostEnd) → Has (site_of w side).ends e → Has (site_of w side).ends f → e.name ≡ f.name → e ≡ f
+one-name joined w s A e f h i same = (let k = s.a in k.apart f i e h (inl same))
+one-name joined w s B e f h i same = (let k = s.b in k.apart f i e h (inl same))
 
 all-ends : (joined : Bool) (w : World) → Sound (λ x. joined && x == 0) w → (side : Side) → AreEnds (site_of w side)
 all-ends joined w s A = are-ends w.a s.owned_a
@@ -193,8 +226,10 @@ has-headline : (joined : Bool) (w : World) → Sound (λ x. joined && x == 0) w 
 has-headline joined w s = record {
   all = all-ends joined w s;
   only = only-one joined w s;
+  named = one-name joined w s;
   in_order = λ x side. (at-side joined w s x side).0;
-  one_life = λ x side. (at-side joined w s x side).1;
+  told = λ x side. (at-side joined w s x side).1;
+  one_life = one-life joined w s;
 }
 
 pub headline-run : OfEachRun (HasHeadline false)

@@ -35,7 +35,7 @@ use Rattle.enet_isolation.proofs.Single.{does-named, begins-at}
 use Rattle.enet_network.specs.Headline.{AreEnds}
 use Rattle.enet_network.specs.Log.{Logged}
 use Rattle.enet_network.specs.Network.{HostEnd, Site, fresh_end}
-use Rattle.enet_network.specs.Steps.{Happening, Calls, Hears, Happens, BringsOne, end_in, end_at, begun_in, begun}
+use Rattle.enet_network.specs.Steps.{Happening, Calls, Hears, Happens, BringsOne, end_in, end_in_slot, begun_in, begun}
 use Rattle.enet_network.proofs.Growing.{more_of, more_in, Grows, grows, stays-there, begins-there}
 use Rattle.enet_network.proofs.Submitting.{same-some}
 use Rattle.enet_network.proofs.Worlds.{acts-of}
@@ -132,7 +132,7 @@ brought : (x : ℕ) (old new : Host) (c : Call) (i : ℕ) (s t : SlotState) (p :
 brought x old new c i s t p there has b = (
   fresh_end x (name_of i t),
   subst (λ (o : Option ℕ). Has (begun_in x o new) (fresh_end x (name_of i t))) (sym (begins-at c old i s t b))
-      (subst (λ (o : Option SlotState). Has (end_at x i o) (fresh_end x (name_of i t))) (sym there) (subst (λ (o : Option Peering). Has (end_in x i t o) (fresh_end x (name_of i t))) (sym has) (inl refl))),
+      (subst (λ (o : Option SlotState). Has (end_in_slot x i o) (fresh_end x (name_of i t))) (sym there) (subst (λ (o : Option Peering). Has (end_in x i t o) (fresh_end x (name_of i t))) (sym has) (inl refl))),
   refl,
 )
 

@@ -36,7 +36,7 @@ use Rattle.enet_isolation.proofs.Slots.{emitted-apart}
 use Rattle.enet_network.specs.declared.mark.Mark.{Mark}
 use Rattle.enet_network.specs.declared.mark.MarkKind.{MarkKind}
 use Rattle.enet_network.specs.declared.mark.MarkKind.TheVariants.{Data, Acknowledgement, Control}
-use Rattle.enet_network.specs.Log.{Logged, greatest_at, counted_all, side_of, reached}
+use Rattle.enet_network.specs.Log.{Logged, greatest_at, counted_all, numbers_for, reached}
 use Rattle.enet_network.specs.Marks.{mark_as, mark_by_body, mark_of, Counts}
 use Rattle.enet_network.specs.Network.{HostEnd, Site, is_same_name}
 use Rattle.enet_network.specs.Shown.{ShowsPeer, IsLogged, Shows, RunsAt, Went, IsApart}
@@ -95,7 +95,7 @@ sent-with channel own g ms same =
 
 -- the reach of a mark
 
-noted-as : (kind : MarkKind) (channel number : ℕ) (mark : Mark) (reach : ℕ) (xs os : List ℕ) → Some (mark_as kind channel number) ≡ Some mark → greatest_at (side_of kind xs os) channel ≡ reach
+noted-as : (kind : MarkKind) (channel number : ℕ) (mark : Mark) (reach : ℕ) (xs os : List ℕ) → Some (mark_as kind channel number) ≡ Some mark → greatest_at (numbers_for kind xs os) channel ≡ reach
     → reached xs os mark ≡ record mark { reach = reach }
 noted-as kind channel number mark reach xs os e far =
     let same : mark_as kind channel number ≡ mark = cc in

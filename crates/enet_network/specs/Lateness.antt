@@ -14,9 +14,9 @@ is_late_by Data sender taker m = link.is_late (sender m.channel) m.reach m.numbe
 is_late_by Acknowledgement sender taker m = link.is_late (taker m.channel) m.reach m.number
 is_late_by Control sender taker m = false
 
-abbrev pub is_late : (ℕ → ℕ) → (ℕ → ℕ) → Mark → Bool
-is_late sender taker m = is_late_by m.kind sender taker m
+abbrev pub is_late_command : (ℕ → ℕ) → (ℕ → ℕ) → Mark → Bool
+is_late_command sender taker m = is_late_by m.kind sender taker m
 
 -- whether a datagram has such a command
 abbrev pub has_late : (ℕ → ℕ) → (ℕ → ℕ) → List Mark → Bool
-has_late sender taker marks = list_any (is_late sender taker) marks
+has_late sender taker marks = list_any (is_late_command sender taker) marks

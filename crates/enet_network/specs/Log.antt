@@ -12,7 +12,7 @@ use Rattle.enet_network.specs.declared.mark.MarkKind.TheVariants.{Data, Acknowle
 pub record Logged : Type 0 where
   pub connection : ℕ  -- the number of the connection that it is of
   pub to : Addr  -- where to it went
-  pub peer : ℕ  -- the peer id that its header names: a slot of the taking host, or 0xFFF, which a CONNECT names alone
+  pub peer : ℕ  -- the peer id that its header names: a slot of the taking host, or 0xFFF, which only a CONNECT has
   pub text : List ℕ
   pub marks : List Mark
 
@@ -70,11 +70,11 @@ counted greatest m = counted_by m.kind greatest m
 abbrev pub counted_all : List ℕ → List Mark → List ℕ
 counted_all greatest marks = fold counted greatest marks
 
-abbrev pub side_of : MarkKind → List ℕ → List ℕ → List ℕ
-side_of Acknowledgement own other = other
-side_of Data own other = own
-side_of Control own other = own
+abbrev pub numbers_for : MarkKind → List ℕ → List ℕ → List ℕ
+numbers_for Acknowledgement own other = other
+numbers_for Data own other = own
+numbers_for Control own other = own
 
 -- a mark with how far its number's end has come
 abbrev pub reached : List ℕ → List ℕ → Mark → Mark
-reached own other m = record m { reach = greatest_at (side_of m.kind own other) m.channel }
+reached own other m = record m { reach = greatest_at (numbers_for m.kind own other) m.channel }

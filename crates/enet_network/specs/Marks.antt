@@ -28,7 +28,7 @@ abbrev pub mark_of : Message → Option Mark
 mark_of m = mark_by_body m.head m.body
 
 -- the first command that bytes spell, with the marks of those after it
-pub record Begins (Later : List ℕ → List Mark → Type 0) (bytes : List ℕ) (marks : List Mark) : Type 0 where
+pub record SpellsFirst (Later : List ℕ → List Mark → Type 0) (bytes : List ℕ) (marks : List Mark) : Type 0 where
   pub message : Message
   pub text : List ℕ
   pub rest : List ℕ
@@ -41,7 +41,7 @@ pub record Begins (Later : List ℕ → List Mark → Type 0) (bytes : List ℕ)
 -- the marks of the first so many commands that bytes spell, one after another
 unfoldable pub MarksOf : ℕ → List ℕ → List Mark → Type 0
 MarksOf zero bytes marks = marks ≡ []
-MarksOf (suc most) bytes marks = (SpellsNone bytes × (marks ≡ [])) ⊎ Begins (MarksOf most) bytes marks
+MarksOf (suc most) bytes marks = (SpellsNone bytes × (marks ≡ [])) ⊎ SpellsFirst (MarksOf most) bytes marks
 
 -- a header, and the marks of the commands after it
 pub record AfterHeader (text : List ℕ) (marks : List Mark) : Type 0 where

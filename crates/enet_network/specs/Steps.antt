@@ -79,13 +79,13 @@ abbrev pub end_in : ℕ → ℕ → SlotState → Option Peering → List HostEn
 end_in x i s None = []
 end_in x i s (Some p) = fresh_end x (name_of i s) ∷ []
 
-abbrev pub end_at : ℕ → ℕ → Option SlotState → List HostEnd
-end_at x i None = []
-end_at x i (Some s) = end_in x i s s.peer
+abbrev pub end_in_slot : ℕ → ℕ → Option SlotState → List HostEnd
+end_in_slot x i None = []
+end_in_slot x i (Some s) = end_in x i s s.peer
 
 abbrev pub begun_in : ℕ → Option ℕ → Host → List HostEnd
 begun_in x None new = []
-begun_in x (Some i) new = end_at x i (slice_get new.slots i)
+begun_in x (Some i) new = end_in_slot x i (slice_get new.slots i)
 
 -- the end of connection x that begins where a CONNECT was answered: in the slot that was the next to be given out
 abbrev pub begun : ℕ → Host → Host → List HostEnd

@@ -3,8 +3,8 @@
 //! specs/Network has what is kept of a host: all that it put out, each datagram with its connection and with the marks of its
 //! commands, and its ends of connections, each with the name of its peer, how far its numbers have come, what its user
 //! submitted and took. It has when a datagram is of an earlier connection or late. specs/Steps has what one host call adds to
-//! all that where it has one other, specs/World the events of a world of two hosts with the refusals that each meets.
-//! specs/Network counts no hosts.
+//! all that where it has one other, specs/World the events of a world of two hosts with the refusals that each meets. The
+//! definitions of specs/Network would serve any number of hosts.
 //!
 //! specs/Headline has the headline, of the lists that are kept of each connection, end and channel.
 //!
@@ -73,8 +73,9 @@ pub fn one_world()
 /// The headline over the same worlds, of the lists that are kept of each connection, end and channel, whatever the network
 /// lost, repeated or brought out of order: what the user of one end took of a channel, unsequenced packets apart, is a
 /// subsequence of what the user of the other submitted on it, each packet whole and once, that leaves out no reliable packet
-/// before its last; each user takes at most one Connect, before all else, and nothing after a Disconnect, all of one peer.
-/// Each peer of a host is that of an end, so what is submitted or taken is kept.
+/// before its last; each user takes at most one Connect, before all else, and nothing after a Disconnect, all of the end's own
+/// peer, and the packets that are kept are those of these events. Each peer of a host is that of an end, so what is submitted or
+/// taken is kept; no two ends of a host share a connection or a name.
 ///
 /// The clauses are those of `one_world`, from which it comes.
 pub fn each_connection_in_order()

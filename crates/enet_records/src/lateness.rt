@@ -2,7 +2,7 @@
 
 ghost use Rattle.std.specs.Prelude.{◌≡◌};
 ghost use Rattle.enet_link.specs.Link.{number_below};
-ghost use Rattle.enet_network.specs.Lateness.{is_late, has_late};
+ghost use Rattle.enet_network.specs.Lateness.{is_late_command, has_late};
 ghost use Rattle.enet_network.specs.Log.{greatest_at};
 ghost use Rattle.enet_network.specs.Network.{numbers_in, end_of};
 
@@ -22,8 +22,8 @@ fn number_below(reach: u128, wire: u16) -> u128
 }
 
 /// Whether a command of a datagram of the sender is more than 32,768 numbers late at the taker.
-fn is_late(mark: &Mark, sender: &[u128], taker: &[u128]) -> bool
-    ensures { result ≡ is_late (greatest_at sender.now) (greatest_at taker.now) mark.now }
+fn is_late_command(mark: &Mark, sender: &[u128], taker: &[u128]) -> bool
+    ensures { result ≡ is_late_command (greatest_at sender.now) (greatest_at taker.now) mark.now }
 {
     let greatest = match mark.kind {
         MarkKind::Acknowledgement => taker,
@@ -39,7 +39,9 @@ fn is_late(mark: &Mark, sender: &[u128], taker: &[u128]) -> bool
 fn has_late(marks: &[Mark], sender: &[u128], taker: &[u128]) -> bool
     ensures { result ≡ has_late (greatest_at sender.now) (greatest_at taker.now) marks.now }
 {
-    marks.iter().any(|mark| is_late(mark, sender, taker))
+    marks
+        .iter()
+        .any(|mark| is_late_command(mark, sender, taker))
 }
 
 /// Whether a datagram of this connection with these marks comes too late, by the ends of the host that put it out and of the

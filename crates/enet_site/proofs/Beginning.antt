@@ -24,7 +24,7 @@ use Rattle.enet_isolation.specs.Law.{Fares, untouched, goes_on, begins}
 use Rattle.enet_isolation.proofs.OneCall.{one-call}
 use Rattle.enet_isolation.proofs.Receiving.{is_open}
 use Rattle.enet_network.specs.Network.{HostEnd, fresh_end}
-use Rattle.enet_network.specs.Steps.{end_in, end_at, begun_in, begun}
+use Rattle.enet_network.specs.Steps.{end_in, end_in_slot, begun_in, begun}
 use Rattle.enet_network.proofs.Beginnings.{free-there}
 use Rattle.enet_network.proofs.Submitting.{same-some}
 use Rattle.enet_network.proofs.Worlds.{IsFresh, not-fresh, kept-generation}
@@ -131,7 +131,7 @@ begun-is-next x c old new name acts is =
     let t = one-call c old new acts n.place n.slot n.there in
     let same : t.0.generation ≡ n.slot.generation = kept-generation c old n.place n.slot t.0 open'.0 t.2 in
     ap (λ (o : Option ℕ). begun_in x o new) n.free
-    ∙ ap (λ (o : Option SlotState). end_at x n.place o) t.1
+    ∙ ap (λ (o : Option SlotState). end_in_slot x n.place o) t.1
     ∙ end-same x n.place n.slot t.0 t.0.peer same
     ∙ ap (end_for x (name_of n.place n.slot)) (sym (named-at new.slots n.place n.slot t.0 t.1 same))
     ∙ ap (λ (m : PeerRef). end_for x m (named new.slots m)) (sym n.named)
@@ -160,7 +160,7 @@ begun-nothing x old new from bytes answer acts other = by (available old.config 
         let s = free-there old.config old.slots i free in
         let open' = is_open old.config old.slots i s.0 free s.1 in
         let t = one-call (call.Receive from bytes answer) old new acts i s.0 s.1 in
-        ap (λ (o : Option SlotState). end_at x i o) t.1 ∙ ap (λ (o : Option Peering). end_in x i t.0 o) (still-vacant old from bytes answer i s.0 t.0 open'.0 other t.2)
+        ap (λ (o : Option SlotState). end_in_slot x i o) t.1 ∙ ap (λ (o : Option Peering). end_in x i t.0 o) (still-vacant old from bytes answer i s.0 t.0 open'.0 other t.2)
 
 end-if : (x : ℕ) (name : PeerRef) (o : Option Peering) (b : Bool) → b ≡ is_some (option_map (λ (p : Peering). p.state) o) → end_for x name o ≡ begun_if b x name
 unfolding end_for

@@ -15,7 +15,7 @@ use Rattle.enet_isolation.proofs.Names.{IsThere, there-named}
 use Rattle.enet_network.specs.Log.{Logged}
 use Rattle.enet_network.specs.Network.{HostEnd, Site}
 use Rattle.enet_network.specs.Shown.{ShowsPeer}
-use Rattle.enet_network.specs.Steps.{Happening, Calls, Hears, Happens, end_in, end_at, begun_in}
+use Rattle.enet_network.specs.Steps.{Happening, Calls, Hears, Happens, end_in, end_in_slot, begun_in}
 use Rattle.enet_network.proofs.Beginnings.{asked-in}
 use Rattle.enet_network.proofs.Growing.{more_of, more_in, Grows, grows, from-before}
 use Rattle.enet_network.proofs.Owned.{owned-goes, are-ends}
@@ -35,7 +35,7 @@ held-end x i h s None f there is m = absurd m
 held-end x i h s (Some p) f there is (inl e) = subst (λ (z : HostEnd). (q : Peering) × IsThere h.slots z.name q) e (p, record { slot = s; there = there; same = refl; peer = is })
 held-end x i h s (Some p) f there is (inr m) = absurd m
 
-held-at : (x i : ℕ) (h : Host) (o : Option SlotState) (f : HostEnd) → slice_get h.slots i ≡ o → Has (end_at x i o) f → Held h f.name
+held-at : (x i : ℕ) (h : Host) (o : Option SlotState) (f : HostEnd) → slice_get h.slots i ≡ o → Has (end_in_slot x i o) f → Held h f.name
 held-at x i h None f there m = absurd m
 held-at x i h (Some s) f there m = held-end x i h s s.peer f there refl m
 
