@@ -1,40 +1,33 @@
 -- How a script begins, what a fault says, and bytes that stay written.
 use Rattle.std.proofs.Common.{◌≡◌, ℕ, ◌&&◌, Bool, true, false, List, Option, Some, None, Result, Ok, Err, IfSome, IfOk, IfErr, IsErrAnd, refl, sym, subst}
-use Rattle.std.proofs.KnownBytes.{Appends-kept, Keeps-refl}
+use Rattle.std.proofs.KnownBytes.{Appends-kept}
 use Rattle.std.specs.Io.KnownBytes.{Keeps}
 use Rattle.enet_types.specs.declared.config.Config.{Config}
 use Rattle.enet_types.specs.declared.refusal.Refusal.{Refusal}
 use Rattle.enet_types.specs.declared.refusal.Refusal.TheVariants.{Memory, BadConfig}
 use Rattle.enet_types.specs.Config.{is_in_range}
-use Rattle.enet_world.specs.Worlds.{Running as Hosts}
+use Rattle.enet_world.specs.Worlds.{Begun, begun}
 use Rattle.enet_lab.specs.declared.fault.LabFault.{LabFault}
 use Rattle.enet_lab.specs.declared.fault.LabFault.TheVariants.{BadScript}
 use Rattle.enet_lab.specs.declared.script.Stage.{Stage}
 use Rattle.enet_lab.specs.declared.script.Stage.TheVariants.{Empty}
-use Rattle.enet_lab.specs.Lines.{Makes, Begins, Opens, IsRefused}
+use Rattle.enet_lab.specs.Lines.{Makes, Begins, Opens}
 use Rattle.enet_lab.specs.Scripts.{IsStopped, Wrote}
 
-makes_by : (a b : Config) (fresh : Hosts) (made : Result Hosts Refusal) (r : Bool) → (is_in_range a && is_in_range b) ≡ r
+makes_by : (joined : Bool) (a b : Config) (made : Result Begun Refusal) (r : Bool) → (is_in_range a && is_in_range b) ≡ r
     → ((is_in_range a && is_in_range b) ≡ false → made ≡ Err BadConfig) → ((is_in_range a && is_in_range b) ≡ true → IfErr made (λ why. why ≡ Memory))
-    → IfOk made (λ w. w ≡ fresh) → Makes a b fresh made
-makes_by a b fresh (Ok w) true e bad good is = (e, is)
-makes_by a b fresh (Err why) true e bad good is = subst (λ x. Makes a b fresh (Err x)) (sym (good e)) (e, refl)
-makes_by a b fresh made false e bad good is = subst (Makes a b fresh) (sym (bad e)) e
+    → IfOk made (λ w. w ≡ begun joined a b) → Makes joined a b made
+makes_by joined a b (Ok w) true e bad good is = (e, is)
+makes_by joined a b (Err why) true e bad good is = subst (λ x. Makes joined a b (Err x)) (sym (good e)) (e, refl)
+makes_by joined a b made false e bad good is = subst (Makes joined a b) (sym (bad e)) e
 
 -- what an opening promises is what a first line does
-pub opened : {T : Type 0} (r : Result T LabFault) (text : T → Option (List ℕ)) (old new : Stage) (a b : Config) (fresh : Hosts) (made : Result Hosts Refusal) → old ≡ Empty
+pub opened : {T : Type 0} (r : Result T LabFault) (text : T → Option (List ℕ)) (old new : Stage) (joined : Bool) (a b : Config) (made : Result Begun Refusal) → old ≡ Empty
     → ((is_in_range a && is_in_range b) ≡ false → made ≡ Err BadConfig) → ((is_in_range a && is_in_range b) ≡ true → IfErr made (λ why. why ≡ Memory))
-    → IfOk made (λ w. w ≡ fresh) → IfOk r (λ answer. Begins made (text answer) new) → IfOk r (λ answer. Opens old a b fresh (text answer) new)
-opened (Ok answer) text old new a b fresh made empty bad good is h =
-    subst (λ s. Opens s a b fresh (text answer) new) (sym empty) (made, makes_by a b fresh made (is_in_range a && is_in_range b) refl bad good is, h)
-opened (Err fault) text old new a b fresh made empty bad good is h = tt
-
--- a line that can't be read, before anything is written
-pub refused : (number lines : ℕ) (readable : Bool) (fault : LabFault) (o : Option (List ℕ)) → IsRefused lines readable fault → fault ≡ BadScript number
-    → (number ≡ lines) × (readable ≡ false) × Keeps o o
-refused number lines readable fault o h is =
-    let said = subst (IsRefused lines readable) is h in
-    (said.0, said.1, Keeps-refl o)
+    → IfOk made (λ w. w ≡ begun joined a b) → IfOk r (λ answer. Begins made (text answer) new) → IfOk r (λ answer. Opens old joined a b (text answer) new)
+opened (Ok answer) text old new joined a b made empty bad good is h =
+    subst (λ s. Opens s joined a b (text answer) new) (sym empty) (made, makes_by joined a b made (is_in_range a && is_in_range b) refl bad good is, h)
+opened (Err fault) text old new joined a b made empty bad good is h = tt
 
 -- what was written stays so
 pub kept : (o a b c : Option (List ℕ)) (number : ℕ) → IfSome o (λ script. Wrote a b (λ wrote. IsStopped script wrote number)) → Keeps b c

@@ -10,12 +10,12 @@ use Rattle.enet_network.specs.declared.event.Answer.TheVariants.{Sent}
 use Rattle.enet_network.specs.declared.event.Side.{Side}
 use Rattle.enet_network.specs.declared.event.WorldEvent.{WorldEvent}
 use Rattle.enet_network.specs.Log.{Logged}
-use Rattle.enet_network.specs.World.{World, Steps, site_of, side_of, open_world, joined_world}
+use Rattle.enet_network.specs.World.{World, Steps, site_of, side_of}
 use Rattle.enet_lines.specs.declared.line.Line.{Line}
 use Rattle.enet_lines.specs.declared.line.Line.TheVariants as spelled
 use Rattle.enet_lines.specs.Lines.{spells}
 use Rattle.enet_lines.specs.Answers.{outcome_text}
-use Rattle.enet_world.specs.Worlds.{Running as Hosts}
+use Rattle.enet_world.specs.Worlds.{Begun, begun}
 use Rattle.enet_lab.specs.declared.fault.LabFault.{LabFault}
 use Rattle.enet_lab.specs.declared.fault.LabFault.TheVariants as faults
 use Rattle.enet_lab.specs.declared.script.Stage.{Stage}
@@ -32,44 +32,35 @@ bytes_shown w side (Ok (Sent (Some k))) = bytes_in (slice_get (site_of w side).l
 bytes_shown w side _ = []
 
 -- An event happens in the world: the text of what is answered to it.
-pub record StepsTo (old : Hosts) (event : WorldEvent) (text : List ℕ) (new : Hosts) : Type 0 where
+pub record StepsTo (old : Begun) (event : WorldEvent) (text : List ℕ) (new : Begun) : Type 0 where
   pub outcome : Result Answer Refusal
   pub steps : Steps old.world event outcome new.world
   pub joined : new.joined ≡ old.joined
   pub text_is : text ≡ outcome_text (side_of event) (bytes_shown new.world (side_of event) outcome) outcome
 
--- A world of two configurations is this one: E8 exactly where a number is out of its range, else memory may be wanting.
-abbrev pub Makes : Config → Config → Hosts → Result Hosts Refusal → Type 0
-Makes a b fresh (Ok w) = ((is_in_range a && is_in_range b) ≡ true) × (w ≡ fresh)
-Makes a b fresh (Err BadConfig) = (is_in_range a && is_in_range b) ≡ false
-Makes a b fresh (Err why) = ((is_in_range a && is_in_range b) ≡ true) × (why ≡ Memory)
+-- A world of two configurations, connected from the start or not: E8 exactly where a number is out of its range, else memory may be wanting.
+abbrev pub Makes : Bool → Config → Config → Result Begun Refusal → Type 0
+Makes joined a b (Ok w) = ((is_in_range a && is_in_range b) ≡ true) × (w ≡ begun joined a b)
+Makes joined a b (Err BadConfig) = (is_in_range a && is_in_range b) ≡ false
+Makes joined a b (Err why) = ((is_in_range a && is_in_range b) ≡ true) × (why ≡ Memory)
 
 -- A script begins with a world, or with the refusal of one.
-abbrev pub Begins : Result Hosts Refusal → Option (List ℕ) → Stage → Type 0
+abbrev pub Begins : Result Begun Refusal → Option (List ℕ) → Stage → Type 0
 Begins (Ok w) text new = (text ≡ Some (codes "ok")) × (new ≡ Running w)
 Begins (Err why) text new = (text ≡ Some (label_of why)) × (new ≡ Refused)
 
--- A line that comes first and once: two hosts with these settings, which may be this world.
-abbrev pub Opens : Stage → Config → Config → Hosts → Option (List ℕ) → Stage → Type 0
-Opens Empty a b fresh text new = (made : Result Hosts Refusal) × Makes a b fresh made × Begins made text new
-Opens old a b fresh text new = ⊥
-
-abbrev pub two_hosts : Config → Config → Hosts
-two_hosts a b = record { joined = false; world = open_world a b }
-
-abbrev pub joined_hosts : Config → Config → Hosts
-joined_hosts a b = record { joined = true; world = joined_world a b }
+-- The line that comes first and once: it makes a world of these configurations, or is answered by the refusal of one.
+abbrev pub Opens : Stage → Bool → Config → Config → Option (List ℕ) → Stage → Type 0
+Opens Empty joined a b text new = (made : Result Begun Refusal) × Makes joined a b made × Begins made text new
+Opens old joined a b text new = ⊥
 
 -- What a line does that can be read after those so far: `pair` or `open` comes first and once, events then, and nothing where the
 -- first was refused.
 abbrev pub Does : Stage → Line → Option (List ℕ) → Stage → Type 0
 Does old spelled.PassedOver text new = (text ≡ None) × (new ≡ old)
-Does old (spelled.Pair channels) text new =
-    Opens old (standard_config 1 channels) (standard_config 1 channels) (joined_hosts (standard_config 1 channels) (standard_config 1 channels)) text new
-Does old (spelled.Open peers_a channels_a peers_b channels_b) text new =
-    Opens old (standard_config peers_a channels_a) (standard_config peers_b channels_b)
-    (two_hosts (standard_config peers_a channels_a) (standard_config peers_b channels_b)) text new
-Does (Running old) (spelled.Step event) text new = (w : Hosts) × (bytes : List ℕ) × StepsTo old event bytes w × (text ≡ Some bytes) × (new ≡ Running w)
+Does old (spelled.Pair channels) text new = Opens old true (standard_config 1 channels) (standard_config 1 channels) text new
+Does old (spelled.Open peers_a channels_a peers_b channels_b) text new = Opens old false (standard_config peers_a channels_a) (standard_config peers_b channels_b) text new
+Does (Running old) (spelled.Step event) text new = (w : Begun) × (bytes : List ℕ) × StepsTo old event bytes w × (text ≡ Some bytes) × (new ≡ Running w)
 Does old (spelled.Step event) text new = ⊥
 
 -- Whether nothing was made yet.

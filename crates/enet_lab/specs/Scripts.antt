@@ -70,6 +70,6 @@ abbrev pub given : Option ℕ → List ℕ → List ℕ
 given None bytes = []
 given (Some len) bytes = take len bytes
 
--- Bytes of this kind were written.
+-- Bytes of which P holds were written, as far as the writer tells what it has.
 abbrev pub Wrote : Option (List ℕ) → Option (List ℕ) → (List ℕ → Type 0) → Type 0
 Wrote old new P = (bytes : List ℕ) × Appends old new bytes × P bytes

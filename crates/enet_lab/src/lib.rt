@@ -1,9 +1,11 @@
 //! The lab: a script of what happens to two hosts and the network between them, with one answer a line.
 //!
 //! Proved: `lab` returns for every script and every reader and writer. Where both tell their bytes and it ends with Ok, the whole
-//! script was run (`IsRun`): each line spells what it does by `enet_lines`, the first makes the world, each further one is one step of
-//! it, and what is written is the text of each answer with a line feed. Where it ends with BadScript, that is so up to the first line
-//! that can't be read, whose number is told (`IsStopped`).
+//! script was run (`IsRun`): each line spells what it does by `enet_lines`, the first that isn't passed over makes the world, each
+//! further one is one step of it, and what is written is the text of each answer with a line feed. Where it ends with BadScript, that
+//! is so up to the first line that can't be read, whose number is told (`IsStopped`).
+//! Only tested, by scripts/rows and `check_lab`: that calls succeed with ample memory, worked scripts with what is written, and that a
+//! read, a write or a flush that fails is told.
 //! Neither: what was written before the lab ran out of memory, or reading or writing failed.
 #![tactic(auto)]
 

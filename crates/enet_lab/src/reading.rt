@@ -1,7 +1,8 @@
 //! A script is read from a reader, and its answers go to a writer.
 
-ghost use Rattle.std.specs.Prelude.{◌≡◌, ◌≤◌, ◌+◌, ◌++◌, ℕ, List, Option, min, length, false, IfOk, IfErr, IfSome, IsNone, OnOk};
+ghost use Rattle.std.specs.Prelude.{◌≡◌, ◌≤◌, ◌+◌, ◌++◌, ℕ, List, Option, min, false, IfOk, IfErr, IfSome, IsNone, OnOk};
 ghost use Rattle.std.specs.Io.KnownBytes.{Keeps, Consumes, IsAtEnd};
+ghost use Rattle.enet_lab.specs.declared.script.Stage.TheVariants as stages;
 ghost use Rattle.enet_lab.specs.Lines.{RunsLine, can_read};
 ghost use Rattle.enet_lab.specs.Scripts.{HasRun, IsRun, IsStopped, Wrote, given, written_for};
 
@@ -71,26 +72,28 @@ fn read_some<R: Read>(reader: &mut R, buf: &mut [u8; 4096]) -> Result<Option<usi
     }
 }
 
-// Reads lines and runs them, to the reader's end.
+// Reads the lines of a script that hasn't begun and runs them, to the reader's end.
 fn run_script<R: Read, W: Write>(
     alloc: Global,
+    script: &mut Script,
     reader: &mut R,
     writer: &mut W,
 ) -> Result<(), LabFault>
+    requires empty { script.old.stage ≡ stages.Empty }
+    requires first { script.old.lines ≡ 0 }
     ensures whole { OnOk result (IfSome (R.remaining reader.old) (λ script.
         Wrote (W.contents writer.old) (W.contents writer.new) (IsRun script))) }
     ensures stopped { IfErr result (λ fault. (number : ℕ) → fault ≡ LabFault.BadScript number
         → IfSome (R.remaining reader.old) (λ script.
         Wrote (W.contents writer.old) (W.contents writer.new) (λ wrote. IsStopped script wrote number))) }
 {
-    let mut script = Script::new(alloc);
     let mut line = Vec::new(alloc);
     let mut buf = [0u8; 4096];
     'reads: for _ in 0..READS {
         let Some(len) = read_some(reader, &mut buf)? else {
-            return run_line(&mut script, line.as_slice(), writer);
+            return run_line(script, line.as_slice(), writer);
         };
-        take_in(&mut script, &mut line, &buf[..len], writer)?;
+        take_in(script, &mut line, &buf[..len], writer)?;
     }
     Err(LabFault::Io)
 }
@@ -103,9 +106,9 @@ fn run_script<R: Read, W: Write>(
 /// `slot.generation`, bytes are hex of either case or `-` for none, a connect id is 8 hex digits. A refusal of the world is
 /// answered by its number and its name, and the script goes on.
 ///
-/// BadScript at the first line that can't be read, and at the first line behind a refused first one; Memory where a growth of
-/// the lab itself was refused; Io where a read or a write failed, and after 16,777,216 reads. The answers so far are
-/// written, unless a write or the flush failed.
+/// BadScript at the first line that can't be read; behind a first line that was refused that is the next one that isn't passed
+/// over. Memory where a growth of the lab itself was refused; Io where a read, a write or the flush failed, and after 16,777,216
+/// reads. The answers so far are written, unless a write or the flush failed.
 pub fn lab<R: Read, W: Write>(alloc: Global, reader: &mut R, writer: &mut W) -> Result<(), LabFault>
     ensures whole { OnOk result (IfSome (R.remaining reader.old) (λ script.
         Wrote (W.contents writer.old) (W.contents writer.new) (IsRun script))) }
@@ -113,7 +116,9 @@ pub fn lab<R: Read, W: Write>(alloc: Global, reader: &mut R, writer: &mut W) -> 
         → IfSome (R.remaining reader.old) (λ script.
         Wrote (W.contents writer.old) (W.contents writer.new) (λ wrote. IsStopped script wrote number))) }
 {
-    let outcome = run_script(alloc, reader, writer);
+    let mut script = Script::new(alloc);
+    let outcome = run_script(alloc, &mut script, reader, writer);
+    script.close();
     if writer.flush().is_err() {
         return Err(LabFault::Io);
     }

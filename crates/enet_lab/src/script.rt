@@ -1,22 +1,22 @@
 //! Running a script, line by line.
 
-ghost use Rattle.std.specs.Prelude.{◌≡◌, ◌+◌, min, IfOk, IfErr};
+ghost use Rattle.std.specs.Prelude.{◌≡◌, ◌+◌, min, true, false, IfOk, IfErr};
 ghost use Rattle.std.specs.Option.{option_map};
 ghost use Rattle.std.specs.String.{string_bytes};
 ghost use Rattle.enet_lines.specs.declared.line.Line.TheVariants as spelled;
 ghost use Rattle.enet_lab.specs.declared.script.Stage.TheVariants as stages;
-ghost use Rattle.enet_lab.specs.Lines.{Begins, Does, IsRefused, Opens, RunsLine, StepsTo, bytes_shown, can_do, can_read, is_empty, joined_hosts, two_hosts};
+ghost use Rattle.enet_lab.specs.Lines.{Begins, Does, IsRefused, Opens, RunsLine, StepsTo, bytes_shown, can_do, can_read, is_empty};
 
 use crate::fault::LabFault;
-use enet_world::{World, side_of};
 use enet_lines::{Line, outcome_text, read_line};
 use enet_network::{Answer, Side, WorldEvent};
 use enet_script::refusal_text;
 use enet_types::{Config, Refusal};
+use enet_world::{World, side_of};
 use std::alloc::{AllocError, Global};
+use std::mem::replace;
 
-/// What the lines so far have made.
-#[derive(Drop)]
+/// What the lines so far have made. It is let go by `close` alone, as a world is.
 pub enum Stage {
     /// Nothing: `pair` or `open` is still to come.
     Empty,
@@ -26,8 +26,17 @@ pub enum Stage {
     Refused,
 }
 
+impl Stage {
+    /// Lets go of what the lines so far have made.
+    fn close(self) {
+        match self {
+            Stage::Running(world) => world.close(),
+            Stage::Empty | Stage::Refused => {}
+        }
+    }
+}
+
 /// A script that is being run.
-#[derive(Drop)]
 pub(crate) struct Script {
     alloc: Global,
     pub stage: Stage,
@@ -86,7 +95,7 @@ impl Script {
     /// Makes a world of two hosts that are connected from the start, once.
     fn pair(&mut self, config: Config) -> Result<Option<String>, LabFault>
         ensures lines { self.new.lines ≡ self.old.lines }
-        ensures does { IfOk result (λ answer. Opens self.old.stage config config (joined_hosts config config) (option_map string_bytes answer) self.new.stage) }
+        ensures does { IfOk result (λ answer. Opens self.old.stage true config config (option_map string_bytes answer) self.new.stage) }
         ensures unreadable { IfErr result (IsRefused self.old.lines (is_empty self.old.stage)) }
     {
         let Stage::Empty = self.stage else {
@@ -98,13 +107,21 @@ impl Script {
     /// Makes a world of two hosts that know nothing of each other, once.
     fn open(&mut self, cfg_a: Config, cfg_b: Config) -> Result<Option<String>, LabFault>
         ensures lines { self.new.lines ≡ self.old.lines }
-        ensures does { IfOk result (λ answer. Opens self.old.stage cfg_a cfg_b (two_hosts cfg_a cfg_b) (option_map string_bytes answer) self.new.stage) }
+        ensures does { IfOk result (λ answer. Opens self.old.stage false cfg_a cfg_b (option_map string_bytes answer) self.new.stage) }
         ensures unreadable { IfErr result (IsRefused self.old.lines (is_empty self.old.stage)) }
     {
         let Stage::Empty = self.stage else {
             return Err(LabFault::BadScript(self.lines));
         };
         self.begin(World::open(self.alloc, cfg_a, cfg_b))
+    }
+
+    /// Lets go of the stage so far, for this one.
+    fn go_on(&mut self, stage: Stage)
+        ensures stage { self.new.stage ≡ stage }
+        ensures lines { self.new.lines ≡ self.old.lines }
+    {
+        replace(&mut self.stage, stage).close();
     }
 
     /// Begins with a world, or with the refusal of one.
@@ -115,11 +132,11 @@ impl Script {
     {
         let text = match made {
             Ok(world) => {
-                self.stage = Stage::Running(world);
+                self.go_on(Stage::Running(world));
                 String::from_str(self.alloc, "ok")?
             }
             Err(refusal) => {
-                self.stage = Stage::Refused;
+                self.go_on(Stage::Refused);
                 refusal_text(self.alloc, refusal)?
             }
         };
@@ -136,6 +153,16 @@ impl Script {
             return Err(LabFault::BadScript(self.lines));
         };
         Ok(Some(step_text(self.alloc, world, event)?))
+    }
+
+    /// Ends the script.
+    pub fn close(self) {
+        let Script {
+            alloc: _,
+            stage,
+            lines: _,
+        } = self;
+        stage.close();
     }
 }
 

@@ -1,5 +1,5 @@
 -- A run that goes on by one step, and the worlds that are reached.
-use Rattle.std.proofs.Common.{◌≡◌, Bool, true, false, List, [], ◌∷◌, ◌++◌, Result, refl, sym, subst}
+use Rattle.std.proofs.Common.{Bool, true, false, List, [], ◌∷◌, ◌++◌, Result, refl, subst}
 use Rattle.enet_types.specs.declared.refusal.Refusal.{Refusal}
 use Rattle.enet_network.specs.declared.event.Answer.{Answer}
 use Rattle.enet_network.specs.declared.event.WorldEvent.{WorldEvent}

@@ -1,12 +1,9 @@
 -- What a call of a side's host does is a step of the world.
-use Rattle.std.proofs.Common.{◌≡◌, ℕ, ◌+◌, List, Option, Some, None, Result, Ok, Err, refl, sym, ap, subst, ◌∙◌, slice_get}
-use Rattle.enet_types.specs.declared.address.Addr.{Addr}
+use Rattle.std.proofs.Common.{◌≡◌, ℕ, List, Option, Some, None, Ok, refl, sym, subst}
 use Rattle.enet_types.specs.declared.event.DisconnectMode.{DisconnectMode}
 use Rattle.enet_types.specs.declared.event.Event.{Event}
 use Rattle.enet_types.specs.declared.event.PeerRef.{PeerRef}
 use Rattle.enet_types.specs.declared.event.Received.{Received}
-use Rattle.enet_types.specs.declared.refusal.Refusal.{Refusal}
-use Rattle.enet_types.specs.declared.refusal.Refusal.TheVariants.{Memory}
 use Rattle.enet_isolation.specs.Calls as call
 use Rattle.enet_network.specs.declared.event.Answer.{Answer}
 use Rattle.enet_network.specs.declared.event.Answer.TheVariants as answers
@@ -14,7 +11,7 @@ use Rattle.enet_network.specs.declared.event.Side.{Side}
 use Rattle.enet_network.specs.declared.event.Side.TheVariants.{A, B}
 use Rattle.enet_network.specs.declared.event.WorldEvent.{WorldEvent}
 use Rattle.enet_network.specs.declared.event.WorldEvent.TheVariants as happen
-use Rattle.enet_network.specs.Network.{Site, delivery_refusal}
+use Rattle.enet_network.specs.Network.{Site}
 use Rattle.enet_network.specs.Steps.{Happening, Calls, Hears, Happens, count_after}
 use Rattle.enet_network.specs.World.{World, Steps, Makes, Refuses, RefusesCall, IsRefusedFor, address_of, other, side_of}
 use Rattle.enet_site.specs.Sites.{CallsAt}

@@ -10,8 +10,8 @@ use Rattle.enet_network.specs.declared.event.WorldEvent.{WorldEvent}
 use Rattle.enet_network.specs.Network.{Site}
 use Rattle.enet_network.specs.World.{World, Runs, address_of, open_world, joined_world}
 
--- a world, and whether connection 0 stands from its start
-pub record Running : Type 0 where
+-- a world, and whether connection 0 stood from its start
+pub record Begun : Type 0 where
   pub joined : Bool
   pub world : World
 
@@ -19,6 +19,9 @@ pub record Running : Type 0 where
 abbrev pub first : Bool → Config → Config → World
 first true a b = joined_world a b
 first false a b = open_world a b
+
+abbrev pub begun : Bool → Config → Config → Begun
+begun joined a b = record { joined = joined; world = first joined a b }
 
 -- some list of events takes two such hosts to this world
 pub record IsReached (joined : Bool) (w : World) : Type 0 where
@@ -29,7 +32,7 @@ pub record IsReached (joined : Bool) (w : World) : Type 0 where
   pub answers : List (Result Answer Refusal)
   pub runs : Runs (first joined a b) events answers w
 
--- both hosts are where they belong, and each connection has an end
+-- both hosts are where they belong, and there are no more connections than ends
 pub record IsPlaced (w : World) : Type 0 where
   pub a : w.a.address ≡ address_of A
   pub b : w.b.address ≡ address_of B

@@ -65,11 +65,18 @@ impl Hosts {
         ensures memory { IfErr result (λ why. why ≡ Refusal.Memory) }
         ensures fresh { IfOk result (λ w. w ≡ open_world a b) }
     {
-        Ok(Hosts {
-            a: Site::open(alloc, ADDRESS_A, a)?,
-            b: Site::open(alloc, ADDRESS_B, b)?,
-            count: 0,
-        })
+        let near = Site::open(alloc, ADDRESS_A, a)?;
+        match Site::open(alloc, ADDRESS_B, b) {
+            Ok(far) => Ok(Hosts {
+                a: near,
+                b: far,
+                count: 0,
+            }),
+            Err(refusal) => {
+                near.close();
+                Err(refusal)
+            }
+        }
     }
 
     /// Two hosts that are connected from the start, by connection 0. E1 where memory is refused.
@@ -78,24 +85,36 @@ impl Hosts {
         ensures memory { IfErr result (λ why. why ≡ Refusal.Memory) }
         ensures fresh { IfOk result (λ w. w ≡ joined_world a b) }
     {
-        let near = joined_config(&a, &b);
-        let far = joined_config(&b, &a);
-        Ok(Hosts {
-            a: Site::joined(alloc, ADDRESS_A, near, ADDRESS_B)?,
-            b: Site::joined(alloc, ADDRESS_B, far, ADDRESS_A)?,
-            count: 1,
-        })
+        let near = Site::joined(alloc, ADDRESS_A, joined_config(&a, &b), ADDRESS_B)?;
+        match Site::joined(alloc, ADDRESS_B, joined_config(&b, &a), ADDRESS_A) {
+            Ok(far) => Ok(Hosts {
+                a: near,
+                b: far,
+                count: 1,
+            }),
+            Err(refusal) => {
+                near.close();
+                Err(refusal)
+            }
+        }
     }
 
     /// Makes one event happen.
     pub fn happen(&mut self, alloc: Global, event: &WorldEvent) -> Result<Answer, Refusal>
         ensures { Steps self.old event.now result self.new }
     {
+        // That each site has few ends, as `connections` tells, keeps the count of connections within its type.
         let _ = (self.a.connections(), self.b.connections());
         match side_of(event) {
             Side::A => happen(&mut self.a, &self.b, &mut self.count, alloc, event),
             Side::B => happen(&mut self.b, &self.a, &mut self.count, alloc, event),
         }
+    }
+
+    /// Lets both hosts go.
+    pub fn close(self) {
+        self.a.close();
+        self.b.close();
     }
 
     /// The site of a side.

@@ -6,6 +6,8 @@
 //! host call on its side, with what that adds to what is kept. `run` is its steps in order (`Runs`). After each the headline holds
 //! of every connection, end and channel, whatever was connected before, at the same time or after, slots used again included
 //! (`HasHeadline`).
+//! Only tested, by scripts/rows, `check_lists` and `check_memory`: that calls succeed with ample memory, worked runs with their
+//! answers and bytes, and that a call which was refused for want of memory is answered as wanted when it is made again.
 //! Neither: that a datagram arrives, or that memory is there.
 #![tactic(auto)]
 

@@ -4,7 +4,8 @@ ghost use Rattle.std.specs.Prelude.{◌≡◌, ◌&&◌, true, false, slice_get,
 ghost use Rattle.std.specs.Option.{option_copied, option_map};
 ghost use Rattle.enet_types.specs.Config.{is_in_range};
 ghost use Rattle.enet_network.specs.Headline.{HasHeadline, end_at, submitted_at, taken_at, events_at};
-ghost use Rattle.enet_network.specs.World.{Steps, Runs, open_world, joined_world, site_of, other};
+ghost use Rattle.enet_network.specs.World.{Steps, Runs, site_of, other};
+ghost use Rattle.enet_world.specs.Worlds.{begun};
 
 use crate::hosts::Hosts;
 use enet_network::{Answer, Side, WorldEvent, each_connection_in_order};
@@ -26,11 +27,11 @@ pub struct World {
 }
 
 impl Model for World {
-    ghost use Rattle.enet_world.specs.Worlds.{Running, IsReached};
+    ghost use Rattle.enet_world.specs.Worlds.{Begun, IsReached};
     ghost use Rattle.std.specs.Coded.{codes};
     ghost use Rattle.enet_inbox.specs.Codes.{inbox_code};
 
-    ghost Value = { Running };
+    ghost Value = { Begun };
 
     ghost coded = { Prim.hlevel (codes, inbox_code) };
 
@@ -50,11 +51,12 @@ fn other(side: Side) -> Side
 }
 
 impl World {
-    /// Two hosts with these settings, whose slots are all free. E8 where a number of either is out of its range, else E1.
+    /// Two hosts with these settings, whose slots are all free. E8 where a number of either is out of its range, before anything is
+    /// made; E1 where memory is refused.
     pub fn open(alloc: Global, cfg_a: Config, cfg_b: Config) -> Result<World, Refusal>
         ensures out_of_range { (is_in_range cfg_a && is_in_range cfg_b) ≡ false → result ≡ Err Refusal.BadConfig }
         ensures in_range { (is_in_range cfg_a && is_in_range cfg_b) ≡ true → IfErr result (λ why. why ≡ Refusal.Memory) }
-        ensures fresh { IfOk result (λ w. w ≡ record { joined = false; world = open_world cfg_a cfg_b }) }
+        ensures fresh { IfOk result (λ w. w ≡ begun false cfg_a cfg_b) }
     {
         if !cfg_a.is_in_range() || !cfg_b.is_in_range() {
             return Err(Refusal::BadConfig);
@@ -71,7 +73,7 @@ impl World {
     pub fn joined(alloc: Global, cfg_a: Config, cfg_b: Config) -> Result<World, Refusal>
         ensures out_of_range { (is_in_range cfg_a && is_in_range cfg_b) ≡ false → result ≡ Err Refusal.BadConfig }
         ensures in_range { (is_in_range cfg_a && is_in_range cfg_b) ≡ true → IfErr result (λ why. why ≡ Refusal.Memory) }
-        ensures fresh { IfOk result (λ w. w ≡ record { joined = true; world = joined_world cfg_a cfg_b }) }
+        ensures fresh { IfOk result (λ w. w ≡ begun true cfg_a cfg_b) }
     {
         if !cfg_a.is_in_range() || !cfg_b.is_in_range() {
             return Err(Refusal::BadConfig);
@@ -86,16 +88,18 @@ impl World {
     /// The headline, a law of every world. Of each connection, whatever was connected before, at the same time or after, slots used
     /// again included: what the user of one end took of a channel, unsequenced packets apart, is a subsequence of what the user of
     /// the other submitted on it, each packet whole and once, that leaves out no reliable packet before its last; each user takes at
-    /// most one Connect, before all else, and nothing after a Disconnect, all of one peer. Each peer of a host is that of an end, so
-    /// what is submitted or taken is kept.
+    /// most one Connect, before all else, and nothing after a Disconnect, all of the end's own peer. Each peer of a host is that of
+    /// an end, so what is submitted or taken is kept; no two ends of a host share a connection or a name.
     pub fn headline(&self)
         ensures { HasHeadline self.now.joined self.now.world }
     {
         each_connection_in_order();
+        // The field is looked at, so that what holds of every world is known here.
         let _ = &self.hosts;
     }
 
-    /// Makes one event happen. A refusal changes nothing; which it is, and when, says each event.
+    /// Makes one event happen. An event that is refused changes nothing; `WorldEvent` names the refusals that each can meet, in the
+    /// order in which they are tested.
     pub fn step(&mut self, event: WorldEvent) -> Result<Answer, Refusal>
         ensures steps { Steps self.old.world event result self.new.world }
         ensures joined { self.new.joined ≡ self.old.joined }
@@ -168,5 +172,10 @@ impl World {
         ensures { option_copied result ≡ option_map (λ d. d.text) (slice_get (site_of self.now.world side).log k) }
     {
         self.hosts.site(side).datagram(k)
+    }
+
+    /// Lets the world go. A crate that drops one in any other way proves anew how all that two hosts hold is dropped.
+    pub fn close(self) {
+        self.hosts.close();
     }
 }

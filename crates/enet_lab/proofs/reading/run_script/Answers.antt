@@ -6,7 +6,7 @@ use Rattle.enet_lab.proofs.Running.{begin}
 use Rattle.enet_lab.proofs.reading.run_script.Goals as goal
 
 pub reads-init : goal.reads-init
-reads-init g c = ([], Consumes-nil _, ([], Appends-nil _, rw (c.new-script.ensures.stage, c.new-script.ensures.lines, c.new-line.ensures.items) begin))
+reads-init g c = ([], Consumes-nil _, ([], Appends-nil _, rw (c.requires.empty, c.requires.first, c.new-line.ensures.items) begin))
 
 pub returns-in_default-clause-whole : goal.returns-in_default-clause-whole
 returns-in_default-clause-whole g c =
