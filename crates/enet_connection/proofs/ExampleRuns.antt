@@ -14,7 +14,6 @@ use Rattle.enet_receiver.specs.DataOutcome.{outcome, received}
 use Rattle.enet_receiver.specs.Foresight.{ReceivingEnd, new_end}
 use Rattle.enet_inbox.specs.Inbox.{is_full}
 use Rattle.enet_inbox.specs.DataEffect.{packet_of, by_took}
-use Rattle.enet_outbox.specs.Emission as emission
 use Rattle.enet_peer.specs.declared.parts.PeerEvent.TheVariants as told
 use Rattle.enet_peer.specs.Peering.{Peering, joined, answering}
 use Rattle.enet_peer.specs.CommandEffect.{obeyed, by_arrival}
@@ -56,11 +55,11 @@ abbrev put : Put
 put = record { message = message_of 0 first_command; reach = 1 }
 
 emitted-log : emitted.log ≡ put ∷ []
-unfolding emission.with_channels emission.with_acknowledgements emission.with_controls emission.with_unsequenced emission.with_channel cutting.piece_count connection.reached
+unfolding cutting.piece_count connection.reached
 emitted-log = refl
 
 emitted-greatest : sent_on 0 emitted ≡ 1
-unfolding emission.with_channels emission.with_acknowledgements emission.with_controls emission.with_unsequenced emission.with_channel cutting.piece_count connection.reached
+unfolding cutting.piece_count connection.reached
 emitted-greatest = refl
 
 -- the packet comes to a receiver to which nothing came
@@ -104,7 +103,7 @@ in-time = record {
 }
 
 pub a-packet-is-taken : OfSomeJoined HasTaken
-unfolding emission.with_channels emission.with_acknowledgements emission.with_controls emission.with_unsequenced emission.with_channel cutting.piece_count connection.reached
+unfolding cutting.piece_count connection.reached
 a-packet-is-taken = (
   (One, Submit example_packet) ∷ (One, Emit 0) ∷ (Two, Come put 0 (Some 0)) ∷ (Two, Take) ∷ [],
   record { one = emitted; two = took },
@@ -137,7 +136,7 @@ abbrev emitted-both : End
 emitted-both = with_emission submitted-twice pair.two (peer_of submitted-twice.peer) 0
 
 pub one-datagram-has-one-mark : OfSomeJoined HasOneMark
-unfolding emission.with_channels emission.with_acknowledgements emission.with_controls emission.with_unsequenced emission.with_channel cutting.piece_count connection.reached
+unfolding cutting.piece_count connection.reached
 one-datagram-has-one-mark = (
   (One, Submit example_packet) ∷ (One, Submit example_packet) ∷ (One, Emit 0) ∷ [],
   record { one = emitted-both; two = pair.two },
@@ -184,7 +183,7 @@ abbrev host : End
 host = with_peer verified (obeyed (peer_of verified.peer) 0 None (second confirmed.log).message).after
 
 pub both-ends-connect : OfSomeAsking HasConnected
-unfolding emission.with_channels emission.with_acknowledgements emission.with_controls emission.with_unsequenced emission.with_channel cutting.piece_count connection.reached
+unfolding cutting.piece_count connection.reached
 both-ends-connect = (
   (One, Emit 0) ∷ (Two, Answer (first asked.log) example_offer 0 server example_limits) ∷ (Two, Emit 0) ∷ (One, Come (first verified.log) 0 (Some 0)) ∷ (One, Emit 0)
       ∷ (Two, Come (second confirmed.log) 0 None) ∷ [],

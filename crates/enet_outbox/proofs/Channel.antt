@@ -18,9 +18,10 @@ use Rattle.enet_outbox.specs.declared.parts.Pace.{Pace}
 use Rattle.enet_outbox.specs.declared.packing.Progress.{Progress}
 use Rattle.enet_outbox.specs.declared.packing.Flow.{Flow}
 use Rattle.enet_outbox.specs.Outbox.{Outbox, transit_of}
-use Rattle.enet_outbox.specs.Emission.{Filling, fits, with_command, shut, asked, with_sender, data_put, data_step, channel_step, channel_turn, with_channel, channel_turns, turns_of, transit_limit}
+use Rattle.enet_outbox.specs.Emission.{Filling, fits, with_command, shut, repeated, asked, with_sender, data_put, data_step, due_step, channel_step, with_one_data, with_channel, channel_turns, turns_of, transit_limit}
 use Rattle.enet_outbox.specs.Packing.{Holds, taken_in, place_in, Leads, asked_for, refuses, with_flow, Shares}
 use Rattle.enet_outbox.proofs.Fillings.{fits-written, holds-written, holds-back, holds-other, unfit, holds-shut, leads-by, place-open, place-full}
+use Rattle.enet_outbox.proofs.Repeats.{repeated-go, repeated-idle, repeated-shut}
 use Rattle.enet_outbox.proofs.Turns.{left_of, left-most, left-falls, left-skipped, added-none}
 
 -- a list with one element replaced
@@ -88,70 +89,71 @@ refused-unreliable c k t is e =
     (ap (λ (k : Kind). refuses k t) (sym is) ∙ e)
 
 -- what is due on a channel is put in, or dropped, as the throttle says
-step-put : (more : Filling → Filling) (f : Filling) (channel : ℕ) (s : SendingEnd) (n : Next) (k : Kind) → refuses k f.outbox.throttle ≡ false →
-    data_step more f channel s n k ≡ more (data_put f channel s n (record f.outbox { throttle = asked_for k f.outbox.throttle }))
-step-put more f channel s n kind.Reliable e = refl
-step-put more f channel s n kind.More e = refl
-step-put more f channel s n kind.Begins e =
-    let put : Filling = more (data_put f channel s n (asked f.outbox)) in
-    let drop : Filling = more (record f { outbox = with_sender (asked f.outbox) channel (record s { sender = with_skipped n.sender }) }) in
+step-put : (f : Filling) (channel : ℕ) (s : SendingEnd) (n : Next) (k : Kind) → refuses k f.outbox.throttle ≡ false →
+    data_step f channel s n k ≡ data_put f channel s n (record f.outbox { throttle = asked_for k f.outbox.throttle })
+step-put f channel s n kind.Reliable e = refl
+step-put f channel s n kind.More e = refl
+step-put f channel s n kind.Begins e =
+    let put : Filling = data_put f channel s n (asked f.outbox) in
+    let drop : Filling = record f { outbox = with_sender (asked f.outbox) channel (record s { sender = with_skipped n.sender }) } in
     elim (is_admitted f.outbox.throttle) as (λ b. not b ≡ false → cond b put drop ≡ put) [ true ↦ λ h. refl | false ↦ λ h. cc ] e
 
-step-drop : (more : Filling → Filling) (f : Filling) (channel : ℕ) (s : SendingEnd) (n : Next) (k : Kind) → refuses k f.outbox.throttle ≡ true →
-    data_step more f channel s n k ≡ more (record f { outbox = with_sender (record f.outbox { throttle = asked_for k f.outbox.throttle }) channel (record s { sender = with_skipped n.sender }) })
-step-drop more f channel s n kind.Reliable e = cc
-step-drop more f channel s n kind.More e = cc
-step-drop more f channel s n kind.Begins e =
-    let put : Filling = more (data_put f channel s n (asked f.outbox)) in
-    let drop : Filling = more (record f { outbox = with_sender (asked f.outbox) channel (record s { sender = with_skipped n.sender }) }) in
+step-drop : (f : Filling) (channel : ℕ) (s : SendingEnd) (n : Next) (k : Kind) → refuses k f.outbox.throttle ≡ true →
+    data_step f channel s n k ≡ record f { outbox = with_sender (record f.outbox { throttle = asked_for k f.outbox.throttle }) channel (record s { sender = with_skipped n.sender }) }
+step-drop f channel s n kind.Reliable e = cc
+step-drop f channel s n kind.More e = cc
+step-drop f channel s n kind.Begins e =
+    let put : Filling = data_put f channel s n (asked f.outbox) in
+    let drop : Filling = record f { outbox = with_sender (asked f.outbox) channel (record s { sender = with_skipped n.sender }) } in
     elim (is_admitted f.outbox.throttle) as (λ b. not b ≡ true → cond b put drop ≡ drop) [ true ↦ λ h. cc | false ↦ λ h. refl ] e
 
 -- what is due next on a channel of a filling
 abbrev due_next : Pace → Outbox → SendingEnd → Option Next
 due_next pace o s = next wire pace.now pace.timeout (transit_of o) (transit_limit pace o) s.sender
 
-turn-at : (pace : Pace) (channel turns : ℕ) (f : Filling) (s : SendingEnd) (n : Option Next) → slice_get f.outbox.senders channel ≡ Some s → due_next pace f.outbox s ≡ n →
-    with_channel pace channel (suc turns) f ≡ channel_step (with_channel pace channel turns) f channel s n
-unfolding with_channel
-turn-at pace channel turns f s n there e = ap (channel_turn (with_channel pace channel turns) pace f channel) there ∙ ap (channel_step (with_channel pace channel turns) f channel s) e
+-- so many turns more
+abbrev more_data : Pace → ℕ → ℕ → Filling → Filling
+more_data pace channel turns f = repeated turns (with_one_data pace channel) f
 
-channel-end : (pace : Pace) (channel turns : ℕ) (f : Filling) (s : SendingEnd) → slice_get f.outbox.senders channel ≡ Some s → due_next pace f.outbox s ≡ None → with_channel pace channel turns f ≡ f
-unfolding with_channel
-channel-end pace channel zero f s there e = refl
-channel-end pace channel (suc turns) f s there e = turn-at pace channel turns f s None there e
+turn-at : (pace : Pace) (channel : ℕ) (f : Filling) (s : SendingEnd) (n : Option Next) → slice_get f.outbox.senders channel ≡ Some s → due_next pace f.outbox s ≡ n →
+    with_one_data pace channel f ≡ due_step f channel s n
+turn-at pace channel f s n there e = ap (channel_step pace channel f) there ∙ ap (due_step f channel s) e
 
-channel-stop : (pace : Pace) (channel turns : ℕ) (f : Filling) (s : SendingEnd) (n : Next) → 0 < turns → slice_get f.outbox.senders channel ≡ Some s → due_next pace f.outbox s ≡ Some n →
-    fits f (message_of s.channel n.command) ≡ false → with_channel pace channel turns f ≡ shut f
-channel-stop pace channel zero f s n some there e fit = absurd (omega arith)
-channel-stop pace channel (suc turns) f s n some there e fit =
-    let go : Filling = data_step (with_channel pace channel turns) f channel s n (kind_of n.command) in
-    turn-at pace channel turns f s (Some n) there e ∙ ap (λ (b : Bool). cond b go (shut f)) fit
+channel-end : (pace : Pace) (channel turns : ℕ) (f : Filling) (s : SendingEnd) → f.closed ≡ false → slice_get f.outbox.senders channel ≡ Some s → due_next pace f.outbox s ≡ None →
+    more_data pace channel turns f ≡ f
+channel-end pace channel turns f s opened there e = repeated-idle turns (with_one_data pace channel) f opened (turn-at pace channel f s None there e)
 
-channel-go : (pace : Pace) (channel turns : ℕ) (f : Filling) (s : SendingEnd) (n : Next) (k : Kind) → 0 < turns → slice_get f.outbox.senders channel ≡ Some s → due_next pace f.outbox s ≡ Some n →
-    fits f (message_of s.channel n.command) ≡ true → k ≡ kind_of n.command → with_channel pace channel turns f ≡ data_step (with_channel pace channel (turns - 1)) f channel s n k
-channel-go pace channel zero f s n k some there e fit is = absurd (omega arith)
-channel-go pace channel (suc turns) f s n k some there e fit is =
-    let go : ℕ → Kind → Filling = λ t k. data_step (with_channel pace channel t) f channel s n k in
-    let j : turns ≡ suc turns - 1 = omega arith in
-    turn-at pace channel turns f s (Some n) there e ∙ ap (λ (b : Bool). cond b (go turns (kind_of n.command)) (shut f)) fit
-    ∙ ap (go turns) (sym is) ∙ ap (λ (t : ℕ). go t k) j
+channel-stop : (pace : Pace) (channel turns : ℕ) (f : Filling) (s : SendingEnd) (n : Next) → 0 < turns → f.closed ≡ false → slice_get f.outbox.senders channel ≡ Some s → due_next pace f.outbox s ≡ Some n →
+    fits f (message_of s.channel n.command) ≡ false → more_data pace channel turns f ≡ shut f
+channel-stop pace channel turns f s n some opened there e fit =
+    let go : Filling = data_step f channel s n (kind_of n.command) in
+    repeated-shut turns (with_one_data pace channel) f some opened (turn-at pace channel f s (Some n) there e ∙ ap (λ (b : Bool). cond b go (shut f)) fit)
+
+channel-go : (pace : Pace) (channel turns : ℕ) (f g : Filling) (s : SendingEnd) (n : Next) (k : Kind) → 0 < turns → f.closed ≡ false → slice_get f.outbox.senders channel ≡ Some s → due_next pace f.outbox s ≡ Some n →
+    fits f (message_of s.channel n.command) ≡ true → k ≡ kind_of n.command → data_step f channel s n k ≡ g → more_data pace channel turns f ≡ more_data pace channel (turns - 1) g
+channel-go pace channel turns f g s n k some opened there e fit is goes =
+    let go : Kind → Filling = λ k. data_step f channel s n k in
+    repeated-go turns (with_one_data pace channel) f g some opened
+    (turn-at pace channel f s (Some n) there e ∙ ap (λ (b : Bool). cond b (go (kind_of n.command)) (shut f)) fit ∙ ap go (sym is) ∙ goes)
 
 -- the stage has come so far
 pub record ChannelAt (pace : Pace) (channel : ℕ) (f : Filling) (s : SendingEnd) (w : Flow) (p : Progress) (buf : List ℕ) : Type 0 where
   pub g : Filling
   pub turns : ℕ
   pub holds : Holds g p buf
+  pub opened : g.closed ≡ false
   pub there : slice_get g.outbox.senders channel ≡ Some s
   pub outbox : g.outbox ≡ with_flow f.outbox (slice_set f.outbox.senders channel s) w
   pub enough : left_of s.sender ≤ turns
-  pub stage : with_channel pace channel (channel_turns f.outbox channel) f ≡ with_channel pace channel turns g
+  pub stage : with_channel pace f channel ≡ more_data pace channel turns g
   pub in_transit : transit_of g.outbox ≡ w.transit
 
-pub channel-begin : {pace : Pace} {channel : ℕ} {f : Filling} {s : SendingEnd} {w : Flow} {p : Progress} {buf : List ℕ} → Holds f p buf → slice_get f.outbox.senders channel ≡ Some s → Shares f.outbox w → ChannelAt pace channel f s w p buf
-channel-begin {pace} {channel} {f} {s} {w} {p} {buf} h there e = record {
+pub channel-begin : {pace : Pace} {channel : ℕ} {f : Filling} {s : SendingEnd} {w : Flow} {p : Progress} {buf : List ℕ} → Holds f p buf → f.closed ≡ false → slice_get f.outbox.senders channel ≡ Some s → Shares f.outbox w → ChannelAt pace channel f s w p buf
+channel-begin {pace} {channel} {f} {s} {w} {p} {buf} h opened there e = record {
   g = f;
   turns = channel_turns f.outbox channel;
   holds = h;
+  opened = opened;
   there = there;
   outbox = ap (λ (ss : List SendingEnd). record f.outbox { senders = ss }) (sym (set-same f.outbox.senders channel s there))
       ∙ ap (λ (t : Throttling). record f.outbox { senders = slice_set f.outbox.senders channel s; throttle = t }) e.0
@@ -179,7 +181,7 @@ channel-put {pace} {channel} {f} {s} {new} {w} {p} {from} {to} {past} added k a 
     let m : Message = message_of s.channel n.command in
     let v : Flow = record { throttle = asked_for k w.throttle; transit = w.transit + added; last = Some channel } in
     let t : SendingEnd = record s { sender = n.sender } in
-    let opened = place-open p from (canonical m) to past (omega arith) r.2 in
+    let room = place-open p from (canonical m) to past (omega arith) r.2 in
     let G : Outbox → Outbox = λ o. record o { senders = slice_set o.senders channel t; throttle = asked_for k o.throttle; last = Some channel } in
     let less = left-falls wire pace.now pace.timeout w.transit (transit w.throttle pace.window pace.mtu) s.sender n r.1 in
     let adds = transit-next wire pace.now pace.timeout w.transit (transit w.throttle pace.window pace.mtu) s.sender n r.1 in
@@ -191,12 +193,13 @@ channel-put {pace} {channel} {f} {s} {new} {w} {p} {from} {to} {past} added k a 
     let made : P t = record {
       g = with_command a.g m (G a.g.outbox);
       turns = a.turns - 1;
-      holds = holds-written m a.holds opened.0 opened.1 r.6 (G a.g.outbox);
+      holds = holds-written m a.holds room.0 room.1 r.6 (G a.g.outbox);
+      opened = refl;
       there = get-set a.g.outbox.senders channel s t a.there;
       outbox = ap G a.outbox ∙ ap (λ (ss : List SendingEnd). with_flow f.outbox ss v) (set-twice f.outbox.senders channel s t);
       enough = omega arith;
-      stage = a.stage ∙ channel-go pace channel a.turns a.g s n k (omega arith) a.there (here a ∙ r.1) (fits-written m a.holds opened.0 opened.1) r.4
-          ∙ step-put (with_channel pace channel (a.turns - 1)) a.g channel s n k (ap (λ (o : Outbox). refuses k o.throttle) a.outbox ∙ admitted);
+      stage = a.stage ∙ channel-go pace channel a.turns a.g (with_command a.g m (G a.g.outbox)) s n k (omega arith) a.opened a.there (here a ∙ r.1) (fits-written m a.holds room.0 room.1) r.4
+          (step-put a.g channel s n k (ap (λ (o : Outbox). refuses k o.throttle) a.outbox ∙ admitted));
       in_transit = omega arith;
     } in
     subst P (sym r.5) made
@@ -210,7 +213,7 @@ channel-drop {pace} {channel} {f} {s} {w} {p} {from} {to} new past added k a d r
     let m : Message = message_of s.channel n.command in
     let v : Flow = record { throttle = asked_for k w.throttle; transit = w.transit; last = w.last } in
     let t : SendingEnd = record s { sender = with_skipped n.sender } in
-    let opened = place-open p from (canonical m) to past (omega arith) r.2 in
+    let room = place-open p from (canonical m) to past (omega arith) r.2 in
     let G : Outbox → Outbox = λ o. record o { senders = slice_set o.senders channel t; throttle = asked_for k o.throttle } in
     let less = left-falls wire pace.now pace.timeout w.transit (transit w.throttle pace.window pace.mtu) s.sender n r.1 in
     let skip = left-skipped n.sender in
@@ -223,12 +226,13 @@ channel-drop {pace} {channel} {f} {s} {w} {p} {from} {to} new past added k a d r
     let made : P (record s { sender = n.sender }) = record {
       g = record a.g { outbox = G a.g.outbox };
       turns = a.turns - 1;
-      holds = holds-other (G a.g.outbox) (holds-back a.holds opened.1);
+      holds = holds-other (G a.g.outbox) (holds-back a.holds room.1);
+      opened = a.opened;
       there = get-set a.g.outbox.senders channel s t a.there;
       outbox = ap G a.outbox ∙ ap (λ (ss : List SendingEnd). with_flow f.outbox ss v) (set-twice f.outbox.senders channel s t);
       enough = omega arith;
-      stage = a.stage ∙ channel-go pace channel a.turns a.g s n k (omega arith) a.there (here a ∙ r.1) (fits-written m a.holds opened.0 opened.1) r.4
-          ∙ step-drop (with_channel pace channel (a.turns - 1)) a.g channel s n k (ap (λ (o : Outbox). refuses k o.throttle) a.outbox ∙ refused);
+      stage = a.stage ∙ channel-go pace channel a.turns a.g (record a.g { outbox = G a.g.outbox }) s n k (omega arith) a.opened a.there (here a ∙ r.1) (fits-written m a.holds room.0 room.1) r.4
+          (step-drop a.g channel s n k (ap (λ (o : Outbox). refuses k o.throttle) a.outbox ∙ refused));
       in_transit = omega arith;
     } in
     subst P (sym r.5) made
@@ -236,7 +240,7 @@ channel-drop {pace} {channel} {f} {s} {w} {p} {from} {to} new past added k a d r
 -- where nothing more goes
 abbrev Ends : Pace → ℕ → Filling → SendingEnd → Flow → Progress → List ℕ → Type 0
 Ends pace channel f s w p buf =
-    Leads (with_channel pace channel (channel_turns f.outbox channel) f) (with_flow f.outbox (slice_set f.outbox.senders channel s) w) p buf
+    Leads (with_channel pace f channel) (with_flow f.outbox (slice_set f.outbox.senders channel s) w) p buf
     × (transit_of (with_flow f.outbox (slice_set f.outbox.senders channel s) w) ≡ w.transit)
 
 pub channel-full : {pace : Pace} {channel : ℕ} {f : Filling} {s : SendingEnd} {w : Flow} {p : Progress} {from to : List ℕ} (new : SendingEnd) → ChannelAt pace channel f s w p from →
@@ -247,11 +251,11 @@ channel-full {pace} {channel} {f} {s} {w} {p} {from} {to} new a d =
     let m : Message = message_of s.channel n.command in
     let less = left-falls wire pace.now pace.timeout w.transit (transit w.throttle pace.window pace.mtu) s.sender n r.1 in
     let enough = a.enough in
-    let stop = channel-stop pace channel a.turns a.g s n (omega arith) a.there (here a ∙ r.1) (unfit m a.holds (place-full p from (length (canonical m)) r.2)) in
+    let stop = channel-stop pace channel a.turns a.g s n (omega arith) a.opened a.there (here a ∙ r.1) (unfit m a.holds (place-full p from (length (canonical m)) r.2)) in
     rw (r.3, r.4) (leads-by (a.stage ∙ stop) (holds-shut a.holds) a.outbox, ap transit_of (sym a.outbox) ∙ a.in_transit)
 
 pub channel-none : {pace : Pace} {channel : ℕ} {f : Filling} {s : SendingEnd} {w : Flow} {p : Progress} {from to : List ℕ} (new : SendingEnd) → ChannelAt pace channel f s w p from →
     Did (due_by pace s w) due.Nothing s new from (place_in p from) to → Ends pace channel f new w p to
 channel-none {pace} {channel} {f} {s} {w} {p} {from} {to} new a d =
     let r = did-nothing (due_by pace s w) s new from (place_in p from) to d in
-    rw (r.1, r.2) (leads-by (a.stage ∙ channel-end pace channel a.turns a.g s a.there (here a ∙ r.0)) a.holds a.outbox, ap transit_of (sym a.outbox) ∙ a.in_transit)
+    rw (r.1, r.2) (leads-by (a.stage ∙ channel-end pace channel a.turns a.g s a.opened a.there (here a ∙ r.0)) a.holds a.outbox, ap transit_of (sym a.outbox) ∙ a.in_transit)

@@ -1,5 +1,5 @@
 -- The channels, one after another.
-use Rattle.std.proofs.Common.{◌≡◌, ℕ, zero, suc, ◌+◌, ◌-◌, ◌<◌, ◌≤◌, ◌%◌, List, [], ◌∷◌, map, refl, sym, ap, ◌∙◌, arith, Bool, true, false, cond, Option, Some, slice_set}
+use Rattle.std.proofs.Common.{◌≡◌, ℕ, zero, suc, ◌+◌, ◌-◌, ◌<◌, ◌≤◌, ◌%◌, List, [], ◌∷◌, map, refl, sym, ap, ◌∙◌, arith, true, false, Option, Some, slice_set}
 use Rattle.std.specs.List.{slice_get, range_with_len}
 use Rattle.enet_throttle.specs.Throttle.{Throttling}
 use Rattle.enet_sender.specs.Due.{SendingEnd}
@@ -7,9 +7,10 @@ use Rattle.enet_outbox.specs.declared.parts.Pace.{Pace}
 use Rattle.enet_outbox.specs.declared.packing.Progress.{Progress}
 use Rattle.enet_outbox.specs.declared.packing.Flow.{Flow}
 use Rattle.enet_outbox.specs.Outbox.{Outbox, transit_of}
-use Rattle.enet_outbox.specs.Emission.{Filling, with_channel, channel_turns, with_channels}
+use Rattle.enet_outbox.specs.Emission.{Filling, with_channel, with_channels}
 use Rattle.enet_outbox.specs.Packing.{Holds, Leads, with_flow, Shares, PacksChannel, turns}
 use Rattle.enet_outbox.proofs.Fillings.{leads-by}
+use Rattle.enet_outbox.proofs.Repeats.{channels-closed}
 
 turns-more : (first n k : ℕ) → k < n → turns first n k ≡ (first + k) % n ∷ turns first n (k + 1)
 turns-more first n k h =
@@ -20,19 +21,6 @@ turns-none : (first n k : ℕ) → n ≤ k → turns first n k ≡ []
 turns-none first n k h =
     let e : n - k ≡ zero = omega arith in
     ap (λ (m : ℕ). map (λ j. (first + j) % n) (range_with_len k m)) e
-
-channels-closed : (pace : Pace) (order : List ℕ) (f : Filling) → f.closed ≡ true → with_channels pace order f ≡ f
-unfolding with_channels
-channels-closed pace [] f e = refl
-channels-closed pace (i ∷ order) f e = ap (λ (b : Bool). cond b f (with_channels pace order (with_channel pace i (channel_turns f.outbox i) f))) e
-
-channels-over : (pace : Pace) (f : Filling) → with_channels pace [] f ≡ f
-unfolding with_channels
-channels-over pace f = refl
-
-channels-go : (pace : Pace) (order : List ℕ) (i : ℕ) (f : Filling) → f.closed ≡ false → with_channels pace (i ∷ order) f ≡ with_channels pace order (with_channel pace i (channel_turns f.outbox i) f)
-unfolding with_channels
-channels-go pace order i f e = ap (λ (b : Bool). cond b f (with_channels pace order (with_channel pace i (channel_turns f.outbox i) f))) e
 
 -- the stage has come as far as turn k
 pub record ChannelsAt (pace : Pace) (first n k : ℕ) (f : Filling) (senders : List SendingEnd) (w : Flow) (p : Progress) (buf : List ℕ) : Type 0 where
@@ -56,25 +44,24 @@ channels-begin {pace} {first} {n} {f} {senders} {w} {p} {buf} h is e = record {
 pub channels-turn : {pace : Pace} {first n k : ℕ} {f : Filling} {senders : List SendingEnd} {w v : Flow} {p q : Progress} {from to : List ℕ} (i : ℕ) (s t : SendingEnd) → ChannelsAt pace first n k f senders w p from →
     k < n → i ≡ (first + k) % n → slice_get senders i ≡ Some s → p.closed ≡ false → PacksChannel pace i (record { sender = s; flow = w }) (record { sender = t; flow = v }) (record { progress = p; buf = from }) (record { progress = q; buf = to }) → ChannelsAt pace first n (k + 1) f (slice_set senders i t) v q to
 channels-turn {pace} {first} {n} {k} {f} {senders} {w} {v} {p} {q} {from} {to} i s t a low is there opened packs =
-    let g2 : Filling = with_channel pace i (channel_turns a.g.outbox i) a.g in
+    let g2 : Filling = with_channel pace a.g i in
     let at : slice_get a.g.outbox.senders i ≡ Some s = ap (λ (o : Outbox). slice_get o.senders i) a.outbox ∙ there in
     let shares : Shares a.g.outbox w = (ap (λ (o : Outbox). o.throttle) a.outbox, ap (λ (o : Outbox). o.last) a.outbox, a.in_transit) in
-    let r = packs a.g a.holds at shares in
+    let r = packs a.g a.holds (a.holds.is_closed ∙ opened) at shares in
     let G : Outbox → Outbox = λ o. with_flow o (slice_set o.senders i t) v in
     record {
       g = g2;
       holds = r.0.holds;
       outbox = r.0.outbox ∙ ap G a.outbox;
       stage = a.stage ∙ ap (λ (order : List ℕ). with_channels pace order a.g) (turns-more first n k low)
-          ∙ ap (λ (j : ℕ). with_channels pace (j ∷ turns first n (k + 1)) a.g) (sym is)
-          ∙ channels-go pace (turns first n (k + 1)) i a.g (a.holds.is_closed ∙ opened);
+          ∙ ap (λ (j : ℕ). with_channels pace (j ∷ turns first n (k + 1)) a.g) (sym is);
       in_transit = ap transit_of r.0.outbox ∙ r.1;
     }
 
 pub channels-end : {pace : Pace} {first n k : ℕ} {f : Filling} {senders : List SendingEnd} {w : Flow} {p : Progress} {buf : List ℕ} → ChannelsAt pace first n k f senders w p buf → n ≤ k →
     Leads (with_channels pace (turns first n 0) f) (with_flow f.outbox senders w) p buf × (transit_of (with_flow f.outbox senders w) ≡ w.transit)
 channels-end {pace} {first} {n} {k} {f} {senders} {w} {p} {buf} a past =
-    (leads-by (a.stage ∙ ap (λ (order : List ℕ). with_channels pace order a.g) (turns-none first n k past) ∙ channels-over pace a.g) a.holds a.outbox, ap transit_of (sym a.outbox) ∙ a.in_transit)
+    (leads-by (a.stage ∙ ap (λ (order : List ℕ). with_channels pace order a.g) (turns-none first n k past)) a.holds a.outbox, ap transit_of (sym a.outbox) ∙ a.in_transit)
 
 pub channels-shut : {pace : Pace} {first n k : ℕ} {f : Filling} {senders : List SendingEnd} {w : Flow} {p : Progress} {buf : List ℕ} → ChannelsAt pace first n k f senders w p buf → p.closed ≡ true →
     Leads (with_channels pace (turns first n 0) f) (with_flow f.outbox senders w) p buf × (transit_of (with_flow f.outbox senders w) ≡ w.transit)

@@ -15,7 +15,7 @@ use Rattle.enet_outbox.specs.declared.parts.Destination.{Destination}
 use Rattle.enet_outbox.specs.declared.packing.Progress.{Progress}
 use Rattle.enet_outbox.specs.declared.packing.Flow.{Flow}
 use Rattle.enet_outbox.specs.Outbox.{Outbox, transit_of}
-use Rattle.enet_outbox.specs.Emission.{Filling, empty_datagram, with_acknowledgements_of, with_controls_of, with_unsequenced, with_unsequenced_of, with_channels, unless_closed, turn_order, filled, asks, datagram, Emits}
+use Rattle.enet_outbox.specs.Emission.{Filling, empty_datagram, with_acknowledgements, with_controls, with_unsequenced, with_channels, turn_order, filled, asks, datagram, Emits}
 use Rattle.enet_outbox.specs.Packing.{Holds, Leads, with_flow, Shares, Page, PacksAcknowledgements, PacksControls, PacksUnsequenced, PacksChannels, turns, header_asking}
 
 -- an empty datagram
@@ -62,20 +62,18 @@ pub filled-leads : (pace : Pace) (o : Outbox) (first transit : ℕ) (b0 : List �
     Leads (filled pace o) (left_by o acknowledgements control unsequenced senders w) d4.progress d4.buf × (transit_of (left_by o acknowledgements control unsequenced senders w) ≡ w.transit)
 filled-leads pace o first transit b0 d1 d2 d3 d4 acknowledgements control unsequenced throttle last senders w long whole is counted pa pc pu ps =
     let f0 : Filling = empty_datagram pace o in
-    let l1 = pa f0 (holds-start pace o b0 long whole) refl in
-    let f1 : Filling = with_acknowledgements_of f0 in
+    let l1 = pa f0 (holds-start pace o b0 long whole) refl refl in
+    let f1 : Filling = with_acknowledgements f0 in
     let l2 = pc f1 l1.holds (ap (λ (o : Outbox). o.control) l1.outbox) in
-    let f2 : Filling = with_controls_of pace f1 in
+    let f2 : Filling = with_controls pace f1 in
     let o2 : f2.outbox ≡ record o { acknowledgements = acknowledgements; control = control } = l2.outbox ∙ ap (λ (o : Outbox). record o { control = control }) l1.outbox in
     let l3 = pu f2 l2.holds (ap (λ (o : Outbox). o.unsequenced) o2) (ap (λ (o : Outbox). o.throttle) o2) (ap (λ (o : Outbox). o.last) o2) in
-    let f3 : Filling = with_unsequenced_of f2 in
-    let same : unless_closed (with_unsequenced o.unsequenced) f2 ≡ f3 = ap (λ (us : List Unsequenced). unless_closed (with_unsequenced us) f2) (sym (ap (λ (o : Outbox). o.unsequenced) o2)) in
+    let f3 : Filling = with_unsequenced f2 in
     let o3 : f3.outbox ≡ record o { acknowledgements = acknowledgements; control = control; unsequenced = unsequenced; throttle = throttle; last = last } =
-    ap (λ (f : Filling). f.outbox) (sym same) ∙ l3.outbox ∙ ap (λ (o : Outbox). record o { unsequenced = unsequenced; throttle = throttle; last = last }) o2 in
-    let h3 : Holds f3 d3.progress d3.buf = (let P : Filling → Type 0 = λ f. Holds f d3.progress d3.buf in subst P same l3.holds) in
+    l3.outbox ∙ ap (λ (o : Outbox). record o { unsequenced = unsequenced; throttle = throttle; last = last }) o2 in
     let v : Flow = record { throttle = throttle; transit = transit; last = last } in
     let shares : Shares f3.outbox v = (ap (λ (o : Outbox). o.throttle) o3, ap (λ (o : Outbox). o.last) o3, ap transit_of o3 ∙ counted) in
-    let l4 = ps f3 h3 (ap (λ (o : Outbox). o.senders) o3) shares in
+    let l4 = ps f3 l3.holds (ap (λ (o : Outbox). o.senders) o3) shares in
     let all : with_channels pace (turns first (length o.senders) 0) f3 ≡ filled pace o = ap (λ (order : List ℕ). with_channels pace order f3) (turns-all o first is) in
     let o4 : with_flow f3.outbox senders w ≡ left_by o acknowledgements control unsequenced senders w = ap (λ (o : Outbox). with_flow o senders w) o3 in (
       record {

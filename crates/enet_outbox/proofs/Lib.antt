@@ -6,6 +6,7 @@ pub mod Filled
 pub mod Fillings
 pub mod Idle
 pub mod Oldest
+pub mod Repeats
 pub mod Senders
 pub mod Spelled
 pub mod Stages

@@ -1,5 +1,5 @@
 -- What waits longest goes first.
-use Rattle.std.proofs.Common.{◌≡◌, ◌-◌, ◌≤◌, true, List, [], ◌∷◌, ◌++◌, drop, refl, sym, ap, subst, arith}
+use Rattle.std.proofs.Common.{◌≡◌, ◌-◌, ◌≤◌, true, List, [], ◌∷◌, ◌++◌, drop, length, refl, sym, ap, subst, arith}
 use Rattle.std.specs.List.{slice_get}
 use Rattle.std.proofs.lemmas.Bool.{le-leb}
 use Rattle.enet_codec.specs.Message.{Message}
@@ -8,9 +8,9 @@ use Rattle.enet_fragment.specs.DataCommand.{message_of}
 use Rattle.enet_outbox.specs.declared.parts.Acknowledgement.{Acknowledgement}
 use Rattle.enet_outbox.specs.declared.parts.Pace.{Pace}
 use Rattle.enet_outbox.specs.Outbox.{Outbox}
-use Rattle.enet_outbox.specs.Emission.{Filling, acknowledgement_of, empty_datagram, filled, fits, size_of, unsequenced_of, with_acknowledgements, with_acknowledgements_of, with_command}
+use Rattle.enet_outbox.specs.Emission.{Filling, acknowledgement_of, empty_datagram, filled, fits, size_of, unsequenced_of, with_acknowledgements, with_command}
 use Rattle.enet_outbox.proofs.Filled.{Keeps, by-acknowledgements, by-later}
-use Rattle.enet_outbox.proofs.Stages.{acknowledgements-go}
+use Rattle.enet_outbox.proofs.Stages.{acknowledgements-go, more_acknowledgements}
 
 -- the datagram begins with this acknowledgement
 abbrev BeginsWith : Acknowledgement → Filling → Type 0
@@ -37,8 +37,8 @@ oldest-first pace o a rest long e =
     let g : Filling = with_command f0 (acknowledgement_of a) (record o { acknowledgements = rest }) in
     let room : size_of (acknowledgement_of a) ≤ pace.mtu - 4 = omega arith in
     let fit : fits f0 (acknowledgement_of a) ≡ true = le-leb (size_of (acknowledgement_of a)) (pace.mtu - 4) room in
-    let goes : with_acknowledgements o.acknowledgements f0 ≡ with_acknowledgements rest g =
-    acknowledgements-go o.acknowledgements rest a f0 (ap (λ (xs : List Acknowledgement). slice_get xs 0) e) (sym (ap (λ (xs : List Acknowledgement). drop 1 xs) e)) fit in
+    let goes : with_acknowledgements f0 ≡ more_acknowledgements rest g =
+    acknowledgements-go o.acknowledgements rest a f0 refl refl (ap (λ (xs : List Acknowledgement). slice_get xs 0) e) (sym (ap (λ (xs : List Acknowledgement). drop 1 xs) e)) fit in
     let begun : BeginsWith a g = ([], refl) in
-    let first : BeginsWith a (with_acknowledgements rest g) = by-acknowledgements pace (BeginsWith a) (keeps pace a) rest g refl begun in
-    by-later pace o (BeginsWith a) (keeps pace a) (with_acknowledgements_of f0) (subst (BeginsWith a) (sym goes) first)
+    let first : BeginsWith a (more_acknowledgements rest g) = by-acknowledgements pace (BeginsWith a) (keeps pace a) (length rest) g begun in
+    by-later pace o (BeginsWith a) (keeps pace a) (with_acknowledgements f0) (subst (BeginsWith a) (sym goes) first)

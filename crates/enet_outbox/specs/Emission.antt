@@ -1,6 +1,7 @@
 -- What a peer puts into its next datagram.
-use Rattle.std.specs.Prelude.{◌≡◌, ℕ, zero, suc, ◌+◌, ◌-◌, ◌%◌, ◌<◌, ◌≤◌, ◌&&◌, ◌==◌, Bool, true, false, nat_lt, nat_le, if◌then◌else◌, Option, Some, None, List, [], ◌∷◌, ◌++◌, length, map, take, slice_get, slice_set, unwrap_or}
-use Rattle.std.specs.List.{AllByRecursion, range_with_len, flat_map, list_any}
+use Rattle.std.specs.Prelude.{◌≡◌, ℕ, ◌+◌, ◌-◌, ◌%◌, ◌<◌, ◌≤◌, ◌&&◌, ◌==◌, Bool, true, false, nat_lt, nat_le, if◌then◌else◌, Option, Some, None, List, [], ◌∷◌, ◌++◌, length, map, take, slice_get, slice_set, unwrap_or}
+use Rattle.std.specs.Fn.{iterate}
+use Rattle.std.specs.List.{AllByRecursion, fold, range_with_len, flat_map, list_any}
 use Rattle.std.specs.Option.{option_map}
 use Rattle.enet_codec.specs.declared.header.Header.{Header}
 use Rattle.enet_codec.specs.Header.{header_text}
@@ -49,6 +50,14 @@ shut f = record f { closed = true }
 abbrev pub asked : Outbox → Outbox
 asked o = record o { throttle = record o.throttle { counter = next_counter o.throttle } }
 
+-- a closed datagram stays as it is
+abbrev pub unless_closed : (Filling → Filling) → Filling → Filling
+unless_closed step f = if f.closed then f else step f
+
+-- a step so many times
+abbrev pub repeated : ℕ → (Filling → Filling) → Filling → Filling
+repeated times step f = iterate (unless_closed step) times f
+
 -- first the acknowledgements, in the order of arrival
 abbrev pub acknowledgement_of : Acknowledgement → Message
 acknowledgement_of a = record {
@@ -56,28 +65,38 @@ acknowledgement_of a = record {
   body = acknowledge a.number a.time;
 }
 
-unfoldable pub with_acknowledgements : List Acknowledgement → Filling → Filling
-with_acknowledgements [] f = f
-with_acknowledgements (a ∷ rest) f =
+-- the oldest goes where it fits; where it doesn't, the datagram is closed
+abbrev pub acknowledgement_step : Filling → List Acknowledgement → Filling
+acknowledgement_step f [] = f
+acknowledgement_step f (a ∷ rest) =
     if fits f (acknowledgement_of a)
-    then with_acknowledgements rest (with_command f (acknowledgement_of a) (record f.outbox { acknowledgements = rest }))
+    then with_command f (acknowledgement_of a) (record f.outbox { acknowledgements = rest })
     else shut f
+
+-- one more, if one waits
+abbrev pub with_one_acknowledgement : Filling → Filling
+with_one_acknowledgement f = acknowledgement_step f f.outbox.acknowledgements
+
+abbrev pub with_acknowledgements : Filling → Filling
+with_acknowledgements f = repeated (length f.outbox.acknowledgements) with_one_acknowledgement f
 
 -- then the commands of channel 0xFF that are due or queued, by number
-abbrev pub control_step : (Filling → Filling) → Filling → Option controlling.Next → Filling
-control_step more f None = f
-control_step more f (Some n) =
+abbrev pub control_step : Filling → Option controlling.Next → Filling
+control_step f None = f
+control_step f (Some n) =
     if fits f (controlling.message_of n.command)
-    then more (with_command f (controlling.message_of n.command) (record f.outbox { control = n.commands }))
+    then with_command f (controlling.message_of n.command) (record f.outbox { control = n.commands })
     else shut f
 
-unfoldable pub with_controls : Pace → ℕ → Filling → Filling
-with_controls pace zero f = f
-with_controls pace (suc turns) f =
-    control_step (with_controls pace turns) f (controlling.next pace.now pace.timeout f.outbox.control)
+-- one more, if one is due or queued
+abbrev pub with_one_control : Pace → Filling → Filling
+with_one_control pace f = control_step f (controlling.next pace.now pace.timeout f.outbox.control)
 
 abbrev pub control_turns : Outbox → ℕ
 control_turns o = length o.control.queued + length o.control.sent
+
+abbrev pub with_controls : Pace → Filling → Filling
+with_controls pace f = repeated (control_turns f.outbox) (with_one_control pace) f
 
 -- then the unsequenced packets as submitted; the throttle is asked of each that fits, and may drop it
 abbrev pub unsequenced_of : Unsequenced → Message
@@ -86,16 +105,22 @@ unsequenced_of u = record {
   body = send_unsequenced u.group u.body;
 }
 
-abbrev pub unsequenced_asked : (Filling → Filling) → Filling → Unsequenced → List Unsequenced → Filling
-unsequenced_asked more f u rest =
+abbrev pub unsequenced_asked : Filling → Unsequenced → List Unsequenced → Filling
+unsequenced_asked f u rest =
     if is_admitted f.outbox.throttle
-    then more (with_command f (unsequenced_of u) (record (asked f.outbox) { unsequenced = rest; last = Some u.channel }))
-    else more (record f { outbox = record (asked f.outbox) { unsequenced = rest } })
+    then with_command f (unsequenced_of u) (record (asked f.outbox) { unsequenced = rest; last = Some u.channel })
+    else record f { outbox = record (asked f.outbox) { unsequenced = rest } }
 
-unfoldable pub with_unsequenced : List Unsequenced → Filling → Filling
-with_unsequenced [] f = f
-with_unsequenced (u ∷ rest) f =
-    if fits f (unsequenced_of u) then unsequenced_asked (with_unsequenced rest) f u rest else shut f
+abbrev pub unsequenced_step : Filling → List Unsequenced → Filling
+unsequenced_step f [] = f
+unsequenced_step f (u ∷ rest) = if fits f (unsequenced_of u) then unsequenced_asked f u rest else shut f
+
+-- one more, if one waits
+abbrev pub with_one_unsequenced : Filling → Filling
+with_one_unsequenced f = unsequenced_step f f.outbox.unsequenced
+
+abbrev pub with_unsequenced : Filling → Filling
+with_unsequenced f = repeated (length f.outbox.unsequenced) with_one_unsequenced f
 
 -- then the channels. The payload bytes that may be in transit
 abbrev pub transit_limit : Pace → Outbox → ℕ
@@ -109,28 +134,28 @@ data_put f channel s n o =
     with_command f (message_of s.channel n.command) (record (with_sender o channel (record s { sender = n.sender })) { last = Some channel })
 
 -- the throttle is asked of the first command of an unreliable packet, and may drop the packet
-abbrev pub data_step : (Filling → Filling) → Filling → ℕ → SendingEnd → Next → Kind → Filling
-data_step more f channel s n Reliable = more (data_put f channel s n f.outbox)
-data_step more f channel s n More = more (data_put f channel s n f.outbox)
-data_step more f channel s n Begins =
+abbrev pub data_step : Filling → ℕ → SendingEnd → Next → Kind → Filling
+data_step f channel s n Reliable = data_put f channel s n f.outbox
+data_step f channel s n More = data_put f channel s n f.outbox
+data_step f channel s n Begins =
     if is_admitted f.outbox.throttle
-    then more (data_put f channel s n (asked f.outbox))
-    else more (record f { outbox = with_sender (asked f.outbox) channel (record s { sender = with_skipped n.sender }) })
+    then data_put f channel s n (asked f.outbox)
+    else record f { outbox = with_sender (asked f.outbox) channel (record s { sender = with_skipped n.sender }) }
 
--- what is due on a channel, as far as it fits
-abbrev pub channel_step : (Filling → Filling) → Filling → ℕ → SendingEnd → Option Next → Filling
-channel_step more f channel s None = f
-channel_step more f channel s (Some n) =
-    if fits f (message_of s.channel n.command) then data_step more f channel s n (kind_of n.command) else shut f
+-- what is due goes where it fits
+abbrev pub due_step : Filling → ℕ → SendingEnd → Option Next → Filling
+due_step f channel s None = f
+due_step f channel s (Some n) =
+    if fits f (message_of s.channel n.command) then data_step f channel s n (kind_of n.command) else shut f
 
-abbrev pub channel_turn : (Filling → Filling) → Pace → Filling → ℕ → Option SendingEnd → Filling
-channel_turn more pace f channel None = f
-channel_turn more pace f channel (Some s) =
-    channel_step more f channel s (next wire pace.now pace.timeout (transit_of f.outbox) (transit_limit pace f.outbox) s.sender)
+abbrev pub channel_step : Pace → ℕ → Filling → Option SendingEnd → Filling
+channel_step pace channel f None = f
+channel_step pace channel f (Some s) =
+    due_step f channel s (next wire pace.now pace.timeout (transit_of f.outbox) (transit_limit pace f.outbox) s.sender)
 
-unfoldable pub with_channel : Pace → ℕ → ℕ → Filling → Filling
-with_channel pace channel zero f = f
-with_channel pace channel (suc turns) f = channel_turn (with_channel pace channel turns) pace f channel (slice_get f.outbox.senders channel)
+-- one more of a channel, if one is due
+abbrev pub with_one_data : Pace → ℕ → Filling → Filling
+with_one_data pace channel f = channel_step pace channel f (slice_get f.outbox.senders channel)
 
 abbrev pub turns_of : Option SendingEnd → ℕ
 turns_of None = 0
@@ -139,31 +164,19 @@ turns_of (Some s) = length s.sender.queued + length s.sender.sent
 abbrev pub channel_turns : Outbox → ℕ → ℕ
 channel_turns o channel = turns_of (slice_get o.senders channel)
 
-unfoldable pub with_channels : Pace → List ℕ → Filling → Filling
-with_channels pace [] f = f
-with_channels pace (channel ∷ rest) f =
-    if f.closed then f else with_channels pace rest (with_channel pace channel (channel_turns f.outbox channel) f)
+abbrev pub with_channel : Pace → Filling → ℕ → Filling
+with_channel pace f channel = repeated (channel_turns f.outbox channel) (with_one_data pace channel) f
+
+abbrev pub with_channels : Pace → List ℕ → Filling → Filling
+with_channels pace order f = fold (with_channel pace) f order
 
 -- in rising number, cyclically, beginning after the channel of the last data command that an earlier datagram had
 abbrev pub turn_order : Outbox → List ℕ
 turn_order o =
     map (λ turn. (unwrap_or (option_map (λ channel. channel + 1) o.last) 0 + turn) % length o.senders) (range_with_len 0 (length o.senders))
 
--- one stage, unless the datagram is closed
-abbrev pub unless_closed : (Filling → Filling) → Filling → Filling
-unless_closed stage f = if f.closed then f else stage f
-
-abbrev pub with_acknowledgements_of : Filling → Filling
-with_acknowledgements_of f = with_acknowledgements f.outbox.acknowledgements f
-
-abbrev pub with_controls_of : Pace → Filling → Filling
-with_controls_of pace f = unless_closed (with_controls pace (control_turns f.outbox)) f
-
-abbrev pub with_unsequenced_of : Filling → Filling
-with_unsequenced_of f = unless_closed (with_unsequenced f.outbox.unsequenced) f
-
 abbrev pub filled : Pace → Outbox → Filling
-filled pace o = with_channels pace (turn_order o) (with_unsequenced_of (with_controls_of pace (with_acknowledgements_of (empty_datagram pace o))))
+filled pace o = with_channels pace (turn_order o) (with_unsequenced (with_controls pace (with_acknowledgements (empty_datagram pace o))))
 
 -- the header: the sent time stands exactly where a command asks for an acknowledgement, and the session is 0 while the other's
 -- slot isn't known

@@ -15,7 +15,7 @@ use Rattle.enet_outbox.specs.declared.packing.Flow.{Flow}
 use Rattle.enet_sender.specs.declared.outgoing.Kind.{Kind}
 use Rattle.enet_sender.specs.declared.outgoing.Kind.TheVariants.{Begins}
 use Rattle.enet_outbox.specs.Outbox.{Outbox, transit_of}
-use Rattle.enet_outbox.specs.Emission.{Filling, asks, fits, with_command, with_acknowledgements, with_controls, control_turns, with_unsequenced, with_channel, channel_turns, with_channels, unless_closed}
+use Rattle.enet_outbox.specs.Emission.{Filling, asks, fits, with_command, with_acknowledgements, with_controls, with_unsequenced, with_channel, with_channels}
 
 -- the commands of the filling stand in the buffer from 4 on, and the progress shows how much more it takes
 pub record Holds (f : Filling) (p : Progress) (buf : List ℕ) : Type 0 where
@@ -48,11 +48,11 @@ pub record Page : Type 0 where
   pub progress : Progress
   pub buf : List ℕ
 
--- the acknowledgements, of which those are left
+-- the acknowledgements, of which those are left, into a datagram that is open
 abbrev pub PacksAcknowledgements : List Acknowledgement → List Acknowledgement → Page → Page → Type 0
 PacksAcknowledgements old new from to =
-    (f : Filling) → Holds f from.progress from.buf → f.outbox.acknowledgements ≡ old
-    → Leads (with_acknowledgements old f) (record f.outbox { acknowledgements = new }) to.progress to.buf
+    (f : Filling) → Holds f from.progress from.buf → f.closed ≡ false → f.outbox.acknowledgements ≡ old
+    → Leads (with_acknowledgements f) (record f.outbox { acknowledgements = new }) to.progress to.buf
 
 -- where the next command goes; where the datagram takes no more, at the end of the buffer, where none fits
 abbrev pub place_in : Progress → List ℕ → ℕ
@@ -62,7 +62,7 @@ place_in p buf = if p.commands == 0 then length buf else p.at
 abbrev pub PacksControls : Pace → Commands → Commands → Page → Page → Type 0
 PacksControls pace old new from to =
     (f : Filling) → Holds f from.progress from.buf → f.outbox.control ≡ old
-    → Leads (unless_closed (with_controls pace (control_turns f.outbox)) f) (record f.outbox { control = new }) to.progress to.buf
+    → Leads (with_controls pace f) (record f.outbox { control = new }) to.progress to.buf
 
 -- what the unsequenced packets go by: those that wait, the throttle, and the channel of the last data command
 pub record UnsequencedSource : Type 0 where
@@ -74,7 +74,7 @@ pub record UnsequencedSource : Type 0 where
 abbrev pub PacksUnsequenced : UnsequencedSource → UnsequencedSource → Page → Page → Type 0
 PacksUnsequenced old new from to =
     (f : Filling) → Holds f from.progress from.buf → f.outbox.unsequenced ≡ old.packets → f.outbox.throttle ≡ old.throttle → f.outbox.last ≡ old.last
-    → Leads (unless_closed (with_unsequenced old.packets) f) (record f.outbox { unsequenced = new.packets; throttle = new.throttle; last = new.last }) to.progress to.buf
+    → Leads (with_unsequenced f) (record f.outbox { unsequenced = new.packets; throttle = new.throttle; last = new.last }) to.progress to.buf
 
 -- the throttle is asked of the first command of an unreliable packet alone
 abbrev pub asked_for : Kind → Throttling → Throttling
@@ -100,10 +100,11 @@ pub record ChannelSource : Type 0 where
 abbrev pub with_channel_left : Outbox → ℕ → ChannelSource → Outbox
 with_channel_left o channel left = with_flow o (slice_set o.senders channel left.sender) left.flow
 
+-- into a datagram that is open
 abbrev pub PacksChannel : Pace → ℕ → ChannelSource → ChannelSource → Page → Page → Type 0
 PacksChannel pace channel old new from to =
-    (f : Filling) → Holds f from.progress from.buf → slice_get f.outbox.senders channel ≡ Some old.sender → Shares f.outbox old.flow
-    → Leads (with_channel pace channel (channel_turns f.outbox channel) f) (with_channel_left f.outbox channel new) to.progress to.buf
+    (f : Filling) → Holds f from.progress from.buf → f.closed ≡ false → slice_get f.outbox.senders channel ≡ Some old.sender → Shares f.outbox old.flow
+    → Leads (with_channel pace f channel) (with_channel_left f.outbox channel new) to.progress to.buf
     × (transit_of (with_channel_left f.outbox channel new) ≡ new.flow.transit)
 
 -- all n channels from turn k on, cyclically, beginning with the first

@@ -1,4 +1,4 @@
-use Rattle.std.proofs.Common.{List, Option, arith, Some, None, ap, ◌∙◌, sym, refl, subst}
+use Rattle.std.proofs.Common.{◌≡◌, List, Option, arith, Some, None, ap, ◌∙◌, sym, refl, subst}
 use Rattle.enet_outbox.specs.declared.parts.Acknowledgement.{Acknowledgement}
 use Rattle.enet_outbox.specs.declared.packing.Progress.{Progress}
 use Rattle.enet_codec.specs.Message.{Message, view}
@@ -6,20 +6,23 @@ use Rattle.enet_outbox.specs.Outbox.{Outbox}
 use Rattle.enet_outbox.specs.Emission.{acknowledgement_of, with_command}
 use Rattle.enet_outbox.specs.Packing.{TakesIn}
 use Rattle.enet_outbox.proofs.Fillings.{leads-by, holds-shut}
-use Rattle.enet_outbox.proofs.Stages.{acknowledgements-go, acknowledgements-stop, acknowledgements-end}
+use Rattle.enet_outbox.proofs.Stages.{more_acknowledgements, acknowledgements-go, acknowledgements-stop, acknowledgements-end}
 use Rattle.enet_outbox.proofs.packing.pack_acknowledgements.Goals as goal
+
+waits : {o p : Outbox} → o ≡ p → o.acknowledgements ≡ p.acknowledgements
+waits e = ap (λ (o : Outbox). o.acknowledgements) e
 
 pub acknowledgements-init : goal.acknowledgements-init
 acknowledgements-init c = record {
-  stage = λ f h e. (f, h, ap (λ (xs : List Acknowledgement). record f.outbox { acknowledgements = xs }) e, refl);
+  stage = λ f h opened e. (f, h, opened, ap (λ (xs : List Acknowledgement). record f.outbox { acknowledgements = xs }) e, ap (λ (xs : List Acknowledgement). more_acknowledgements xs f) e);
   room = omega arith;
 }
 
 pub acknowledgements-preserved : goal.acknowledgements-preserved
 acknowledgements-preserved c = record {
   room = grind arith;
-  stage = λ f h e.
-      let i = c.acknowledgements.invariant.stage f h e in
+  stage = λ f h opened e.
+      let i = c.acknowledgements.invariant.stage f h opened e in
       let g = i.0 in
       let a = c.in-Some.acknowledgement in
       let m = acknowledgement_of a in
@@ -29,12 +32,12 @@ acknowledgements-preserved c = record {
       let t : P m = subst P c.command.ensures (subst (λ (r : Option Progress). TakesIn (view c.command.result) c.acknowledgements.progress r c.acknowledgements.buf c.put.new.buf) c.in-Some-put.is c.put.ensures) in
       let u = t g i.1 in
       let o : Outbox = record g.outbox { acknowledgements = ys } in
-      (with_command g m o, u.1 o, ap (λ (o : Outbox). record o { acknowledgements = ys }) i.2, i.3 ∙ acknowledgements-go _ ys a g is c.pop_front.ensures.rest u.0);
+      (with_command g m o, u.1 o, refl, ap (λ (o : Outbox). record o { acknowledgements = ys }) i.3, i.4 ∙ acknowledgements-go _ ys a g i.2 (waits i.3) is c.pop_front.ensures.rest u.0);
 }
 
 pub returns-in_default-put-clause-packs : goal.returns-in_default-put-clause-packs
-returns-in_default-put-clause-packs c = λ f h e.
-    let i = c.acknowledgements.invariant.stage f h e in
+returns-in_default-put-clause-packs c = λ f h opened e.
+    let i = c.acknowledgements.invariant.stage f h opened e in
     let g = i.0 in
     let a = c.in-Some.acknowledgement in
     let m = acknowledgement_of a in
@@ -42,10 +45,10 @@ returns-in_default-put-clause-packs c = λ f h e.
     let P : Message → Type 0 = λ m. TakesIn m c.acknowledgements.progress None c.acknowledgements.buf c.put.new.buf in
     let t : P m = subst P c.command.ensures (subst (λ (r : Option Progress). TakesIn (view c.command.result) c.acknowledgements.progress r c.acknowledgements.buf c.put.new.buf) c.in_default-put.is c.put.ensures) in
     let u = t.1 g i.1 in
-    rw (c.shut.ensures, t.0) (leads-by (i.3 ∙ acknowledgements-stop _ a g is u) (holds-shut i.1) i.2)
+    rw (c.shut.ensures, t.0) (leads-by (i.4 ∙ acknowledgements-stop _ a g i.2 (waits i.3) is u) (holds-shut i.1) i.3)
 
 pub returns-clause-packs : goal.returns-clause-packs
-returns-clause-packs c = λ f h e.
-    let i = c.acknowledgements.invariant.stage f h e in
+returns-clause-packs c = λ f h opened e.
+    let i = c.acknowledgements.invariant.stage f h opened e in
     let is = sym c.first.ensures ∙ c.in_default.is in
-    leads-by (i.3 ∙ acknowledgements-end _ i.0 is) i.1 i.2
+    leads-by (i.4 ∙ acknowledgements-end _ i.0 is) i.1 i.3

@@ -1,4 +1,4 @@
-use Rattle.std.proofs.Common.{◌≡◌, Some}
+use Rattle.std.proofs.Common.{◌≡◌, false, Some}
 use Rattle.std.specs.List.{slice_get}
 use Rattle.enet_outbox.specs.Emission.{Filling}
 use Rattle.enet_outbox.specs.Packing.{Holds, Shares}
@@ -8,7 +8,7 @@ use Rattle.enet_outbox.proofs.packing.pack_channel.Given as goal
 
 abbrev pub invariant-turns : goal.invariant-turns
 invariant-turns l =
-    (f : Filling) → Holds f l.initial.progress l.initial.buf → slice_get f.outbox.senders l.channel ≡ Some l.initial.sender → Shares f.outbox l.initial.flow →
+    (f : Filling) → Holds f l.initial.progress l.initial.buf → f.closed ≡ false → slice_get f.outbox.senders l.channel ≡ Some l.initial.sender → Shares f.outbox l.initial.flow →
     ChannelAt l.pace l.channel f l.sender l.flow l.progress l.buf
 
 abbrev pub decreases-turns : goal.decreases-turns

@@ -1,15 +1,20 @@
-use Rattle.std.proofs.Common.{◌<◌, ℕ, ◌∙◌, sym, subst, arith}
+use Rattle.std.proofs.Common.{◌<◌, ℕ, ◌∙◌, ap, sym, subst, arith}
 use Rattle.enet_control.specs.Controlling.{Commands, Did, next}
 use Rattle.enet_control.specs.declared.outgoing.Written.TheVariants as written
-use Rattle.enet_outbox.specs.Emission.{with_controls, control_turns}
+use Rattle.enet_outbox.specs.Emission.{control_turns, with_one_control}
 use Rattle.enet_outbox.specs.Packing.{place_in}
-use Rattle.enet_outbox.proofs.Stages.{open-leads}
+use Rattle.enet_outbox.proofs.Fillings.{leads-by}
+use Rattle.enet_outbox.proofs.Repeats.{repeated-closed}
 use Rattle.enet_outbox.proofs.Controls.{did-sent, control-begin, control-room, control-put, control-full, control-none}
 use Rattle.enet_outbox.proofs.Turns.{control_left, control-falls}
 use Rattle.enet_outbox.proofs.packing.pack_controls.Goals as goal
 
+pub returns-then-from-clause-packs : goal.returns-then-from-clause-packs
+returns-then-from-clause-packs c = λ f h e.
+    leads-by (repeated-closed (control_turns f.outbox) (with_one_control c.args.pace) f (h.is_closed ∙ c.if-from.true)) h (ap (λ (c : Commands). record f.outbox { control = c }) e)
+
 pub turns-init : goal.turns-init
-turns-init c = record { stage = λ f h e. control-begin h e; room = omega arith }
+turns-init c = record { stage = λ f h e. control-begin h (h.is_closed ∙ c.if-from.false) e; room = omega arith }
 
 pub turns-smaller : goal.turns-smaller
 turns-smaller c =
@@ -36,10 +41,10 @@ pub returns-in-NoRoom-clause-packs : goal.returns-in-NoRoom-clause-packs
 returns-in-NoRoom-clause-packs c = λ f h e.
     let P : ℕ → Type 0 = λ at. Did (next c.args.pace.now c.args.pace.timeout c.turns.control.commands) written.NoRoom c.turns.control.commands c.next_due.new.self.commands c.turns.buf at c.next_due.new.buf in
     let d : P (place_in c.turns.progress c.turns.buf) = subst P c.place-place.ensures c.in-NoRoom.ensures.written in
-    rw c.shut.ensures (open-leads (with_controls c.args.pace (control_turns f.outbox)) f (h.is_closed ∙ c.if-from.false) (control-full (c.turns.invariant.stage f h e) d))
+    rw c.shut.ensures (control-full (c.turns.invariant.stage f h e) d)
 
 pub returns-in-Nothing-clause-packs : goal.returns-in-Nothing-clause-packs
 returns-in-Nothing-clause-packs c = λ f h e.
     let P : ℕ → Type 0 = λ at. Did (next c.args.pace.now c.args.pace.timeout c.turns.control.commands) written.Nothing c.turns.control.commands c.next_due.new.self.commands c.turns.buf at c.next_due.new.buf in
     let d : P (place_in c.turns.progress c.turns.buf) = subst P c.place-place.ensures c.in-Nothing.ensures.written in
-    open-leads (with_controls c.args.pace (control_turns f.outbox)) f (h.is_closed ∙ c.if-from.false) (control-none (c.turns.invariant.stage f h e) d)
+    control-none (c.turns.invariant.stage f h e) d
