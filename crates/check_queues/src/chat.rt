@@ -38,13 +38,6 @@ fn three(alloc: Global) -> Result<Table, Refusal> {
     Ok(table)
 }
 
-fn disconnect(slot: u16) -> Event {
-    Event::Disconnect {
-        peer: peer(slot),
-        info: 0,
-    }
-}
-
 // An order to send `hi`: the peer's slot, the channel and the flags.
 type Sent = (u16, u8, u8);
 
@@ -90,20 +83,5 @@ fn relay_to_the_others(rt: HostRuntime) -> Result<(), Fail> {
     assert!(rt; makes_two(rt.alloc(), &table, 0, (0, 0, 1), (2, 0, 1))?);
     assert!(rt; makes_two(rt.alloc(), &table, 1, (0, 1, 0), (2, 1, 0))?);
     assert!(rt; makes_none(rt.alloc(), &table, 2)?);
-    Ok(())
-}
-
-// Peer 2 connects once more, and peer 0 goes and comes back.
-fn change(table: &mut Table) -> Result<(), Refusal> {
-    table.note(&connect(2))?;
-    table.note(&disconnect(0))?;
-    table.note(&connect(0))
-}
-
-#[test]
-fn peers_come_once_and_go(rt: HostRuntime) -> Result<(), Fail> {
-    let mut table = three(rt.alloc())?;
-    change(&mut table)?;
-    assert!(rt; makes_two(rt.alloc(), &table, 0, (2, 0, 1), (0, 0, 1))?);
     Ok(())
 }

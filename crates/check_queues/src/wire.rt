@@ -1,3 +1,2 @@
 //! Tests of wires.
-mod by_hand;
 mod loopback;

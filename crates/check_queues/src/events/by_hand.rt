@@ -64,23 +64,6 @@ fn take<R: Wait>(rt: &R, queue: &EventQueue, taker: &mut Taker) -> Taken
     }
 }
 
-// The poster and the takers, where they come back since something is still held.
-fn still_held(
-    queue: &EventQueue,
-    poster: Poster,
-    takers: Vec<Taker>,
-) -> Option<(Poster, Vec<Taker>)>
-    requires poster { poster.queue ≡ queue.now.id }
-    requires takers { All (λ t. t.queue ≡ queue.now.id) takers.items }
-    ensures poster { IfSome result (λ r. r.0.queue ≡ queue.now.id) }
-    ensures takers { IfSome result (λ r. All (λ t. t.queue ≡ queue.now.id) r.1.items) }
-{
-    match queue.settle(poster, takers) {
-        Err((Refusal::StillHeld, poster, takers)) => Some((poster, takers)),
-        _ => None,
-    }
-}
-
 // How many events there were, and how many each of the takers 0 and 1 took. None where it isn't settled.
 fn settle_two(
     alloc: Global,
@@ -134,58 +117,6 @@ fn event_queue_by_hand(rt: HostRuntime) {
     let posted = [Ok(0), Err((Refusal::Full, Some(6)))];
     let taken = [Some((0, Some(5))), None];
     assert!(rt; played(&rt, rt.alloc()) == Some(((0, 1), posted, taken, (1, 0, 1))));
-}
-
-// Takes the one event by the one taker; the queue is settled once the taker is there too.
-fn take_and_settle<R: Wait>(
-    rt: &R,
-    queue: &EventQueue,
-    poster: Poster,
-    mut takers: Vec<Taker>,
-) -> Option<bool>
-    requires poster { poster.queue ≡ queue.now.id }
-    requires takers { All (λ t. t.queue ≡ queue.now.id) takers.items }
-{
-    let mut zero = last(queue, &mut takers)?;
-    take(rt, queue, &mut zero)?;
-    let (poster, mut takers) = still_held(queue, poster, takers)?;
-    takers.push(zero).ok()?;
-    Some(queue.settle(poster, takers).is_ok())
-}
-
-// Posts one event, with which the queue isn't settled yet.
-fn settled_late<R: Wait>(rt: &R, alloc: Global) -> Option<bool> {
-    let (queue, mut poster, takers) = EventQueue::open(alloc, 2, 1).ok()?;
-    post(rt, &queue, &mut poster, 5).ok()?;
-    let (poster, takers) = still_held(&queue, poster, takers)?;
-    take_and_settle(rt, &queue, poster, takers)
-}
-
-#[test]
-fn settled_once_all_is_taken(rt: HostRuntime) {
-    assert!(rt; settled_late(&rt, rt.alloc()) == Some(true));
-}
-
-// Why a queue of this capacity with so many takers isn't opened.
-fn refusal(alloc: Global, capacity: u32, takers: u32) -> Option<Refusal> {
-    EventQueue::open(alloc, capacity, takers).err()
-}
-
-#[test]
-fn sizes_out_of_range(rt: HostRuntime) {
-    let bad = Some(Refusal::BadConfig);
-    let rows = [
-        (0, 2, bad),
-        (65_537, 2, bad),
-        (1, 0, bad),
-        (1, 17, bad),
-        (1, 1, None),
-        (65_536, 16, None),
-    ];
-    for (capacity, takers, wanted) in rows {
-        let why = refusal(rt.alloc(), capacity, takers);
-        assert!(rt; why == wanted, "at {capacity} and {takers}");
-    }
 }
 
 // Whether a queue of four takers is settled at once.

@@ -218,58 +218,9 @@ fn account_of(zero: u32, one: u32) -> Account {
     }
 }
 
-// Settles without the seats, which doesn't go, and then with them. The account.
-fn settle_late(
-    alloc: Global,
-    queue: &SubmitQueue,
-    zero: Seat,
-    one: Seat,
-    drain: Drain,
-) -> Option<Account>
-    requires seats { IsSeatOf queue.now zero × IsSeatOf queue.now one }
-    requires drain { IsDrainOf queue.now drain }
-{
-    let (drain, _) = still_held(queue, drain, Vec::new(alloc))?;
-    let finished = both(alloc, queue, zero, one).ok()?;
-    queue.settle(drain, finished).ok()
-}
-
-// The seats' numbers, what an empty queue gives, and the account where the seats were missing at first.
-fn without_orders<R: Wait>(rt: &R, alloc: Global) -> Option<(u8, u8, Answer, Account)> {
-    let (queue, zero, one, mut drain) = two_seats(alloc)?;
-    let nothing = take(rt, &queue, &mut drain);
-    let (first, second) = (zero.number(), one.number());
-    let account = settle_late(alloc, &queue, zero, one, drain)?;
-    Some((first, second, nothing, account))
-}
-
-#[test]
-fn a_seat_is_missing(rt: HostRuntime) {
-    let expected = (0, 1, Answer::Nothing, account_of(0, 0));
-    assert!(rt; without_orders(&rt, rt.alloc()) == Some(expected));
-}
-
 // Why a queue isn't opened.
 fn refusal(alloc: Global, capacity: u32, seats: u32, per_seat: u32) -> Option<Refusal> {
     SubmitQueue::open(alloc, capacity, seats, per_seat).err()
-}
-
-#[test]
-fn numbers_out_of_range(rt: HostRuntime) {
-    let bad = Some(Refusal::BadConfig);
-    let rows = [
-        (0, 2, 1, bad),
-        (65_537, 2, 1, bad),
-        (8, 0, 1, bad),
-        (8, 17, 1, bad),
-        (8, 2, 0, bad),
-        (1, 1, 1, None),
-        (65_536, 16, u32::MAX, None),
-    ];
-    for (capacity, seats, per_seat, wanted) in rows {
-        let why = refusal(rt.alloc(), capacity, seats, per_seat);
-        assert!(rt; why == wanted, "at {capacity} {seats} {per_seat}");
-    }
 }
 
 // What the first submission to a queue and a take are answered.

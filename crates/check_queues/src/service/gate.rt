@@ -1,21 +1,20 @@
 //! A game thread gets on while the service is inside its wire: no lock stands round host and queues.
 ghost use Rattle.std.specs.Prelude.{◌≡◌, IfSome};
-ghost use Rattle.enet_submit.specs.Words.{IsSeatOf, IsDrainOf};
 
 use super::{FAR, PEER, done, joined, packet};
-use crate::{
-    Bell, Desk, HostCore, Inbox, MioWire, QueueSink, QueueSource, Report, Service, TakerBell, Wire,
-    run_between_queues,
-};
+use crate::bridge::{bell, one_seat};
 use bytes::Bytes;
 use enet_events::{EventQueue, Poster, Taker};
-use enet_submit::{Drain, Seat, SubmitQueue};
+use enet_service::{
+    Bell, Desk, HostCore, Inbox, QueueSink, QueueSource, Report, Service, TakerBell, Wire,
+    run_between_queues,
+};
 use enet_types::{Addr, Refusal};
 use std::alloc::Global;
+use std::net::Net;
 use std::sync::Wait;
 use std::sync::atomic::AtomicBool;
 use std::sync::atomic::Ordering::SeqCst;
-use std::test::Fail;
 use std::thread;
 use std::thread::Threads;
 use std::time::Clock;
@@ -120,15 +119,6 @@ fn play<R: Wait>(rt: &R, gate: &Gate, mut desk: Desk, mut inbox: Inbox) -> bool 
     desk.is_empty()
 }
 
-// A queue of one seat.
-fn one_seat(alloc: Global) -> Option<(SubmitQueue, Seat, Drain)>
-    ensures { IfSome result (λ r. IsSeatOf r.0 r.1 × IsDrainOf r.0 r.2) }
-{
-    let (queue, mut seats, drain) = SubmitQueue::open(alloc, 9, 1, 9).ok()?;
-    let seat = seats.pop()?;
-    Some((queue, seat, drain))
-}
-
 // A queue of one taker.
 fn one_taker(alloc: Global) -> Option<(EventQueue, Poster, Taker)>
     ensures poster { IfSome result (λ r. r.1.queue ≡ r.0.id) }
@@ -192,7 +182,7 @@ fn side_by_side<R: Threads + Wait + Clock + Sync>(
 
 fn both<R: Threads + Wait + Clock + Sync>(rt: &R, alloc: Global, bell: &Bell) -> Option<Both> {
     let taker_bell = TakerBell::new();
-    let (orders, seat, drain) = one_seat(alloc)?;
+    let (orders, seat, drain) = one_seat(alloc, 9)?;
     let (events, poster, taker) = one_taker(alloc)?;
     let game = (
         Desk::new(alloc, &orders, seat, bell),
@@ -205,14 +195,13 @@ fn both<R: Threads + Wait + Clock + Sync>(rt: &R, alloc: Global, bell: &Bell) ->
     Some(side_by_side(rt, alloc, game, service))
 }
 
+fn beside_a_bell<R: Threads + Wait + Clock + Sync + Net + AllocGlobal>(rt: &R) -> Option<Both> {
+    let bell = bell(rt).ok()?;
+    both(rt, rt.alloc(), &bell)
+}
+
 #[test]
-fn gate_submit_during_recv(rt: HostRuntime) -> Result<(), Fail> {
-    let here = Addr {
-        ip: 0x7f00_0001,
-        port: 0,
-    };
-    let bell = MioWire::bind(&rt, here)?.bell()?;
+fn gate_submit_during_recv(rt: HostRuntime) {
     let done = done(1, 1, 2, 0, 1);
-    assert!(rt; both(&rt, rt.alloc(), &bell) == Some((true, Some((done, 2)))));
-    Ok(())
+    assert!(rt; beside_a_bell(&rt) == Some((true, Some((done, 2)))));
 }

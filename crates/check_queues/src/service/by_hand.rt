@@ -1,14 +1,13 @@
 //! Turns and runs over memory, by hand.
 
 use super::{FAR, PEER, Stand, done, packet, stand_of, turn, wire_fault};
-use crate::{Fault, MemorySink, MemoryWire, Report, Sink, Step, Told, Wire, run};
 use bytes::Bytes;
+use enet_service::{Fault, MemorySink, MemoryWire, Report, Sink, Step, Told, Wire, run};
 use enet_submit::Order;
 use enet_types::{Event, PeerRef, Refusal};
 use std::alloc::{AllocError, Global};
 use std::collections::VecDeque;
 use std::sync::Wait;
-use std::test::Fail;
 use std::time::Clock;
 
 const HELLO: &[u8] = b"\x80\x00\x00\x64\x86\x00\x00\x01\x00\x05hello";
@@ -67,13 +66,21 @@ fn goes_on_after_a_fault<R: Wait>(rt: &R, wire: &mut MemoryWire, stand: &mut Sta
         && is_hello(stand.sink.take())
 }
 
+// A datagram, and then a fault.
+fn datagram_and_fault(alloc: Global) -> Result<Vec<Step>, AllocError> {
+    let steps = vec![in alloc; datagram(HELLO), Step::Fault]?;
+    Ok(steps)
+}
+
+fn fault_in_a_turn<R: Wait>(rt: &R, alloc: Global) -> Option<bool> {
+    let mut wire = wire(alloc, datagram_and_fault(alloc).ok()?).ok()?;
+    let mut stand = without_orders(alloc)?;
+    Some(goes_on_after_a_fault(rt, &mut wire, &mut stand))
+}
+
 #[test]
-fn wire_fault_in_a_turn(rt: HostRuntime) -> Result<(), Fail> {
-    let steps = vec![in rt.alloc(); datagram(HELLO), Step::Fault]?;
-    let mut wire = wire(rt.alloc(), steps)?;
-    let mut stand = without_orders(rt.alloc()).ok_or("memory")?;
-    assert!(rt; goes_on_after_a_fault(&rt, &mut wire, &mut stand));
-    Ok(())
+fn wire_fault_in_a_turn(rt: HostRuntime) {
+    assert!(rt; fault_in_a_turn(&rt, rt.alloc()) == Some(true));
 }
 
 // A turn whose send blocks, and one half a second later, which sends again.
@@ -83,14 +90,29 @@ fn sends_again<R: Wait>(rt: &R, wire: &mut MemoryWire, stand: &mut Stand) -> boo
         && last_sent(wire) == Some(RESENT)
 }
 
+// This step alone.
+fn one(alloc: Global, step: Step) -> Result<Vec<Step>, AllocError> {
+    let mut steps = Vec::new(alloc);
+    steps.push(step)?;
+    Ok(steps)
+}
+
+// A packet to the peer alone.
+fn one_packet(alloc: Global) -> Result<Vec<Order>, AllocError> {
+    let mut orders = Vec::new(alloc);
+    orders.push(packet(PEER, Bytes::from_static(b"a")))?;
+    Ok(orders)
+}
+
+fn blocked_send<R: Wait>(rt: &R, alloc: Global) -> Option<bool> {
+    let mut wire = wire(alloc, one(alloc, Step::Block).ok()?).ok()?;
+    let mut stand = stand_of(alloc, one_packet(alloc).ok()?, 9)?;
+    Some(sends_again(rt, &mut wire, &mut stand))
+}
+
 #[test]
-fn a_send_that_blocks(rt: HostRuntime) -> Result<(), Fail> {
-    let steps = vec![in rt.alloc(); Step::Block]?;
-    let mut wire = wire(rt.alloc(), steps)?;
-    let orders = vec![in rt.alloc(); packet(PEER, Bytes::from_static(b"a"))]?;
-    let mut stand = stand_of(rt.alloc(), orders, 9).ok_or("memory")?;
-    assert!(rt; sends_again(&rt, &mut wire, &mut stand));
-    Ok(())
+fn a_send_that_blocks(rt: HostRuntime) {
+    assert!(rt; blocked_send(&rt, rt.alloc()) == Some(true));
 }
 
 // A packet to nobody, and one to the peer.
@@ -133,12 +155,15 @@ fn waits_for_room<R: Wait>(rt: &R, wire: &mut MemoryWire, stand: &mut Stand) -> 
         && refused(stand.sink.take()) == Some((3, 0, Refusal::NoSuchPeer))
 }
 
+fn waiting_event<R: Wait>(rt: &R, alloc: Global) -> Option<bool> {
+    let mut wire = wire(alloc, Vec::new(alloc)).ok()?;
+    let mut stand = stand_of(alloc, two_packets(alloc).ok()?, 1)?;
+    Some(waits_for_room(rt, &mut wire, &mut stand))
+}
+
 #[test]
-fn an_event_that_waits(rt: HostRuntime) -> Result<(), Fail> {
-    let mut wire = wire(rt.alloc(), Vec::new(rt.alloc()))?;
-    let mut stand = stand_of(rt.alloc(), two_packets(rt.alloc())?, 1).ok_or("memory")?;
-    assert!(rt; waits_for_room(&rt, &mut wire, &mut stand));
-    Ok(())
+fn an_event_that_waits(rt: HostRuntime) {
+    assert!(rt; waiting_event(&rt, rt.alloc()) == Some(true));
 }
 
 // A run of three turns.
@@ -166,14 +191,38 @@ fn two_datagrams(alloc: Global) -> Result<Vec<Step>, AllocError> {
     Ok(steps)
 }
 
+// What a run came to, and how many calls of its wire failed.
+type Ran = (Result<Report, Fault>, u64);
+
+// A run of three turns over a wire on which these steps come to pass.
+fn run_over<R: Wait + Clock>(
+    rt: &R,
+    alloc: Global,
+    steps: Vec<Step>,
+    stand: &mut Stand,
+) -> Option<Ran> {
+    let mut wire = wire(alloc, steps).ok()?;
+    let sums = three_turns(rt, &mut wire, stand);
+    Some((sums, wire.failures()))
+}
+
+// A run with two datagrams, and one with a fault.
+fn two_runs<R: Wait + Clock>(rt: &R, alloc: Global, stand: &mut Stand) -> Option<[Ran; 2]> {
+    let first = run_over(rt, alloc, two_datagrams(alloc).ok()?, stand)?;
+    let second = run_over(rt, alloc, one(alloc, Step::Fault).ok()?, stand)?;
+    Some([first, second])
+}
+
+fn runs<R: Wait + Clock>(rt: &R, alloc: Global) -> Option<[Ran; 2]> {
+    let mut stand = without_orders(alloc)?;
+    two_runs(rt, alloc, &mut stand)
+}
+
 #[test]
-fn a_run_and_its_faults(rt: HostRuntime) -> Result<(), Fail> {
-    let mut first = wire(rt.alloc(), two_datagrams(rt.alloc())?)?;
-    let mut second = wire(rt.alloc(), vec![in rt.alloc(); Step::Fault]?)?;
-    let mut stand = without_orders(rt.alloc()).ok_or("memory")?;
-    assert!(rt; three_turns(&rt, &mut first, &mut stand) == Ok(done(0, 2, 2, 0, 2)));
-    let sums = three_turns(&rt, &mut second, &mut stand);
-    assert!(rt; sums == wire_fault(done(0, 0, 0, 0, 0)));
-    assert!(rt; second.failures() == 1);
-    Ok(())
+fn a_run_and_its_faults(rt: HostRuntime) {
+    let expected = [
+        (Ok(done(0, 2, 2, 0, 2)), 0),
+        (wire_fault(done(0, 0, 0, 0, 0)), 1),
+    ];
+    assert!(rt; runs(&rt, rt.alloc()) == Some(expected));
 }

@@ -4,8 +4,8 @@ mod failing;
 mod gate;
 mod loopback;
 
-use crate::{Fault, HostCore, MemorySink, MemorySource, Report, Service, Wire};
 use bytes::Bytes;
+use enet_service::{Fault, HostCore, MemorySink, MemorySource, Report, Service, Wire};
 use enet_submit::{Order, Submission};
 use enet_types::{Addr, Config, PeerRef, Refusal};
 use std::alloc::{AllocError, Global};
