@@ -2,8 +2,8 @@
 
 use crate::drawing::CHANNELS;
 use crate::list::Happened;
-use enet_world::{Side, World};
 use enet_types::{Event, Packet};
+use enet_world::{Side, World};
 use std::fmt;
 
 /// What was seen of some lists. The counts stop at 2^64 - 1.

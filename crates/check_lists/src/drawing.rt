@@ -3,8 +3,8 @@
 ghost use Rattle.std.specs.Prelude.{◌<◌, ◌≤◌};
 
 use bytes::Bytes;
-use enet_world::{Side, WorldEvent};
 use enet_types::{DisconnectMode, PeerRef};
+use enet_world::{Side, WorldEvent};
 use rand_core::{Rng, SeedableRng};
 use rand_pcg::Pcg32;
 use std::alloc::{AllocError, Global};

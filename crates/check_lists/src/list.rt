@@ -2,8 +2,8 @@
 
 use crate::drawing::{Draw, Known, Setting};
 use anyhow::{Result, bail};
-use enet_world::{Answer, Side, World, WorldEvent};
 use enet_types::{Config, Event, PeerRef, Refusal};
+use enet_world::{Answer, Side, World, WorldEvent};
 use std::alloc::Global;
 
 /// How many events a list has.

@@ -3,8 +3,8 @@
 use crate::list::stepped;
 use anyhow::Result;
 use bytes::Bytes;
-use enet_world::{Answer, Side, World, WorldEvent};
 use enet_types::{Config, PeerRef, Received, Refusal, Stop};
+use enet_world::{Answer, Side, World, WorldEvent};
 use std::alloc::Global;
 
 /// The mtu and the greatest packet of a host, in bytes, the length of a packet, and whether it is too large.

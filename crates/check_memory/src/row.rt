@@ -2,9 +2,9 @@
 
 use crate::fault::Fault;
 use crate::seen::Seen;
-use enet_world::{Answer, Side, World, WorldEvent, side_of};
 use enet_lines::{Line, outcome_text, read_line};
 use enet_types::{Config, Received, Refusal, Stop};
+use enet_world::{Answer, Side, World, WorldEvent, side_of};
 use std::alloc::Global;
 
 /// What came of an event.

@@ -1,7 +1,7 @@
 //! What the reading calls of a world tell, as one number.
 
-use enet_world::{Side, World};
 use enet_types::{Event, Packet};
+use enet_world::{Side, World};
 
 /// How many connections, channels and datagrams of a side are read. No row has more.
 const CONNECTIONS: u64 = 2;

@@ -27,7 +27,7 @@ missing_in (false ∷ rest) = suc (missing_in rest)
 abbrev pub written_at : ℕ → List ℕ → List ℕ → List ℕ
 written_at offset bytes buffer = take offset buffer ++ (bytes ++ drop (offset + length bytes) buffer)
 
--- the packet in the making that an assembly's fields stand for
+-- the packet in pieces that an assembly's fields stand for
 abbrev pub making_of : List ℕ → List Bool → Option ℕ → PartialPacket
 making_of bytes came cut = record { total = length bytes; cut = cut; pieces = pieces_in (unwrap_or cut 0) bytes came }
 

@@ -1,11 +1,11 @@
--- What the state of a gathering means.
+-- What the state of a `PartialPacket` means.
 use Rattle.std.specs.Prelude.{◌≡◌, ◌<◌, ◌≤◌, ◌^◌, false, length, IsSome}
 use Rattle.enet_fragment.specs.declared.partial_packet.State.{State}
 use Rattle.enet_fragment.specs.declared.partial_packet.State.TheVariants.{Missing, Whole}
 use Rattle.enet_fragment.specs.PartialPacket.{PartialPacket}
 use Rattle.enet_fragment.specs.Whole.{is_whole, whole_of}
 
--- the packet in the making that it stands for
+-- the packet in pieces that it stands for
 abbrev pub gathered : State → PartialPacket
 gathered (Missing assembly) = assembly
 gathered (Whole body count cut) = whole_of body count cut

@@ -1,4 +1,4 @@
--- A packet in the making: what a receiver knows of a packet whose pieces are coming.
+-- A packet in pieces: what a receiver knows of a packet whose pieces are coming.
 use Rattle.std.specs.Prelude.{ℕ, ◌==◌, ◌&&◌, if◌then◌else◌, Bool, true, Option, Some, None, List, [], ◌∷◌, ◌++◌, length, replicate, slice_set, slice_index_or, is_some, IsSome, unwrap_or, All, refl}
 use Rattle.std.specs.Coded.{Coded, code_by, coded×, coded_ℕ, coded_list, coded_option}
 use Rattle.std.specs.List.{list_all}
@@ -14,7 +14,7 @@ pub record PartialPacket : Type 0 where
   pub cut : Option ℕ
   pub pieces : List (Option (List ℕ))
 
--- a packet in the making is stored as its fields, which models that hold such packets need
+-- a packet in pieces is stored as its fields, which models that hold such packets need
 abbrev pub partial_packet_code : Coded PartialPacket
 partial_packet_code =
     code_by (ℕ × (Option ℕ × List (Option (List ℕ))))

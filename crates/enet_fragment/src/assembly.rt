@@ -24,7 +24,7 @@ pub enum Put {
     Bad,
 }
 
-/// A packet in the making. Contracts see it as a `PartialPacket`: its length, the length of its pieces once one of them has told
+/// A packet in pieces. Contracts see it as a `PartialPacket`: its length, the length of its pieces once one of them has told
 /// it, and the bytes of the pieces that have come, by their numbers.
 #[derive(Drop)]
 pub struct Assembly {

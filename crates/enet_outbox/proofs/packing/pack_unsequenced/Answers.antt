@@ -15,8 +15,8 @@ pub returns-then-from : goal.returns-then-from
 returns-then-from c = λ f h e1 e2 e3.
     leads-by (repeated-closed (length f.outbox.unsequenced) with_one_unsequenced f (h.is_closed ∙ c.if-from.true)) h
     (ap (λ (us : List Unsequenced). record f.outbox { unsequenced = us }) e1
-        ∙ ap (λ (t : Throttling). record f.outbox { unsequenced = c.args.unsequenced.now.items; throttle = t }) e2
-        ∙ ap (λ (l : Option ℕ). record f.outbox { unsequenced = c.args.unsequenced.now.items; throttle = c.args.throttle.now; last = l }) e3)
+    ∙ ap (λ (t : Throttling). record f.outbox { unsequenced = c.args.unsequenced.now.items; throttle = t }) e2
+    ∙ ap (λ (l : Option ℕ). record f.outbox { unsequenced = c.args.unsequenced.now.items; throttle = c.args.throttle.now; last = l }) e3)
 
 pub packets-preserved : goal.packets-preserved
 packets-preserved c = λ f h e1 e2 e3.
