@@ -8,11 +8,11 @@ use Rattle.enet_types.specs.declared.refusal.Refusal.TheVariants.{Memory, BadCon
 use Rattle.enet_types.specs.Config.{is_in_range}
 use Rattle.enet_world.specs.Worlds.{Begun, begun}
 use Rattle.enet_lab.specs.declared.fault.LabFault.{LabFault}
-use Rattle.enet_lab.specs.declared.fault.LabFault.TheVariants.{BadScript}
+use Rattle.enet_lab.specs.declared.fault.LabFault.TheVariants as faults
 use Rattle.enet_lab.specs.declared.script.Stage.{Stage}
 use Rattle.enet_lab.specs.declared.script.Stage.TheVariants.{Empty}
 use Rattle.enet_lab.specs.Lines.{Makes, Begins, Opens}
-use Rattle.enet_lab.specs.Scripts.{IsStopped, Wrote}
+use Rattle.enet_lab.specs.Scripts.{IsPart, IsStopped, Wrote}
 
 makes_by : (joined : Bool) (a b : Config) (made : Result Begun Refusal) (r : Bool) → (is_in_range a && is_in_range b) ≡ r
     → ((is_in_range a && is_in_range b) ≡ false → made ≡ Err BadConfig) → ((is_in_range a && is_in_range b) ≡ true → IfErr made (λ why. why ≡ Memory))
@@ -30,18 +30,28 @@ opened (Ok answer) text old new joined a b made empty bad good is h =
 opened (Err fault) text old new joined a b made empty bad good is h = tt
 
 -- what was written stays so
-pub kept : (o a b c : Option (List ℕ)) (number : ℕ) → IfSome o (λ script. Wrote a b (λ wrote. IsStopped script wrote number)) → Keeps b c
-    → IfSome o (λ script. Wrote a c (λ wrote. IsStopped script wrote number))
-kept None a b c number h k = tt
-kept (Some script) a b c number h k = (h.0, Appends-kept a b c h.0 h.1 k, h.2)
+kept : (P : List ℕ → List ℕ → Type 0) (o a b c : Option (List ℕ)) → IfSome o (λ script. Wrote a b (P script)) → Keeps b c → IfSome o (λ script. Wrote a c (P script))
+kept P None a b c h k = tt
+kept P (Some script) a b c h k = (h.0, Appends-kept a b c h.0 h.1 k, h.2)
 
 pub still_stopped : {T : Type 0} (r : Result T LabFault) (o a b c : Option (List ℕ))
-    → IfErr r (λ fault. (number : ℕ) → fault ≡ BadScript number → IfSome o (λ script. Wrote a b (λ wrote. IsStopped script wrote number))) → Keeps b c
-    → IfErr r (λ fault. (number : ℕ) → fault ≡ BadScript number → IfSome o (λ script. Wrote a c (λ wrote. IsStopped script wrote number)))
+    → IfErr r (λ fault. (number : ℕ) → fault ≡ faults.BadScript number → IfSome o (λ script. Wrote a b (λ wrote. IsStopped script wrote number))) → Keeps b c
+    → IfErr r (λ fault. (number : ℕ) → fault ≡ faults.BadScript number → IfSome o (λ script. Wrote a c (λ wrote. IsStopped script wrote number)))
 still_stopped (Ok x) o a b c h k = tt
-still_stopped (Err fault) o a b c h k = λ number is. kept o a b c number (h number is) k
+still_stopped (Err fault) o a b c h k = λ number is. kept (λ script wrote. IsStopped script wrote number) o a b c (h number is) k
+
+pub still_short : {T : Type 0} (r : Result T LabFault) (o a b c : Option (List ℕ))
+    → IfErr r (λ fault. fault ≡ faults.Memory → IfSome o (λ script. Wrote a b (IsPart script))) → Keeps b c
+    → IfErr r (λ fault. fault ≡ faults.Memory → IfSome o (λ script. Wrote a c (IsPart script)))
+still_short (Ok x) o a b c h k = tt
+still_short (Err fault) o a b c h k = λ is. kept IsPart o a b c (h is) k
 
 -- what is said of a fault is said of the one that is handed on
 pub through : {T : Type 0} (r : Result T LabFault) (fault : LabFault) (P : LabFault → Type 0) → IsErrAnd r (λ e. e ≡ fault) → P fault → IfErr r P
 through (Ok x) fault P is h = tt
 through (Err e) fault P is h = subst P (sym is) h
+
+-- what is so anyway is so of a fault
+pub of_any : {T : Type 0} (r : Result T LabFault) {P : Type 0} → P → IfErr r (λ fault. fault ≡ faults.Memory → P)
+of_any (Ok x) h = tt
+of_any (Err e) h = λ is. h

@@ -7,7 +7,7 @@ use lib.Seq.{drop-cons}
 use Rattle.enet_lab.specs.declared.script.Stage.{Stage}
 use Rattle.enet_lab.specs.declared.script.Stage.TheVariants.{Empty}
 use Rattle.enet_lab.specs.Lines.{RunsLine, can_read}
-use Rattle.enet_lab.specs.Scripts.{RunsLines, HasRun, IsStopped, IsLine, EndsLine, with_feed, written_for}
+use Rattle.enet_lab.specs.Scripts.{RunsLines, HasRun, IsPart, IsStopped, IsLine, EndsLine, with_feed, written_for}
 
 -- a list of parts with one more
 flat_map-push : {X : Type 0} (f : X → List ℕ) (xs : List X) (x : X) → flat_map f (xs ++ x ∷ []) ≡ flat_map f xs ++ f x
@@ -65,21 +65,15 @@ ended seen wrote stage count begun text new next h runs is = record {
   count_is = rw (length-append h.lines (begun ∷ [])) (counted count (length h.lines) next h.count_is is);
 }
 
+-- so much of a script was run
+pub partly : (seen wrote : List ℕ) (stage : Stage) (count : ℕ) (line rest : List ℕ) → HasRun seen wrote stage count line → IsPart (seen ++ rest) wrote
+partly seen wrote stage count line rest h = record { seen = seen; stage = stage; count = count; line = line; so_far = h; rest = rest; script_is = refl }
+
 -- a line that can't be read
 pub stopped : (seen wrote : List ℕ) (stage : Stage) (count : ℕ) (line rest : List ℕ) (number : ℕ) → HasRun seen wrote stage count line
     → can_read stage line ≡ false → number ≡ min (count + 1) 4294967295 → EndsLine rest → IsStopped (seen ++ rest) wrote number
-stopped seen wrote stage count line rest number h bad is ends = record {
-  seen = seen;
-  stage = stage;
-  count = count;
-  line = line;
-  so_far = h;
-  rest = rest;
-  script_is = refl;
-  ends = ends;
-  unreadable = bad;
-  number_is = is;
-}
+unfolding partly
+stopped seen wrote stage count line rest number h bad is ends = record { part = partly seen wrote stage count line rest h; ends = ends; unreadable = bad; number_is = is }
 
 -- ---- byte i of some bytes, those before it being seen
 
@@ -99,13 +93,19 @@ pub grown : (seen wrote bytes : List ℕ) (i : ℕ) (stage : Stage) (count : ℕ
 grown seen wrote bytes i stage count begun within other h =
     rw (seen_more seen bytes i (get_or bytes i 0) within refl) (more (seen ++ take i bytes) wrote stage count begun (get_or bytes i 0) h other)
 
+split_at : (seen bytes later : List ℕ) (i : ℕ) → (seen ++ bytes) ++ later ≡ (seen ++ take i bytes) ++ (drop i bytes ++ later)
+split_at seen bytes later i =
+    ap (λ l. (seen ++ l) ++ later) (sym (take-append-drop i bytes)) ∙ ap (λ l. l ++ later) (sym (append_assoc seen (take i bytes) (drop i bytes)))
+    ∙ append_assoc (seen ++ take i bytes) (drop i bytes) later
+
+pub partly_at : (seen wrote bytes later : List ℕ) (i : ℕ) (stage : Stage) (count : ℕ) (line : List ℕ)
+    → HasRun (seen ++ take i bytes) wrote stage count line → IsPart ((seen ++ bytes) ++ later) wrote
+partly_at seen wrote bytes later i stage count line h = rw (split_at seen bytes later i) (partly (seen ++ take i bytes) wrote stage count line (drop i bytes ++ later) h)
+
 pub stopped_at : (seen wrote bytes later : List ℕ) (i : ℕ) (stage : Stage) (count : ℕ) (line : List ℕ) (number : ℕ) → i < length bytes → get_or bytes i 0 ≡ 10
     → HasRun (seen ++ take i bytes) wrote stage count line → can_read stage line ≡ false → number ≡ min (count + 1) 4294967295
     → IsStopped ((seen ++ bytes) ++ later) wrote number
 stopped_at seen wrote bytes later i stage count line number within is h bad counts =
     let rest = drop i bytes ++ later in
-    let split : (seen ++ bytes) ++ later ≡ (seen ++ take i bytes) ++ rest =
-    ap (λ l. (seen ++ l) ++ later) (sym (take-append-drop i bytes)) ∙ ap (λ l. l ++ later) (sym (append_assoc seen (take i bytes) (drop i bytes)))
-    ∙ append_assoc (seen ++ take i bytes) (drop i bytes) later in
     let ends : EndsLine rest = rw (drop-cons bytes i 0 within) is in
-    rw split (stopped (seen ++ take i bytes) wrote stage count line rest number h bad counts ends)
+    rw (split_at seen bytes later i) (stopped (seen ++ take i bytes) wrote stage count line rest number h bad counts ends)

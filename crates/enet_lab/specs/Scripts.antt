@@ -52,8 +52,8 @@ pub record IsRun (script wrote : List ℕ) : Type 0 where
   pub runs : RunsLine stage last text new
   pub wrote_is : wrote ≡ before ++ written_for text
 
--- The script was run up to this line, counted from 1, which is the first that can't be read. The count stops at 4,294,967,295.
-pub record IsStopped (script wrote : List ℕ) (number : ℕ) : Type 0 where
+-- A script was run so far: lines of it from its beginning, and what was written is what answers them.
+pub record IsPart (script wrote : List ℕ) : Type 0 where
   pub seen : List ℕ
   pub stage : Stage
   pub count : ℕ
@@ -61,9 +61,13 @@ pub record IsStopped (script wrote : List ℕ) (number : ℕ) : Type 0 where
   pub so_far : HasRun seen wrote stage count line
   pub rest : List ℕ
   pub script_is : script ≡ seen ++ rest
-  pub ends : EndsLine rest
-  pub unreadable : can_read stage line ≡ false
-  pub number_is : number ≡ min (count + 1) 4294967295
+
+-- The script was run up to this line, counted from 1, which is the first that can't be read. The count stops at 4,294,967,295.
+pub record IsStopped (script wrote : List ℕ) (number : ℕ) : Type 0 where
+  pub part : IsPart script wrote
+  pub ends : EndsLine part.rest
+  pub unreadable : can_read part.stage part.line ≡ false
+  pub number_is : number ≡ min (part.count + 1) 4294967295
 
 -- What a read gave of these bytes.
 abbrev pub given : Option ℕ → List ℕ → List ℕ

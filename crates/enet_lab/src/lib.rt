@@ -3,10 +3,11 @@
 //! Proved: `lab` returns for every script and every reader and writer. Where both tell their bytes and it ends with Ok, the whole
 //! script was run (`IsRun`): each line spells what it does by `enet_lines`, the first that isn't passed over makes the world, each
 //! further one is one step of it, and what is written is the text of each answer with a line feed. Where it ends with BadScript, that
-//! is so up to the first line that can't be read, whose number is told (`IsStopped`).
+//! is so up to the first line that can't be read, whose number is told (`IsStopped`); where it ends with Memory, what is written is the
+//! answers of lines from the script's beginning on (`IsPart`).
 //! Only tested, by scripts/rows and `check_lab`: that calls succeed with ample memory, worked scripts with what is written, and that a
 //! read, a write or a flush that fails is told.
-//! Neither: what was written before the lab ran out of memory, or reading or writing failed.
+//! Neither: what was written before reading or writing failed.
 #![tactic(auto)]
 
 mod fault;

@@ -4,7 +4,7 @@ ghost use Rattle.std.specs.Prelude.{◌≡◌, ◌≤◌, ◌+◌, ◌++◌, ℕ
 ghost use Rattle.std.specs.Io.KnownBytes.{Keeps, Consumes, IsAtEnd};
 ghost use Rattle.enet_lab.specs.declared.script.Stage.TheVariants as stages;
 ghost use Rattle.enet_lab.specs.Lines.{RunsLine, can_read};
-ghost use Rattle.enet_lab.specs.Scripts.{HasRun, IsRun, IsStopped, Wrote, given, written_for};
+ghost use Rattle.enet_lab.specs.Scripts.{HasRun, IsPart, IsRun, IsStopped, Wrote, given, written_for};
 
 use crate::fault::LabFault;
 use crate::script::Script;
@@ -21,6 +21,7 @@ fn run_line<W: Write>(script: &mut Script, line: &[u8], writer: &mut W) -> Resul
     ensures counted { script.new.lines ≡ min (script.old.lines + 1) 4294967295 }
     ensures stopped { IfErr result (λ fault. (number : ℕ) → fault ≡ LabFault.BadScript number
         → (number ≡ script.new.lines) × (can_read script.old.stage line.now ≡ false) × Keeps (W.contents writer.old) (W.contents writer.new)) }
+    ensures short { IfErr result (λ fault. fault ≡ LabFault.Memory → Keeps (W.contents writer.old) (W.contents writer.new)) }
 {
     let Some(mut answer) = script.run(line)? else {
         return Ok(());
@@ -45,6 +46,9 @@ fn take_in<W: Write>(
         → Wrote (W.contents writer.old) (W.contents writer.new) (λ more.
         (seen wrote later : List ℕ) → HasRun seen wrote script.old.stage script.old.lines line.old.items
         → IsStopped (seen ++ bytes.now ++ later) (wrote ++ more) number)) }
+    ensures short { IfErr result (λ fault. fault ≡ LabFault.Memory → Wrote (W.contents writer.old) (W.contents writer.new) (λ more.
+        (seen wrote later : List ℕ) → HasRun seen wrote script.old.stage script.old.lines line.old.items
+        → IsPart (seen ++ bytes.now ++ later) (wrote ++ more))) }
 {
     for byte in bytes {
         if *byte == b'\n' {
@@ -86,6 +90,8 @@ fn run_script<R: Read, W: Write>(
     ensures stopped { IfErr result (λ fault. (number : ℕ) → fault ≡ LabFault.BadScript number
         → IfSome (R.remaining reader.old) (λ script.
         Wrote (W.contents writer.old) (W.contents writer.new) (λ wrote. IsStopped script wrote number))) }
+    ensures short { IfErr result (λ fault. fault ≡ LabFault.Memory → IfSome (R.remaining reader.old) (λ script.
+        Wrote (W.contents writer.old) (W.contents writer.new) (IsPart script))) }
 {
     let mut line = Vec::new(alloc);
     let mut buf = [0u8; 4096];
@@ -115,6 +121,8 @@ pub fn lab<R: Read, W: Write>(alloc: Global, reader: &mut R, writer: &mut W) -> 
     ensures stopped { IfErr result (λ fault. (number : ℕ) → fault ≡ LabFault.BadScript number
         → IfSome (R.remaining reader.old) (λ script.
         Wrote (W.contents writer.old) (W.contents writer.new) (λ wrote. IsStopped script wrote number))) }
+    ensures short { IfErr result (λ fault. fault ≡ LabFault.Memory → IfSome (R.remaining reader.old) (λ script.
+        Wrote (W.contents writer.old) (W.contents writer.new) (IsPart script))) }
 {
     let mut script = Script::new(alloc);
     let outcome = run_script(alloc, &mut script, reader, writer);
