@@ -16,7 +16,7 @@ use enet_world::{World, side_of};
 use std::alloc::{AllocError, Global};
 use std::mem::replace;
 
-/// What the lines so far have made. It is let go by `close` alone, as a world is.
+/// What the lines so far have made. It is let go by `close` alone, so that how a world is dropped is not proved here again.
 pub enum Stage {
     /// Nothing: `pair` or `open` is still to come.
     Empty,
