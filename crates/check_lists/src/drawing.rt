@@ -15,6 +15,9 @@ const SLOTS: u16 = 3;
 /// How many channels a connection has at most.
 pub const CHANNELS: u8 = 3;
 
+/// From this event on a list connects, disconnects and submits nothing more.
+const CALM: u32 = 120;
+
 /// What a datagram needs in bytes beside a piece of a packet.
 const OVERHEAD: u32 = 28;
 
@@ -47,6 +50,8 @@ pub struct Known {
     pub first: u64,
     /// The peer that connected last.
     connected: PeerRef,
+    /// Whether it has no Disconnect yet.
+    stands: bool,
     /// The generation of the last peer of each slot.
     generations: [u32; SLOTS as usize],
 }
@@ -60,6 +65,7 @@ impl Known {
                 slot: 0,
                 generation: 0,
             },
+            stands: false,
             generations: [0; SLOTS as usize],
         }
     }
@@ -75,7 +81,15 @@ impl Known {
     /// A peer of the side has connected.
     pub fn connects(&mut self, name: PeerRef) {
         self.connected = name;
+        self.stands = true;
         self.has_peer(name);
+    }
+
+    /// A peer of the side has disconnected.
+    pub fn disconnects(&mut self, name: PeerRef) {
+        if self.connected == name {
+            self.stands = false;
+        }
     }
 
     /// The name of the last peer of a slot.
@@ -156,7 +170,8 @@ impl Draw {
         if self.below(2) == 0 { Side::A } else { Side::B }
     }
 
-    /// Something that happens at a side, of which so much is known. A list begins with a Connect.
+    /// Something that happens at a side, of which so much is known. A list begins with a Connect; its last events connect,
+    /// disconnect and submit nothing more, so that what is on its way comes.
     pub fn event(
         &mut self,
         alloc: Global,
@@ -168,20 +183,18 @@ impl Draw {
         if number == 0 {
             return Ok(self.connect(side));
         }
+        let is_calm = number >= CALM;
         match self.below(512) {
-            0..8 => Ok(self.connect(side)),
-            8..14 => Ok(self.disconnect(side, known)),
-            14..110 => self.submit(alloc, setting, side, known),
-            110..270 => {
-                let k = self.datagram(known);
-                Ok(WorldEvent::Deliver { side, k })
-            }
-            270..390 => Ok(WorldEvent::Turn { side }),
-            390..410 => {
+            0..6 if !is_calm => Ok(self.connect(side)),
+            6..10 if !is_calm => Ok(self.disconnect(side, known)),
+            10..140 if !is_calm => self.submit(alloc, setting, side, known),
+            140..300 => Ok(self.deliver(side, known)),
+            300..315 => {
                 let ms = self.below(2001);
                 Ok(WorldEvent::Tick { side, ms })
             }
-            _ => Ok(WorldEvent::Take { side }),
+            315..415 => Ok(WorldEvent::Take { side }),
+            _ => Ok(WorldEvent::Turn { side }),
         }
     }
 
@@ -223,15 +236,17 @@ impl Draw {
         }
     }
 
-    /// The number of a datagram that comes: mostly the first after all those that came or the one after that, else one of the
-    /// last four, or any. It may name one that wasn't put out.
-    fn datagram(&mut self, known: Known) -> u64 {
-        match self.below(8) {
-            0..5 if known.first < known.sent => known.first,
-            5 => known.first.saturating_add(1),
-            6 => self.back(known.sent, 4),
-            _ => self.back(known.sent, 1000),
-        }
+    /// A datagram comes: mostly the first after all those that came, else the one after that, one of the last four, or any. It may
+    /// name one that wasn't put out. Where none is on its way the side mostly has its turn instead.
+    fn deliver(&mut self, side: Side, known: Known) -> WorldEvent {
+        let k = match self.below(16) {
+            0 => self.back(known.sent, 1000),
+            1 => self.back(known.sent, 4),
+            2 => known.first.saturating_add(1),
+            _ if known.first < known.sent => known.first,
+            _ => return WorldEvent::Turn { side },
+        };
+        WorldEvent::Deliver { side, k }
     }
 
     /// The number of one of the last few of so many datagrams.
@@ -241,6 +256,7 @@ impl Draw {
         sent.saturating_sub(1).saturating_sub(u64::from(back))
     }
 
+    /// A packet is submitted. Where no peer stands the side mostly has its turn instead.
     fn submit(
         &mut self,
         alloc: Global,
@@ -248,6 +264,9 @@ impl Draw {
         side: Side,
         known: Known,
     ) -> Result<WorldEvent, AllocError> {
+        if !known.stands && self.below(8) != 0 {
+            return Ok(WorldEvent::Turn { side });
+        }
         let peer = self.peer(known);
         let channel = (self.below(255) % u32::from(setting.channels.max(1))) as u8;
         let flags = FLAGS[self.below(8) as usize];

@@ -1,8 +1,9 @@
 //! One list of events in a world of two hosts that know nothing of each other.
 
+use crate::counting::Told;
 use crate::drawing::{Draw, Known, Setting};
-use anyhow::{Result, bail};
-use enet_types::{Config, Event, PeerRef, Refusal};
+use anyhow::bail;
+use enet_types::{Config, Event, Refusal, Stop};
 use enet_world::{Answer, Side, World, WorldEvent};
 use std::alloc::Global;
 
@@ -20,15 +21,14 @@ pub struct Happened {
     pub earlier: u64,
     /// Deliveries refused by E13.
     pub unsent: u64,
+    /// Events refused by E1.
+    pub refused: u64,
+    /// Datagrams stopped by S11.
+    pub stopped: u64,
+    /// Events that weren't drawn, for want of memory for a body.
+    pub undrawn: u64,
     a: Known,
     b: Known,
-}
-
-fn other(side: Side) -> Side {
-    match side {
-        Side::A => Side::B,
-        Side::B => Side::A,
-    }
 }
 
 impl Happened {
@@ -38,6 +38,9 @@ impl Happened {
             late: 0,
             earlier: 0,
             unsent: 0,
+            refused: 0,
+            stopped: 0,
+            undrawn: 0,
             a: Known::nothing(),
             b: Known::nothing(),
         }
@@ -58,11 +61,12 @@ impl Happened {
         }
     }
 
-    /// So many datagrams have been put out to a side.
+    /// A side has put out so many datagrams, to the other.
     fn put_out(&mut self, side: Side, sent: u64) {
-        let mut known = self.known(side);
-        known.sent = sent;
-        self.set_known(side, known);
+        match side {
+            Side::A => self.b.sent = sent,
+            Side::B => self.a.sent = sent,
+        }
     }
 
     /// Datagram `k` comes to a side, if it was put out.
@@ -82,17 +86,22 @@ impl Happened {
                 known.has_peer(*name);
                 self.set_known(side, known);
             }
-            Answer::Sent(Some(number)) => self.put_out(other(side), number.saturating_add(1)),
+            Answer::Sent(Some(number)) => self.put_out(side, number.saturating_add(1)),
             Answer::Taken(Some(Event::Connect { peer, .. })) => {
                 let mut known = self.known(side);
                 known.connects(*peer);
+                self.set_known(side, known);
+            }
+            Answer::Taken(Some(Event::Disconnect { peer, .. })) => {
+                let mut known = self.known(side);
+                known.disconnects(*peer);
                 self.set_known(side, known);
             }
             _ => {}
         }
     }
 
-    fn refused(&mut self, why: Refusal) {
+    fn turned_down(&mut self, why: Refusal) {
         match why {
             Refusal::Late => self.late = self.late.saturating_add(1),
             Refusal::Earlier => self.earlier = self.earlier.saturating_add(1),
@@ -113,13 +122,11 @@ fn config(setting: Setting, peers: u16) -> Config {
     }
 }
 
-/// The world before its list. No clause says what: callers would carry it along.
-pub fn open(alloc: Global, setting: Setting) -> Result<World, Refusal> {
-    World::open(
-        alloc,
-        config(setting, setting.peers_a),
-        config(setting, setting.peers_b),
-    )
+/// The world before its list, or None for want of memory. No clause says what: callers would carry it along.
+pub fn open(alloc: Global, setting: Setting) -> Option<World> {
+    let first = config(setting, setting.peers_a);
+    let second = config(setting, setting.peers_b);
+    World::open(alloc, first, second).ok()
 }
 
 /// Makes an event happen, of which no clause says anything.
@@ -127,25 +134,61 @@ pub fn stepped(world: &mut World, event: WorldEvent) -> Result<Answer, Refusal> 
     world.step(event)
 }
 
-/// A list of events, each of which is drawn and happens. A refused event changes nothing; for want of memory the list ends.
+/// A list of events, each of which is drawn and happens.
 pub fn happens(
     alloc: Global,
     world: &mut World,
     draw: &mut Draw,
     setting: Setting,
-) -> Result<Happened> {
+) -> anyhow::Result<Happened> {
     let mut happened = Happened::nothing();
     for number in 0..EVENTS {
         let side = draw.side();
-        let event = draw.event(alloc, number, setting, side, happened.known(side))?;
-        if let WorldEvent::Deliver { k, .. } = event {
-            happened.comes(side, k);
-        }
-        match stepped(world, event) {
-            Ok(answer) => happened.answered(side, &answer),
-            Err(Refusal::Memory) => bail!("{}", Refusal::Memory),
-            Err(why) => happened.refused(why),
+        match draw.event(alloc, number, setting, side, happened.known(side)) {
+            Ok(event) => happen(world, &mut happened, side, event)?,
+            Err(_) => happened.undrawn = happened.undrawn.saturating_add(1),
         }
     }
     Ok(happened)
+}
+
+/// Makes an event happen. What is refused for want of memory is passed over; an error where the world tells something else after it.
+fn happen(
+    world: &mut World,
+    happened: &mut Happened,
+    side: Side,
+    event: WorldEvent,
+) -> anyhow::Result<()> {
+    if let WorldEvent::Deliver { k, .. } = event {
+        happened.comes(side, k);
+    }
+    let before = Told::of(world, happened.connections);
+    match stepped(world, event) {
+        Err(Refusal::Memory) => {
+            happened.refused = happened.refused.saturating_add(1);
+            is_as_before(world, happened, before)
+        }
+        Ok(Answer::Received(received)) if received.stop == Some(Stop::Memory) => {
+            happened.stopped = happened.stopped.saturating_add(1);
+            is_as_before(world, happened, before)
+        }
+        Ok(answer) => {
+            happened.answered(side, &answer);
+            Ok(())
+        }
+        Err(why) => {
+            happened.turned_down(why);
+            Ok(())
+        }
+    }
+}
+
+/// An error where the world tells something else than before of its connections, or has one more datagram.
+fn is_as_before(world: &World, happened: &Happened, before: Told) -> anyhow::Result<()> {
+    let is_one_more = world.datagram(Side::A, happened.b.sent).is_some()
+        || world.datagram(Side::B, happened.a.sent).is_some();
+    if is_one_more || Told::of(world, happened.connections) != before {
+        bail!("a call that was refused for want of memory changed something");
+    }
+    Ok(())
 }

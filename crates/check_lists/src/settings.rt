@@ -1,7 +1,7 @@
 //! Worlds of other settings than those that are drawn, whose hosts are connected from the start, judged before any list is drawn.
 
 use crate::list::stepped;
-use anyhow::Result;
+use anyhow::{Result, bail};
 use bytes::Bytes;
 use enet_types::{Config, PeerRef, Received, Refusal, Stop};
 use enet_world::{Answer, Side, World, WorldEvent};
@@ -61,8 +61,8 @@ fn is_sized(alloc: Global, size: Size) -> Result<bool> {
     }
 }
 
-/// Whether a narrow host stops what comes as worked.
-fn is_stopped(alloc: Global) -> Result<bool> {
+/// An error where a narrow host stops what comes otherwise than worked.
+fn stops(alloc: Global) -> Result<()> {
     let standard = Config::standard(1, 1);
     let narrow = Config {
         max_packet: 3,
@@ -80,18 +80,19 @@ fn is_stopped(alloc: Global) -> Result<bool> {
         };
         match stepped(&mut world, delivery)? {
             Answer::Received(told) if told == (Received { handled, stop }) => {}
-            _ => return Ok(false),
+            _ => bail!("case {k} of a narrow host is answered otherwise"),
         }
     }
-    Ok(true)
+    Ok(())
 }
 
-/// Whether all is answered as worked.
-pub fn judged(alloc: Global) -> Result<bool> {
-    for size in SIZES {
-        if !is_sized(alloc, size)? {
-            return Ok(false);
+/// How many cases there are. An error where one is answered otherwise than worked.
+pub fn judged(alloc: Global) -> Result<usize> {
+    for (number, size) in SIZES.iter().enumerate() {
+        if !is_sized(alloc, *size)? {
+            bail!("case {number} of sizes is answered otherwise");
         }
     }
-    is_stopped(alloc)
+    stops(alloc)?;
+    Ok(SIZES.len() + STOPS.len())
 }

@@ -13,4 +13,4 @@ mod sound;
 
 pub use following::{came_in_sequence, follows};
 pub use life::is_life;
-pub use sound::is_sound;
+pub use sound::{is_side_sound, is_sound};

@@ -44,8 +44,9 @@ fn is_in_order(world: &World, mtu: u32, channels: u8, connection: u64, side: Sid
     true
 }
 
-/// Tests a side of a connection.
-fn is_side_sound(world: &World, mtu: u32, channels: u8, connection: u64, side: Side) -> bool
+/// Tests a side of a connection: what the other side took follows what this one submitted on each of so many channels, and this
+/// side's events are one life.
+pub fn is_side_sound(world: &World, mtu: u32, channels: u8, connection: u64, side: Side) -> bool
     requires { 576 ≤ mtu }
     ensures { IsTrue result ↔ IsSideSound world.now.world mtu channels connection side }
 {
