@@ -1,5 +1,5 @@
 #!/usr/bin/env bash
-# Refuses each growth of six worked rows, and of the two single peers of crates/check_memory, in turn, and prints what came of it.
+# Refuses each growth of six worked rows in turn, and prints what came of it.
 # The program is built once, by `rt try`, in which the growth number LAST fails; case k of a row is told to make LAST - k growths
 # before its calls, so that the refused one is growth k of what follows. It ends with status 4 where there are fewer than k.
 # LAST is the argument, 128 where none is given; it must be above the number of a row's growths. The last line is 'N growths
@@ -9,13 +9,12 @@ last=${1:-128}
 rows=../../scripts/rows
 names='one-reliable-packet reliable-out-of-order unreliable-waits-for-reliable
 long-reliable-packet-goes-as-reliable-fragments ask-to-disconnect-with-packets-untaken
-connect-handshake single-peers'
+connect-handshake'
 room=$(mktemp -d) || exit 1
 trap 'rm -rf "$room"' EXIT
 mkdir "$room/cases"
 for name in $names; do
-    : > "$room/input"
-    [ "$name" = single-peers ] || { cat "$rows/$name.lab"; echo =; cat "$rows/$name.out"; } > "$room/input"
+    { cat "$rows/$name.lab"; echo =; cat "$rows/$name.out"; } > "$room/input"
     for ((k = 1; k <= last; k++)); do
         { printf '%05d\n' $((last - k)); cat "$room/input"; } > "$room/cases/$name.$(printf '%05d' "$k")"
     done

@@ -3,8 +3,7 @@
 /// Why a run ends early.
 #[derive(Drop)]
 pub(crate) enum Fault {
-    /// The answer to this line of a script, or to this step of the single peers, isn't the worked one, or a refusal changed what
-    /// reading calls tell.
+    /// The answer to this line of a script isn't the worked one, or a refusal changed what reading calls tell.
     Differs(u32),
     /// A growth of the program itself was refused.
     OwnMemory,

@@ -3,15 +3,16 @@
 //!
 //! Standard input begins with a line that has a decimal number: so many growths are made before the first call. A run that
 //! refuses the growth of one number so refuses any of the calls', by the input alone. Behind it stand a script of the lab, a line
-//! `=`, and the answers. Without them it makes the calls of two single peers that no script can say: BANDWIDTH_LIMIT and
-//! THROTTLE_CONFIGURE. With the word `run` in place of the number the script is one list of events in one call. Status 1: an answer is another. Status 2: a growth of the program's own was refused. Status 3: input or
-//! output failed. Status 4: the growth behind the last call's was refused, so that the calls have no more.
+//! `=`, and the answers. With the word `run` in place of the number the script is one list of events in one call. Status 1: an
+//! answer is another. Status 2: a growth of the program's own was refused. Status 3: input or output failed. Status 4: the growth
+//! behind the last call's was refused, so that the calls have no more.
+//!
+//! What no script of the lab can say, bandwidths and the throttle's numbers, `check_hosts` has a script of.
 #![tactic(auto)]
 
 mod fault;
 mod row;
 mod seen;
-mod settings;
 
 use fault::Fault;
 use std::alloc::Global;
@@ -39,11 +40,7 @@ fn run_input(alloc: Global, number: &str, input: &str) -> Result<u32, Fault> {
         return Err(Fault::Io);
     };
     grow(alloc, count, Fault::OwnMemory)?;
-    if input.is_empty() {
-        settings::run(alloc)
-    } else {
-        row::run(alloc, script, answers)
-    }
+    row::run(alloc, script, answers)
 }
 
 fn run<R: Print + Input + AllocGlobal>(rt: &R) -> Result<(), Fault> {
@@ -51,11 +48,13 @@ fn run<R: Print + Input + AllocGlobal>(rt: &R) -> Result<(), Fault> {
     let Ok(text) = io::read_to_string(alloc, rt.reader()) else {
         return Err(Fault::OwnMemory);
     };
-    let (number, input) = text.split_once('\n').unwrap_or(("0", ""));
+    let Some((number, input)) = text.split_once('\n') else {
+        return Err(Fault::Io);
+    };
     let outcome = run_input(alloc, number, input);
     let told = match outcome {
         Ok(refused) => println!(rt; "as expected, {refused} growths refused"),
-        Err(Fault::Differs(step)) => println!(rt; "step {step} differs"),
+        Err(Fault::Differs(line)) => println!(rt; "line {line} differs"),
         Err(_) => Ok(()),
     };
     if told.is_err() {
