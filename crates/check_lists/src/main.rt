@@ -82,9 +82,23 @@ fn one_list(alloc: Global, number: u32, counts: &mut Counts) -> Result<()> {
         counts.add_unopened();
         return Ok(());
     };
-    let happened = list::happens(alloc, &mut world, &mut draw, setting)?;
-    judge(&world, number, setting, happened.connections)?;
-    counts.add_list(&world, &happened);
+    let outcome = list_in(alloc, number, &mut world, &mut draw, setting, counts);
+    world.close();
+    outcome
+}
+
+/// A list that happens in this world.
+fn list_in(
+    alloc: Global,
+    number: u32,
+    world: &mut World,
+    draw: &mut Draw,
+    setting: Setting,
+    counts: &mut Counts,
+) -> Result<()> {
+    let happened = list::happens(alloc, world, draw, setting)?;
+    judge(world, number, setting, happened.connections)?;
+    counts.add_list(world, &happened);
     Ok(())
 }
 

@@ -53,9 +53,11 @@ fn is_sized(alloc: Global, size: Size) -> Result<bool> {
         max_packet,
         ..standard
     };
-    let mut world = joined(alloc, config, standard)?;
     let body = Bytes::from_vec(vec![in alloc; 0u8; len]?)?;
-    match stepped(&mut world, submit(body)) {
+    let mut world = joined(alloc, config, standard)?;
+    let answer = stepped(&mut world, submit(body));
+    world.close();
+    match answer {
         Ok(_) => Ok(!too_large),
         Err(why) => Ok(too_large && why == Refusal::TooLarge),
     }
@@ -70,15 +72,22 @@ fn stops(alloc: Global) -> Result<()> {
         ..standard
     };
     let mut world = joined(alloc, standard, narrow)?;
+    let outcome = stops_in(&mut world);
+    world.close();
+    outcome
+}
+
+/// An error where side B stops what comes otherwise than worked.
+fn stops_in(world: &mut World) -> Result<()> {
     for k in 0..STOPS.len() {
         let (body, handled, stop) = STOPS[k];
-        stepped(&mut world, submit(Bytes::from_static(body)))?;
-        stepped(&mut world, WorldEvent::Turn { side: Side::A })?;
+        stepped(world, submit(Bytes::from_static(body)))?;
+        stepped(world, WorldEvent::Turn { side: Side::A })?;
         let delivery = WorldEvent::Deliver {
             side: Side::B,
             k: k as u64,
         };
-        match stepped(&mut world, delivery)? {
+        match stepped(world, delivery)? {
             Answer::Received(told) if told == (Received { handled, stop }) => {}
             _ => bail!("case {k} of a narrow host is answered otherwise"),
         }

@@ -42,12 +42,18 @@ fn made(alloc: Global, line: &Line) -> Option<Result<World, Refusal>> {
 
 /// The hosts, and how many growths were refused. The making is repeated once.
 fn open(alloc: Global, line: &Line) -> Result<(World, u32), Fault> {
-    if let Some(Ok(world)) = made(alloc, line) {
-        return Ok((world, 0));
+    match made(alloc, line) {
+        Some(Ok(world)) => Ok((world, 0)),
+        Some(Err(_)) => open_again(alloc, line),
+        None => Err(Fault::Differs(1)),
     }
+}
+
+/// The hosts behind one refused growth.
+fn open_again(alloc: Global, line: &Line) -> Result<(World, u32), Fault> {
     match made(alloc, line) {
         Some(Ok(world)) => Ok((world, 1)),
-        _ => Err(Fault::Differs(1)),
+        Some(Err(_)) | None => Err(Fault::Differs(1)),
     }
 }
 
@@ -154,8 +160,9 @@ pub(crate) fn run(alloc: Global, script: &str, answers: &str) -> Result<u32, Fau
     let (first, steps) = split_line(script);
     let (answer, answers) = split_line(answers);
     let (mut world, refused) = begin(alloc, first, answer)?;
-    let more = run_steps(alloc, &mut world, steps, answers)?;
-    Ok(refused.saturating_add(more))
+    let more = run_steps(alloc, &mut world, steps, answers);
+    world.close();
+    Ok(refused.saturating_add(more?))
 }
 
 /// Runs the lines behind the first. How many growths were refused.
@@ -199,7 +206,9 @@ pub(crate) fn run_at_once(alloc: Global, script: &str, answers: &str) -> Result<
     let (first, steps) = split_line(script);
     let (answer, answers) = split_line(answers);
     let (mut world, refused) = begin(alloc, first, answer)?;
-    run_list(alloc, &mut world, steps, answers)?;
+    let outcome = run_list(alloc, &mut world, steps, answers);
+    world.close();
+    outcome?;
     Ok(refused)
 }
 
