@@ -2,6 +2,7 @@
 //! how often it stands there.
 
 use crate::fault::{Fault, UNREADABLE};
+use crate::words::number_of;
 use std::alloc::{AllocError, Global};
 
 /// From so many on, equal bytes are told by their count.
@@ -22,7 +23,7 @@ pub(crate) fn read_bytes(alloc: Global, word: &str) -> Result<Vec<u8>, Fault> {
 fn read_part(alloc: Global, part: &str, bytes: &mut Vec<u8>) -> Result<(), Fault> {
     let (text, count) = match part.split_once('x') {
         None => (part, 1),
-        Some((text, count)) => (text, count.parse::<usize>().map_err(|_| UNREADABLE)?),
+        Some((text, count)) => (text, number_of(count)?),
     };
     let mut once = Vec::new(alloc);
     for pair in text.as_bytes().chunks(2) {

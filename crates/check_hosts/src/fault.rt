@@ -3,12 +3,14 @@
 use std::alloc::AllocError;
 
 /// Why a run ends early.
-#[derive(Clone, Copy, Debug, PartialEq, Eq)]
+#[derive(Clone, Copy)]
 pub(crate) enum Fault {
     /// At this line, counted from 1, the answer isn't the wanted one, or a refusal changed what the host tells.
     Differs(u32),
     /// This line has no form that a script's line has.
     Unreadable(u32),
+    /// What standard error says: a host did what it must not, or the command line can't be read.
+    Said,
     /// A growth of the program itself was refused.
     OwnMemory,
     /// Reading or writing failed.
@@ -24,7 +26,7 @@ impl Fault {
     /// The status with which the program ends.
     pub(crate) fn status(self) -> u8 {
         match self {
-            Fault::Differs(_) | Fault::Unreadable(_) => 1,
+            Fault::Differs(_) | Fault::Unreadable(_) | Fault::Said => 1,
             Fault::OwnMemory => 2,
             Fault::Io => 3,
             Fault::NoMoreGrowths => 4,

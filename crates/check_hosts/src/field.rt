@@ -2,6 +2,7 @@
 
 use crate::bytes_text::{push_bytes, read_bytes};
 use crate::fault::{Fault, UNREADABLE};
+use crate::foreign::client::{next_event, put_out, receive};
 use crate::seen::{HOSTS, SeenHost};
 use crate::setting::read_config;
 use crate::telling::{
@@ -247,7 +248,7 @@ impl Field {
     fn turn(&mut self, words: &mut Words<'_>, text: &mut String) -> Result<(), Fault> {
         let from = words.letter()?;
         let mut buf = [0; 4_096];
-        let Some((peer, to, len)) = self.host(from)?.service(&mut buf) else {
+        let Some((peer, to, len)) = put_out(self.host(from)?, &mut buf) else {
             text.push_str("none")?;
             return Ok(());
         };
@@ -273,7 +274,7 @@ impl Field {
         let host = self.host(words.letter()?)?;
         let mut buf = [0; 4_096];
         for _ in 0..MOST_AT_ONCE {
-            if host.service(&mut buf).is_none() {
+            if put_out(host, &mut buf).is_none() {
                 break;
             }
         }
@@ -292,7 +293,7 @@ impl Field {
         let Some(host) = self.hosts.get_mut(to) else {
             return Err(UNREADABLE);
         };
-        push_received(text, host.receive(address_of(from), bytes))?;
+        push_received(text, receive(host, address_of(from), bytes))?;
         Ok(())
     }
 
@@ -300,7 +301,7 @@ impl Field {
         let to = words.letter()?;
         let from = words.address()?;
         let bytes = read_bytes(self.alloc, words.word()?)?;
-        let received = self.host(to)?.receive(from, bytes.as_slice());
+        let received = receive(self.host(to)?, from, bytes.as_slice());
         push_received(text, received)?;
         Ok(())
     }
@@ -311,7 +312,7 @@ impl Field {
             host.next_event_of(),
             host.next_packet().map(|q| q.body.len()),
         );
-        let Some(event) = host.next_event() else {
+        let Some(event) = next_event(host) else {
             if foretold != (None, None) {
                 push_otherwise(text)?;
             }

@@ -1,10 +1,18 @@
-//! `check_hosts` runs scripts over hosts of ours and compares each answer with the one that the script wants. Five scripts
-//! stand in the program, each other one is a file NAME.hosts; the files lie where the program runs. The wanted answers were worked
-//! out by hand from the rules. Those of the captured scripts, which are whole captured files, come from the captured datagrams,
+//! `check_hosts` runs scripts over hosts of ours and compares each answer with the one that the script wants. Then it has hosts with
+//! connected peers take in datagrams that nobody should send, and looks at a host of 4,095 slots (`foreign`).
+//!
+//! Five scripts stand in the program, each other one is a file NAME.hosts; the files lie where the program runs. The wanted answers
+//! were worked out by hand from the rules. Those of the captured scripts, which are whole captured files, come from the captured datagrams,
 //! from what the reference library's users saw, and from a model of the rules that shares no code with this program.
 //!
 //! A line is `COMMAND = ANSWER`, or begins with `#`, or is blank. The commands are those of `Field::run`. For each script the
 //! program prints how many steps went as wanted, or the first line that differs, and ends there with status 1.
+//!
+//! `check_hosts DRAWN` has hosts take in foreign datagrams alone, of which so many are drawn in place of 1,000,000.
+//! `check_hosts crowd [CHANNELS [measure]]` looks at the host of 4,095 slots alone, whose peers have so many channels (1 where no number
+//! is given); with the word `measure` it prints how long each call took, and what the system tells of the memory that the program
+//! has, before and after the host was opened. Where a host does what it must not the program ends with status 1 and says what,
+//! and after which datagram. Standard input is read before all this.
 //!
 //! Standard input may have a decimal number: then only the five scripts run, and so many growths are
 //! made before the first. A run that refuses the growth of one number so refuses any of the scripts', by the input alone.
@@ -16,6 +24,7 @@
 mod bytes_text;
 mod fault;
 mod field;
+mod foreign;
 mod scarce;
 mod script;
 mod seen;
@@ -29,7 +38,7 @@ use script::{Account, run_script};
 use std::alloc::Global;
 use std::io::Read;
 use std::process::ExitCode;
-use std::rt::Files;
+use std::rt::{Clock, Env, Files};
 use std::{fs, io};
 
 /// The scripts in files.
@@ -65,15 +74,42 @@ fn main(rt: HostRuntime) -> ExitCode {
     }
 }
 
-fn run<R: Files + Print + Input + AllocGlobal>(rt: &R) -> Result<(), Fault> {
+fn run<R>(rt: &R) -> Result<(), Fault>
+where
+    R: Clock + Env + Files + Print + Eprint + Input + AllocGlobal,
+{
     let alloc = rt.alloc();
     let Some(count) = growths_before(&mut rt.reader())? else {
-        run_kept(rt)?;
-        return run_files(rt, &SCRIPTS);
+        return run_asked(rt);
     };
     grow(alloc, count, Fault::OwnMemory)?;
     run_kept(rt)?;
     grow(alloc, 1, Fault::NoMoreGrowths)
+}
+
+/// Runs what the command line asks for.
+fn run_asked<R>(rt: &R) -> Result<(), Fault>
+where
+    R: Clock + Env + Files + Print + Eprint + AllocGlobal,
+{
+    let asked = match foreign::read_words(rt) {
+        Ok(asked) => asked,
+        Err(error) => return say(rt, &error),
+    };
+    if asked.is_all() {
+        run_kept(rt)?;
+        run_files(rt, &SCRIPTS)?;
+    }
+    match foreign::run(rt, asked) {
+        Ok(()) => Ok(()),
+        Err(error) => say(rt, &error),
+    }
+}
+
+/// Says on standard error why the run ends.
+fn say<R: Eprint>(rt: &R, error: &anyhow::Error) -> Result<(), Fault> {
+    let _ = eprintln!(rt; "{error:#}");
+    Err(Fault::Said)
 }
 
 /// How many growths are to be made before the first script, if the input has a number.

@@ -32,15 +32,15 @@ impl<'a> Words<'a> {
     }
 
     pub(crate) fn byte(&mut self) -> Result<u8, Fault> {
-        self.word()?.parse::<u8>().map_err(|_| UNREADABLE)
+        u8::try_from(self.number()?).map_err(|_| UNREADABLE)
     }
 
     pub(crate) fn short(&mut self) -> Result<u16, Fault> {
-        self.word()?.parse::<u16>().map_err(|_| UNREADABLE)
+        short_of(self.number()?)
     }
 
     pub(crate) fn number(&mut self) -> Result<u32, Fault> {
-        self.word()?.parse::<u32>().map_err(|_| UNREADABLE)
+        number_of(self.word()?)
     }
 
     /// A number in hex.
@@ -73,10 +73,20 @@ impl<'a> Words<'a> {
         let Some((slot, generation)) = self.word()?.split_once('.') else {
             return Err(UNREADABLE);
         };
-        let slot = slot.parse::<u16>().map_err(|_| UNREADABLE)?;
-        let generation = generation.parse::<u32>().map_err(|_| UNREADABLE)?;
-        Ok(PeerRef { slot, generation })
+        Ok(PeerRef {
+            slot: short_of(number_of(slot)?)?,
+            generation: number_of(generation)?,
+        })
     }
+}
+
+/// The number that a word spells.
+pub(crate) fn number_of(word: &str) -> Result<u32, Fault> {
+    word.parse::<u32>().map_err(|_| UNREADABLE)
+}
+
+fn short_of(number: u32) -> Result<u16, Fault> {
+    u16::try_from(number).map_err(|_| UNREADABLE)
 }
 
 /// The address of the letter at this place.

@@ -1,8 +1,8 @@
 //! A host with three connected peers.
 
-use crate::client::{connect, next_event, put_out, receive};
-use crate::fault::Fault;
-use crate::told::Told;
+use super::client::{connect, next_event, put_out, receive};
+use super::fault::Fault;
+use super::told::Told;
 use enet_host::{HostCore, Totals};
 use enet_types::{Addr, Config, Event};
 use std::alloc::Global;

@@ -1,23 +1,15 @@
-//! `check_foreign` has hosts with connected peers take in datagrams that nobody should send, and then looks at a host of 4,095
-//! slots.
+//! Datagrams that nobody should send, at hosts with connected peers, and a host of 4,095 slots.
 //!
-//! `check_foreign [DRAWN]`: a host takes in each front and each change of one bit of 60 captured datagrams of the reference library,
-//! and so many drawn ones (1,000,000 where no number is given), half of them captured ones with a few bytes changed or cut off. The
-//! draws begin at seed 1, so each run is the same. After each the peers of the other slots must tell what they told before (state,
-//! terms, address, round trip, bytes in transit, throttle), nothing may come of theirs, and the host's totals must be what came and
-//! went; from time to time one of them goes on where it was. It prints how many datagrams were taken in; where a peer of another slot
-//! has changed it ends with status 1 and the number of that datagram.
+//! A host takes in each front and each change of one bit of 60 captured datagrams of the reference library, and drawn ones, half of them
+//! captured ones with a few bytes changed or cut off. The draws begin at seed 1, so each run is the same. After each the peers of the
+//! other slots must tell what they told before (state, terms, address, round trip, bytes in transit, throttle), nothing may come of theirs,
+//! and the host's totals must be what came and went; from time to time one of them goes on where it was.
 //!
-//! `check_foreign crowd [CHANNELS [measure]]`: a host of 4,095 slots, in each of which a peer of so many channels is connected (1
-//! where no number is given). A tick of no time, a call of `service` that gives nothing, one of `next_event` that gives nothing and
-//! a reception leave all peers connected, or it ends with status 1. With the word `measure` it prints how long each took, and what
-//! the system tells of the memory that the program has, before and after the host was opened.
-//!
-//! Without words it does both.
-#![tactic(auto)]
+//! Of a host of 4,095 slots, in each of which a peer is connected, a tick of no time, a call of `service` that gives nothing, one of
+//! `next_event` that gives nothing and a reception leave all peers connected.
 
 mod call;
-mod client;
+pub(crate) mod client;
 mod crowd;
 mod drawing;
 mod fault;
@@ -42,24 +34,39 @@ const TIMES: u32 = 10;
 
 /// What the command line asks for.
 #[derive(Clone, Copy)]
-enum Asked {
+pub(crate) enum Asked {
     All,
     Foreign { drawn: u32 },
     Crowd { channels: u8, measures: bool },
 }
 
-fn main(rt: HostRuntime) -> Result<()> {
-    match read_words(&rt)? {
-        Asked::All => {
-            run_foreign(&rt, DRAWN)?;
-            run_crowd(&rt, 1, false)
+impl Asked {
+    /// Whether the scripts are run too.
+    pub(crate) fn is_all(self) -> bool {
+        match self {
+            Asked::All => true,
+            Asked::Foreign { .. } | Asked::Crowd { .. } => false,
         }
-        Asked::Foreign { drawn } => run_foreign(&rt, drawn),
-        Asked::Crowd { channels, measures } => run_crowd(&rt, channels, measures),
     }
 }
 
-fn read_words<R: Env + AllocGlobal>(rt: &R) -> Result<Asked> {
+/// Does what is asked for.
+pub(crate) fn run<R>(rt: &R, asked: Asked) -> Result<()>
+where
+    R: Clock + Files + Print + AllocGlobal,
+{
+    match asked {
+        Asked::All => {
+            run_foreign(rt, DRAWN)?;
+            run_crowd(rt, 1, false)
+        }
+        Asked::Foreign { drawn } => run_foreign(rt, drawn),
+        Asked::Crowd { channels, measures } => run_crowd(rt, channels, measures),
+    }
+}
+
+/// What the words of the command line ask for.
+pub(crate) fn read_words<R: Env + AllocGlobal>(rt: &R) -> Result<Asked> {
     let mut args = env::args(rt)?.skip(1);
     let first = args.next();
     let second = args.next();

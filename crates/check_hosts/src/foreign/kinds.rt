@@ -1,8 +1,8 @@
 //! Fronts of datagrams, datagrams with one bit changed, and drawn ones.
 
-use crate::drawing::Draw;
-use crate::fault::Fault;
-use crate::ground::Ground;
+use super::drawing::Draw;
+use super::fault::Fault;
+use super::ground::Ground;
 
 /// Has a host take in each front of these datagrams, the empty one too. How many these were.
 pub(crate) fn take_fronts(ground: &mut Ground, datagrams: &[Vec<u8>]) -> Result<u64, Fault> {

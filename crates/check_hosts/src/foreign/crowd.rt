@@ -1,8 +1,8 @@
 //! A host with as many connected peers as a host can have.
 
-use crate::call::Call;
-use crate::client::{connect, next_event, put_out, receive};
-use crate::fault::Fault;
+use super::call::Call;
+use super::client::{connect, next_event, put_out, receive};
+use super::fault::Fault;
 use enet_host::HostCore;
 use enet_peer::PeerState;
 use enet_types::{Addr, Config, PeerRef, Refusal};

@@ -3,7 +3,7 @@
 use std::fmt;
 
 /// A call of a host whose peers are idle.
-#[derive(Clone, Copy, Debug, PartialEq, Eq)]
+#[derive(Clone, Copy)]
 pub(crate) enum Call {
     /// A tick of no time.
     Tick,
