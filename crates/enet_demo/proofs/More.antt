@@ -17,21 +17,21 @@ use Rattle.enet_types.specs.declared.event.Event.TheVariants.{Connect, Receive, 
 use Rattle.enet_submit.specs.declared.order.Order.{Order}
 use Rattle.enet_submit.specs.declared.order.Submission.{Submission}
 use Rattle.enet_submit.specs.declared.queue.SubmitQueue.{SubmitQueue}
+use Rattle.enet_submit.specs.declared.token.Drain.{Drain}
 use Rattle.enet_submit.specs.Words.{taken}
 use Rattle.enet_events.specs.declared.numbered.Numbered.{Numbered}
-use Rattle.enet_events.specs.Words.{QueueId}
+use Rattle.enet_events.specs.Words.{PosterState, QueueId}
+use Rattle.enet_host.specs.Host.{Host}
 use Rattle.enet_bridge.specs.Ends.{orders}
 use Rattle.enet_bridge.specs.Holding.{asked, received}
 use Rattle.enet_serve.specs.Serving.{EndsShift}
+use Rattle.enet_turn.specs.declared.report.Report.{Report}
 use Rattle.enet_turn.specs.Counts.{stopped}
 use Rattle.enet_turn.specs.Queues.{given, accepted}
 use Rattle.enet_turn.specs.Run.{all_gave, all_puts}
 use Rattle.enet_chat.specs.Relaying.{events}
-use Rattle.enet_shift.specs.declared.shift.Shift.{Shift}
 use Rattle.enet_shift.specs.declared.shift.Shift.TheVariants.{Turns}
-use Rattle.enet_shift.specs.declared.turning.ServiceEnds.{ServiceEnds}
-use Rattle.enet_shift.specs.declared.turning.Turned.{Turned}
-use Rattle.enet_shift.specs.Shifts.{Lasts, HasTurned}
+use Rattle.enet_shift.specs.Shifts.{HasTurned}
 use Rattle.enet_demo.specs.declared.client.Guest.{Guest}
 use Rattle.enet_demo.specs.declared.demonstration.Demonstration.{Demonstration}
 use Rattle.enet_demo.specs.declared.orders.Plan.{Plan}
@@ -74,18 +74,19 @@ plays_on p q x has took plan desk stage asking counted =
     }
 
 -- ---- both threads
-visited : (queue : SubmitQueue) (id : QueueId) (plan : Plan) (turns : ℕ) (old : ServiceEnds) (turned : Turned) (played : Played) (visit : Visit)
-    → old.shift ≡ Turns turns → taken old.drain ≡ [] → old.poster.posted ≡ [] → HasTurned queue id old turned → HasVisited queue id plan played
-    → IsSettled played turned visit → Visits (old.service.host, old.service.waiting) plan turns visit
-visited queue id plan turns old turned played visit shift none_taken none_posted t v s =
+visited : (queue : SubmitQueue) (id : QueueId) (plan : Plan) (turns : ℕ) (old new : Host × Option Event) (from to : Drain) (before after : PosterState)
+    (report : Report) (played : Played) (visit : Visit)
+    → taken from ≡ [] → before.posted ≡ [] → HasTurned (Turns turns) old from before new to after report → HasVisited queue id plan played
+    → IsSettled played to after visit → Visits old plan turns visit
+visited queue id plan turns old new from to before after report played visit none_taken none_posted t v s =
     let all : events played.taker.taken ≡ accepted (all_puts t.rounds) =
     ap events s.all_taken ∙ (t.spell.put.grown ∙ ap (λ (ns : List Numbered). events ns ++ accepted (all_puts t.rounds)) none_posted) in
-    let gave : taken turned.drain ≡ given (all_gave t.rounds) =
+    let gave : taken to ≡ given (all_gave t.rounds) =
     t.spell.gave ∙ ap (λ (xs : List Submission). xs ++ given (all_gave t.rounds)) none_taken in
     record {
       rounds = t.rounds;
-      new = (turned.service.host, turned.service.waiting);
-      lasts = subst (λ (x : Shift). Lasts x t.rounds) shift t.lasts;
+      new = new;
+      lasts = t.lasts;
       turns_are = t.spell.turns;
       sound = t.spell.sound;
       stage = v.stage;
@@ -96,12 +97,13 @@ visited queue id plan turns old turned played visit shift none_taken none_posted
       told = subst (λ (es : List Event). Tells es visit) all (subst (Tells (events played.taker.taken)) (sym s.visit_is) v.tells);
     }
 
-pub visited_or_fault : (queue : SubmitQueue) (id : QueueId) (plan : Plan) (turns : ℕ) (old : ServiceEnds) (turned : Turned) (played : Played) (result : Result Visit Refusal)
-    → old.shift ≡ Turns turns → taken old.drain ≡ [] → old.poster.posted ≡ [] → HasTurned queue id old turned → HasVisited queue id plan played
-    → IfOk result (IsSettled played turned) → IfOk result (Visits (old.service.host, old.service.waiting) plan turns)
-visited_or_fault queue id plan turns old turned played result shift none_taken none_posted t v s =
-    IfOk-weaker result (IsSettled played turned) (Visits (old.service.host, old.service.waiting) plan turns)
-    (λ visit settled. visited queue id plan turns old turned played visit shift none_taken none_posted t v settled) s
+pub visited_or_fault : (queue : SubmitQueue) (id : QueueId) (plan : Plan) (turns : ℕ) (old new : Host × Option Event) (from to : Drain) (before after : PosterState)
+    (report : Report) (played : Played) (result : Result Visit Refusal)
+    → taken from ≡ [] → before.posted ≡ [] → HasTurned (Turns turns) old from before new to after report → HasVisited queue id plan played
+    → IfOk result (IsSettled played to after) → IfOk result (Visits old plan turns)
+visited_or_fault queue id plan turns old new from to before after report played result none_taken none_posted t v s =
+    IfOk-weaker result (IsSettled played to after) (Visits old plan turns)
+    (λ visit settled. visited queue id plan turns old new from to before after report played visit none_taken none_posted t v settled) s
 
 -- ---- all clients
 guests_more : (shown : Demonstration) (n : ℕ) (guests : List Guest) (guest : Guest) → length guests ≡ n → ((k : ℕ) (d : Guest) → k < n → IsGuest (plan_of shown k) shown.turns (slice_index_or guests k d))

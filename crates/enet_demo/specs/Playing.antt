@@ -3,13 +3,14 @@ use Rattle.std.specs.Prelude.{◌≡◌, ℕ, ◌<◌, List, [], ◌++◌, lengt
 use Rattle.enet_types.specs.declared.event.Event.{Event}
 use Rattle.enet_submit.specs.declared.order.Order.{Order}
 use Rattle.enet_submit.specs.declared.queue.SubmitQueue.{SubmitQueue}
-use Rattle.enet_submit.specs.Words.{IsDrainOf, IsFinishedOf, seats_of, all_sent, taken}
-use Rattle.enet_events.specs.Words.{Queue, QueueId}
+use Rattle.enet_submit.specs.declared.token.Drain.{Drain}
+use Rattle.enet_submit.specs.Words.{IsFinishedOf, all_sent, taken}
+use Rattle.enet_events.specs.Words.{PosterState, QueueId}
 use Rattle.enet_bridge.specs.Ends.{orders}
 use Rattle.enet_bridge.specs.Holding.{desk_queue, inbox_queue, asked, received}
 use Rattle.enet_turn.specs.Counts.{stopped}
 use Rattle.enet_chat.specs.Relaying.{events}
-use Rattle.enet_shift.specs.declared.turning.Turned.{Turned}
+use Rattle.enet_shift.specs.declared.settling.Returned.{Returned}
 use Rattle.enet_demo.specs.declared.client.Guest.{Guest}
 use Rattle.enet_demo.specs.declared.demonstration.Demonstration.{Demonstration}
 use Rattle.enet_demo.specs.declared.orders.Plan.{Plan}
@@ -19,13 +20,12 @@ use Rattle.enet_demo.specs.declared.player.Player.{Player}
 use Rattle.enet_demo.specs.declared.player.Played.{Played}
 use Rattle.enet_demo.specs.declared.player.Visit.{Visit}
 use Rattle.enet_demo.specs.Plans.{asks}
-use Rattle.enet_demo.specs.Visits.{first_peer, packets, peer_of, Tells, plan_of, beginning}
+use Rattle.enet_demo.specs.Visits.{first_peer, packets, peer_of, Tells, plan_of}
 
--- a client that takes part by this plan for so many turns, and has done nothing yet
+-- a client that takes part by this plan for so many turns
 pub record IsGuest (plan : Plan) (turns : ℕ) (guest : Guest) : Type 0 where
-  pub plan_is : guest.plan ≡ plan
-  pub turns_are : guest.turns ≡ turns
-  pub begins : (guest.service.host, guest.service.waiting) ≡ beginning
+  pub plan_is : guest.part.plan ≡ plan
+  pub turns_are : guest.part.turns ≡ turns
 
 -- the clients of these numbers, one after another
 abbrev pub AreGuests : Demonstration → List Guest → Type 0
@@ -64,18 +64,13 @@ pub record HasVisited (queue : SubmitQueue) (id : QueueId) (plan : Plan) (played
   pub seat : IsFinishedOf queue played.seat
   pub taker : played.taker.queue ≡ id
 
--- what the threads handed back belongs to the queues, which have one seat and one taker
-pub record CanSettle (queue : SubmitQueue) (events : Queue) (played : Played) (turned : Turned) : Type 0 where
-  pub seat : IsFinishedOf queue played.seat
-  pub drain : IsDrainOf queue turned.drain
-  pub one_seat : seats_of queue ≡ 1
-  pub poster : turned.poster.queue ≡ events.id
-  pub taker : played.taker.queue ≡ events.id
-  pub one_taker : events.id.takers ≡ 1
+-- what both threads hand back of the queues
+abbrev pub returned : Played → Drain → PosterState → Returned
+returned played drain poster = record { drain = drain; poster = poster; seat = played.seat; taker = played.taker }
 
 -- all that was posted was taken, and what the drain took is a front of what was submitted
-pub record IsSettled (played : Played) (turned : Turned) (visit : Visit) : Type 0 where
+pub record IsSettled (played : Played) (drain : Drain) (poster : PosterState) (visit : Visit) : Type 0 where
   pub visit_is : visit ≡ played.visit
-  pub all_taken : played.taker.taken ≡ turned.poster.posted
+  pub all_taken : played.taker.taken ≡ poster.posted
   pub rest : List Order
-  pub front : orders (all_sent played.seat) ≡ orders (taken turned.drain) ++ rest
+  pub front : orders (all_sent played.seat) ≡ orders (taken drain) ++ rest

@@ -9,13 +9,13 @@ use Rattle.enet_types.specs.declared.refusal.Refusal.{Refusal}
 use Rattle.enet_types.specs.declared.refusal.Refusal.TheVariants.{BadConfig}
 use Rattle.enet_types.specs.Config.{standard_config}
 use Rattle.enet_host.specs.Host.{Host}
-use Rattle.enet_host.specs.Opening.{opened}
 use Rattle.enet_submit.specs.declared.order.Order.{Order}
 use Rattle.enet_bridge.specs.Ends.{orders}
 use Rattle.enet_turn.specs.Counts.{stopped}
 use Rattle.enet_turn.specs.Queues.{given, accepted}
 use Rattle.enet_turn.specs.Run.{Round, IsSound, all_gave, all_puts}
 use Rattle.enet_shift.specs.Shifts.{TakesTurns}
+use Rattle.enet_shift.specs.Shifts as shifts
 use Rattle.enet_serve.specs.Serving.{EndsShift}
 use Rattle.enet_demo.specs.declared.demonstration.Demonstration.{Demonstration}
 use Rattle.enet_demo.specs.declared.orders.Plan.{Plan}
@@ -63,7 +63,7 @@ abbrev pub plan_of : Demonstration → ℕ → Plan
 plan_of shown number = record { number = number; server = server_of shown }
 
 abbrev pub beginning : Host × Option Event
-beginning = (opened (standard_config 1 2), None)
+beginning = shifts.beginning (standard_config 1 2)
 
 -- A client's service took so many turns, in none of which the wire failed. The client's connection is the first that they told; they
 -- were given a front of what it asked for; and the visit tells what they told
@@ -96,6 +96,6 @@ AreVisits shown visits = (length visits ≡ shown.clients) × ((k : ℕ) (d : Vi
 abbrev pub IsInRange : Demonstration → Type 0
 IsInRange shown = (1 ≤ shown.clients) × (shown.clients ≤ 8)
 
--- why nothing is shown: there can't be so many clients, or the server or a client ended early
+-- why nothing is shown: there can't be so many clients, a port couldn't be had, or the server or a client ended early
 abbrev pub IsNotShown : Demonstration → Refusal → Type 0
 IsNotShown shown why = ((why ≡ BadConfig) × ¬ (IsInRange shown)) ⊎ EndsShift why

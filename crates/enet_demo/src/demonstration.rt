@@ -3,7 +3,7 @@ ghost use Rattle.std.specs.Thread.{IsSync};
 ghost use Rattle.std.specs.Prelude.{◌≡◌, ◌⊎◌, ◌<◌, ◌≤◌, ◌+◌, Err, Ok, IfOk, IfErr, map};
 ghost use Rattle.std.specs.List.{Contains};
 ghost use Rattle.enet_serve.specs.Serving.{EndsShift, room_of};
-ghost use Rattle.enet_demo.specs.Visits.{Visits, AreVisits, AreOutcomes, IsInRange, IsNotShown, server_of};
+ghost use Rattle.enet_demo.specs.Visits.{Visits, AreVisits, AreOutcomes, IsInRange, IsNotShown, beginning, server_of};
 ghost use Rattle.enet_demo.specs.Playing.{AreGuests};
 
 use crate::client::{Guest, visit};
@@ -75,9 +75,11 @@ where
         channels: CHANNELS,
         room: ROOM,
     };
-    let server = Server::open(rt, settings)?;
     let guests = open_guests(rt, shown)?;
-    run_all(rt, rt.alloc(), server, guests, shown)
+    let mut server = Server::open(rt, settings)?;
+    let visits = run_all(rt, rt.alloc(), &mut server, guests, shown);
+    server.close();
+    visits
 }
 
 // The clients of a server that is there.
@@ -128,12 +130,12 @@ fn open_guests<R: Net + AllocGlobal>(rt: &R, shown: Demonstration) -> Result<Vec
 fn run_all<R: Threads + Wait + Clock + Sync>(
     rt: &R,
     alloc: Global,
-    server: Server,
+    server: &mut Server,
     guests: Vec<Guest>,
     shown: Demonstration,
 ) -> Result<Vec<Visit>, Refusal>
     requires guests { AreGuests shown guests.items × (shown.clients ≤ 8) }
-    requires room { room_of server ≡ 1024 }
+    requires room { room_of server.old ≡ 1024 }
     ensures visits { IfOk result (λ visits. AreVisits shown visits.items) }
     ensures refused { IfErr result EndsShift }
 {
@@ -145,8 +147,8 @@ fn run_all<R: Threads + Wait + Clock + Sync>(
             requires { IsSync R.row × AreGuests shown guests.items × (shown.clients ≤ 8) }
             ensures { IfOk result (λ outcomes. AreOutcomes shown outcomes.items) × IfErr result (λ why. why ≡ Refusal.Memory) }
         { visit_all(rt, guests, shown, present) },
-        move || -> Result<(Server, Report), Refusal>
-            requires { IsSync R.row × (room_of server ≡ 1024) }
+        move || -> Result<Report, Refusal>
+            requires { IsSync R.row × (room_of server.now ≡ 1024) }
             ensures { IfErr result EndsShift }
         { server.serve(rt, Shift::Turns(u64::from(shown.turns)), present) },
     );
@@ -170,8 +172,8 @@ fn visit_all<R: Threads + Wait + Clock + Sync>(
         rt,
         guests,
         &|guest: Guest| -> Result<Visit, Refusal>
-            requires { IsSync R.row × (guest.plan.number < 10) }
-            ensures { IfOk result (Visits (guest.service.host, guest.service.waiting) guest.plan guest.turns) × IfErr result EndsShift }
+            requires { IsSync R.row × (guest.part.plan.number < 10) }
+            ensures { IfOk result (Visits beginning guest.part.plan guest.part.turns) × IfErr result EndsShift }
         { visit(rt, guest, Company { present, all }) },
     );
     match outcomes {

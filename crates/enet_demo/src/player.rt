@@ -52,13 +52,9 @@ pub(crate) struct Played {
 }
 
 impl<'a> Player<'a> {
-    ghost use Rattle.std.specs.Prelude.{◌≡◌, ◌<◌, ◌++◌, [], List, OnOk, IfErr};
-    ghost use Rattle.enet_submit.specs.declared.order.Order.{Order as Asked};
-    ghost use Rattle.enet_submit.specs.Words.{IsFinishedOf, all_sent};
-    ghost use Rattle.enet_bridge.specs.Ends.{orders};
+    ghost use Rattle.std.specs.Prelude.{◌≡◌, ◌<◌, [], OnOk, IfErr};
     ghost use Rattle.enet_bridge.specs.Holding.{asked, received, desk_queue, inbox_queue};
-    ghost use Rattle.enet_demo.specs.Playing.{IsFresh, IsSame, HasPlayed, told};
-    ghost use Rattle.enet_demo.specs.Visits.{Tells};
+    ghost use Rattle.enet_demo.specs.Playing.{IsFresh, IsSame, HasPlayed, HasVisited, told};
 
     /// A player who has asked for nothing yet.
     pub(crate) fn new(alloc: Global, plan: Plan, desk: Desk<'a>, inbox: Inbox<'a>) -> Player<'a>
@@ -174,11 +170,7 @@ impl<'a> Player<'a> {
     /// What came of it, and the ends of the queues.
     pub(crate) fn into_played(self) -> Played
         requires { HasPlayed self }
-        ensures asked { (left : List Asked) × (asked self.entry.desk ≡ orders (all_sent result.seat) ++ left) }
-        ensures tells { Tells (told self.entry) result.visit }
-        ensures taken { result.taker.taken ≡ received self.entry.inbox }
-        ensures seat { IsFinishedOf (desk_queue self.entry.desk) result.seat }
-        ensures taker { result.taker.queue ≡ (inbox_queue self.entry.inbox).id }
+        ensures { HasVisited (desk_queue self.entry.desk) (inbox_queue self.entry.inbox).id self.entry.plan result }
     {
         let (seat, _) = self.desk.into_parts();
         Played {

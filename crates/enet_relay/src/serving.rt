@@ -25,37 +25,37 @@ where
         channels: options.channels,
         room: options.room,
     };
-    let server = Server::open(rt, settings)?;
-    match options.length {
-        Length::Turns(turns) => serve_turns(rt, server, turns),
-        Length::Forever => serve_on(rt, server),
-    }
+    let mut server = Server::open(rt, settings)?;
+    let served = match options.length {
+        Length::Turns(turns) => serve_turns(rt, &mut server, turns),
+        Length::Forever => serve_on(rt, &mut server),
+    };
+    server.close();
+    served
 }
 
-fn serve_turns<R>(rt: &R, server: Server, turns: u32) -> Result<(), Failure>
+fn serve_turns<R>(rt: &R, server: &mut Server, turns: u32) -> Result<(), Failure>
 where
     R: Threads + Wait + Clock + Sync + Print,
 {
-    let (_server, report) = server.serve(rt, Shift::Turns(u64::from(turns)), &AtomicUsize::new(0))?;
+    let report = server.serve(rt, Shift::Turns(u64::from(turns)), &AtomicUsize::new(0))?;
     let received = report.received;
     let sent = report.sent;
     println!(rt; "served {turns} received {received} sent {sent}").map_err(|_| Failure::Io)
 }
 
 // Serves until the process is stopped. Totals that can't be written end nothing.
-fn serve_on<R>(rt: &R, server: Server) -> Result<(), Failure>
+fn serve_on<R>(rt: &R, server: &mut Server) -> Result<(), Failure>
 where
     R: Threads + Wait + Clock + Sync + Eprint,
 {
-    let mut server = server;
     let present = AtomicUsize::new(0);
     let mut lost = 0u64;
     for _ in rt.forever() {
         let shift = Shift::Time(Duration::from_secs(BETWEEN_TOTALS));
-        let (next, report) = server.serve(rt, shift, &present)?;
-        server = next;
+        let report = server.serve(rt, shift, &present)?;
         lost = lost.saturating_add(u64::from(report.lost));
-        tell_totals(rt, &server, present.load(SeqCst), lost);
+        tell_totals(rt, server, present.load(SeqCst), lost);
     }
     Ok(())
 }

@@ -22,11 +22,11 @@ use Rattle.enet_serve.specs.declared.server.Settings.{Settings}
 
 -- ---- what a server is between two shifts
 abbrev pub host_of : Server → Host
-host_of server = server.service.host
+host_of server = server.station.service.host
 
 -- the event that waits for room in the queue, if there is one
 abbrev pub waiting_of : Server → Option Event
-waiting_of server = server.service.waiting
+waiting_of server = server.station.service.waiting
 
 -- how many places each of its queues has
 abbrev pub room_of : Server → ℕ

@@ -5,7 +5,7 @@
 //! order, or waits for the next shift; each order that the events gave was handed to a turn, once and in order, or waits, too; and events
 //! wait only where orders do. So nothing is lost or doubled between the threads, nor from one shift to the next. A shift ends early only
 //! for what [`Server::serve`] names. A server opens with the standard host of its
-//! settings, with nothing waiting ([`Server::open`]).
+//! settings, with nothing waiting ([`Server::open`]). After a shift that was refused nothing is said of the server.
 //! Only tested, by scripts over `enet_relay`: what real clients get, that a shift ends, at which address a server listens, and that the
 //! queues settle (no E16). Neither: what a network gives, and when; what `present` shows.
 #![tactic(auto)]

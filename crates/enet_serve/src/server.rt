@@ -1,23 +1,23 @@
 //! A server: a service thread, and a thread that relays.
-ghost use Rattle.std.specs.Prelude.{IfOk, IfErr};
-ghost use Rattle.enet_serve.specs.Serving.{Serves, EndsShift};
-ghost use Rattle.enet_serve.specs.Threads.{CanSettle, IsLeft};
-ghost use Rattle.enet_shift.specs.Shifts.{AreNew};
+ghost use Rattle.std.specs.Prelude.{◌≡◌, ◌⊎◌, OnOk, IfOk, IfErr};
+ghost use Rattle.enet_chat.specs.Relaying.{Relays, IsThrough};
+ghost use Rattle.enet_shift.specs.Shifts.{CanSettle, IsNotSettled};
+ghost use Rattle.enet_serve.specs.Threads.{IsLeft, returned};
 
-use crate::threads::{Kept, RelayEnds, run_threads};
-use enet_chat::{Parts, Table};
-use enet_events::EventQueue;
+use crate::threads::{Kept, begin_relay};
+use enet_chat::Parts;
+use enet_events::Poster;
 use enet_host::HostCore;
-use enet_service::{Bell, MioWire, Report, Service, TakerBell};
-use enet_shift::{Queues, ServiceEnds, Shared, Shift, Turned, settle_events, untaken};
-use enet_submit::SubmitQueue;
+use enet_service::{Desk, Inbox, MioWire, QueueSink, QueueSource, Report};
+use enet_shift::{Ends, Queues, Returned, Shared, Shift, Signals, Station, beside_turns, settle};
+use enet_submit::Drain;
 use enet_types::{Addr, Config, Refusal};
 use std::alloc::Global;
-use std::collections::VecDeque;
+use std::mem;
 use std::net::Net;
 use std::rt::Clock;
 use std::sync::Wait;
-use std::sync::atomic::{AtomicBool, AtomicUsize};
+use std::sync::atomic::AtomicUsize;
 use std::thread::Threads;
 
 /// What a server is opened with.
@@ -33,19 +33,18 @@ pub struct Settings {
     pub room: u32,
 }
 
-/// A server between two shifts: its socket and its host, and what the relay has not done yet.
-#[derive(Drop)]
+/// A server between two shifts: its socket and its host, and what the relay has not done yet. It is given up by [`Server::close`] alone.
 pub struct Server {
     alloc: Global,
     room: u32,
-    wire: MioWire,
-    service: Service<HostCore>,
+    station: Station,
     kept: Kept,
 }
 
 impl Server {
     ghost use Rattle.std.specs.Prelude.{◌≡◌, ◌⊎◌, true, false, IfOk, IfErr, Err};
-    ghost use Rattle.enet_serve.specs.Serving.{Serves, IsNotServed, IsOpened, is_in_range, host_of};
+    ghost use Rattle.enet_shift.specs.Shifts.{AreNew};
+    ghost use Rattle.enet_serve.specs.Serving.{Serves, EndsShift, IsNotServed, IsOpened, is_in_range, host_of};
 
     /// A server at this address, with no peer.
     ///
@@ -57,18 +56,16 @@ impl Server {
         ensures opened { IfOk result (IsOpened settings) }
     {
         let alloc = rt.alloc();
-        let host = HostCore::open(alloc, Config::standard(settings.peers, settings.channels))?;
+        let config = Config::standard(settings.peers, settings.channels);
+        if !config.is_in_range() {
+            return Err(Refusal::BadConfig);
+        }
         let wire = MioWire::bind(rt, settings.address)?;
         Ok(Server {
             alloc,
             room: settings.room,
-            wire,
-            service: Service::new(host),
-            kept: Kept {
-                table: Table::open(alloc),
-                backlog: VecDeque::new(alloc),
-                orders: VecDeque::new(alloc),
-            },
+            station: Station::open(alloc, wire, config)?,
+            kept: Kept::new(alloc),
         })
     }
 
@@ -81,90 +78,117 @@ impl Server {
     ///
     /// E14 where the wire fails, E1 for want of memory, E8 where the queues' places are out of range, E10 where a shift is so long
     /// that the seat has submitted as many orders as it may, E16 where the threads ended and a queue isn't empty. Whatever is refused,
-    /// the server is gone with it: its socket and its connections.
+    /// nothing is promised of the server then, but that it can be closed.
     pub fn serve<R>(
-        self,
+        &mut self,
         rt: &R,
         shift: Shift,
         present: &AtomicUsize,
-    ) -> Result<(Server, Report), Refusal>
+    ) -> Result<Report, Refusal>
     where
         R: Threads + Wait + Clock + Sync,
-        ensures serves { IfOk result (λ r. Serves self shift r.0 r.1) }
-        ensures refused { IfErr result (IsNotServed self) }
+        ensures serves { IfOk result (Serves self.old shift self.new) }
+        ensures refused { IfErr result (IsNotServed self.old) }
     {
-        let queues = Queues::open(self.alloc, self.room)?;
-        let bell = self.wire.bell()?;
-        run_shift(rt, self, queues, &bell, shift, present)
+        let bell = self.station.wire.bell()?;
+        let Queues {
+            orders,
+            events,
+            ends,
+        } = Queues::open(self.alloc, self.room)?;
+        let shared = Shared {
+            queue: &orders,
+            events: &events,
+            bell: &bell,
+            signals: &Signals::new(),
+        };
+        self.run_shift(rt, shared, ends, shift, present)
+    }
+
+    // A shift between these queues.
+    fn run_shift<R: Threads + Wait + Clock + Sync>(
+        &mut self,
+        rt: &R,
+        shared: Shared<'_>,
+        ends: Ends,
+        shift: Shift,
+        present: &AtomicUsize,
+    ) -> Result<Report, Refusal>
+        requires { AreNew shared.queue.now shared.events.now ends }
+        ensures serves { IfOk result (Serves self.old shift self.new) }
+        ensures refused { IfErr result EndsShift }
+    {
+        let Shared {
+            queue,
+            events,
+            bell,
+            signals,
+        } = shared;
+        let kept = mem::replace(&mut self.kept, Kept::new(self.alloc));
+        let desk = Desk::new(self.alloc, queue, ends.seat, bell);
+        let inbox = Inbox::new(events, ends.taker);
+        let mut relay = begin_relay(self.alloc, kept, desk, inbox)?;
+        let mut source = QueueSource::new(queue, ends.drain, bell);
+        let mut sink = QueueSink::new(events, ends.poster, &signals.bell);
+        let (relayed, report) = beside_turns(
+            rt,
+            &mut self.station,
+            &mut source,
+            &mut sink,
+            shift,
+            signals,
+            &mut || -> Result<(), Refusal>
+                ensures relays { Relays relay.entry relay.exit }
+                ensures through { OnOk result (IsThrough relay.exit) }
+                ensures why { IfErr result (λ why. (why ≡ Refusal.Memory) ⊎ (why ≡ Refusal.SeatSpent)) }
+            { relay.run(rt, &signals.bell, &signals.ended, present) },
+        );
+        let kept = after_shift(
+            rt,
+            self.alloc,
+            shared,
+            relay.into_parts(),
+            source.into_drain(),
+            sink.into_poster(),
+        );
+        let report = report?;
+        relayed?;
+        self.kept = kept?;
+        Ok(report)
     }
 
     /// The host, which tells how much went through it.
     pub fn host(&self) -> &HostCore
         ensures { result.now ≡ host_of self.now }
     {
-        &self.service.host
+        &self.station.service.host
+    }
+
+    /// Gives its socket up, and its connections, of which no peer is told.
+    pub fn close(self) {
+        let Server {
+            alloc: _,
+            room: _,
+            station,
+            kept,
+        } = self;
+        drop(kept);
+        station.close();
     }
 }
 
-// A shift between these queues.
-fn run_shift<R: Threads + Wait + Clock + Sync>(
-    rt: &R,
-    server: Server,
-    queues: Queues,
-    bell: &Bell,
-    shift: Shift,
-    present: &AtomicUsize,
-) -> Result<(Server, Report), Refusal>
-    requires { AreNew queues }
-    ensures serves { IfOk result (λ r. Serves server shift r.0 r.1) }
-    ensures refused { IfErr result EndsShift }
-{
-    let relay = RelayEnds {
-        alloc: server.alloc,
-        seat: queues.seat,
-        taker: queues.taker,
-        kept: server.kept,
-    };
-    let service = ServiceEnds {
-        wire: server.wire,
-        service: server.service,
-        drain: queues.drain,
-        poster: queues.poster,
-        shift,
-    };
-    let shared = Shared {
-        queue: &queues.orders,
-        events: &queues.events,
-        bell,
-        taker_bell: &TakerBell::new(),
-        ended: &AtomicBool::new(false),
-    };
-    let (relayed, turned) = run_threads(rt, shared, present, relay, service);
-    let turned = turned?;
-    after_shift(
-        rt,
-        server.alloc,
-        server.room,
-        &queues.orders,
-        &queues.events,
-        relayed?,
-        turned,
-    )
-}
-
-// The server as the two threads left it. The orders that the service didn't take stand before those that found no room.
+// What the two threads left. The orders that the service didn't take stand before those that found no room.
 fn after_shift<R: Wait>(
     rt: &R,
     alloc: Global,
-    room: u32,
-    queue: &SubmitQueue,
-    events: &EventQueue,
+    shared: Shared<'_>,
     parts: Parts,
-    turned: Turned,
-) -> Result<(Server, Report), Refusal>
-    requires { CanSettle queue.now events.now parts turned }
-    ensures left { IfOk result (λ r. IsLeft room parts turned r.0 r.1) }
-    ensures refused { IfErr result EndsShift }
+    drain: Drain,
+    poster: Poster,
+) -> Result<Kept, Refusal>
+    requires { CanSettle shared.queue.now shared.events.now (returned parts drain poster) }
+    ensures left { IfOk result (IsLeft parts drain poster) }
+    ensures refused { IfErr result IsNotSettled }
 {
     let Parts {
         table,
@@ -173,22 +197,20 @@ fn after_shift<R: Wait>(
         seat,
         taker,
     } = parts;
-    settle_events(alloc, events, turned.poster, taker)?;
+    let back = Returned {
+        drain,
+        poster,
+        seat,
+        taker,
+    };
     let mut waiting = waiting;
-    let mut orders = untaken(rt, alloc, queue, turned.drain, seat)?;
+    let mut orders = settle(rt, alloc, shared.queue, shared.events, back)?;
     if orders.append(&mut waiting).is_err() {
         return Err(Refusal::Memory);
     }
-    let server = Server {
-        alloc,
-        room,
-        wire: turned.wire,
-        service: turned.service,
-        kept: Kept {
-            table,
-            backlog,
-            orders,
-        },
-    };
-    Ok((server, turned.report))
+    Ok(Kept {
+        table,
+        backlog,
+        orders,
+    })
 }

@@ -13,7 +13,6 @@ use Rattle.enet_submit.specs.Words.{taken}
 use Rattle.enet_events.specs.declared.numbered.Numbered.{Numbered}
 use Rattle.enet_events.specs.Words.{PosterState}
 use Rattle.enet_host.specs.Host.{Host}
-use Rattle.enet_types.specs.declared.refusal.Refusal.{Refusal}
 use Rattle.enet_types.specs.declared.refusal.Refusal.TheVariants.{WireFault}
 use Rattle.enet_turn.specs.declared.report.Fault.{Fault}
 use Rattle.enet_turn.specs.declared.report.Report.{Report}

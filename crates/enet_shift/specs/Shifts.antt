@@ -1,23 +1,25 @@
 -- What a service's thread does in a shift.
-use Rattle.std.specs.Prelude.{◌≡◌, ◌⊎◌, ℕ, ◌≤◌, List, [], ◌++◌, length, Option}
+use Rattle.std.specs.Prelude.{◌≡◌, ◌⊎◌, ℕ, ◌≤◌, List, [], ◌++◌, length, Option, None}
 use Rattle.std.specs.List.{All}
+use Rattle.enet_types.specs.declared.config.Config.{Config}
 use Rattle.enet_types.specs.declared.event.Event.{Event}
 use Rattle.enet_types.specs.declared.refusal.Refusal.{Refusal}
 use Rattle.enet_types.specs.declared.refusal.Refusal.TheVariants.{Memory, BadConfig, StillHeld}
 use Rattle.enet_submit.specs.declared.token.Drain.{Drain}
 use Rattle.enet_submit.specs.declared.queue.SubmitQueue.{SubmitQueue}
-use Rattle.enet_submit.specs.Words.{IsSeatOf, IsDrainOf, seats_of, sent, taken}
-use Rattle.enet_events.specs.Words.{QueueId, PosterState}
+use Rattle.enet_submit.specs.Words.{IsSeatOf, IsDrainOf, IsFinishedOf, seats_of, sent, taken}
+use Rattle.enet_events.specs.Words.{Queue, PosterState}
 use Rattle.enet_host.specs.Host.{Host}
+use Rattle.enet_host.specs.Opening.{opened}
 use Rattle.enet_turn.specs.declared.report.Report.{Report}
 use Rattle.enet_turn.specs.Hosting.{Ticks, Obeys, Hears, Gives, Tells}
 use Rattle.enet_turn.specs.Queues.{given, accepted, PostsOn}
 use Rattle.enet_turn.specs.Run.{Round, Rounds, IsSound, all_gave, all_puts, total}
-use Rattle.enet_shift.specs.declared.queues.Queues.{Queues}
+use Rattle.enet_shift.specs.declared.queues.Ends.{Ends}
+use Rattle.enet_shift.specs.declared.settling.Returned.{Returned}
 use Rattle.enet_shift.specs.declared.shift.Shift.{Shift}
 use Rattle.enet_shift.specs.declared.shift.Shift.TheVariants.{Turns, Time}
-use Rattle.enet_shift.specs.declared.turning.ServiceEnds.{ServiceEnds}
-use Rattle.enet_shift.specs.declared.turning.Turned.{Turned}
+use Rattle.enet_shift.specs.declared.station.Station.{Station}
 
 -- how many places a queue may have
 abbrev pub IsRoom : ℕ → Type 0
@@ -32,13 +34,20 @@ abbrev pub IsNotSettled : Refusal → Type 0
 IsNotSettled why = (why ≡ Memory) ⊎ (why ≡ StillHeld)
 
 -- two queues with all their ends, one seat and one taker, through which nothing went
-pub record AreNew (q : Queues) : Type 0 where
-  pub seat : IsSeatOf q.orders q.seat × (sent q.seat ≡ [])
-  pub drain : IsDrainOf q.orders q.drain × (taken q.drain ≡ [])
-  pub one_seat : seats_of q.orders ≡ 1
-  pub poster : (q.poster.queue ≡ q.events.id) × (q.poster.posted ≡ [])
-  pub taker : (q.taker.queue ≡ q.events.id) × (q.taker.taken ≡ [])
-  pub one_taker : q.events.id.takers ≡ 1
+pub record AreNew (queue : SubmitQueue) (events : Queue) (ends : Ends) : Type 0 where
+  pub seat : IsSeatOf queue ends.seat × (sent ends.seat ≡ [])
+  pub drain : IsDrainOf queue ends.drain × (taken ends.drain ≡ [])
+  pub one_seat : seats_of queue ≡ 1
+  pub poster : (ends.poster.queue ≡ events.id) × (ends.poster.posted ≡ [])
+  pub taker : (ends.taker.queue ≡ events.id) × (ends.taker.taken ≡ [])
+  pub one_taker : events.id.takers ≡ 1
+
+-- the host of a station, and the event that waits for room in the queue, if there is one
+abbrev pub state_of : Station → Host × Option Event
+state_of station = (station.service.host, station.service.waiting)
+
+abbrev pub beginning : Config → Host × Option Event
+beginning config = (opened config, None)
 
 -- how many turns a shift has: as many as it was told; where it was told a time, at least one
 abbrev pub Lasts : Shift → List Round → Type 0
@@ -58,11 +67,18 @@ pub record Spell (old : Host × Option Event) (from : Drain) (before : PosterSta
   pub gave : taken to ≡ taken from ++ given (all_gave rounds)
   pub put : PostsOn before (accepted (all_puts rounds)) after
 
--- the service's thread took the turns of its shift, between these queues
-pub record HasTurned (queue : SubmitQueue) (id : QueueId) (old : ServiceEnds) (new : Turned) : Type 0 where
+-- the turns of a shift
+pub record HasTurned (shift : Shift) (old : Host × Option Event) (from : Drain) (before : PosterState)
+    (new : Host × Option Event) (to : Drain) (after : PosterState) (report : Report) : Type 0 where
   pub rounds : List Round
-  pub lasts : Lasts old.shift rounds
-  pub spell : Spell (old.service.host, old.service.waiting) old.drain old.poster rounds
-      (new.service.host, new.service.waiting) new.drain new.poster new.report
-  pub drain : IsDrainOf queue new.drain
-  pub poster : new.poster.queue ≡ id
+  pub lasts : Lasts shift rounds
+  pub spell : Spell old from before rounds new to after report
+
+-- what the threads handed back belongs to the queues, which have one seat and one taker
+pub record CanSettle (queue : SubmitQueue) (events : Queue) (back : Returned) : Type 0 where
+  pub seat : IsFinishedOf queue back.seat
+  pub drain : IsDrainOf queue back.drain
+  pub one_seat : seats_of queue ≡ 1
+  pub poster : back.poster.queue ≡ events.id
+  pub taker : back.taker.queue ≡ events.id
+  pub one_taker : events.id.takers ≡ 1

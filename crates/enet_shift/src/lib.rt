@@ -3,17 +3,19 @@
 //!
 //! Proved: a shift ([`beside_turns`], `HasTurned`) is turns of the service, as many as were asked for where a number was and at least one
 //! where a time was, in none of which the wire failed, and its report their sums; what the turns were given is what the drain took, and
-//! what they put is what the poster posted. Once settled, the only taker took all that was posted ([`settle_events`]), and the orders
-//! that the drain didn't take are told in order ([`untaken`]).
+//! what they put is what the poster posted. Once settled, the only taker took all that was posted, and the orders that the drain didn't
+//! take are told in order ([`settle`]).
 //! Only tested, by scripts over `enet_relay`: that the queues settle (no E16). Neither: that a shift ends.
 #![tactic(auto)]
 
 mod queues;
 mod settling;
 mod shift;
+mod station;
 mod turning;
 
-pub use queues::Queues;
-pub use settling::{settle_events, untaken};
+pub use queues::{Ends, Queues};
+pub use settling::{Returned, settle};
 pub use shift::Shift;
-pub use turning::{ServiceEnds, Shared, Turned, beside_turns};
+pub use station::Station;
+pub use turning::{Shared, Signals, beside_turns};

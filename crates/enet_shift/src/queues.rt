@@ -12,10 +12,16 @@ use std::alloc::Global;
 #[derive(Drop)]
 pub struct Queues {
     pub orders: SubmitQueue,
-    pub seat: Seat,
-    pub drain: Drain,
     pub events: EventQueue,
+    pub ends: Ends,
+}
+
+/// The ends of both queues: the service's thread has drain and poster, the other one seat and taker.
+#[derive(Drop)]
+pub struct Ends {
+    pub drain: Drain,
     pub poster: Poster,
+    pub seat: Seat,
     pub taker: Taker,
 }
 
@@ -25,7 +31,7 @@ impl Queues {
 
     /// Queues of so many places each, in which nothing was put. E8 where the places are out of 1 to 65,536, E1 for want of memory.
     pub fn open(alloc: Global, room: u32) -> Result<Queues, Refusal>
-        ensures new { IfOk result AreNew }
+        ensures new { IfOk result (λ queues. AreNew queues.orders queues.events queues.ends) }
         ensures range { OnOk result (IsRoom room) }
         ensures refused { IfErr result (AreNotOpened room) }
     {
@@ -34,13 +40,16 @@ impl Queues {
         let (Some(seat), Some(taker)) = (only_seat(&orders, seats), takers.pop()) else {
             return Err(Refusal::Memory);
         };
+        let ends = Ends {
+            drain,
+            poster,
+            seat,
+            taker,
+        };
         Ok(Queues {
             orders,
-            seat,
-            drain,
             events,
-            poster,
-            taker,
+            ends,
         })
     }
 }

@@ -2,7 +2,7 @@
 ghost use Rattle.std.specs.Prelude.{◌≡◌, ◌++◌, OnOk, IfOk, IfErr};
 ghost use Rattle.enet_submit.specs.Words.{IsDrainOf, IsFinishedOf, seats_of, taken, all_sent};
 ghost use Rattle.enet_bridge.specs.Ends.{orders};
-ghost use Rattle.enet_shift.specs.Shifts.{IsNotSettled};
+ghost use Rattle.enet_shift.specs.Shifts.{CanSettle, IsNotSettled};
 
 use enet_events::{EventQueue, Poster, Taker};
 use enet_submit::{Drain, Finished, Order, SubmitQueue};
@@ -11,8 +11,43 @@ use std::alloc::Global;
 use std::collections::VecDeque;
 use std::sync::Wait;
 
-/// Settles the event queue: its only taker took all that was posted. E16 where it didn't, E1 for want of memory.
-pub fn settle_events(
+/// What the two threads hand back of their queues.
+#[derive(Drop)]
+pub struct Returned {
+    pub drain: Drain,
+    pub poster: Poster,
+    pub seat: Finished,
+    pub taker: Taker,
+}
+
+/// Settles both queues: their only taker took all that was posted. Answers the orders that the only seat submitted and the drain didn't
+/// take, in order.
+///
+/// E16 where there are other events or orders still, E1 for want of memory.
+pub fn settle<R: Wait>(
+    rt: &R,
+    alloc: Global,
+    queue: &SubmitQueue,
+    events: &EventQueue,
+    back: Returned,
+) -> Result<VecDeque<Order>, Refusal>
+    requires { CanSettle queue.now events.now back }
+    ensures taken { OnOk result (back.taker.taken ≡ back.poster.posted) }
+    ensures rest { IfOk result (λ rest. orders (all_sent back.seat) ≡ orders (taken back.drain) ++ rest.items) }
+    ensures refused { IfErr result IsNotSettled }
+{
+    let Returned {
+        drain,
+        poster,
+        seat,
+        taker,
+    } = back;
+    settle_events(alloc, events, poster, taker)?;
+    untaken(rt, alloc, queue, drain, seat)
+}
+
+// Settles the event queue: its only taker took all that was posted. E16 where it didn't, E1 for want of memory.
+fn settle_events(
     alloc: Global,
     events: &EventQueue,
     poster: Poster,
@@ -33,9 +68,9 @@ pub fn settle_events(
     }
 }
 
-/// The orders that the only seat submitted and the drain didn't take, in order. E16 where the queue has others still, E1 for want
-/// of memory.
-pub fn untaken<R: Wait>(
+// The orders that the only seat submitted and the drain didn't take, in order. E16 where the queue has others still, E1 for want
+// of memory.
+fn untaken<R: Wait>(
     rt: &R,
     alloc: Global,
     queue: &SubmitQueue,

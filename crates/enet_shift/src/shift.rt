@@ -34,6 +34,7 @@ pub(crate) fn take_turns<R: Wait + Clock>(
     shift: Shift,
 ) -> Result<Report, Refusal>
     ensures queue { queue_of source.new ≡ queue_of source.old }
+    ensures poster { (poster_of sink.new).queue ≡ (poster_of sink.old).queue }
     ensures turns { IfOk result (λ report. (rounds : List OneTurn) × Lasts shift rounds
         × Spell (service.old.host, service.old.waiting) (drain_of source.old) (poster_of sink.old) rounds
         (service.new.host, service.new.waiting) (drain_of source.new) (poster_of sink.new) report) }
@@ -55,6 +56,7 @@ fn turns_of<R: Wait + Clock>(
     turns: u64,
 ) -> Result<Report, Refusal>
     ensures queue { queue_of source.new ≡ queue_of source.old }
+    ensures poster { (poster_of sink.new).queue ≡ (poster_of sink.old).queue }
     ensures turns { IfOk result (λ report. (rounds : List OneTurn) × (length rounds ≡ turns)
         × Spell (service.old.host, service.old.waiting) (drain_of source.old) (poster_of sink.old) rounds
         (service.new.host, service.new.waiting) (drain_of source.new) (poster_of sink.new) report) }
@@ -76,6 +78,7 @@ fn turns_for<R: Wait + Clock>(
     time: Duration,
 ) -> Result<Report, Refusal>
     ensures queue { queue_of source.new ≡ queue_of source.old }
+    ensures poster { (poster_of sink.new).queue ≡ (poster_of sink.old).queue }
     ensures turns { IfOk result (λ report. (rounds : List OneTurn) × (1 ≤ length rounds)
         × Spell (service.old.host, service.old.waiting) (drain_of source.old) (poster_of sink.old) rounds
         (service.new.host, service.new.waiting) (drain_of source.new) (poster_of sink.new) report) }

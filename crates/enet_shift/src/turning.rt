@@ -1,20 +1,20 @@
 //! The service's thread of a shift.
 ghost use Rattle.std.specs.Prelude.{◌≡◌, IfOk, IfErr};
-ghost use Rattle.enet_submit.specs.Words.{IsDrainOf};
-ghost use Rattle.enet_shift.specs.Shifts.{HasTurned};
+ghost use Rattle.enet_events.specs.Words.{PosterState};
+ghost use Rattle.enet_bridge.specs.Serving.{queue_of, drain_of, poster_of};
+ghost use Rattle.enet_shift.specs.Shifts.{HasTurned, state_of};
 
 use crate::shift::{Shift, take_turns};
-use enet_events::{EventQueue, Poster};
-use enet_host::HostCore;
-use enet_service::{Bell, MioWire, QueueSink, QueueSource, Report, Service, TakerBell};
-use enet_submit::{Drain, SubmitQueue};
+use crate::station::Station;
+use enet_events::EventQueue;
+use enet_service::{Bell, QueueSink, QueueSource, Report, TakerBell};
+use enet_submit::SubmitQueue;
 use enet_types::Refusal;
 use std::rt::Clock;
 use std::sync::Wait;
 use std::sync::atomic::AtomicBool;
 use std::sync::atomic::Ordering::SeqCst;
-use std::thread;
-use std::thread::Threads;
+use std::thread::{Threads, join_mut};
 
 /// What the service's thread and the other one share.
 #[derive(Clone, Copy)]
@@ -25,109 +25,93 @@ pub struct Shared<'a> {
     pub events: &'a EventQueue,
     /// Wakes the service's thread.
     pub bell: &'a Bell,
+    /// What the service's thread tells the other one.
+    pub signals: &'a Signals,
+}
+
+/// What the service's thread tells the other one.
+#[derive(Drop)]
+pub struct Signals {
     /// Wakes the other thread.
-    pub taker_bell: &'a TakerBell,
+    pub bell: TakerBell,
     /// The service's thread has ended.
-    pub ended: &'a AtomicBool,
+    pub ended: AtomicBool,
 }
 
-/// What the service's thread begins with.
-#[derive(Drop)]
-pub struct ServiceEnds {
-    pub wire: MioWire,
-    pub service: Service<HostCore>,
-    pub drain: Drain,
-    pub poster: Poster,
-    pub shift: Shift,
+impl Signals {
+    /// Nothing was told.
+    pub fn new() -> Signals {
+        Signals {
+            bell: TakerBell::new(),
+            ended: AtomicBool::new(false),
+        }
+    }
+
+    fn end(&self) {
+        self.ended.store(true, SeqCst);
+        self.bell.ring();
+    }
 }
 
-/// What the service's thread hands back.
-#[derive(Drop)]
-pub struct Turned {
-    pub wire: MioWire,
-    pub service: Service<HostCore>,
-    pub drain: Drain,
-    pub poster: Poster,
-    /// The sums of the turns' reports.
-    pub report: Report,
-}
-
-/// Takes the turns of a shift, and then tells the other thread that the service has ended. E14 where the wire fails; the other thread
-/// is told of the end then, too.
+// Takes the turns of a shift, and then tells the other thread that the service has ended. E14 where the wire fails; the other thread
+// is told of the end then, too.
 fn serve_turns<R: Wait + Clock>(
     rt: &R,
-    shared: Shared<'_>,
-    ends: ServiceEnds,
-) -> Result<Turned, Refusal>
-    requires drain { IsDrainOf shared.queue.now ends.drain }
-    requires poster { ends.poster.queue ≡ shared.events.now.id }
-    ensures turned { IfOk result (HasTurned shared.entry.queue.now shared.entry.events.now.id ends) }
+    station: &mut Station,
+    source: &mut QueueSource<'_>,
+    sink: &mut QueueSink<'_>,
+    shift: Shift,
+    signals: &Signals,
+) -> Result<Report, Refusal>
+    ensures queue { queue_of source.new ≡ queue_of source.old }
+    ensures poster { (poster_of sink.new).queue ≡ (poster_of sink.old).queue }
+    ensures turned { IfOk result (HasTurned shift (state_of station.old) (drain_of source.old) (poster_of sink.old) (state_of station.new) (drain_of source.new) (poster_of sink.new)) }
     ensures fault { IfErr result (λ why. why ≡ Refusal.WireFault) }
 {
-    let ServiceEnds {
-        mut wire,
-        mut service,
-        drain,
-        poster,
+    let report = take_turns(
+        rt,
+        &mut station.service,
+        &mut station.wire,
+        source,
+        sink,
         shift,
-    } = ends;
-    let mut source = QueueSource::new(shared.queue, drain, shared.bell);
-    let mut sink = QueueSink::new(shared.events, poster, shared.taker_bell);
-    let report = take_turns(rt, &mut service, &mut wire, &mut source, &mut sink, shift);
-    shared.ended.store(true, SeqCst);
-    shared.taker_bell.ring();
-    Ok(Turned {
-        wire,
-        service,
-        drain: source.into_drain(),
-        poster: sink.into_poster(),
-        report: report?,
-    })
+    );
+    signals.end();
+    report
 }
 
-/// Does this in one thread, and takes the turns of a shift in another, until both have ended.
+/// Does `other` in one thread, and takes the turns of a shift in another, until both have ended. `other` is what takes events and submits
+/// orders: it goes on until it is told that the service has ended. It begins only then where no second thread can be made.
 ///
-/// A closure that captures a struct with a lifetime would hand on nothing of its `ensures`, so this one captures what is shared one
-/// by one; so should `other`.
+/// E14 where the wire fails: the service's thread ends then.
 pub fn beside_turns<R, F, T>(
     rt: &R,
-    shared: Shared<'_>,
-    ends: ServiceEnds,
-    other: F,
-) -> (T, Result<Turned, Refusal>)
+    station: &mut Station,
+    source: &mut QueueSource<'_>,
+    sink: &mut QueueSink<'_>,
+    shift: Shift,
+    signals: &Signals,
+    other: &mut F,
+) -> (T, Result<Report, Refusal>)
 where
     R: Threads + Wait + Clock + Sync,
-    F: FnOnce() -> T + Send,
+    F: FnMut() -> T + Send,
     T: Send,
-    requires other { F.pre other }
-    requires drain { IsDrainOf shared.queue.now ends.drain }
-    requires poster { ends.poster.queue ≡ shared.events.now.id }
-    ensures other { F.post other result.0 }
-    ensures turned { IfOk result.1 (HasTurned shared.entry.queue.now shared.entry.events.now.id ends) }
+    requires other { F.pre other.old }
+    ensures other { F.step other.old result.0 other.new }
+    ensures queue { queue_of source.new ≡ queue_of source.old }
+    ensures poster { (poster_of sink.new).queue ≡ (poster_of sink.old).queue }
+    ensures turned { IfOk result.1 (HasTurned shift (state_of station.old) (drain_of source.old) (poster_of sink.old) (state_of station.new) (drain_of source.new) (poster_of sink.new)) }
     ensures fault { IfErr result.1 (λ why. why ≡ Refusal.WireFault) }
 {
-    let Shared {
-        queue,
-        events,
-        bell,
-        taker_bell,
-        ended,
-    } = shared;
-    thread::join(
+    join_mut(
         rt,
         other,
-        move || -> Result<Turned, Refusal>
-            requires { IsDrainOf queue.now ends.drain × (ends.poster.queue ≡ events.now.id) }
-            ensures { IfOk result (HasTurned queue.entry.now events.entry.now.id ends) × IfErr result (λ why. why ≡ Refusal.WireFault) }
-        {
-            let shared = Shared {
-                queue,
-                events,
-                bell,
-                taker_bell,
-                ended,
-            };
-            serve_turns(rt, shared, ends)
-        },
+        &mut || -> Result<Report, Refusal>
+            ensures queue { queue_of source.exit.now ≡ queue_of source.entry.now }
+            ensures poster { (poster_of sink.exit.now).queue ≡ (poster_of sink.entry.now).queue }
+            ensures turned { IfOk result (HasTurned shift (state_of station.entry.now) (drain_of source.entry.now) (poster_of sink.entry.now) (state_of station.exit.now) (drain_of source.exit.now) (poster_of sink.exit.now)) }
+            ensures fault { IfErr result (λ why. why ≡ Refusal.WireFault) }
+        { serve_turns(rt, station, source, sink, shift, signals) },
     )
 }

@@ -1,0 +1,40 @@
+//! A service over our host, with the socket at which it is reached.
+
+use enet_host::HostCore;
+use enet_service::{MioWire, Service};
+use enet_types::{Config, Refusal};
+use std::alloc::Global;
+
+/// A service over our host, and the socket at which it is reached. It is given up by [`Station::close`] alone.
+pub struct Station {
+    pub wire: MioWire,
+    pub service: Service<HostCore>,
+}
+
+impl Station {
+    ghost use Rattle.std.specs.Prelude.{◌≡◌, true, false, IfOk, IfErr, Err};
+    ghost use Rattle.enet_types.specs.Config.{is_in_range};
+    ghost use Rattle.enet_shift.specs.Shifts.{state_of, beginning};
+
+    /// A host of this configuration, which did nothing yet, at this socket.
+    ///
+    /// E8 where a number of the configuration is out of its range, E1 for want of memory.
+    pub fn open(alloc: Global, wire: MioWire, config: Config) -> Result<Station, Refusal>
+        ensures out_of_range { is_in_range config ≡ false → result ≡ Err Refusal.BadConfig }
+        ensures in_range { is_in_range config ≡ true → IfErr result (λ why. why ≡ Refusal.Memory) }
+        ensures begins { IfOk result (λ station. state_of station ≡ beginning config) }
+    {
+        let host = HostCore::open(alloc, config)?;
+        Ok(Station {
+            wire,
+            service: Service::new(host),
+        })
+    }
+
+    /// Gives host and socket up.
+    pub fn close(self) {
+        let Station { wire, service } = self;
+        drop(service);
+        drop(wire);
+    }
+}
