@@ -14,10 +14,11 @@ pub struct Alone {
 pub fn read<R: Read>(reader: &mut R) -> Result<Option<Alone>> {
     let mut bytes = [0; 32];
     let len = reader.read(&mut bytes)?;
-    let text = str::from_utf8(bytes.get(..len).unwrap_or(&[]))?;
-    let Some((list, growths)) = text.trim().split_once(' ') else {
+    let text = str::from_utf8(bytes.get(..len).unwrap_or(&[]))?.trim();
+    if text.is_empty() {
         return Ok(None);
-    };
+    }
+    let (list, growths) = text.split_once(' ').context("not two numbers")?;
     Ok(Some(Alone {
         list: list.parse::<u32>().context("not a list's number")?,
         growths: growths.parse::<u32>().context("not a count of growths")?,
