@@ -18,7 +18,7 @@ const BATCH: u32 = 1000;
 const SPAN: u32 = 8192;
 
 /// How long the first thousand took, and the last, in nanoseconds.
-#[derive(Clone, Copy, Debug, PartialEq, Eq)]
+#[derive(Clone, Copy)]
 pub struct Times {
     pub first: u128,
     pub last: u128,
@@ -56,7 +56,7 @@ impl fmt::Display for Times {
 }
 
 /// In which order acknowledgements come.
-#[derive(Clone, Copy, Debug, PartialEq, Eq)]
+#[derive(Clone, Copy, Debug)]
 pub enum Order {
     FirstToLast,
     LastToFirst,
@@ -64,7 +64,7 @@ pub enum Order {
 }
 
 /// What is submitted.
-#[derive(Clone, Copy, Debug, PartialEq, Eq)]
+#[derive(Clone, Copy)]
 pub struct Submission {
     /// The packet's flags.
     pub flags: u8,
