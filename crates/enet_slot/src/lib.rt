@@ -7,7 +7,7 @@
 //! in say the tests of `refused_by` in their order, and whether it can be given out `is_available`. Want of memory changes nothing.
 //! Over all slots of a host: `unused_slots` and `joined_slots` make them, `first_available` and `any_is_connection` look for one,
 //! and `tick_all`, `set_bandwidth` (`changed`) and `share_out` (`shared`) are one change on each.
-//! Only tested, with the host's calls by `check_hosts` and `check_foreign`: that calls succeed with ample memory.
+//! Only tested, with the host's calls by `check_hosts`: that calls succeed with ample memory.
 #![tactic(auto)]
 
 mod all;
