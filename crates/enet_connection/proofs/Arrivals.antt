@@ -215,21 +215,21 @@ holds-coming own other p h reach now sent (send_unsequenced group payload) there
     (λ t. holds-unsequenced own other p h group payload sent (far-of other (made h reach m.body) clean there refl) k) k
 holds-coming own other p h reach now sent (send_reliable payload) there clean tidy late late' k =
     let m : Message = record { head = h; body = send_reliable payload } in
-    let c : DataCommand = record { reliable = true; number = h.number; count = 0; fragment = None; body = payload } in
+    let c : DataCommand = record { reliable = true; number = h.number; unreliable = 0; fragment = None; body = payload } in
     outcome-if own other (is_allowed p.state m.body) (by_body p now sent m m.body) (stopped p stop.NotConnected)
     (λ t. data-by own other p (made h reach m.body) c sent (logged-of other (made h reach m.body) c clean there refl refl (λ few. late few c refl)) tidy (data-state p.state m.body refl t) k) k
 holds-coming own other p h reach now sent (send_unreliable n payload) there clean tidy late late' k =
     let m : Message = record { head = h; body = send_unreliable n payload } in
-    let c : DataCommand = record { reliable = false; number = h.number; count = n; fragment = None; body = payload } in
+    let c : DataCommand = record { reliable = false; number = h.number; unreliable = n; fragment = None; body = payload } in
     outcome-if own other (is_allowed p.state m.body) (by_body p now sent m m.body) (stopped p stop.NotConnected)
     (λ t. data-by own other p (made h reach m.body) c sent (logged-of other (made h reach m.body) c clean there refl refl (λ few. late few c refl)) tidy (data-state p.state m.body refl t) k) k
 holds-coming own other p h reach now sent (send_fragment f payload) there clean tidy late late' k =
     let m : Message = record { head = h; body = send_fragment f payload } in
-    let c : DataCommand = record { reliable = true; number = h.number; count = 0; fragment = Some f; body = payload } in
+    let c : DataCommand = record { reliable = true; number = h.number; unreliable = 0; fragment = Some f; body = payload } in
     outcome-if own other (is_allowed p.state m.body) (by_body p now sent m m.body) (stopped p stop.NotConnected)
     (λ t. data-by own other p (made h reach m.body) c sent (logged-of other (made h reach m.body) c clean there refl refl (λ few. late few c refl)) tidy (data-state p.state m.body refl t) k) k
 holds-coming own other p h reach now sent (send_unreliable_fragment f payload) there clean tidy late late' k =
     let m : Message = record { head = h; body = send_unreliable_fragment f payload } in
-    let c : DataCommand = record { reliable = false; number = h.number; count = f.start; fragment = Some f; body = payload } in
+    let c : DataCommand = record { reliable = false; number = h.number; unreliable = f.start; fragment = Some f; body = payload } in
     outcome-if own other (is_allowed p.state m.body) (by_body p now sent m m.body) (stopped p stop.NotConnected)
     (λ t. data-by own other p (made h reach m.body) c sent (logged-of other (made h reach m.body) c clean there refl refl (λ few. late few c refl)) tidy (data-state p.state m.body refl t) k) k

@@ -43,7 +43,7 @@ first-dispatched r e there whole none = let s : Receiver = released wire (len r.
 
 -- the first reliable command, of two bytes
 abbrev pub first_command : DataCommand
-first_command = record { reliable = true; number = 1; count = 0; fragment = None; body = 7 ∷ 8 ∷ [] }
+first_command = record { reliable = true; number = 1; unreliable = 0; fragment = None; body = 7 ∷ 8 ∷ [] }
 
 abbrev first_coming : IncomingPacket
 first_coming = with_more (earlier_or_new None first_command) first_command

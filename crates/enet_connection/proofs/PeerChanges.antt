@@ -393,10 +393,10 @@ kept-obeyed P k p h now sent body a = by body
     by (send_unsequenced group payload) = if-allowed (send_unsequenced group payload) (λ t.
         kept-on_unsequenced P k p h group payload sent (allowed-connected p.state (send_unsequenced group payload) refl t) a)
     by (send_reliable payload) = if-allowed (send_reliable payload) (λ t.
-        kept-data P k p (record { head = h; body = send_reliable payload }) (record { reliable = true; number = h.number; count = 0; fragment = None; body = payload }) sent (allowed-connected p.state (send_reliable payload) refl t) a)
+        kept-data P k p (record { head = h; body = send_reliable payload }) (record { reliable = true; number = h.number; unreliable = 0; fragment = None; body = payload }) sent (allowed-connected p.state (send_reliable payload) refl t) a)
     by (send_unreliable n payload) = if-allowed (send_unreliable n payload) (λ t.
-        kept-data P k p (record { head = h; body = send_unreliable n payload }) (record { reliable = false; number = h.number; count = n; fragment = None; body = payload }) sent (allowed-connected p.state (send_unreliable n payload) refl t) a)
+        kept-data P k p (record { head = h; body = send_unreliable n payload }) (record { reliable = false; number = h.number; unreliable = n; fragment = None; body = payload }) sent (allowed-connected p.state (send_unreliable n payload) refl t) a)
     by (send_fragment f payload) = if-allowed (send_fragment f payload) (λ t.
-        kept-data P k p (record { head = h; body = send_fragment f payload }) (record { reliable = true; number = h.number; count = 0; fragment = Some f; body = payload }) sent (allowed-connected p.state (send_fragment f payload) refl t) a)
+        kept-data P k p (record { head = h; body = send_fragment f payload }) (record { reliable = true; number = h.number; unreliable = 0; fragment = Some f; body = payload }) sent (allowed-connected p.state (send_fragment f payload) refl t) a)
     by (send_unreliable_fragment f payload) = if-allowed (send_unreliable_fragment f payload) (λ t.
-        kept-data P k p (record { head = h; body = send_unreliable_fragment f payload }) (record { reliable = false; number = h.number; count = f.start; fragment = Some f; body = payload }) sent (allowed-connected p.state (send_unreliable_fragment f payload) refl t) a)
+        kept-data P k p (record { head = h; body = send_unreliable_fragment f payload }) (record { reliable = false; number = h.number; unreliable = f.start; fragment = Some f; body = payload }) sent (allowed-connected p.state (send_unreliable_fragment f payload) refl t) a)

@@ -237,7 +237,7 @@ filled-say w pace b says = let a = all in a.messages
       drops_unsequenced = λ f u rest t e a. record { control = a.control; messages = a.messages };
       puts_data = λ f k s n t there due a. record {
         control = a.control;
-        messages = more-said w f.messages (fragment.message_of s.channel n.command) a.messages (λ o t. absurd (data-said n.command.reliable n.command.fragment n.command.count n.command.body o t));
+        messages = more-said w f.messages (fragment.message_of s.channel n.command) a.messages (λ o t. absurd (data-said n.command.reliable n.command.fragment n.command.unreliable n.command.body o t));
       };
       drops_data = λ f k s n t there due kind a. record { control = a.control; messages = a.messages };
     }) (record { control = says; messages = λ m o h. absurd h })

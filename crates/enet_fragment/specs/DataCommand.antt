@@ -10,24 +10,24 @@ use Rattle.enet_fragment.specs.Place.{place_of}
 
 -- what the command says after its head
 abbrev pub wire_body : Bool → Option Fragment → ℕ → List ℕ → Body
-wire_body true None count body = send_reliable body
-wire_body true (Some f) count body = send_fragment f body
-wire_body false None count body = send_unreliable count body
-wire_body false (Some f) count body = send_unreliable_fragment f body
+wire_body true None unreliable body = send_reliable body
+wire_body true (Some f) unreliable body = send_fragment f body
+wire_body false None unreliable body = send_unreliable unreliable body
+wire_body false (Some f) unreliable body = send_unreliable_fragment f body
 
 -- the command on the wire; a reliable one asks for an acknowledgement
 abbrev pub message_of : ℕ → DataCommand → Message
 message_of channel c = record {
   head = record { acknowledge = c.reliable; unsequenced = false; channel = channel; number = c.number };
-  body = wire_body c.reliable c.fragment c.count c.body;
+  body = wire_body c.reliable c.fragment c.unreliable c.body;
 }
 
 -- a command as it is read. The unreliable number of an unreliable fragment is its start number
 abbrev pub read_of : Head → Body → Option DataCommand
-read_of h (send_reliable p) = Some (record { reliable = true; number = h.number; count = 0; fragment = None; body = p })
-read_of h (send_unreliable n p) = Some (record { reliable = false; number = h.number; count = n; fragment = None; body = p })
-read_of h (send_fragment f p) = Some (record { reliable = true; number = h.number; count = 0; fragment = Some f; body = p })
-read_of h (send_unreliable_fragment f p) = Some (record { reliable = false; number = h.number; count = f.start; fragment = Some f; body = p })
+read_of h (send_reliable p) = Some (record { reliable = true; number = h.number; unreliable = 0; fragment = None; body = p })
+read_of h (send_unreliable n p) = Some (record { reliable = false; number = h.number; unreliable = n; fragment = None; body = p })
+read_of h (send_fragment f p) = Some (record { reliable = true; number = h.number; unreliable = 0; fragment = Some f; body = p })
+read_of h (send_unreliable_fragment f p) = Some (record { reliable = false; number = h.number; unreliable = f.start; fragment = Some f; body = p })
 read_of h _ = None
 
 -- the sequenced data command that a message is, if it is one
@@ -36,8 +36,8 @@ data_of m = read_of m.head m.body
 
 -- a command as a sender makes it: a reliable one has no unreliable number, and that of an unreliable fragment is its start number
 pub record IsWellFormed (c : DataCommand) : Type 0 where
-  pub reliable : c.reliable ≡ true → c.count ≡ 0
-  pub start : c.reliable ≡ false → ForSome c.fragment (λ f. f.start ≡ c.count)
+  pub reliable : c.reliable ≡ true → c.unreliable ≡ 0
+  pub start : c.reliable ≡ false → ForSome c.fragment (λ f. f.start ≡ c.unreliable)
 
 -- such a command is read as it was written, on whatever channel
 abbrev pub IsReadAsWritten : DataCommand → Type 0

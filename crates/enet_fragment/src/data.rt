@@ -16,7 +16,7 @@ pub struct DataCommand {
     /// Its reliable number; an unreliable command has that of the last reliable command before it.
     pub number: u16,
     /// Its unreliable number, 0 for a reliable command.
-    pub count: u16,
+    pub unreliable: u16,
     /// Where it stands in its packet, if that goes in pieces.
     pub fragment: Option<Fragment>,
     /// Its payload.
@@ -45,7 +45,7 @@ impl DataCommand {
             },
             (false, None) => Command::SendUnreliable {
                 head,
-                unreliable: self.count,
+                unreliable: self.unreliable,
                 payload,
             },
             (false, Some(fragment)) => Command::SendUnreliableFragment {

@@ -171,7 +171,7 @@ added_reliable mtu cs sent r d p k s rel high above =
     let own : d.number ≡ p.number + (p.index + 1) = sd.own ∙ ap (λ b. cond b (p.number + (p.index + 1)) p.number) cr in
     let e : IncomingPacket = with_more (earlier_or_new (came_at r (wired d) start) (wired d)) (wired d) in
     let cut : IsCut mtu c = k.cut c (Stands-has cs p.number p.count c p.stands) in
-    let came' : came_at r (wired d) start ≡ get r.held start = ap (λ b. cond b (get r.held start) (get (line_at r.waiting start) d.count)) rel in
+    let came' : came_at r (wired d) start ≡ get r.held start = ap (λ b. cond b (get r.held start) (get (line_at r.waiting start) d.unreliable)) rel in
     let matches : Matches mtu e.making c = Matches-more mtu (came_at r (wired d) start) d c p.number p.count p.index p.inside sd (λ x t.
     let q = k.held start x (sym came' ∙ t) in
     let qp = q.place in
@@ -183,7 +183,7 @@ added_reliable mtu cs sent r d p k s rel high above =
     let before_count : count_of before ≡ c.pieces = sym (count_of-with before (place_in_packet (wired d)) d.body) ∙ matches.count in
     let has : has_piece e.making p.index ≡ true = has_own (came_at r (wired d) start) sd.index_is (let a = p.inside in omega arith) in
     let mid : Receiver = record r { held = insert r.held start e } in
-    let is : with_added r (wired d) start e ≡ mid = λ i. record r { held = if rel i then insert r.held start e else r.held; waiting = if rel i then r.waiting else with_line r.waiting start (insert (line_at r.waiting start) d.count e) } in
+    let is : with_added r (wired d) start e ≡ mid = λ i. record r { held = if rel i then insert r.held start e else r.held; waiting = if rel i then r.waiting else with_line r.waiting start (insert (line_at r.waiting start) d.unreliable e) } in
     let ready : Ready mtu cs mid = record {
       cut = k.cut;
       waiting = k.waiting;
@@ -224,7 +224,7 @@ added_reliable mtu cs sent r d p k s rel high above =
     e0 = with_more (earlier_or_new (came_at r (wired d) (p.number + 1)) (wired d)) (wired d)
 
     at_start : came_at r (wired d) (p.number + 1) ≡ get r.held (p.number + 1)
-    at_start = ap (λ b. cond b (get r.held (p.number + 1)) (get (line_at r.waiting (p.number + 1)) d.count)) rel
+    at_start = ap (λ b. cond b (get r.held (p.number + 1)) (get (line_at r.waiting (p.number + 1)) d.unreliable)) rel
 
     has_own : (o : Option IncomingPacket) → (piece_of (wired d)).number ≡ p.index → p.index < count_of (earlier_or_new o (wired d)).making → has_piece (with_more (earlier_or_new o (wired d)) (wired d)).making p.index ≡ true
     has_own o f low = subst (λ j. has_piece (with_piece (earlier_or_new o (wired d)).making (place_in_packet (wired d)) d.body) j ≡ true) f (has_piece-with_same (earlier_or_new o (wired d)).making (place_in_packet (wired d)) d.body (omega arith))
@@ -291,7 +291,7 @@ Arrived-reliable mtu cs sent most r d full p k s l rel high span late =
     came_index : (o : Option IncomingPacket) → came_at r (wired d) (p.number + 1) ≡ o → came o (wired d) ≡ true → d.number ≡ p.number + (p.index + 1) → (piece_of (wired d)).number ≡ p.index → IsReceived r d.number
     came_index None t h own idx = absurd (cc)
     came_index (Some x) t h own idx =
-        let here : get r.held (p.number + 1) ≡ Some x = sym (ap (λ b. cond b (get r.held (p.number + 1)) (get (line_at r.waiting (p.number + 1)) d.count)) rel) ∙ t in
+        let here : get r.held (p.number + 1) ≡ Some x = sym (ap (λ b. cond b (get r.held (p.number + 1)) (get (line_at r.waiting (p.number + 1)) d.unreliable)) rel) ∙ t in
         let back : d.number - (p.number + 1) ≡ p.index = omega arith in
         inr (
           p.number + 1,
@@ -339,7 +339,7 @@ Arrived-reliable mtu cs sent most r d full p k s l rel high span late =
         not_front b = elim (two_numbers (p.number + 1) r.front) [
           | inl same ↦ absurd (
               let y : (p.number + 1 == r.front) ≡ true = grind (arith, nat_tests) in
-              let z : is_behind r (wired d) (p.number + 1) ≡ true = λ i. y i && (rel i || nat_le d.count r.unreliable) in
+              let z : is_behind r (wired d) (p.number + 1) ≡ true = λ i. y i && (rel i || nat_le d.unreliable r.unreliable) in
               (let f : true ≡ false = sym z ∙ b in cc))
           | inr apart ↦ grind arith
         ]
@@ -349,7 +349,7 @@ Arrived-reliable mtu cs sent most r d full p k s l rel high span late =
           | inl same ↦ inl (let z = reached mtu cs r p.number p.count p.packet k p.stands cr (omega arith) in let i = p.inside in omega arith)
           | inr apart ↦ absurd (
               let y : (p.number + 1 == r.front) ≡ false = not_same (p.number + 1) r.front apart in
-              let z : is_behind r (wired d) (p.number + 1) ≡ false = ap (λ x. x && (d.reliable || nat_le d.count r.unreliable)) y in
+              let z : is_behind r (wired d) (p.number + 1) ≡ false = ap (λ x. x && (d.reliable || nat_le d.unreliable r.unreliable)) y in
               (let f : true ≡ false = sym b ∙ z in cc))
         ]
           where
@@ -377,16 +377,16 @@ added_unreliable mtu cs sent r d p k s rel =
     let n = p.number in
     let sd = says mtu cs d p in
     let cr : c.reliable ≡ false = sym sd.reliable ∙ rel in
-    let count : d.count ≡ p.count + 1 = sd.unreliable ∙ ap (λ b. cond b 0 (p.count + 1)) cr in
+    let count : d.unreliable ≡ p.count + 1 = sd.unreliable ∙ ap (λ b. cond b 0 (p.count + 1)) cr in
     let e : IncomingPacket = with_more (earlier_or_new (came_at r (wired d) n) (wired d)) (wired d) in
-    let came' : came_at r (wired d) n ≡ get (line_at r.waiting n) d.count = ap (λ b. cond b (get r.held n) (get (line_at r.waiting n) d.count)) rel in
+    let came' : came_at r (wired d) n ≡ get (line_at r.waiting n) d.unreliable = ap (λ b. cond b (get r.held n) (get (line_at r.waiting n) d.unreliable)) rel in
     let matches : Matches mtu e.making c = Matches-more mtu (came_at r (wired d) n) d c p.number p.count p.index p.inside sd (λ x t.
-    let q = k.waiting n d.count x (sym came' ∙ t) in
+    let q = k.waiting n d.unreliable x (sym came' ∙ t) in
     let qp = q.place in
     let z : q.count ≡ p.count = omega arith in
     let same : q.packet ≡ c = same_unreliable mtu cs n p.count q.packet c k.cut (subst (λ y. Stands cs n y q.packet) z q.stands) p.stands q.reliable cr in
     subst (λ y. Matches mtu x.making y) same q.matches) in
-    let packets : FinMap nat_cmp IncomingPacket = insert (line_at r.waiting n) d.count e in
+    let packets : FinMap nat_cmp IncomingPacket = insert (line_at r.waiting n) d.unreliable e in
     let mid : Receiver = record r { waiting = with_line r.waiting n packets } in
     let is : with_added r (wired d) n e ≡ mid = λ i. record r { held = if rel i then insert r.held n e else r.held; waiting = if rel i then r.waiting else with_line r.waiting n packets } in
     let ready : Ready mtu cs mid = record {
@@ -396,7 +396,7 @@ added_unreliable mtu cs sent r d p k s rel =
       waiting = λ m q x t. elim (two_numbers m n) [
         | inl same ↦
             let here : get packets q ≡ Some x = ap (λ y. get y q) (sym (waiting-replaced_same r.waiting n packets)) ∙ subst (λ z. get (unwrap_or (get (with_line r.waiting n packets) z) empty) q ≡ Some x) same t in
-            elim (get_inserted (line_at r.waiting n) d.count q e x here) [
+            elim (get_inserted (line_at r.waiting n) d.unreliable q e x here) [
               | inl w ↦ subst (λ y. OfUnreliable mtu cs m q y.making) w.1 (record { packet = c; count = p.count; place = w.0 ∙ count; stands = subst (λ z. Stands cs z p.count c) (sym same) p.stands; reliable = cr; matches = matches })
               | inr w ↦ subst (λ z. OfUnreliable mtu cs z q x.making) (sym same) (k.waiting n q x w.1)
             ]

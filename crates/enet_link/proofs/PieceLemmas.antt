@@ -25,7 +25,7 @@ IsPieceOf-more mtu cs x d p = record { packet = p.packet; number = p.number; cou
 pub record Says (mtu : ℕ) (d : DataCommand) (c : ChosenPacket) (number count index : ℕ) : Type 0 where
   pub reliable : d.reliable ≡ c.reliable
   pub own : d.number ≡ cond c.reliable (number + (index + 1)) number
-  pub unreliable : d.count ≡ cond c.reliable 0 (count + 1)
+  pub unreliable : d.unreliable ≡ cond c.reliable 0 (count + 1)
   pub pieces : (piece_of (wired d)).count ≡ c.pieces
   pub index_is : (piece_of (wired d)).number ≡ index
   pub start : c.reliable ≡ true → (piece_of (wired d)).start ≡ (number + 1) % 65536

@@ -37,7 +37,7 @@ all-append mtu number count (c ∷ a) b =
 
 -- a command on the wire
 abbrev raw : Bool → ℕ → ℕ → Option Fragment → List ℕ → DataCommand
-raw reliable number count fragment body = record { reliable = reliable; number = number; count = count; fragment = fragment; body = body }
+raw reliable number count fragment body = record { reliable = reliable; number = number; unreliable = count; fragment = fragment; body = body }
 
 abbrev piece : ℕ → ChosenPacket → ℕ → ℕ → Fragment
 piece mtu c start i = fragment_at (piece_length mtu) c start i

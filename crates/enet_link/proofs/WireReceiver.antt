@@ -268,14 +268,14 @@ Places-command v r c small small_start s =
 
 came_at_same : (v r : Receiver) (c : DataCommand) (a : ℕ) → a ≤ 28671 → ShowsReceiver v r → came_at v c ((r.front + a) % 65536) ≡ came_at r c (r.front + a)
 came_at_same v r c a near s =
-    let unreliable : get (line_at v.waiting ((r.front + a) % 65536)) c.count ≡ get (line_at r.waiting (r.front + a)) c.count = ap (λ m. get m c.count) (waiting_same v r a near s) in
+    let unreliable : get (line_at v.waiting ((r.front + a) % 65536)) c.unreliable ≡ get (line_at r.waiting (r.front + a)) c.unreliable = ap (λ m. get m c.unreliable) (waiting_same v r a near s) in
     let reliable : get v.held ((r.front + a) % 65536) ≡ get r.held (r.front + a) = elim (two_numbers a 0) [
       | inl none ↦
           let lap : (r.front + a) % 65536 ≡ (r.front + 65536) % 65536 = omega arith in
           ap (get v.held) lap ∙ s.held 65536 (omega arith) (omega arith) ∙ s.near 65536 (omega arith) ∙ sym (s.low (r.front + a) (omega arith))
       | inr some' ↦ s.held a (grind arith) (omega arith)
     ] in
-    elim c.reliable as (λ b. cond b (get v.held ((r.front + a) % 65536)) (get (line_at v.waiting ((r.front + a) % 65536)) c.count) ≡ cond b (get r.held (r.front + a)) (get (line_at r.waiting (r.front + a)) c.count)) [ true ↦ reliable | false ↦ unreliable ]
+    elim c.reliable as (λ b. cond b (get v.held ((r.front + a) % 65536)) (get (line_at v.waiting ((r.front + a) % 65536)) c.unreliable) ≡ cond b (get r.held (r.front + a)) (get (line_at r.waiting (r.front + a)) c.unreliable)) [ true ↦ reliable | false ↦ unreliable ]
 
 behind_same : (v r : Receiver) (c : DataCommand) (a : ℕ) → a ≤ 28671 → ShowsReceiver v r → is_behind v c ((r.front + a) % 65536) ≡ is_behind r c (r.front + a)
 behind_same v r c a near s =
@@ -290,7 +290,7 @@ behind_same v r c a near s =
           let y : (r.front + a == r.front) ≡ false = apart (r.front + a) r.front (λ k. grind arith) in
           x ∙ sym y
     ] in
-    (λ i. place i && (c.reliable || nat_le c.count (s.unreliable i)))
+    (λ i. place i && (c.reliable || nat_le c.unreliable (s.unreliable i)))
   where
     apart : (p q : ℕ) → p ≢ q → (p == q) ≡ false
     apart p q n = grind (arith, nat_tests)
@@ -310,12 +310,12 @@ Shows-added : (v r : Receiver) (c : DataCommand) (a : ℕ) (e : IncomingPacket) 
     → ShowsReceiver (with_added v c ((r.front + a) % 65536) e) (with_added r c (r.front + a) e)
 Shows-added v r c a e near above s =
     elim c.reliable as (λ b. c.reliable ≡ b → ShowsReceiver
-    (record v { held = cond b (insert v.held ((r.front + a) % 65536) e) v.held; waiting = cond b v.waiting (with_line v.waiting ((r.front + a) % 65536) (insert (line_at v.waiting ((r.front + a) % 65536)) c.count e)) })
-    (record r { held = cond b (insert r.held (r.front + a) e) r.held; waiting = cond b r.waiting (with_line r.waiting (r.front + a) (insert (line_at r.waiting (r.front + a)) c.count e)) })) [
+    (record v { held = cond b (insert v.held ((r.front + a) % 65536) e) v.held; waiting = cond b v.waiting (with_line v.waiting ((r.front + a) % 65536) (insert (line_at v.waiting ((r.front + a) % 65536)) c.unreliable e)) })
+    (record r { held = cond b (insert r.held (r.front + a) e) r.held; waiting = cond b r.waiting (with_line r.waiting (r.front + a) (insert (line_at r.waiting (r.front + a)) c.unreliable e)) })) [
       | true ↦ λ t. reliable (above t).0 (above t).1
-      | false ↦ λ t. subst (λ m. ShowsReceiver (record v { waiting = with_line v.waiting ((r.front + a) % 65536) (insert m c.count e) })
-          (record r { waiting = with_line r.waiting (r.front + a) (insert (line_at r.waiting (r.front + a)) c.count e) })) (sym (waiting_same v r a near s))
-          (Shows-waiting v r a (insert (line_at r.waiting (r.front + a)) c.count e) near s)
+      | false ↦ λ t. subst (λ m. ShowsReceiver (record v { waiting = with_line v.waiting ((r.front + a) % 65536) (insert m c.unreliable e) })
+          (record r { waiting = with_line r.waiting (r.front + a) (insert (line_at r.waiting (r.front + a)) c.unreliable e) })) (sym (waiting_same v r a near s))
+          (Shows-waiting v r a (insert (line_at r.waiting (r.front + a)) c.unreliable e) near s)
     ] refl
   where
     apart_in_lap : (d : ℕ) → 0 < a → 0 < d → d ≤ 65536 → d ≢ a → (r.front + d) % 65536 ≢ (r.front + a) % 65536
@@ -361,7 +361,7 @@ above_front : (r : Receiver) (c : DataCommand) (a : ℕ) → is_behind r c (r.fr
 above_front r c a b t = elim (two_numbers a 0) [
   | inl none ↦ absurd (
       let y : (r.front + a == r.front) ≡ true = grind (arith, nat_tests) in
-      let z : is_behind r c (r.front + a) ≡ true = (λ i. y i && (t i || nat_le c.count r.unreliable)) in cc)
+      let z : is_behind r c (r.front + a) ≡ true = (λ i. y i && (t i || nat_le c.unreliable r.unreliable)) in cc)
   | inr some' ↦ grind arith
 ]
 
@@ -400,7 +400,7 @@ received_at v r c full o p (inr w) size s h =
     (subst (λ x. ShowsReceiver (all_released wire (with_added v c ((r.front + a) % 65536) (with_more (earlier_or_new x c) c))) (all_released unbounded (with_added r c n e))) (sym (came_at_same v r c a w.1 s)) both))
   where
     came_sized : c.reliable ≡ true → (x : IncomingPacket) → came_at r c (r.front + w.0) ≡ Some x → IsSized x
-    came_sized k x t = s.sized_true (r.front + w.0) x (sym (ap (λ b. cond b (get r.held (r.front + w.0)) (get (line_at r.waiting (r.front + w.0)) c.count)) k) ∙ t)
+    came_sized k x t = s.sized_true (r.front + w.0) x (sym (ap (λ b. cond b (get r.held (r.front + w.0)) (get (line_at r.waiting (r.front + w.0)) c.unreliable)) k) ∙ t)
 
 pub Shows-received : (most : ℕ) (v r : Receiver) (c : DataCommand) (full : Bool) → c.number < 65536 → (c.reliable ≡ true → (piece_of c).start < 65536) → ShowsReceiver v r
     → (outcome wire most v c full ≡ outcome unbounded most r c full) × ShowsReceiver (received wire most v c full) (received unbounded most r c full)

@@ -33,7 +33,7 @@ abbrev pub wired_fragment : Bool → Fragment → Fragment
 wired_fragment reliable f = record { start = if reliable then f.start % 65536 else f.start; count = f.count; number = f.number; total = f.total; offset = f.offset }
 
 abbrev pub wired : DataCommand → DataCommand
-wired c = record { reliable = c.reliable; number = c.number % 65536; count = c.count; fragment = option_map (wired_fragment c.reliable) c.fragment; body = c.body }
+wired c = record { reliable = c.reliable; number = c.number % 65536; unreliable = c.unreliable; fragment = option_map (wired_fragment c.reliable) c.fragment; body = c.body }
 
 -- the greatest number that has this wire number and is at most `reach`
 abbrev pub number_below : ℕ → ℕ → ℕ

@@ -66,10 +66,10 @@ some-number : (h : Head) (d c : DataCommand) → Some d ≡ Some c → d.number 
 some-number h d c e number = (let same : d ≡ c = cc in ap (λ (n : ℕ). Some (mark_as Data h.channel n)) (sym number ∙ ap (λ (x : DataCommand). x.number) same))
 
 data-mark-by : (h : Head) (b : Body) (c : DataCommand) → read_of h b ≡ Some c → mark_by_body h b ≡ Some (mark_as Data h.channel c.number)
-data-mark-by h (send_reliable p) c e = some-number h (record { reliable = true; number = h.number; count = 0; fragment = None; body = p }) c e refl
-data-mark-by h (send_unreliable n p) c e = some-number h (record { reliable = false; number = h.number; count = n; fragment = None; body = p }) c e refl
-data-mark-by h (send_fragment f p) c e = some-number h (record { reliable = true; number = h.number; count = 0; fragment = Some f; body = p }) c e refl
-data-mark-by h (send_unreliable_fragment f p) c e = some-number h (record { reliable = false; number = h.number; count = f.start; fragment = Some f; body = p }) c e refl
+data-mark-by h (send_reliable p) c e = some-number h (record { reliable = true; number = h.number; unreliable = 0; fragment = None; body = p }) c e refl
+data-mark-by h (send_unreliable n p) c e = some-number h (record { reliable = false; number = h.number; unreliable = n; fragment = None; body = p }) c e refl
+data-mark-by h (send_fragment f p) c e = some-number h (record { reliable = true; number = h.number; unreliable = 0; fragment = Some f; body = p }) c e refl
+data-mark-by h (send_unreliable_fragment f p) c e = some-number h (record { reliable = false; number = h.number; unreliable = f.start; fragment = Some f; body = p }) c e refl
 data-mark-by h _ c e = absurd (cc)
 
 -- numbers that an end's are on the channels below 255

@@ -36,6 +36,6 @@ plain-filled pace o = let a = all in a.messages
       controls = λ f n e a. record { messages = more f.messages (controlling.message_of n.command) a.messages (λ t. refl) };
       puts_unsequenced = λ f u rest t e a. record { messages = more f.messages (unsequenced_of u) a.messages (λ t. absurd (let y : false ≡ true = t in cc)) };
       drops_unsequenced = λ f u rest t e a. record { messages = a.messages };
-      puts_data = λ f k s n t there due a. record { messages = more f.messages (message_of s.channel n.command) a.messages (λ t. absurd (no-control n.command.reliable n.command.fragment n.command.count n.command.body t)) };
+      puts_data = λ f k s n t there due a. record { messages = more f.messages (message_of s.channel n.command) a.messages (λ t. absurd (no-control n.command.reliable n.command.fragment n.command.unreliable n.command.body t)) };
       drops_data = λ f k s n t there due kind a. record { messages = a.messages };
     }) (record { messages = λ m h. absurd h })

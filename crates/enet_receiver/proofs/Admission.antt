@@ -127,7 +127,7 @@ Keeps-held most r place e k low near far g = record {
 
 -- an unreliable one
 Keeps-waiting : (most : ℕ) (r : Receiver) (place count : ℕ) (e : IncomingPacket) → Keeps most r → place < 65536 → ahead r.front place ≤ 28671 → count < 65536 → e.making.total ≤ most
-    → Keeps most (with_added r (record { reliable = false; number = place; count = count; fragment = None; body = [] }) place e)
+    → Keeps most (with_added r (record { reliable = false; number = place; unreliable = count; fragment = None; body = [] }) place e)
 Keeps-waiting most r place count e k low far small total = record {
   packet = k.packet;
   wire = k.wire;
@@ -150,22 +150,22 @@ apart_behind place front false low t e = absurd (cc)
 apart_behind place front true low t e = elim (eqb place front) as (λ b. (b && true) ≡ false → b ≡ false) [ true ↦ λ f. f | false ↦ λ f. refl ] e
 
 -- a command that is taken in leaves all inside the window
-pub Keeps-stored : (most : ℕ) (r : Receiver) (c : DataCommand) (place : ℕ) → Keeps most r → IsInside r.front place → c.count < 65536 → Admitted most r c place → Keeps most (with_stored r c place)
+pub Keeps-stored : (most : ℕ) (r : Receiver) (c : DataCommand) (place : ℕ) → Keeps most r → IsInside r.front place → c.unreliable < 65536 → Admitted most r c place → Keeps most (with_stored r c place)
 Keeps-stored most r c place k inside count a =
     let e : IncomingPacket = grown_at r c place in
     elim c.reliable as (λ b. c.reliable ≡ b → Keeps most (record r {
       held = cond b (insert r.held place e) r.held;
-      waiting = cond b r.waiting (with_line r.waiting place (insert (line_at r.waiting place) c.count e));
+      waiting = cond b r.waiting (with_line r.waiting place (insert (line_at r.waiting place) c.unreliable e));
     })) [
       | true ↦ λ t.
-          let at : came_at r c place ≡ get r.held place = ap (λ b. cond b (get r.held place) (get (line_at r.waiting place) c.count)) t in
-          let apart = apart_behind place r.front c.reliable (leb c.count r.unreliable) t a.not_behind in
+          let at : came_at r c place ≡ get r.held place = ap (λ b. cond b (get r.held place) (get (line_at r.waiting place) c.unreliable)) t in
+          let apart = apart_behind place r.front c.reliable (leb c.unreliable r.unreliable) t a.not_behind in
           Keeps-held most r place e k inside.wire (apart_ahead r.front place k.wire inside.wire apart) inside.far
           (grown most c (came_at r c place) a.piece (λ x f. (let h = k.held place x (sym at ∙ f) in record { some_piece = h.some_piece; few_pieces = h.few_pieces; small = h.small })))
       | false ↦ λ t.
-          let at : came_at r c place ≡ get (line_at r.waiting place) c.count = ap (λ b. cond b (get r.held place) (get (line_at r.waiting place) c.count)) t in
-          Keeps-waiting most r place c.count e k inside.wire inside.far count
-          (small_new most c (came_at r c place) a.piece (λ x f. (packets_at most r place c.count x k (sym at ∙ f)).small))
+          let at : came_at r c place ≡ get (line_at r.waiting place) c.unreliable = ap (λ b. cond b (get r.held place) (get (line_at r.waiting place) c.unreliable)) t in
+          Keeps-waiting most r place c.unreliable e k inside.wire inside.far count
+          (small_new most c (came_at r c place) a.piece (λ x f. (packets_at most r place c.unreliable x k (sym at ∙ f)).small))
     ] refl
 
 -- how many pieces the packet of a command has

@@ -109,11 +109,11 @@ held_unreliable (Some p) r c place q k is = ap (λ b. b && eqb p.place q) (k.1 �
 fresh_elsewhere : (o : Option Completed) (r : Receiver) (c : DataCommand) (place q first : ℕ) → Completes o r c place → q ≢ place → is_fresh o q first ≡ false
 fresh_elsewhere None r c place q first k apart = refl
 fresh_elsewhere (Some p) r c place q first k apart =
-    ap (λ b. not p.reliable && (b && leb first p.count)) (let at : p.place ≡ place = k.2 in apart_test p.place q (λ e. apart (sym e ∙ at))) ∙ and_false (not p.reliable)
+    ap (λ b. not p.reliable && (b && leb first p.unreliable)) (let at : p.place ≡ place = k.2 in apart_test p.place q (λ e. apart (sym e ∙ at))) ∙ and_false (not p.reliable)
 
 fresh_reliable : (o : Option Completed) (r : Receiver) (c : DataCommand) (place q first : ℕ) → Completes o r c place → c.reliable ≡ true → is_fresh o q first ≡ false
 fresh_reliable None r c place q first k is = refl
-fresh_reliable (Some p) r c place q first k is = ap (λ b. not b && (eqb p.place q && leb first p.count)) (k.1 ∙ is)
+fresh_reliable (Some p) r c place q first k is = ap (λ b. not b && (eqb p.place q && leb first p.unreliable)) (k.1 ∙ is)
 
 -- at its own place
 held_here : (o : Option Completed) (r : Receiver) (c : DataCommand) (place : ℕ) (was : Option ℕ) → Completes o r c place → c.reliable ≡ true → was ≡ None
@@ -126,13 +126,13 @@ held_here (Some p) r c place was k is none =
     ∙ sym (whole_pieces true (grown_at r c place) k.0)
 
 fresh_here : (o : Option Completed) (r : Receiver) (c : DataCommand) (place first : ℕ) → Completes o r c place → c.reliable ≡ false
-    → is_fresh o place first ≡ (is_whole (grown_at r c place).making && leb first c.count)
-fresh_here None r c place first k is = sym (ap (λ b. b && leb first c.count) k)
+    → is_fresh o place first ≡ (is_whole (grown_at r c place).making && leb first c.unreliable)
+fresh_here None r c place first k is = sym (ap (λ b. b && leb first c.unreliable) k)
 fresh_here (Some p) r c place first k is =
-    ap (λ b. not b && (eqb p.place place && leb first p.count)) (k.1 ∙ is)
-    ∙ ap (λ b. b && leb first p.count) (same_test p.place place k.2)
+    ap (λ b. not b && (eqb p.place place && leb first p.unreliable)) (k.1 ∙ is)
+    ∙ ap (λ b. b && leb first p.unreliable) (same_test p.place place k.2)
     ∙ ap (leb first) k.3
-    ∙ sym (ap (λ b. b && leb first c.count) k.0)
+    ∙ sym (ap (λ b. b && leb first c.unreliable) k.0)
 
 -- the walk over what is held and waits before is that over what is held and waits then
 pub record SeesAs (o : Option Completed) (r s : Receiver) : Type 0 where
@@ -144,10 +144,10 @@ sees_as o most r c place a k =
     let g : IncomingPacket = grown_at r c place in
     elim c.reliable as (λ b. c.reliable ≡ b → SeesAs o r (record r {
       held = cond b (insert r.held place g) r.held;
-      waiting = cond b r.waiting (with_line r.waiting place (insert (line_at r.waiting place) c.count g));
+      waiting = cond b r.waiting (with_line r.waiting place (insert (line_at r.waiting place) c.unreliable g));
     })) [
       | true ↦ λ t.
-          let at : came_at r c place ≡ get r.held place = ap (λ b. cond b (get r.held place) (get (line_at r.waiting place) c.count)) t in
+          let at : came_at r c place ≡ get r.held place = ap (λ b. cond b (get r.held place) (get (line_at r.waiting place) c.unreliable)) t in
           let none : not_whole (get r.held place) = subst not_whole at (earlier_not_whole (came_at r c place) c a.agrees a.missing) in
           record {
             pieces = λ q. elim (two_numbers q place) [
@@ -160,16 +160,16 @@ sees_as o most r c place a k =
             line = λ q first. ap (λ b. length (fresh first (entries (line_at r.waiting q))) + one_if b) (fresh_reliable o r c place q first k t);
           }
       | false ↦ λ t.
-          let at : came_at r c place ≡ get (line_at r.waiting place) c.count = ap (λ b. cond b (get r.held place) (get (line_at r.waiting place) c.count)) t in
-          let none : not_whole (get (line_at r.waiting place) c.count) = subst not_whole at (earlier_not_whole (came_at r c place) c a.agrees a.missing) in
-          let grown : Line = insert (line_at r.waiting place) c.count g in
+          let at : came_at r c place ≡ get (line_at r.waiting place) c.unreliable = ap (λ b. cond b (get r.held place) (get (line_at r.waiting place) c.unreliable)) t in
+          let none : not_whole (get (line_at r.waiting place) c.unreliable) = subst not_whole at (earlier_not_whole (came_at r c place) c a.agrees a.missing) in
+          let grown : Line = insert (line_at r.waiting place) c.unreliable g in
           record {
             pieces = λ q. ap (λ b. cond b (pieces_or o None) (pieces_of (next_whole (get r.held q)))) (held_unreliable o r c place q k t);
             line = λ q first. elim (two_numbers q place) [
-              | inl same ↦ subst (λ n. fresh_at o r.waiting n first ≡ fresh_at None (with_line r.waiting place (insert (line_at r.waiting place) c.count g)) n first) (sym same)
+              | inl same ↦ subst (λ n. fresh_at o r.waiting n first ≡ fresh_at None (with_line r.waiting place (insert (line_at r.waiting place) c.unreliable g)) n first) (sym same)
                   (ap (λ b. length (fresh first (entries (line_at r.waiting place))) + one_if b) (fresh_here o r c place first k t)
-                  ∙ sym (fresh-insert first c.count g (line_at r.waiting place) none)
-                  ∙ sym (add-zero (length (fresh first (entries (insert (line_at r.waiting place) c.count g)))))
+                  ∙ sym (fresh-insert first c.unreliable g (line_at r.waiting place) none)
+                  ∙ sym (add-zero (length (fresh first (entries (insert (line_at r.waiting place) c.unreliable g)))))
                   ∙ ap (λ (l : Line). length (fresh first (entries l)) + 0) (sym (line_at-same r.waiting place grown)))
               | inr apart ↦ ap (λ b. length (fresh first (entries (line_at r.waiting q))) + one_if b) (fresh_elsewhere o r c place q first k apart)
                   ∙ ap (λ (l : Line). length (fresh first (entries l)) + 0) (sym (line_at-other r.waiting place grown q apart))
@@ -212,7 +212,7 @@ minus : (a b c : ℕ) → a ≡ b + c → a - b ≡ c
 minus a b c e = omega arith
 
 -- how many packets a command dispatches that is taken in
-pub dispatches-is : (n most : ℕ) (o : Option Completed) (r : Receiver) (c : DataCommand) (full : Bool) (place : ℕ) → Keeps most r → IsInside r.front place → c.count < 65536 → Admitted most r c place → Completes o r c place
+pub dispatches-is : (n most : ℕ) (o : Option Completed) (r : Receiver) (c : DataCommand) (full : Bool) (place : ℕ) → Keeps most r → IsInside r.front place → c.unreliable < 65536 → Admitted most r c place → Completes o r c place
     → outcome wire most r c full ≡ Held → 65534 ≤ suc n → walked (suc n) o r.held r.waiting r.front r.unreliable ≡ dispatch_count wire most r c full
 dispatches-is n most o r c full place k inside count a made held enough =
     let s : Receiver = with_stored r c place in

@@ -88,9 +88,9 @@ new-flags c = by c.reliable (is_some c.fragment)
 sequenced-grown : (r : Receiver) (c : DataCommand) (place : ℕ) → HasSequenced r → IsSequenced (with_more (earlier_or_new (came_at r c place) c) c)
 sequenced-grown r c place k = go (came_at r c place) (by c.reliable)
   where
-    by : (b : Bool) → (e : IncomingPacket) → cond b (get r.held place) (get (line_at r.waiting place) c.count) ≡ Some e → IsSequenced e
+    by : (b : Bool) → (e : IncomingPacket) → cond b (get r.held place) (get (line_at r.waiting place) c.unreliable) ≡ Some e → IsSequenced e
     by true e h = k.held place e h
-    by false e h = k.waiting place c.count e h
+    by false e h = k.waiting place c.unreliable e h
 
     go : (o : Option IncomingPacket) → ((e : IncomingPacket) → o ≡ Some e → IsSequenced e) → IsSequenced (with_more (earlier_or_new o c) c)
     go None h = new-flags c
@@ -99,19 +99,19 @@ sequenced-grown r c place k = go (came_at r c place) (by c.reliable)
 sequenced-added : (r : Receiver) (c : DataCommand) (place : ℕ) (e : IncomingPacket) → IsSequenced e → HasSequenced r → HasSequenced (with_added r c place e)
 sequenced-added r c place e flag k = by c.reliable
   where
-    by : (b : Bool) → HasSequenced (record r { held = cond b (insert r.held place e) r.held; waiting = cond b r.waiting (with_line r.waiting place (insert (line_at r.waiting place) c.count e)) })
+    by : (b : Bool) → HasSequenced (record r { held = cond b (insert r.held place e) r.held; waiting = cond b r.waiting (with_line r.waiting place (insert (line_at r.waiting place) c.unreliable e)) })
     by true = record {
       held = λ n x h. elim (get_inserted r.held place n e x h) [ inl new ↦ subst (λ (y : IncomingPacket). IsSequenced y) new.1 flag | inr old ↦ k.held n x old.1 ];
       waiting = k.waiting;
       dispatched = k.dispatched;
     }
     by false =
-        let line : Line = insert (line_at r.waiting place) c.count e in
+        let line : Line = insert (line_at r.waiting place) c.unreliable e in
         record {
           held = k.held;
           waiting = λ n j x h. elim (two_numbers n place) [
             | inl same ↦ (let f : get line j ≡ Some x = ap (λ (l : Line). get l j) (sym (line_at-same r.waiting place line)) ∙ ap (λ i. get (line_at (with_line r.waiting place line) i) j) (sym same) ∙ h in
-                elim (get_inserted (line_at r.waiting place) c.count j e x f) [ inl new ↦ subst (λ (y : IncomingPacket). IsSequenced y) new.1 flag | inr old ↦ k.waiting place j x old.1 ])
+                elim (get_inserted (line_at r.waiting place) c.unreliable j e x f) [ inl new ↦ subst (λ (y : IncomingPacket). IsSequenced y) new.1 flag | inr old ↦ k.waiting place j x old.1 ])
             | inr apart ↦ k.waiting n j x (ap (λ (l : Line). get l j) (sym (line_at-other r.waiting place line n apart)) ∙ h)
           ];
           dispatched = k.dispatched;

@@ -32,14 +32,14 @@ stored_is front unreliable held waiting out c place held_then waiting_then e = �
 pub taken_is : (most : ℕ) (r : Receiver) (c : DataCommand) (full : Bool) (place : ℕ) → outcome wire most r c full ≡ Held → place_read wire r c ≡ Some place → received wire most r c full ≡ all_released wire (with_stored r c place)
 taken_is most r c full place held read = ap (λ t. received_with t wire r c) held ∙ ap (added_at wire r c) read
 
-pub dispatches-at : (turns most : ℕ) (o : Option Completed) (r : Receiver) (c : DataCommand) (full : Bool) (place : ℕ) → turns ≡ 65534 → Keeps most r → IsInside r.front place → c.count < 65536 → Admitted most r c place → Completes o r c place
+pub dispatches-at : (turns most : ℕ) (o : Option Completed) (r : Receiver) (c : DataCommand) (full : Bool) (place : ℕ) → turns ≡ 65534 → Keeps most r → IsInside r.front place → c.unreliable < 65536 → Admitted most r c place → Completes o r c place
     → outcome wire most r c full ≡ Held → walked turns o r.held r.waiting r.front r.unreliable ≡ dispatch_count wire most r c full
 dispatches-at zero most o r c full place e k inside count a made held = absurd (omega arith)
 dispatches-at (suc n) most o r c full place e k inside count a made held = dispatches-is n most o r c full place k inside count a made held (omega arith)
 
 -- what is kept once the piece is added, and room was made for what is dispatched
 pub kept_then : (most front unreliable : ℕ) (held : FinMap nat_cmp IncomingPacket) (waiting : Lines) (out room : List Dispatched) (c : DataCommand) (place : ℕ) (held_then : FinMap nat_cmp IncomingPacket) (waiting_then : Lines)
-    → Keeps most (receiver_of front unreliable held waiting out) → Admitted most (receiver_of front unreliable held waiting out) c place → IsInside front place → c.count < 65536
+    → Keeps most (receiver_of front unreliable held waiting out) → Admitted most (receiver_of front unreliable held waiting out) c place → IsInside front place → c.unreliable < 65536
     → room ≡ out → holding held_then waiting_then ≡ with_stored (holding held waiting) c place
     → Keeps most (receiver_of front unreliable held_then waiting_then room)
 kept_then most front unreliable held waiting out room c place held_then waiting_then k a inside count same stored =

@@ -5,7 +5,7 @@ use Rattle.enet_fragment.specs.DataCommand.{piece_of}
 use Rattle.enet_receiver.specs.declared.arriving_data.ArrivingData.{ArrivingData}
 
 abbrev pub data_command : ArrivingData → DataCommand
-data_command a = record { reliable = a.reliable; number = a.head.number; count = a.count; fragment = a.fragment; body = a.payload.now }
+data_command a = record { reliable = a.reliable; number = a.head.number; unreliable = a.unreliable; fragment = a.fragment; body = a.payload.now }
 
 -- the number under which its packet is held, or for which it waits, where that is inside the window
 abbrev pub own_place : DataCommand → ℕ

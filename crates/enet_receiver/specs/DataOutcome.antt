@@ -20,7 +20,7 @@ place_read g r c = if c.reliable then start_read g r.front (piece_of c).start c.
 
 -- what came of its packet
 abbrev pub came_at : Receiver → DataCommand → ℕ → Option IncomingPacket
-came_at r c place = if c.reliable then get r.held place else get (line_at r.waiting place) c.count
+came_at r c place = if c.reliable then get r.held place else get (line_at r.waiting place) c.unreliable
 
 -- whether it can be a piece of a packet of at most `most` bytes, and has the number of that piece
 abbrev pub is_piece : ℕ → DataCommand → Bool
@@ -40,7 +40,7 @@ came (Some e) c = is_none c.fragment || is_some (piece_at e.making (piece_of c).
 
 -- whether its packet was dispatched, or has fallen behind
 abbrev pub is_behind : Receiver → DataCommand → ℕ → Bool
-is_behind r c place = place == r.front && (c.reliable || nat_le c.count r.unreliable)
+is_behind r c place = place == r.front && (c.reliable || nat_le c.unreliable r.unreliable)
 
 abbrev pub outcome_of : Receiver → DataCommand → Bool → ℕ → Option IncomingPacket → Took
 outcome_of r c full place earlier =
@@ -74,7 +74,7 @@ with_more e c = record { flags = e.flags; making = with_piece e.making (place_in
 abbrev pub with_added : Receiver → DataCommand → ℕ → IncomingPacket → Receiver
 with_added r c place e = record r {
   held = if c.reliable then insert r.held place e else r.held;
-  waiting = if c.reliable then r.waiting else with_line r.waiting place (insert (line_at r.waiting place) c.count e);
+  waiting = if c.reliable then r.waiting else with_line r.waiting place (insert (line_at r.waiting place) c.unreliable e);
 }
 
 -- the piece is added, and what is then due is dispatched

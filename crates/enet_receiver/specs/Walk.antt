@@ -33,7 +33,7 @@ pieces_at completed held number = if is_held_at completed number then pieces_or 
 -- whether the packet that is made whole goes with this number, and is not before the first that is dispatched
 abbrev pub is_fresh : Option Completed → ℕ → ℕ → Bool
 is_fresh None number first = false
-is_fresh (Some p) number first = not p.reliable && (p.place == number && nat_le first p.count)
+is_fresh (Some p) number first = not p.reliable && (p.place == number && nat_le first p.unreliable)
 
 -- how many unreliable packets go with a number, from the first unreliable number on
 abbrev pub fresh_at : Option Completed → Lines → ℕ → ℕ → ℕ
@@ -64,5 +64,5 @@ Completes (Some p) r c place =
     (is_whole (grown_at r c place).making ≡ true)
     × (p.reliable ≡ c.reliable)
     × (p.place ≡ place)
-    × (p.count ≡ c.count)
+    × (p.unreliable ≡ c.unreliable)
     × (p.pieces ≡ count_of (grown_at r c place).making)

@@ -29,7 +29,7 @@ pub struct ArrivingData<'a> {
     /// Whether it is dispatched in the order of the reliable numbers.
     pub reliable: bool,
     /// Its unreliable number, 0 for a reliable command; that of a fragment is its start number.
-    pub count: u16,
+    pub unreliable: u16,
     /// Where it stands in its packet, if that comes in pieces.
     pub fragment: Option<Fragment>,
     /// Its payload.
@@ -46,7 +46,7 @@ impl<'a> ArrivingData<'a> {
             Command::SendReliable { head, payload } => Some(ArrivingData {
                 head,
                 reliable: true,
-                count: 0,
+                unreliable: 0,
                 fragment: None,
                 payload,
             }),
@@ -57,7 +57,7 @@ impl<'a> ArrivingData<'a> {
             } => Some(ArrivingData {
                 head,
                 reliable: false,
-                count: unreliable,
+                unreliable,
                 fragment: None,
                 payload,
             }),
@@ -68,7 +68,7 @@ impl<'a> ArrivingData<'a> {
             } => Some(ArrivingData {
                 head,
                 reliable: true,
-                count: 0,
+                unreliable: 0,
                 fragment: Some(fragment),
                 payload,
             }),
@@ -79,7 +79,7 @@ impl<'a> ArrivingData<'a> {
             } => Some(ArrivingData {
                 head,
                 reliable: false,
-                count: fragment.start,
+                unreliable: fragment.start,
                 fragment: Some(fragment),
                 payload,
             }),

@@ -17,7 +17,7 @@ pub(crate) struct Completed {
     /// The number under which it is held, or for which it waits.
     pub place: u16,
     /// Its unreliable number.
-    pub count: u16,
+    pub unreliable: u16,
     /// How many pieces it has.
     pub pieces: u32,
 }
@@ -47,7 +47,7 @@ fn is_fresh(completed: Option<Completed>, number: u16, first: u32) -> bool
     match completed {
         None => false,
         Some(packet) => {
-            !packet.reliable && packet.place == number && first <= u32::from(packet.count)
+            !packet.reliable && packet.place == number && first <= u32::from(packet.unreliable)
         }
     }
 }

@@ -109,7 +109,7 @@ impl Incoming {
         let arriving = ArrivingData {
             head: *head,
             reliable: true,
-            count: 0,
+            unreliable: 0,
             fragment: None,
             payload,
         };
@@ -132,7 +132,7 @@ impl Incoming {
         let arriving = ArrivingData {
             head: *head,
             reliable: false,
-            count: *unreliable,
+            unreliable: *unreliable,
             fragment: None,
             payload,
         };
@@ -156,7 +156,7 @@ impl Incoming {
         let arriving = ArrivingData {
             head: *head,
             reliable: true,
-            count: 0,
+            unreliable: 0,
             fragment: Some(*fragment),
             payload,
         };
@@ -179,7 +179,7 @@ impl Incoming {
         let arriving = ArrivingData {
             head: *head,
             reliable: false,
-            count: fragment.start,
+            unreliable: fragment.start,
             fragment: Some(*fragment),
             payload,
         };
@@ -354,7 +354,7 @@ impl Incoming {
         if arriving.reliable {
             self.held.get(place)
         } else {
-            self.waiting.get(place, arriving.count)
+            self.waiting.get(place, arriving.unreliable)
         }
     }
 
@@ -362,7 +362,7 @@ impl Incoming {
     fn is_behind(&self, arriving: ArrivingData<'_>, place: u16) -> bool
         ensures { result ≡ is_behind self.now.receiver (data_command arriving.entry) place }
     {
-        place == self.front && (arriving.reliable || arriving.count <= self.unreliable)
+        place == self.front && (arriving.reliable || arriving.unreliable <= self.unreliable)
     }
 
     /// What becomes of it at its place.
@@ -397,7 +397,7 @@ impl Incoming {
         Some(Completed {
             reliable: arriving.reliable,
             place,
-            count: arriving.count,
+            unreliable: arriving.unreliable,
             pieces: arriving.piece().count,
         })
     }

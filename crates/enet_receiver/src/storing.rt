@@ -75,18 +75,18 @@ fn wait(
 ) -> Result<(), Refusal>
     requires short { length arriving.payload.now < 2 ^ 32 }
     requires sound { IsTrue (is_sound (place_in_packet (data_command arriving))) }
-    requires agrees { agrees_with (get (line_at waiting.old number) arriving.count) (data_command arriving) ≡ true }
-    requires missing { came (get (line_at waiting.old number) arriving.count) (data_command arriving) ≡ false }
-    ensures ok { OnOk result (waiting.new ≡ with_line waiting.old number (insert (line_at waiting.old number) arriving.entry.count
-        (with_more (earlier_or_new (get (line_at waiting.old number) arriving.entry.count) (data_command arriving.entry)) (data_command arriving.entry)))) }
+    requires agrees { agrees_with (get (line_at waiting.old number) arriving.unreliable) (data_command arriving) ≡ true }
+    requires missing { came (get (line_at waiting.old number) arriving.unreliable) (data_command arriving) ≡ false }
+    ensures ok { OnOk result (waiting.new ≡ with_line waiting.old number (insert (line_at waiting.old number) arriving.entry.unreliable
+        (with_more (earlier_or_new (get (line_at waiting.old number) arriving.entry.unreliable) (data_command arriving.entry)) (data_command arriving.entry)))) }
     ensures room { OnOk result (packets_in waiting.new ≤ packets_in waiting.old + 1) }
     ensures err { OnErr result (waiting.new ≡ waiting.old) }
 {
-    if waiting.get(number, arriving.count).is_some() {
-        return waiting.add(number, arriving.count, arriving.place(), arriving.payload);
+    if waiting.get(number, arriving.unreliable).is_some() {
+        return waiting.add(number, arriving.unreliable, arriving.place(), arriving.payload);
     }
     let coming = begun(alloc, arriving)?;
-    waiting.insert(number, arriving.count, coming)
+    waiting.insert(number, arriving.unreliable, coming)
 }
 
 /// Adds a piece to its packet, where memory is not refused.

@@ -21,7 +21,7 @@ abbrev pub command_of : Course → ℕ → List ℕ → DataCommand
 command_of s i body = record {
   reliable = s.reliable;
   number = if s.reliable then after s.number (i + 1) else s.number;
-  count = if s.reliable then 0 else s.unreliable + 1;
+  unreliable = if s.reliable then 0 else s.unreliable + 1;
   fragment = if nat_lt (piece_length s.mtu) s.total then Some (fragment_of s i) else None;
   body = body;
 }

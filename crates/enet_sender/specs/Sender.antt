@@ -35,7 +35,7 @@ abbrev pub command_at : Numbering → ℕ → ℕ → ℕ → ChosenPacket → �
 command_at g mtu number count c i = record {
   reliable = c.reliable;
   number = if c.reliable then g.after number (i + 1) else number;
-  count = if c.reliable then 0 else count + 1;
+  unreliable = if c.reliable then 0 else count + 1;
   fragment = if is_long mtu c.packet then Some (fragment_at (piece_length mtu) c (if c.reliable then g.after number 1 else count + 1) i) else None;
   body = piece_at (piece_length mtu) c.packet.body i;
 }

@@ -174,7 +174,7 @@ impl Course {
         DataCommand {
             reliable: self.reliable,
             number: self.number_at(i),
-            count: self.unreliable_number(),
+            unreliable: self.unreliable_number(),
             fragment: self.fragment_at(i),
             body,
         }
