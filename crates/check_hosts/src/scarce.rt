@@ -1,14 +1,14 @@
 //! The scripts whose growths are refused in turn. They stand here, since a run that refuses a growth has no files.
 
 /// A script that stands in the program.
-pub(crate) struct Kept {
+pub(crate) struct Script {
     pub name: &'static str,
     pub text: &'static str,
 }
 
 /// The scripts of connecting and of settings.
-pub(crate) const SCARCE: [Kept; 5] = [
-    Kept {
+pub(crate) const SCARCE: [Script; 5] = [
+    Script {
         name: "connect-offer",
         text: "# The first datagram of a client: CONNECT, to no peer yet.
 open A 1 2 = ok
@@ -19,7 +19,7 @@ terms A 0.0 = slot 4095 channels 2 mtu 1392 window 65536 sessions 255 255 thrott
 turn A = 0.0 B 8fff000082ff00010000ffff00000570000100000000000200000000000000000000138800000002000000020102030400000007
 turn A = none",
     },
-    Kept {
+    Script {
         name: "connect-handshake",
         text: "# Both ends of a handshake, and the CONNECT once more.
 open A 1 2 = ok
@@ -42,7 +42,7 @@ state B 0.0 = Connected
 terms A 0.0 = slot 0 channels 2 mtu 1392 window 65536 sessions 0 0 throttle 5000 2 2 id 01020304
 terms B 0.0 = slot 0 channels 2 mtu 1392 window 65536 sessions 0 0 throttle 5000 2 2 id 01020304",
     },
-    Kept {
+    Script {
         name: "connect-refusals",
         text: "# No channels, then a connection that takes the one slot, then no slot.
 open A 1 2 = ok
@@ -77,7 +77,7 @@ connect A B 2 0 00000003 = peer 0.2
 later A 0.2 0 = ok
 state A 0.2 = none",
     },
-    Kept {
+    Script {
         name: "disconnect-now-and-connect-again",
         text: "# The slot is used again: the next generation, the next sessions.
 open A 1 2 = ok
@@ -116,7 +116,7 @@ terms B 0.1 = slot 0 channels 2 mtu 1392 window 65536 sessions 1 1 throttle 5000
 # A datagram of the session before.
 deliver B A 1 = handled 0 stop S5",
     },
-    Kept {
+    Script {
         name: "bandwidth-and-throttle-commands",
         text: "# BANDWIDTH_LIMIT, after which the other end has the window of the told bandwidth; THROTTLE_CONFIGURE; both in one datagram.
 joined A B 1 2 = ok

@@ -16,5 +16,5 @@ mod table;
 
 pub use laws::each_other_peer_once;
 pub use relay::relay_step;
-pub use relaying::{Parts, Relay};
+pub use relaying::{Relay, RelayParts};
 pub use table::Table;

@@ -41,7 +41,7 @@ pub struct Relay<'a> {
 
 /// What a relay leaves.
 #[derive(Drop)]
-pub struct Parts {
+pub struct RelayParts {
     /// The peers that are connected.
     pub table: Table,
     /// The events that were taken and not expanded.
@@ -96,7 +96,7 @@ impl<'a> Relay<'a> {
     }
 
     /// Gives seat and taker up, with the peers, the events that were not expanded and the orders that found no room.
-    pub fn into_parts(self) -> Parts
+    pub fn into_parts(self) -> RelayParts
         ensures peers { result.table ≡ peers_of self.entry }
         ensures backlog { result.backlog.items ≡ backlog_of self.entry }
         ensures waits { result.orders.items ≡ waiting_at (desk_of self.entry) }
@@ -105,7 +105,7 @@ impl<'a> Relay<'a> {
         ensures fits { IsFinishedOf (desk_queue (desk_of self.entry)) result.seat × (result.taker.queue ≡ (inbox_queue (inbox_of self.entry)).id) }
     {
         let (seat, orders) = self.desk.into_parts();
-        Parts {
+        RelayParts {
             table: self.table,
             backlog: self.backlog,
             orders,

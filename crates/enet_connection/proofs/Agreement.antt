@@ -65,7 +65,7 @@ agree-on from to channel k = record {
   oldest = λ t u high low. f.oldest (open' t) u (subst (λ g. u ≤ g + 1) (sym k.greatest) high) low;
   near = λ t. subst (λ g. g ≤ f.receiver.front + 24575) k.greatest (f.near (open' t));
   distance = λ t put c h. distance t put c h;
-  read = λ t put c h. by-mtu from to channel k (λ mtu cs. (m : IsReadAsMeant mtu cs f.receiver c) × (m.meant.number ≡ number_below put.reach c.number))
+  read = λ t put c h. by-mtu from to channel k (λ mtu cs. (m : IsReadAsMeant mtu cs f.receiver c) × (m.meant.number ≡ number_below put.sent_then c.number))
       (λ mtu x. let p = x.0.piece in nothing-stands p.number p.count p.packet p.stands)
       (f.read (open' t) (put-out put c) (there put c h) (in-time put c h));
   held = λ t n e is. by-mtu from to channel k (λ mtu cs. OfReliable mtu cs n e.making) (λ mtu x. nothing-stands x.number x.count x.packet x.stands) (f.held (open' t) n e is);
@@ -80,21 +80,21 @@ agree-on from to channel k = record {
     open' t = sym (open-of to to.peer channel k.link k.receiving) ∙ t
 
     put-out : Put → DataCommand → PutOut
-    put-out put c = record { command = c; reach = put.reach }
+    put-out put c = record { command = c; sent_then = put.sent_then }
 
     there : (put : Put) (c : DataCommand) → IsInTime from channel put c → Has k.link.commands (put-out put c)
     there put c h = k.commands put c h.logged h.on h.is
 
-    in-time : (put : Put) (c : DataCommand) → IsInTime from channel put c → is_late k.link.greatest put.reach c.number ≡ false
-    in-time put c h = ap (λ g. is_late g put.reach c.number) k.greatest ∙ h.in_time
+    in-time : (put : Put) (c : DataCommand) → IsInTime from channel put c → is_late k.link.greatest put.sent_then c.number ≡ false
+    in-time put c h = ap (λ g. is_late g put.sent_then c.number) k.greatest ∙ h.in_time
 
     distance : is_dispatching to.peer ≡ true → (put : Put) (c : DataCommand) → IsInTime from channel put c
-        → (number_below put.reach c.number ≤ f.receiver.front + 24575) × (f.receiver.front ≤ number_below put.reach c.number + 32768)
+        → (number_below put.sent_then c.number ≤ f.receiver.front + 24575) × (f.receiver.front ≤ number_below put.sent_then c.number + 32768)
     distance t put c h =
-        let n : ℕ = number_below put.reach c.number in
+        let n : ℕ = number_below put.sent_then c.number in
         let mark = f.marks (put-out put c) (there put c h) in
         let late = not-late k.link.greatest n (in-time put c h) in
         let near = f.near (open' t) in
         let behind = f.behind (open' t) in
-        let below : n ≤ put.reach = omega arith in
+        let below : n ≤ put.sent_then = omega arith in
         (omega arith, omega arith)

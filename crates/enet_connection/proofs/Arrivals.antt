@@ -30,14 +30,14 @@ use Rattle.enet_link.specs.WireLink.{WireLink, drops_answers}
 use Rattle.enet_connection.specs.Connection.{Put, End, sent_on}
 use Rattle.enet_connection.specs.Steps.{with_peer}
 use Rattle.enet_connection.specs.Linked.{sends_in, dispatches_in, sender_in, receiver_in, dispatched_on, IsClean}
-use Rattle.enet_connection.specs.Kept.{AreInPlace, IsTidy, is_young}
+use Rattle.enet_connection.specs.Invariant.{AreInPlace, IsTidy, is_young}
 use Rattle.enet_connection.proofs.Runs.{less-or-not}
 use Rattle.enet_connection.proofs.Relinking.{relinks, stays, sending-of, receiving-of, sending-by}
 use Rattle.enet_connection.proofs.Commands.{Holds, holds-quiet, holds-stops, outcome-if, holds-answered, holds-acknowledged, holds-disconnect, holds-inbox, stops-ended, quiet-out}
 use Rattle.enet_connection.proofs.SequencedData.{Logged, holds-sequenced, holds-passed}
 
 abbrev made : Head → ℕ → Body → Put
-made h reach body = record { message = record { head = h; body = body }; reach = reach }
+made h sent_then body = record { message = record { head = h; body = body }; sent_then = sent_then }
 
 -- a state that allows data dispatches it, or is to disconnect later
 data-state : (s : PeerState) (body : Body) → is_of_handshake body ≡ false → is_allowed s body ≡ true → ((is_later s ≡ false) × (dispatches_in s ≡ true)) ⊎ ((is_later s ≡ true) × (dispatches_in s ≡ false))
@@ -65,7 +65,7 @@ data-by own other p put c sent logged tidy (inr s) h =
     subst (λ b. Holds own other (cond b later takes).after) (sym s.0) (holds-passed own other p put c sent s.1 logged h)
 
 logged-of : (other : End) (put : Put) (c : DataCommand) → IsClean other → Has other.log put → data_of put.message ≡ Some c → put.message.head.number ≡ c.number
-    → (put.message.head.channel < 255 → is_late (sent_on put.message.head.channel other) put.reach c.number ≡ false) → Logged other put c
+    → (put.message.head.channel < 255 → is_late (sent_on put.message.head.channel other) put.sent_then c.number ≡ false) → Logged other put c
 logged-of other put c clean there is number late = record {
   logged = there;
   is = is;
@@ -175,61 +175,61 @@ holds-verified own other p v state.Connecting e tidy h = holds-welcomed own othe
 holds-verified own other p v s e tidy h = h
 
 -- whatever comes
-pub holds-coming : (own other : End) (p : Peering) (h : Head) (reach now : ℕ) (sent : Option ℕ) (body : Body) → Has other.log (made h reach body) → IsClean other → IsTidy own.submitted p
-    → (h.channel < 255 → (c : DataCommand) → data_of (record { head = h; body = body }) ≡ Some c → is_late (sent_on h.channel other) reach c.number ≡ false)
-    → (h.channel < 255 → (number time : ℕ) → body ≡ acknowledge number time → is_late (sent_on h.channel own) reach number ≡ false)
+pub holds-coming : (own other : End) (p : Peering) (h : Head) (sent_then now : ℕ) (sent : Option ℕ) (body : Body) → Has other.log (made h sent_then body) → IsClean other → IsTidy own.submitted p
+    → (h.channel < 255 → (c : DataCommand) → data_of (record { head = h; body = body }) ≡ Some c → is_late (sent_on h.channel other) sent_then c.number ≡ false)
+    → (h.channel < 255 → (number time : ℕ) → body ≡ acknowledge number time → is_late (sent_on h.channel own) sent_then number ≡ false)
     → Holds own other p → Holds own other (obeyed p now sent (record { head = h; body = body })).after
-holds-coming own other p h reach now sent (connect offer) there clean tidy late late' k = k
-holds-coming own other p h reach now sent (acknowledge number time) there clean tidy late late' k =
+holds-coming own other p h sent_then now sent (connect offer) there clean tidy late late' k = k
+holds-coming own other p h sent_then now sent (acknowledge number time) there clean tidy late late' k =
     let m : Message = record { head = h; body = acknowledge number time } in
     outcome-if own other (is_allowed p.state m.body) (by_body p now sent m m.body) (stopped p stop.NotConnected)
-    (λ t. holds-answered own other (on_acknowledge p now h.channel number time) m sent true (far-of other (made h reach m.body) clean there refl)
-    (holds-acknowledged own other p (made h reach m.body) now number time there refl (λ few. late' few number time refl) k)) k
-holds-coming own other p h reach now sent (verify_connect v) there clean tidy late late' k =
+    (λ t. holds-answered own other (on_acknowledge p now h.channel number time) m sent true (far-of other (made h sent_then m.body) clean there refl)
+    (holds-acknowledged own other p (made h sent_then m.body) now number time there refl (λ few. late' few number time refl) k)) k
+holds-coming own other p h sent_then now sent (verify_connect v) there clean tidy late late' k =
     let m : Message = record { head = h; body = verify_connect v } in
     outcome-if own other (is_allowed p.state m.body) (by_body p now sent m m.body) (stopped p stop.NotConnected)
-    (λ t. holds-answered own other (on_verify_in p.state p v) m sent true (far-of other (made h reach m.body) clean there refl) (holds-verified own other p v p.state refl tidy k)) k
-holds-coming own other p h reach now sent (disconnect info) there clean tidy late late' k =
+    (λ t. holds-answered own other (on_verify_in p.state p v) m sent true (far-of other (made h sent_then m.body) clean there refl) (holds-verified own other p v p.state refl tidy k)) k
+holds-coming own other p h sent_then now sent (disconnect info) there clean tidy late late' k =
     let m : Message = record { head = h; body = disconnect info } in
     outcome-if own other (is_allowed p.state m.body) (by_body p now sent m m.body) (stopped p stop.NotConnected)
-    (λ t. holds-answered own other (on_disconnect_in p.state p (m.head.acknowledge && is_some sent) info) m sent true (far-of other (made h reach m.body) clean there refl) (holds-disconnect own other p p.state (m.head.acknowledge && is_some sent) info k)) k
-holds-coming own other p h reach now sent ping there clean tidy late late' k =
+    (λ t. holds-answered own other (on_disconnect_in p.state p (m.head.acknowledge && is_some sent) info) m sent true (far-of other (made h sent_then m.body) clean there refl) (holds-disconnect own other p p.state (m.head.acknowledge && is_some sent) info k)) k
+holds-coming own other p h sent_then now sent ping there clean tidy late late' k =
     let m : Message = record { head = h; body = ping } in
     outcome-if own other (is_allowed p.state m.body) (by_body p now sent m m.body) (stopped p stop.NotConnected)
-    (λ t. holds-answered own other p m sent true (far-of other (made h reach m.body) clean there refl) k) k
-holds-coming own other p h reach now sent (bandwidth_limit incoming outgoing) there clean tidy late late' k =
+    (λ t. holds-answered own other p m sent true (far-of other (made h sent_then m.body) clean there refl) k) k
+holds-coming own other p h sent_then now sent (bandwidth_limit incoming outgoing) there clean tidy late late' k =
     let m : Message = record { head = h; body = bandwidth_limit incoming outgoing } in
     let q : Peering = on_bandwidth p incoming in
     outcome-if own other (is_allowed p.state m.body) (by_body p now sent m m.body) (stopped p stop.NotConnected)
-    (λ t. holds-answered own other q m sent true (far-of other (made h reach m.body) clean there refl)
+    (λ t. holds-answered own other q m sent true (far-of other (made h sent_then m.body) clean there refl)
     (holds-quiet own other p q (quiet-out p q refl refl refl) (record { dispatches = refl; receivers = refl; untaken = λ i few. refl; numbers = λ i few. refl }) k)) k
-holds-coming own other p h reach now sent (throttle_configure interval acceleration deceleration) there clean tidy late late' k =
+holds-coming own other p h sent_then now sent (throttle_configure interval acceleration deceleration) there clean tidy late late' k =
     let m : Message = record { head = h; body = throttle_configure interval acceleration deceleration } in
     let q : Peering = on_throttle p interval acceleration deceleration in
     outcome-if own other (is_allowed p.state m.body) (by_body p now sent m m.body) (stopped p stop.NotConnected)
-    (λ t. holds-answered own other q m sent true (far-of other (made h reach m.body) clean there refl)
+    (λ t. holds-answered own other q m sent true (far-of other (made h sent_then m.body) clean there refl)
     (holds-quiet own other p q (quiet-out p q refl refl refl) (record { dispatches = refl; receivers = refl; untaken = λ i few. refl; numbers = λ i few. refl }) k)) k
-holds-coming own other p h reach now sent (send_unsequenced group payload) there clean tidy late late' k =
+holds-coming own other p h sent_then now sent (send_unsequenced group payload) there clean tidy late late' k =
     let m : Message = record { head = h; body = send_unsequenced group payload } in
     outcome-if own other (is_allowed p.state m.body) (by_body p now sent m m.body) (stopped p stop.NotConnected)
-    (λ t. holds-unsequenced own other p h group payload sent (far-of other (made h reach m.body) clean there refl) k) k
-holds-coming own other p h reach now sent (send_reliable payload) there clean tidy late late' k =
+    (λ t. holds-unsequenced own other p h group payload sent (far-of other (made h sent_then m.body) clean there refl) k) k
+holds-coming own other p h sent_then now sent (send_reliable payload) there clean tidy late late' k =
     let m : Message = record { head = h; body = send_reliable payload } in
     let c : DataCommand = record { reliable = true; number = h.number; unreliable = 0; fragment = None; body = payload } in
     outcome-if own other (is_allowed p.state m.body) (by_body p now sent m m.body) (stopped p stop.NotConnected)
-    (λ t. data-by own other p (made h reach m.body) c sent (logged-of other (made h reach m.body) c clean there refl refl (λ few. late few c refl)) tidy (data-state p.state m.body refl t) k) k
-holds-coming own other p h reach now sent (send_unreliable n payload) there clean tidy late late' k =
+    (λ t. data-by own other p (made h sent_then m.body) c sent (logged-of other (made h sent_then m.body) c clean there refl refl (λ few. late few c refl)) tidy (data-state p.state m.body refl t) k) k
+holds-coming own other p h sent_then now sent (send_unreliable n payload) there clean tidy late late' k =
     let m : Message = record { head = h; body = send_unreliable n payload } in
     let c : DataCommand = record { reliable = false; number = h.number; unreliable = n; fragment = None; body = payload } in
     outcome-if own other (is_allowed p.state m.body) (by_body p now sent m m.body) (stopped p stop.NotConnected)
-    (λ t. data-by own other p (made h reach m.body) c sent (logged-of other (made h reach m.body) c clean there refl refl (λ few. late few c refl)) tidy (data-state p.state m.body refl t) k) k
-holds-coming own other p h reach now sent (send_fragment f payload) there clean tidy late late' k =
+    (λ t. data-by own other p (made h sent_then m.body) c sent (logged-of other (made h sent_then m.body) c clean there refl refl (λ few. late few c refl)) tidy (data-state p.state m.body refl t) k) k
+holds-coming own other p h sent_then now sent (send_fragment f payload) there clean tidy late late' k =
     let m : Message = record { head = h; body = send_fragment f payload } in
     let c : DataCommand = record { reliable = true; number = h.number; unreliable = 0; fragment = Some f; body = payload } in
     outcome-if own other (is_allowed p.state m.body) (by_body p now sent m m.body) (stopped p stop.NotConnected)
-    (λ t. data-by own other p (made h reach m.body) c sent (logged-of other (made h reach m.body) c clean there refl refl (λ few. late few c refl)) tidy (data-state p.state m.body refl t) k) k
-holds-coming own other p h reach now sent (send_unreliable_fragment f payload) there clean tidy late late' k =
+    (λ t. data-by own other p (made h sent_then m.body) c sent (logged-of other (made h sent_then m.body) c clean there refl refl (λ few. late few c refl)) tidy (data-state p.state m.body refl t) k) k
+holds-coming own other p h sent_then now sent (send_unreliable_fragment f payload) there clean tidy late late' k =
     let m : Message = record { head = h; body = send_unreliable_fragment f payload } in
     let c : DataCommand = record { reliable = false; number = h.number; unreliable = f.start; fragment = Some f; body = payload } in
     outcome-if own other (is_allowed p.state m.body) (by_body p now sent m m.body) (stopped p stop.NotConnected)
-    (λ t. data-by own other p (made h reach m.body) c sent (logged-of other (made h reach m.body) c clean there refl refl (λ few. late few c refl)) tidy (data-state p.state m.body refl t) k) k
+    (λ t. data-by own other p (made h sent_then m.body) c sent (logged-of other (made h sent_then m.body) c clean there refl refl (λ few. late few c refl)) tidy (data-state p.state m.body refl t) k) k

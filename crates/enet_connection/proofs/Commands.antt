@@ -12,7 +12,7 @@ use Rattle.enet_inbox.specs.DataEffect.{DataEffect, unsequenced_taken}
 use Rattle.enet_outbox.specs.declared.parts.Acknowledgement.{Acknowledgement}
 use Rattle.enet_outbox.specs.declared.parts.Matched.{Matched}
 use Rattle.enet_outbox.specs.declared.parts.Matched.TheVariants as matched
-use Rattle.enet_outbox.specs.Outbox.{with_acknowledgement, acknowledged, is_done, matched_by}
+use Rattle.enet_outbox.specs.Outbox.{with_acknowledgement, after_acknowledgement, is_done, matched_by}
 use Rattle.enet_peer.specs.Peering.{Peering}
 use Rattle.enet_peer.specs.declared.parts.PeerState.{PeerState}
 use Rattle.enet_peer.specs.declared.parts.PeerState.TheVariants as state
@@ -23,7 +23,7 @@ use Rattle.enet_link.specs.Steps.{Has}
 use Rattle.enet_connection.specs.Connection.{Put, End, sent_on, in_sequence}
 use Rattle.enet_connection.specs.Steps.{with_peer}
 use Rattle.enet_connection.specs.Linked.{sends_in, dispatches_in, numbers_on}
-use Rattle.enet_connection.specs.Kept.{AreLinked}
+use Rattle.enet_connection.specs.Invariant.{AreLinked}
 use Rattle.enet_connection.proofs.InboxMoves.{in_sequence-append}
 use Rattle.enet_connection.proofs.Relinking.{QuietOut, QuietIn, Stops, both-quiet, both-stops}
 use Rattle.enet_connection.proofs.Moves.{both-acknowledged}
@@ -112,15 +112,15 @@ holds-with_answer own other p state.Answering (control.VerifyConnect verify) e h
 holds-with_answer own other p state.Disconnecting (control.Disconnect info) e h = holds-stops own other p (ended p 0) (stops-ended p 0) h
 holds-with_answer own other p s what e h = h
 
-pub holds-acknowledged : (own other : End) (p : Peering) (put : Put) (now number time : ℕ) → Has other.log put → put.message.body ≡ acknowledge number time → (put.message.head.channel < 255 → is_late (sent_on put.message.head.channel own) put.reach number ≡ false)
+pub holds-acknowledged : (own other : End) (p : Peering) (put : Put) (now number time : ℕ) → Has other.log put → put.message.body ≡ acknowledge number time → (put.message.head.channel < 255 → is_late (sent_on put.message.head.channel own) put.sent_then number ≡ false)
     → Holds own other p → Holds own other (on_acknowledge p now put.message.head.channel number time)
 holds-acknowledged own other p put now number time logged body late h = by (matched_by p.outbox put.message.head.channel number)
   where
     q : Peering
-    q = sampled (record p { outbox = acknowledged p.outbox put.message.head.channel number }) now time
+    q = sampled (record p { outbox = after_acknowledgement p.outbox put.message.head.channel number }) now time
 
     k : Holds own other q
-    k = holds-sampled own other (record p { outbox = acknowledged p.outbox put.message.head.channel number }) now time
+    k = holds-sampled own other (record p { outbox = after_acknowledgement p.outbox put.message.head.channel number }) now time
         (both-acknowledged (with_peer own p) other p put number time refl logged body late h)
 
     by : (x : Matched) → Holds own other (on_match x p now put.message.head.channel number time)

@@ -33,7 +33,7 @@ peer_of None = here
 peer_of (Some p) = p
 
 abbrev first : List Put → Put
-first [] = record { message = record { head = record { acknowledge = false; unsequenced = false; channel = 0; number = 0 }; body = ping }; reach = 0 }
+first [] = record { message = record { head = record { acknowledge = false; unsequenced = false; channel = 0; number = 0 }; body = ping }; sent_then = 0 }
 first (p ∷ log) = p
 
 abbrev second : List Put → Put
@@ -52,7 +52,7 @@ abbrev emitted : End
 emitted = with_emission submitted pair.two (peer_of submitted.peer) 0
 
 abbrev put : Put
-put = record { message = message_of 0 first_command; reach = 1 }
+put = record { message = message_of 0 first_command; sent_then = 1 }
 
 emitted-log : emitted.log ≡ put ∷ []
 unfolding cutting.piece_count connection.reached

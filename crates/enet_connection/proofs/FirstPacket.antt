@@ -49,7 +49,7 @@ abbrev first_coming : IncomingPacket
 first_coming = with_more (earlier_or_new None first_command) first_command
 
 pub first-outcome : outcome wire 1000 nothing_received first_command false ≡ Held
-unfolding place.is_sound place.is_even place.told_cut making.belongs
+unfolding place.is_sound place.is_even place.told_piece_len making.belongs
 first-outcome = ap (outcome_of nothing_received first_command false 1) (get-empty {X = IncomingPacket} nat_cmp 1)
 
 whole : is_whole first_coming.making ≡ true

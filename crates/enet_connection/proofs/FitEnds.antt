@@ -17,7 +17,7 @@ use Rattle.enet_peer.specs.Calls.{next_event, is_connected, submitted, ticked}
 use Rattle.enet_peer.specs.CommandEffect.{obeyed}
 use Rattle.enet_connection.specs.Connection.{End, packets_of, in_sequence}
 use Rattle.enet_connection.specs.Steps.{Event, Answer, Submit, Emit, Come, Tick, Take, Disconnect, Set, Happens, with_peer, with_submission, with_setting}
-use Rattle.enet_connection.specs.Kept.{IsTidy, AreLow, IsLow, PeerFits, IsFit}
+use Rattle.enet_connection.specs.Invariant.{IsTidy, AreLow, IsLow, PeerFits, IsFit}
 use Rattle.enet_connection.proofs.PeerChanges.{kept-ticked, kept-left, kept-set, kept-emitted, kept-obeyed}
 use Rattle.enet_connection.proofs.TidyPeers.{tidies, tidy-submitted}
 use Rattle.enet_connection.proofs.CleanLogs.{clean-same, clean-emitted}

@@ -227,7 +227,7 @@ lives joined es = record {
   waits = λ p info on h. standing joined es p p.state (ap stands (connected-is p.state on)) h;
   greets = λ p e h. (let a : LivesIn state.Answering joined es p = subst (λ (s : PeerState). LivesIn s joined es p) e h in let u = a.1 in inr (a.0, u.none, p.info, refl));
   welcomes = λ p v terms e big word h. (let a : LivesIn state.Connecting joined es p = subst (λ (s : PeerState). LivesIn s joined es p) e h in let u = a.1 in inr (a.0, u.none, 0, refl));
-  acknowledges = λ p j number in-time h. lives-outbox joined es p (outbox.acknowledged p.outbox j number) (λ gone. absurd (let x : true ≡ false = sym gone ∙ in-time in cc)) h;
+  acknowledges = λ p j number in-time h. lives-outbox joined es p (outbox.after_acknowledgement p.outbox j number) (λ gone. absurd (let x : true ≡ false = sym gone ∙ in-time in cc)) h;
   marks = λ p now h. lives-outbox joined es p (outbox.marked p.outbox now) (λ gone still. still-marked p.outbox now still) h;
   takes = λ p j r c on there h. lives-connected joined es p (record p { inbox = handed_over p.inbox j (after_command r (Some c) (is_full p.inbox)) }) refl refl on h;
   takes_unsequenced = λ p j group payload on h. lives-connected joined es p (record p { inbox = unsequenced_taken p.inbox j group payload }) refl refl on h;

@@ -14,7 +14,7 @@ use Rattle.enet_peer.specs.Peering.{Peering}
 use Rattle.enet_peer.specs.Endings.{disconnecting, dropped, ended, freed, parting}
 use Rattle.enet_peer.specs.declared.parts.PeerState.TheVariants.{AckDisconnect}
 use Rattle.enet_connection.specs.Connection.{in_sequence}
-use Rattle.enet_connection.specs.Kept.{AreLow, IsLow}
+use Rattle.enet_connection.specs.Invariant.{AreLow, IsLow}
 use Rattle.enet_connection.proofs.InboxMoves.{in_sequence-append}
 use Rattle.enet_connection.proofs.Commands.{unsequenced-end}
 use Rattle.enet_connection.proofs.PeerChanges.{Core, Changes}

@@ -10,7 +10,7 @@ use Rattle.enet_sender.specs.declared.sent.Sent.{Sent}
 use Rattle.enet_sender.specs.Sender.{Sender, with_marked, marked}
 use Rattle.enet_sender.specs.Sender as sender
 use Rattle.enet_sender.specs.Due.{SendingEnd}
-use Rattle.enet_outbox.specs.Outbox.{Outbox, marked_sender, acknowledged, acknowledged_on}
+use Rattle.enet_outbox.specs.Outbox.{Outbox, marked_sender, after_acknowledgement, acknowledged_on}
 use Rattle.enet_outbox.specs.Outbox as outbox
 use Rattle.enet_peer.specs.Peering.{Peering}
 use Rattle.enet_peer.specs.declared.parts.PeerEvent.{PeerEvent}
@@ -24,7 +24,7 @@ use Rattle.enet_link.specs.Steps.{Has, Acknowledge, Mark, StopReceiving}
 use Rattle.enet_connection.specs.Connection.{Put, End, sent_on, packets_of, in_sequence}
 use Rattle.enet_connection.specs.Steps.{with_peer}
 use Rattle.enet_connection.specs.Linked.{IsLinked, sends_in, dispatches_in, sender_in, receiver_in, numbers_on, dispatched_on}
-use Rattle.enet_connection.specs.Kept.{AreLinked}
+use Rattle.enet_connection.specs.Invariant.{AreLinked}
 use Rattle.enet_connection.proofs.Runs.{get-set, get-set-other, either}
 use Rattle.enet_connection.proofs.InboxMoves.{in_sequence-append}
 use Rattle.enet_connection.proofs.Relinking.{Moved, stays, relinks, agreed-still, sending-of, receiving-of, sending-by, receiving-by, back-quiet}
@@ -47,32 +47,32 @@ out-sender own other p q channel k w is same mtu moves idle places = elim (eithe
 
 -- an acknowledgement comes
 
-none-left : (s : Sender) (number : ℕ) → s.sent ≡ [] → (sender.acknowledged s number).sent ≡ []
-none-left s number e = ap (λ (l : List Sent). sender.without_place l (sender.place_of number l)) e
+none-left : (s : Sender) (number : ℕ) → s.sent ≡ [] → (sender.after_acknowledgement s number).sent ≡ []
+none-left s number e = ap (λ (l : List Sent). sender.without_place l (sender.position_of number l)) e
 
 -- the senders after it
 abbrev pub senders-after : Outbox → ℕ → ℕ → List SendingEnd
-senders-after o j number = (acknowledged o j number).senders
+senders-after o j number = (after_acknowledgement o j number).senders
 
-after-own : (o : Outbox) (channel number : ℕ) → channel < 255 → sender_in (slice_get (senders-after o channel number) channel) ≡ sender.acknowledged (sender_in (slice_get o.senders channel)) number
+after-own : (o : Outbox) (channel number : ℕ) → channel < 255 → sender_in (slice_get (senders-after o channel number) channel) ≡ sender.after_acknowledgement (sender_in (slice_get o.senders channel)) number
 after-own o channel number few = control ∙ by (slice_get o.senders channel) refl
   where
     control : sender_in (slice_get (senders-after o channel number) channel) ≡ sender_in (slice_get (acknowledged_on o channel number (slice_get o.senders channel)).senders channel)
     control = let f : (channel == 0xFF) ≡ false = grind (arith, nat_tests) in
-        ap (λ b. sender_in (slice_get (cond b (record o { control = controlling.acknowledged o.control number }) (acknowledged_on o channel number (slice_get o.senders channel))).senders channel)) f
+        ap (λ b. sender_in (slice_get (cond b (record o { control = controlling.after_acknowledgement o.control number }) (acknowledged_on o channel number (slice_get o.senders channel))).senders channel)) f
 
-    by : (x : Option SendingEnd) → slice_get o.senders channel ≡ x → sender_in (slice_get (acknowledged_on o channel number x).senders channel) ≡ sender.acknowledged (sender_in (slice_get o.senders channel)) number
-    by None e = ap sender_in e ∙ sym (ap (λ y. sender.acknowledged (sender_in y) number) e)
-    by (Some s) e = ap sender_in (get-set o.senders channel s (record s { sender = sender.acknowledged s.sender number }) e) ∙ sym (ap (λ y. sender.acknowledged (sender_in y) number) e)
+    by : (x : Option SendingEnd) → slice_get o.senders channel ≡ x → sender_in (slice_get (acknowledged_on o channel number x).senders channel) ≡ sender.after_acknowledgement (sender_in (slice_get o.senders channel)) number
+    by None e = ap sender_in e ∙ sym (ap (λ y. sender.after_acknowledgement (sender_in y) number) e)
+    by (Some s) e = ap sender_in (get-set o.senders channel s (record s { sender = sender.after_acknowledgement s.sender number }) e) ∙ sym (ap (λ y. sender.after_acknowledgement (sender_in y) number) e)
 
 after-other : (o : Outbox) (j channel number : ℕ) → j ≢ channel → slice_get (senders-after o j number) channel ≡ slice_get o.senders channel
 after-other o j channel number n = by-control (j == 0xFF)
   where
     by : (x : Option SendingEnd) → slice_get (acknowledged_on o j number x).senders channel ≡ slice_get o.senders channel
     by None = refl
-    by (Some s) = get-set-other o.senders j channel (record s { sender = sender.acknowledged s.sender number }) n
+    by (Some s) = get-set-other o.senders j channel (record s { sender = sender.after_acknowledgement s.sender number }) n
 
-    by-control : (b : Bool) → slice_get (cond b (record o { control = controlling.acknowledged o.control number }) (acknowledged_on o j number (slice_get o.senders j))).senders channel ≡ slice_get o.senders channel
+    by-control : (b : Bool) → slice_get (cond b (record o { control = controlling.after_acknowledgement o.control number }) (acknowledged_on o j number (slice_get o.senders j))).senders channel ≡ slice_get o.senders channel
     by-control true = refl
     by-control false = by (slice_get o.senders j)
 
@@ -83,31 +83,31 @@ after-places o j number channel places s e = by-control (j == 0xFF) e
     at None there h = places s h
     at (Some t) there h = elim (either (j == channel)) [
       | inl on ↦ (let is : j ≡ channel = grind (arith, nat_tests) in
-          let u : SendingEnd = record t { sender = sender.acknowledged t.sender number } in
+          let u : SendingEnd = record t { sender = sender.after_acknowledgement t.sender number } in
           let both : Some u ≡ Some s = sym (get-set o.senders j t u there) ∙ ap (slice_get (slice_set o.senders j u)) is ∙ h in
           let us : u ≡ s = cc in
           ap (λ (x : SendingEnd). x.channel) (sym us) ∙ places t (ap (slice_get o.senders) (sym is) ∙ there))
       | inr off ↦ (let n : j ≢ channel = (λ is. grind (arith, nat_tests)) in
-          places s (sym (get-set-other o.senders j channel (record t { sender = sender.acknowledged t.sender number }) n) ∙ h))
+          places s (sym (get-set-other o.senders j channel (record t { sender = sender.after_acknowledgement t.sender number }) n) ∙ h))
     ]
 
-    by-control : (b : Bool) → slice_get (cond b (record o { control = controlling.acknowledged o.control number }) (acknowledged_on o j number (slice_get o.senders j))).senders channel ≡ Some s → s.channel ≡ channel
+    by-control : (b : Bool) → slice_get (cond b (record o { control = controlling.after_acknowledgement o.control number }) (acknowledged_on o j number (slice_get o.senders j))).senders channel ≡ Some s → s.channel ≡ channel
     by-control true h = places s h
     by-control false h = at (slice_get o.senders j) refl h
 
-same-answers : (o : Outbox) (j number : ℕ) → (acknowledged o j number).acknowledgements ≡ o.acknowledgements
+same-answers : (o : Outbox) (j number : ℕ) → (after_acknowledgement o j number).acknowledgements ≡ o.acknowledgements
 same-answers o j number = by-control (j == 0xFF)
   where
     by : (x : Option SendingEnd) → (acknowledged_on o j number x).acknowledgements ≡ o.acknowledgements
     by None = refl
     by (Some s) = refl
 
-    by-control : (b : Bool) → (cond b (record o { control = controlling.acknowledged o.control number }) (acknowledged_on o j number (slice_get o.senders j))).acknowledgements ≡ o.acknowledgements
+    by-control : (b : Bool) → (cond b (record o { control = controlling.after_acknowledgement o.control number }) (acknowledged_on o j number (slice_get o.senders j))).acknowledgements ≡ o.acknowledgements
     by-control true = refl
     by-control false = by (slice_get o.senders j)
 
 pub both-acknowledged : (own other : End) (p : Peering) (put : Put) (number time : ℕ) → own.peer ≡ Some p → Has other.log put → put.message.body ≡ acknowledge number time
-    → (put.message.head.channel < 255 → is_late (sent_on put.message.head.channel own) put.reach number ≡ false) → AreLinked own other → AreLinked (with_peer own (record p { outbox = acknowledged p.outbox put.message.head.channel number })) other
+    → (put.message.head.channel < 255 → is_late (sent_on put.message.head.channel own) put.sent_then number ≡ false) → AreLinked own other → AreLinked (with_peer own (record p { outbox = after_acknowledgement p.outbox put.message.head.channel number })) other
 both-acknowledged own other p put number time is logged body late b = record {
   out = λ channel few. by channel few (b.out channel few) (j == channel) refl;
   back = λ channel few. back-quiet own other p q channel few is (record { dispatches = refl; receivers = refl; untaken = λ i h. refl; numbers = λ i h. ap (numbers_on i) (same-answers p.outbox j number) }) (b.back channel few);
@@ -117,23 +117,23 @@ both-acknowledged own other p put number time is logged body late b = record {
     j = put.message.head.channel
 
     q : Peering
-    q = record p { outbox = acknowledged p.outbox j number }
+    q = record p { outbox = after_acknowledgement p.outbox j number }
 
     by : (channel : ℕ) → channel < 255 → (k : IsLinked own other channel) → (t : Bool) → (j == channel) ≡ t → IsLinked (with_peer own q) other channel
     by channel few k true e =
         let at : j ≡ channel = grind (arith, nat_tests) in
         let h = sending-of own p channel k.link is k.sending in
-        let a : Answer = record { number = number; reach = put.reach } in
+        let a : Answer = record { number = number; sent_then = put.sent_then } in
         let w : WireLink = answered k.link a in
         let there : Has k.link.acks a = k.acks put number time logged at body in
-        let time' : is_late k.link.greatest a.reach a.number ≡ false = ap (λ g. is_late g put.reach number) (k.greatest ∙ ap (λ i. sent_on i own) (sym at)) ∙ late (subst (λ i. i < 255) (sym at) few) in
-        let after' : sender_in (slice_get q.outbox.senders channel) ≡ sender.acknowledged (sender_in (slice_get p.outbox.senders channel)) number =
+        let time' : is_late k.link.greatest a.sent_then a.number ≡ false = ap (λ g. is_late g put.sent_then number) (k.greatest ∙ ap (λ i. sent_on i own) (sym at)) ∙ late (subst (λ i. i < 255) (sym at) few) in
+        let after' : sender_in (slice_get q.outbox.senders channel) ≡ sender.after_acknowledgement (sender_in (slice_get p.outbox.senders channel)) number =
         ap (λ i. sender_in (slice_get (senders-after p.outbox i number) channel)) at ∙ after-own p.outbox channel number few in
         out-sender own other p q channel k w is refl refl
         (λ t. let r = h.0 t in (
           record { events = Acknowledge a ∷ []; runs = (w, record { between = k.between; logged = there; in_time = time'; after = refl }, refl); same = refl },
           r.0,
-          ap (λ (s : Sender). sender.acknowledged s number) r.1 ∙ sym after',
+          ap (λ (s : Sender). sender.after_acknowledgement s number) r.1 ∙ sym after',
           refl,
           refl,
           refl,

@@ -29,7 +29,7 @@ use Rattle.enet_sender.specs.Due.{SendingEnd}
 use Rattle.enet_outbox.specs.declared.parts.Matched.{Matched}
 use Rattle.enet_outbox.specs.declared.parts.Matched.TheVariants as matched
 use Rattle.enet_outbox.specs.declared.parts.Pace.{Pace}
-use Rattle.enet_outbox.specs.Outbox.{Outbox, with_control, acknowledged, is_done, matched_by, has_ended, has_late, transit_of}
+use Rattle.enet_outbox.specs.Outbox.{Outbox, with_control, after_acknowledgement, is_done, matched_by, has_ended, has_late, transit_of}
 use Rattle.enet_outbox.specs.Outbox as outbox
 use Rattle.enet_outbox.specs.Emission.{Filling, transit_limit, filled}
 use Rattle.enet_types.specs.declared.packet.Packet.{Packet}
@@ -88,7 +88,7 @@ pub record Changes (P : Peering → Type 0) : Type 0 where
   pub waits : (p : Peering) (info : ℕ) → is_connected p.state ≡ true → P p → P (record p { state = state.DisconnectLater; info = info })
   pub greets : (p : Peering) → p.state ≡ state.Answering → P p → P (record p { state = state.Connected; greeting = Some p.info })
   pub welcomes : (p : Peering) (v : Verify) (terms : Terms) → p.state ≡ state.Connecting → 28 < terms.mtu → terms.connect_id ≡ p.offer.connect_id → P p → P (welcomed p v (Some terms))
-  pub acknowledges : (p : Peering) (channel number : ℕ) → is_gone p.state ≡ false → P p → P (record p { outbox = acknowledged p.outbox channel number })
+  pub acknowledges : (p : Peering) (channel number : ℕ) → is_gone p.state ≡ false → P p → P (record p { outbox = after_acknowledgement p.outbox channel number })
   pub marks : (p : Peering) (now : ℕ) → P p → P (record p { outbox = outbox.marked p.outbox now })
   pub takes : (p : Peering) (channel : ℕ) (r : ReceivingEnd) (c : DataCommand) → is_connected p.state ≡ true → slice_get p.inbox.receivers channel ≡ Some r → P p
       → P (record p { inbox = handed_over p.inbox channel (after_command r (Some c) (is_full p.inbox)) })
@@ -259,10 +259,10 @@ kept-acknowledged : (P : Peering → Type 0) → Changes P → (p : Peering) (no
 kept-acknowledged P k p now channel number time here h = by (matched_by p.outbox channel number)
   where
     q : Peering
-    q = sampled (record p { outbox = acknowledged p.outbox channel number }) now time
+    q = sampled (record p { outbox = after_acknowledgement p.outbox channel number }) now time
 
     a : P q
-    a = k.quiet (record p { outbox = acknowledged p.outbox channel number }) q refl (k.acknowledges p channel number here h)
+    a = k.quiet (record p { outbox = after_acknowledgement p.outbox channel number }) q refl (k.acknowledges p channel number here h)
 
     by : (x : Matched) → P (on_match x p now channel number time)
     by matched.Nothing = h

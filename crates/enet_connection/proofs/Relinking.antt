@@ -16,7 +16,7 @@ use Rattle.enet_connection.specs.Connection.{Put, End, sent_on, packets_of, in_s
 use Rattle.enet_connection.specs.Steps.{with_peer}
 use Rattle.enet_connection.specs.Law.{mtu_of}
 use Rattle.enet_connection.specs.Linked.{IsLinked, sends_in, dispatches_in, sender_in, receiver_in, numbers_on, ShowsSending, ShowsReceiving, dispatched_on}
-use Rattle.enet_connection.specs.Kept.{AreLinked}
+use Rattle.enet_connection.specs.Invariant.{AreLinked}
 use Rattle.enet_connection.proofs.Runs.{Runs-append, get-map}
 
 -- a link after moves that leave the log, the submissions and the datagram in the making
@@ -43,8 +43,8 @@ relinks from to from2 to2 channel k w m submitted log log2 agreed sending receiv
   few = (let few = k.few in let same : length w.commands ≡ length k.link.commands = ap (λ (x : WireLink). length x.commands) m.same in let logged : length from2.log ≡ length from.log = ap length log in omega arith);
   sending = sending;
   receiving = receiving;
-  commands = λ p c h on e. subst (λ l. Has l (record { command = c; reach = p.reach })) (sym (ap (λ (x : WireLink). x.commands) m.same)) (k.commands p c (subst (λ (l : List Put). Has l p) log h) on e);
-  acks = λ p number time h on e. subst (λ l. Has l (record { number = number; reach = p.reach })) (sym (ap (λ (x : WireLink). x.acks) m.same)) (k.acks p number time (subst (λ (l : List Put). Has l p) log2 h) on e);
+  commands = λ p c h on e. subst (λ l. Has l (record { command = c; sent_then = p.sent_then })) (sym (ap (λ (x : WireLink). x.commands) m.same)) (k.commands p c (subst (λ (l : List Put). Has l p) log h) on e);
+  acks = λ p number time h on e. subst (λ l. Has l (record { number = number; sent_then = p.sent_then })) (sym (ap (λ (x : WireLink). x.acks) m.same)) (k.acks p number time (subst (λ (l : List Put). Has l p) log2 h) on e);
 }
 
 -- an end's part is about its own half of the link

@@ -39,7 +39,7 @@ both-true a b e f = λ i. e i && f i
 pub record Logged (other : End) (put : Put) (c : DataCommand) : Type 0 where
   pub logged : Has other.log put
   pub is : data_of put.message ≡ Some c
-  pub in_time : is_late (sent_on put.message.head.channel other) put.reach c.number ≡ false
+  pub in_time : is_late (sent_on put.message.head.channel other) put.sent_then c.number ≡ false
   pub number : put.message.head.number ≡ c.number
   pub asks : put.message.head.acknowledge ≡ true → c.reliable ≡ true
   pub low : put.message.head.channel < 255

@@ -19,7 +19,7 @@ use Rattle.enet_connection.specs.Connection.{End, of_channel}
 use Rattle.enet_connection.specs.Steps.{with_submission}
 use Rattle.enet_connection.specs.Law.{mtu_of}
 use Rattle.enet_connection.specs.Linked.{IsLinked, sends_in, sender_in, numbers_on}
-use Rattle.enet_connection.specs.Kept.{AreLinked}
+use Rattle.enet_connection.specs.Invariant.{AreLinked}
 use Rattle.enet_connection.proofs.Runs.{either, Runs-push, get-set, get-set-other}
 use Rattle.enet_connection.proofs.Relinking.{back-quiet, sending-of, receiving-by}
 

@@ -20,10 +20,10 @@ use Rattle.enet_peer.specs.declared.parts.PeerState.TheVariants as state
 use Rattle.enet_peer.specs.Calls.{is_connected, submitted}
 use Rattle.enet_peer.specs.Endings.{disconnecting, dropped, ended, freed, parting}
 use Rattle.enet_connection.specs.Linked.{sender_in, receiver_in}
-use Rattle.enet_connection.specs.Kept.{AreInPlace, IsTidy, is_young, is_agreed}
+use Rattle.enet_connection.specs.Invariant.{AreInPlace, IsTidy, is_young, is_agreed}
 use Rattle.enet_receiver.proofs.Sequenced.{sequenced-received, sequenced-cleared}
 use Rattle.enet_receiver.specs.Sequenced.{HasSequenced}
-use Rattle.enet_control.specs.Controlling.{acknowledged}
+use Rattle.enet_control.specs.Controlling.{after_acknowledgement}
 use Rattle.enet_connection.proofs.Packing.{idle-next, places-set}
 use Rattle.enet_connection.proofs.Moves.{senders-after, after-places, marked-at, marked-places}
 use Rattle.enet_connection.proofs.Arrivals.{get-take, narrowed-places}
@@ -107,9 +107,9 @@ acknowledged-few o j number h = by-control (j == 0xFF)
   where
     by : (x : Option SendingEnd) → length (acknowledged_on o j number x).senders ≤ 255
     by None = h
-    by (Some s) = few-set o.senders j (record s { sender = sender.acknowledged s.sender number }) h
+    by (Some s) = few-set o.senders j (record s { sender = sender.after_acknowledgement s.sender number }) h
 
-    by-control : (b : Bool) → length (cond b (record o { control = acknowledged o.control number }) (acknowledged_on o j number (slice_get o.senders j))).senders ≤ 255
+    by-control : (b : Bool) → length (cond b (record o { control = after_acknowledgement o.control number }) (acknowledged_on o j number (slice_get o.senders j))).senders ≤ 255
     by-control true = h
     by-control false = by (slice_get o.senders j)
 
@@ -118,9 +118,9 @@ acknowledged-idle o j number h = by-control (j == 0xFF)
   where
     by : (x : Option SendingEnd) → slice_get o.senders j ≡ x → AreIdle (acknowledged_on o j number x).senders
     by None e = h
-    by (Some s) e = idle-set o.senders j (record s { sender = sender.acknowledged s.sender number }) (ap (λ (x : Sender). sender.acknowledged x number) (sym (ap sender_in e) ∙ h j)) h
+    by (Some s) e = idle-set o.senders j (record s { sender = sender.after_acknowledgement s.sender number }) (ap (λ (x : Sender). sender.after_acknowledgement x number) (sym (ap sender_in e) ∙ h j)) h
 
-    by-control : (b : Bool) → AreIdle (cond b (record o { control = acknowledged o.control number }) (acknowledged_on o j number (slice_get o.senders j))).senders
+    by-control : (b : Bool) → AreIdle (cond b (record o { control = after_acknowledgement o.control number }) (acknowledged_on o j number (slice_get o.senders j))).senders
     by-control true = h
     by-control false = by (slice_get o.senders j) refl
 

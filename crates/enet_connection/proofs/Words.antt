@@ -10,7 +10,7 @@ use Rattle.enet_control.specs.declared.control.Control.{Control}
 use Rattle.enet_control.specs.declared.control.Control.TheVariants as control
 use Rattle.enet_control.specs.declared.control.Numbered.{Numbered}
 use Rattle.enet_control.specs.declared.control.SentControl.{SentControl}
-use Rattle.enet_control.specs.Controlling.{Commands, Next, is_reliable, is_in_span, begun, again, next_queued, next_resent, next_of, next, acknowledged, without_place, place_of, marked, body_of, message_of}
+use Rattle.enet_control.specs.Controlling.{Commands, Next, is_reliable, is_in_span, begun, again, next_queued, next_resent, next_of, next, after_acknowledgement, without_place, position_of, marked, body_of, message_of}
 use Rattle.enet_control.specs.Controlling as controlling
 use Rattle.enet_fragment.specs.DataCommand.{wire_body}
 use Rattle.enet_fragment.specs.DataCommand as fragment
@@ -148,15 +148,15 @@ moves w p q same far says a = record { terms = same ∙ a.terms; offer = λ e. a
 stays-of : (w : ℕ) (p q : Peering) → q.terms.connect_id ≡ p.terms.connect_id → q.offer.connect_id ≡ p.offer.connect_id → q.state ≡ p.state → AllSay w q.outbox.control → IsOf w p → IsOf w q
 stays-of w p q same offered at says a = record { terms = same ∙ a.terms; offer = λ e. offered ∙ a.offer (sym at ∙ e); says = says }
 
-acknowledged-says : (w : ℕ) (o : Outbox) (channel number : ℕ) → AllSay w o.control → AllSay w (outbox.acknowledged o channel number).control
+acknowledged-says : (w : ℕ) (o : Outbox) (channel number : ℕ) → AllSay w o.control → AllSay w (outbox.after_acknowledgement o channel number).control
 acknowledged-says w o channel number a = by (channel == 0xFF)
   where
     at : (s : Option SendingEnd) → AllSay w (outbox.acknowledged_on o channel number s).control
     at None = a
     at (Some s) = a
 
-    by : (b : Bool) → AllSay w (cond b (record o { control = acknowledged o.control number }) (outbox.acknowledged_on o channel number (slice_get o.senders channel))).control
-    by true = without-says w o.control (place_of number o.control.sent) a
+    by : (b : Bool) → AllSay w (cond b (record o { control = after_acknowledgement o.control number }) (outbox.acknowledged_on o channel number (slice_get o.senders channel))).control
+    by true = without-says w o.control (position_of number o.control.sent) a
     by false = at (slice_get o.senders channel)
 
 marked-all : (w now : ℕ) (c : Commands) → AllSay w c → AllSay w (controlling.with_marked now c)
@@ -186,7 +186,7 @@ words w = record {
   waits = λ p info on h. moves w p (record p { state = state.DisconnectLater; info = info }) refl (λ e. absurd (cc)) h.says h;
   greets = λ p e h. moves w p (record p { state = state.Connected; greeting = Some p.info }) refl (λ e. absurd (cc)) h.says h;
   welcomes = λ p v terms e big word h. record { terms = word ∙ h.offer e; offer = λ t. absurd (let y : state.Connected ≡ state.Connecting = t in cc); says = none-say w p.outbox.control.number };
-  acknowledges = λ p j number here h. stays-of w p (record p { outbox = outbox.acknowledged p.outbox j number }) refl refl refl (acknowledged-says w p.outbox j number h.says) h;
+  acknowledges = λ p j number here h. stays-of w p (record p { outbox = outbox.after_acknowledgement p.outbox j number }) refl refl refl (acknowledged-says w p.outbox j number h.says) h;
   marks = λ p now h. stays-of w p (record p { outbox = outbox.marked p.outbox now }) refl refl refl (marked-all w now p.outbox.control h.says) h;
   takes = λ p j r c on there h. record { terms = h.terms; offer = h.offer; says = h.says };
   takes_unsequenced = λ p j group payload on h. record { terms = h.terms; offer = h.offer; says = h.says };
@@ -280,7 +280,7 @@ word-emitted w own far p now is h = record {
     ms = (filled (pace_of p now) p.outbox).messages
 
     put : Message → Put
-    put = put_by (record own { log = own.log ++ map (λ (m : Message). record { message = m; reach = 0 }) ms }) far
+    put = put_by (record own { log = own.log ++ map (λ (m : Message). record { message = m; sent_then = 0 }) ms }) far
 
 word-took : (w : ℕ) (own : End) (p q : Peering) (e : PeerEvent) → own.peer ≡ Some p → next_event p ≡ Some (record { event = e; after = q }) → IsWord w own → IsWord w (record own { peer = Some q; events = own.events ++ e ∷ [] })
 word-took w own p q e is next h = record {

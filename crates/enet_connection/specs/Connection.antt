@@ -16,7 +16,7 @@ use Rattle.enet_link.specs.Greatest.{greatest_after}
 -- an acknowledgement is numbered by the end that sent its command
 pub record Put : Type 0 where
   pub message : Message
-  pub reach : ℕ
+  pub sent_then : ℕ
 
 -- one end
 pub record End : Type 0 where
@@ -54,7 +54,7 @@ is_acknowledgement _ = false
 
 -- a message with how far the end has come that numbers it
 abbrev pub put_by : End → End → Message → Put
-put_by own other m = record { message = m; reach = if is_acknowledgement m.body then sent_on m.head.channel other else sent_on m.head.channel own }
+put_by own other m = record { message = m; sent_then = if is_acknowledgement m.body then sent_on m.head.channel other else sent_on m.head.channel own }
 
 -- the packets of a channel that go in sequence, in datagrams of at most `mtu` bytes
 abbrev pub of_channel : ℕ → ℕ → List Packet → List command_choice.Packet

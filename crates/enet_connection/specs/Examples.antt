@@ -37,7 +37,7 @@ HasTaken c = (c.one.submitted ≡ example_packet ∷ []) × (c.two.events ≡ to
 
 -- two commands went in one datagram, and both have the mark 2
 abbrev pub HasOneMark : Connection → Type 0
-HasOneMark c = map (λ (p : Put). p.reach) c.one.log ≡ 2 ∷ 2 ∷ []
+HasOneMark c = map (λ (p : Put). p.sent_then) c.one.log ≡ 2 ∷ 2 ∷ []
 
 abbrev pub IsConnected : End → Type 0
 IsConnected e = (p : Peering) × (e.peer ≡ Some p) × (p.state ≡ state.Connected)

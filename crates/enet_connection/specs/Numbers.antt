@@ -46,7 +46,7 @@ pub record IsInTime (from : End) (channel : ℕ) (put : Put) (c : DataCommand) :
   pub logged : Has from.log put
   pub on : put.message.head.channel ≡ channel
   pub is : data_of put.message ≡ Some c
-  pub in_time : is_late (sent_on channel from) put.reach c.number ≡ false
+  pub in_time : is_late (sent_on channel from) put.sent_then c.number ≡ false
 
 -- of one channel, from one end to the other. There is a receiver of unbounded numbers, and there are unbounded numbers that
 -- wait for their acknowledgements, such that
@@ -65,10 +65,10 @@ pub record AgreeOn (channel : ℕ) (from to : End) : Type 0 where
   pub near : is_dispatching to.peer ≡ true → sent_on channel from ≤ receiver.front + 24575
   -- what comes in time was meant with the number below its mark, which is at most 24,575 ahead of the front and 32,768 behind it
   pub distance : is_dispatching to.peer ≡ true → (put : Put) (c : DataCommand) → IsInTime from channel put c
-      → (number_below put.reach c.number ≤ receiver.front + 24575) × (receiver.front ≤ number_below put.reach c.number + 32768)
+      → (number_below put.sent_then c.number ≤ receiver.front + 24575) × (receiver.front ≤ number_below put.sent_then c.number + 32768)
   -- and it is read as what was meant, or as nothing
   pub read : is_dispatching to.peer ≡ true → (put : Put) (c : DataCommand) → IsInTime from channel put c
-      → (m : IsReadAsMeant (mtu_of from) (carried_on channel from) receiver c) × (m.meant.number ≡ number_below put.reach c.number)
+      → (m : IsReadAsMeant (mtu_of from) (carried_on channel from) receiver c) × (m.meant.number ≡ number_below put.sent_then c.number)
   -- so all pieces of a packet in the making are of one submitted packet
   pub held : is_dispatching to.peer ≡ true → (n : ℕ) (e : IncomingPacket) → get receiver.held n ≡ Some e → OfReliable (mtu_of from) (carried_on channel from) n e.making
   pub lines : is_dispatching to.peer ≡ true → (n k : ℕ) (e : IncomingPacket) → get (line_at receiver.waiting n) k ≡ Some e → OfUnreliable (mtu_of from) (carried_on channel from) n k e.making

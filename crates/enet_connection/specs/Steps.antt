@@ -69,8 +69,8 @@ with_peer e p = record e { peer = Some p }
 -- a command of the other end's log. Where it is sequenced data of a channel below 255, or acknowledges a command of one, it isn't over 32,768 numbers late
 pub record InTime (own other : End) (put : Put) : Type 0 where
   pub logged : Has other.log put
-  pub of_data : put.message.head.channel < 255 → (c : DataCommand) → data_of put.message ≡ Some c → is_late (sent_on put.message.head.channel other) put.reach c.number ≡ false
-  pub of_acknowledgement : put.message.head.channel < 255 → (number time : ℕ) → put.message.body ≡ acknowledge number time → is_late (sent_on put.message.head.channel own) put.reach number ≡ false
+  pub of_data : put.message.head.channel < 255 → (c : DataCommand) → data_of put.message ≡ Some c → is_late (sent_on put.message.head.channel other) put.sent_then c.number ≡ false
+  pub of_acknowledgement : put.message.head.channel < 255 → (number time : ℕ) → put.message.body ≡ acknowledge number time → is_late (sent_on put.message.head.channel own) put.sent_then number ≡ false
 
 abbrev pub with_submission : End → Peering → Packet → End
 with_submission e p q = record e { peer = Some (submitted p q.channel (record { flags = q.flags; body = q.body })); submitted = e.submitted ++ q ∷ [] }
@@ -78,7 +78,7 @@ with_submission e p q = record e { peer = Some (submitted p q.channel (record { 
 -- what is put out stands in the log with how far the numbers have come
 abbrev pub with_messages : End → End → List Message → End
 with_messages own other ms =
-    record own { log = own.log ++ map (put_by (record own { log = own.log ++ map (λ (m : Message). record { message = m; reach = 0 }) ms }) other) ms }
+    record own { log = own.log ++ map (put_by (record own { log = own.log ++ map (λ (m : Message). record { message = m; sent_then = 0 }) ms }) other) ms }
 
 abbrev pub with_emission : End → End → Peering → ℕ → End
 with_emission own other p now =

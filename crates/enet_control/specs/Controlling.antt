@@ -105,16 +105,16 @@ Did None written.Nothing old new from at to = (new ≡ old) × (to ≡ from)
 Did _ _ old new from at to = ⊥
 
 -- where the sent command of this number stands
-abbrev pub place_of : ℕ → List SentControl → Option ℕ
-place_of number sent = position (λ (p : SentControl). p.command.number == number) sent
+abbrev pub position_of : ℕ → List SentControl → Option ℕ
+position_of number sent = position (λ (p : SentControl). p.command.number == number) sent
 
 abbrev pub without_place : List SentControl → Option ℕ → List SentControl
 without_place sent None = sent
 without_place sent (Some i) = remove sent i
 
 -- an acknowledgement removes the sent command of its number
-abbrev pub acknowledged : Commands → ℕ → Commands
-acknowledged c number = record c { sent = without_place c.sent (place_of number c.sent) }
+abbrev pub after_acknowledgement : Commands → ℕ → Commands
+after_acknowledgement c number = record c { sent = without_place c.sent (position_of number c.sent) }
 
 abbrev pub control_of : Option SentControl → Option Control
 control_of None = None
@@ -126,7 +126,7 @@ control_at sent (Some i) = control_of (slice_get sent i)
 
 -- what that command was, if there is one
 abbrev pub acknowledged_control : Commands → ℕ → Option Control
-acknowledged_control c number = control_at c.sent (place_of number c.sent)
+acknowledged_control c number = control_at c.sent (position_of number c.sent)
 
 -- a sent command that waited out its timeout, and is not due to go again already
 abbrev pub is_late : ℕ → SentControl → Bool

@@ -1,2 +1,2 @@
 pub mod Controlling
-pub mod Kept
+pub mod Invariant

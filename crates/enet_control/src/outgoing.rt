@@ -2,10 +2,10 @@
 
 ghost use Rattle.std.specs.Prelude.{◌≡◌, ◌+◌, ◌<◌, ◌≤◌, nat_lt, IsTrue, IfOk, IfErr, IfNone, OnOk, OnErr, length, slice_get};
 ghost use Rattle.std.specs.List.{list_any};
-ghost use Rattle.enet_control.specs.Controlling.{acknowledged, acknowledged_control, after_lateness, cleared, Did, is_idle, lateness, next, next_queued, next_resent, nothing_controlled, ends, is_late, with_marked, with_queued};
+ghost use Rattle.enet_control.specs.Controlling.{after_acknowledgement, acknowledged_control, after_lateness, cleared, Did, is_idle, lateness, next, next_queued, next_resent, nothing_controlled, ends, is_late, with_marked, with_queued};
 
 use crate::queue::{
-    any_ends, any_late, is_in_span, lateness, make_room, mark, place_of, place_of_due, put,
+    any_ends, any_late, is_in_span, lateness, make_room, mark, position_of, position_of_due, put,
     send_again, send_head,
 };
 use crate::{Control, Numbered, SentControl};
@@ -43,7 +43,7 @@ impl Model for ControlChannel {
     ghost Value = { Controlling };
 
     ghost use Rattle.std.specs.VecDeque.{deque_len, deque_capacity};
-    ghost use Rattle.enet_control.specs.Kept.{KeepsRoom, room_of};
+    ghost use Rattle.enet_control.specs.Invariant.{KeepsRoom, room_of};
 
     ghost view = { λ c. record {
       commands = record { number = c.number; queued = c.queued.items; sent = c.sent.items };
@@ -118,7 +118,7 @@ impl ControlChannel {
         ensures no_room { result ≡ Written.NoRoom → self.new ≡ self.old }
         ensures nothing { result ≡ Written.Nothing → self.new ≡ self.old }
     {
-        match place_of_due(&self.sent) {
+        match position_of_due(&self.sent) {
             Some(place) => self.resend(place, now, buf, at),
             None => self.send_first(now, timeout, buf, at),
         }
@@ -166,11 +166,11 @@ impl ControlChannel {
     /// command has it.
     pub fn acknowledge(&mut self, number: u16) -> Option<Control>
         ensures control { result ≡ acknowledged_control self.old.commands number }
-        ensures removed { self.new.commands ≡ acknowledged self.old.commands number }
+        ensures removed { self.new.commands ≡ after_acknowledgement self.old.commands number }
         ensures room { self.old.room ≤ self.new.room }
         ensures none { IfNone result (self.new ≡ self.old) }
     {
-        let place = place_of(&self.sent, number)?;
+        let place = position_of(&self.sent, number)?;
         let sent = self.sent.remove(place)?;
         Some(sent.command.control)
     }

@@ -7,8 +7,8 @@ ghost use Rattle.enet_codec.specs.Message.{IsMessage, canonical};
 ghost use Rattle.enet_codec.specs.Writing.{Puts};
 ghost use Rattle.enet_control.specs.declared.control.Numbered.{Numbered};
 ghost use Rattle.enet_control.specs.declared.control.SentControl.{SentControl};
-ghost use Rattle.enet_control.specs.Controlling.{Commands, again, begun, ends, is_in_span, is_late, is_reliable, lateness, marked, message_of, place_of};
-ghost use Rattle.enet_control.specs.Kept.{KeepsRoom, room_of};
+ghost use Rattle.enet_control.specs.Controlling.{Commands, again, begun, ends, is_in_span, is_late, is_reliable, lateness, marked, message_of, position_of};
+ghost use Rattle.enet_control.specs.Invariant.{KeepsRoom, room_of};
 
 use crate::{Numbered, SentControl};
 use enet_codec::write_command;
@@ -45,7 +45,7 @@ pub fn make_room(queued: &mut VecDeque<Numbered>, sent: &mut VecDeque<SentContro
 }
 
 /// The first sent command that is due to go again.
-pub fn place_of_due(sent: &VecDeque<SentControl>) -> Option<usize>
+pub fn position_of_due(sent: &VecDeque<SentControl>) -> Option<usize>
     ensures place { result ≡ position (λ (p : SentControl). p.transmission.due) sent.now.items }
     ensures bound { IfSome result (λ place. place < deque_len sent.now) }
 {
@@ -53,8 +53,8 @@ pub fn place_of_due(sent: &VecDeque<SentControl>) -> Option<usize>
 }
 
 /// Where the sent command of this number stands.
-pub fn place_of(sent: &VecDeque<SentControl>, number: u16) -> Option<usize>
-    ensures { result ≡ place_of number sent.now.items }
+pub fn position_of(sent: &VecDeque<SentControl>, number: u16) -> Option<usize>
+    ensures { result ≡ position_of number sent.now.items }
 {
     sent.iter().position(|sent| sent.command.number == number)
 }

@@ -9,7 +9,7 @@ use Rattle.std.specs.List.{list_all, concat}
 use Rattle.enet_fragment.specs.declared.place.Place.{Place}
 use Rattle.enet_fragment.specs.declared.assembly.Put.{Put}
 use Rattle.enet_fragment.specs.declared.assembly.Put.TheVariants.{New, Again, Whole, Bad}
-use Rattle.enet_fragment.specs.Place.{is_sound, told_cut, place_of}
+use Rattle.enet_fragment.specs.Place.{is_sound, told_piece_len, place_of}
 use Rattle.enet_fragment.proofs.Places.{Sound, Sound-from_test, Fits, Fits-from_test}
 use Rattle.enet_fragment.proofs.Pieces.{length-pieces_in, list_all-pieces_in, is_some-pieces_in, joined-pieces_in}
 use Rattle.enet_fragment.specs.PartialPacket.{PartialPacket, count_of, nothing_yet, piece_at, IsWhole, joined, belongs, have_others_come, put_outcome, after_outcome, with_piece}
@@ -141,7 +141,7 @@ is_whole-more m p bytes e =
 
 -- a packet that is its only piece
 pub single-made : (body : List ℕ) → with_piece (nothing_yet 1 (length body)) (place_of 0 1 (length body) 0 body) body ≡ single_of body
-unfolding told_cut pieces_in
+unfolding told_piece_len pieces_in
 single-made body = refl
 
 same_place : (p : Place) (n c t o l : ℕ) → p.number ≡ n → p.count ≡ c → p.total ≡ t → p.offset ≡ o → p.len ≡ l → p ≡ record { number = n; count = c; total = t; offset = o; len = l }
@@ -157,8 +157,8 @@ alone-made p body h e l =
     let s : Sound p = Sound-from_test p h in
     let below : p.number < p.count = s.below in
     let number : p.number ≡ 0 = omega arith in
-    let start : p.offset ≡ p.number * told_cut p = s.begins in
-    let none : p.number * told_cut p ≡ 0 = ap (λ n. n * told_cut p) number ∙ omega arith in
+    let start : p.offset ≡ p.number * told_piece_len p = s.begins in
+    let none : p.number * told_piece_len p ≡ 0 = ap (λ n. n * told_piece_len p) number ∙ omega arith in
     let offset : p.offset ≡ 0 = start ∙ none in
     let whole : p.offset + p.len ≡ p.total = s.rest (omega arith) in
     let same : p ≡ place_of 0 1 (length body) 0 body = same_place p 0 1 (length body) 0 (length body) number e (omega arith) offset l in

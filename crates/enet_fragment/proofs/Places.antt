@@ -4,7 +4,7 @@ use Rattle.std.proofs.lemmas.Bool.Decides.{nat_tests}
 use Rattle.enet_fragment.specs.declared.place.Place.{Place}
 use Rattle.std.proofs.Math.Nat.{div-le_self}
 use borrow.Author.Tests.{ltb-true, leb-true, eqb-true}
-use Rattle.enet_fragment.specs.Place.{told_cut, is_even, is_sound}
+use Rattle.enet_fragment.specs.Place.{told_piece_len, is_even, is_sound}
 use Rattle.enet_fragment.specs.PartialPacket.{PartialPacket, count_of, piece_at, is_same_cut, belongs, have_others_come, put_outcome}
 use Rattle.enet_fragment.specs.declared.assembly.Put.{Put}
 use Rattle.enet_fragment.specs.declared.assembly.Put.TheVariants.{New, Again, Whole, Bad}
@@ -20,9 +20,9 @@ cases : (last : Bool) (o n l : ℕ) → cond last (o / n) l ≤ o + l
 cases true o n l = omega (arith, div-le_self o n)
 cases false o n l = omega arith
 
-pub told_cut-le : (p : Place) → told_cut p ≤ p.offset + p.len
-unfolding told_cut
-told_cut-le p = cases (eqb (p.number + 1) p.count) p.offset (p.count - 1) p.len
+pub told_piece_len-le : (p : Place) → told_piece_len p ≤ p.offset + p.len
+unfolding told_piece_len
+told_piece_len-le p = cases (eqb (p.number + 1) p.count) p.offset (p.count - 1) p.len
 
 -- the parts of a conjunction of tests
 and_first : (a b : Bool) → (a && b) ≡ true → a ≡ true
@@ -38,10 +38,10 @@ pub record Sound (p : Place) : Type 0 where
   pub below : p.number < p.count
   pub within_limit : p.count ≤ 16384
   pub ends : p.offset + p.len ≤ p.total
-  pub begins : p.offset ≡ p.number * told_cut p
+  pub begins : p.offset ≡ p.number * told_piece_len p
   pub rest : p.number + 1 ≡ p.count → p.offset + p.len ≡ p.total
-  pub full : p.number + 1 < p.count → p.len ≡ told_cut p
-  pub room : (p.count - 1) * told_cut p ≤ p.total
+  pub full : p.number + 1 < p.count → p.len ≡ told_piece_len p
+  pub room : (p.count - 1) * told_piece_len p ≤ p.total
 
 pub Sound-from_test : (p : Place) → is_sound p ≡ true → Sound p
 unfolding is_sound is_even
@@ -49,26 +49,26 @@ Sound-from_test p h =
     let below : Bool = ltb p.number p.count in
     let limit : Bool = leb p.count 16384 in
     let ends : Bool = leb (p.offset + p.len) p.total in
-    let begins : Bool = eqb p.offset (p.number * told_cut p) in
-    let long : Bool = eqb p.len (cond (eqb (p.number + 1) p.count) (p.total - p.offset) (told_cut p)) in
-    let room : Bool = leb ((p.count - 1) * told_cut p) p.total in
+    let begins : Bool = eqb p.offset (p.number * told_piece_len p) in
+    let long : Bool = eqb p.len (cond (eqb (p.number + 1) p.count) (p.total - p.offset) (told_piece_len p)) in
+    let room : Bool = leb ((p.count - 1) * told_piece_len p) p.total in
     let h1 = and_first (below && limit && ends) (begins && long && room) h in
     let h2 = and_second (below && limit && ends) (begins && long && room) h in
     let is_below : ltb p.number p.count ≡ true = and_first below limit (and_first (below && limit) ends h1) in
     let is_limit : leb p.count 16384 ≡ true = and_second below limit (and_first (below && limit) ends h1) in
     let is_ends : leb (p.offset + p.len) p.total ≡ true = and_second (below && limit) ends h1 in
-    let is_begins : eqb p.offset (p.number * told_cut p) ≡ true = and_first begins long (and_first (begins && long) room h2) in
-    let is_long : eqb p.len (cond (eqb (p.number + 1) p.count) (p.total - p.offset) (told_cut p)) ≡ true = and_second begins long (and_first (begins && long) room h2) in
-    let is_room : leb ((p.count - 1) * told_cut p) p.total ≡ true = and_second (begins && long) room h2 in
-    let length_is : p.len ≡ cond (eqb (p.number + 1) p.count) (p.total - p.offset) (told_cut p) = eqb-true _ _ is_long in
+    let is_begins : eqb p.offset (p.number * told_piece_len p) ≡ true = and_first begins long (and_first (begins && long) room h2) in
+    let is_long : eqb p.len (cond (eqb (p.number + 1) p.count) (p.total - p.offset) (told_piece_len p)) ≡ true = and_second begins long (and_first (begins && long) room h2) in
+    let is_room : leb ((p.count - 1) * told_piece_len p) p.total ≡ true = and_second (begins && long) room h2 in
+    let length_is : p.len ≡ cond (eqb (p.number + 1) p.count) (p.total - p.offset) (told_piece_len p) = eqb-true _ _ is_long in
     let ends_in : p.offset + p.len ≤ p.total = leb-true _ _ is_ends in
     record {
       below = ltb-true _ _ is_below;
       within_limit = leb-true _ _ is_limit;
       ends = ends_in;
       begins = eqb-true _ _ is_begins;
-      rest = λ e. rest_of (eqb (p.number + 1) p.count) _ _ p.offset p.len p.total (told_cut p) refl length_is ends_in e;
-      full = λ e. full_of (eqb (p.number + 1) p.count) _ _ p.offset p.len p.total (told_cut p) refl length_is e;
+      rest = λ e. rest_of (eqb (p.number + 1) p.count) _ _ p.offset p.len p.total (told_piece_len p) refl length_is ends_in e;
+      full = λ e. full_of (eqb (p.number + 1) p.count) _ _ p.offset p.len p.total (told_piece_len p) refl length_is e;
       room = leb-true _ _ is_room;
     }
 
@@ -77,7 +77,7 @@ pub record Fits (m : PartialPacket) (p : Place) : Type 0 where
   pub sound : Sound p
   pub count : p.count ≡ count_of m
   pub total : p.total ≡ m.total
-  pub cut : is_same_cut m.cut (told_cut p) ≡ true
+  pub cut : is_same_cut m.cut (told_piece_len p) ≡ true
 
 pub Fits-from_test : (m : PartialPacket) (p : Place) → belongs m p ≡ true → Fits m p
 unfolding belongs
@@ -85,7 +85,7 @@ Fits-from_test m p h =
     let sound : Bool = is_sound p in
     let count : Bool = eqb p.count (count_of m) in
     let total : Bool = eqb p.total m.total in
-    let cut : Bool = is_same_cut m.cut (told_cut p) in
+    let cut : Bool = is_same_cut m.cut (told_piece_len p) in
     let size = and_second sound (count && total) (and_first (sound && (count && total)) cut h) in
     let is_count : eqb p.count (count_of m) ≡ true = and_first count total size in
     let is_total : eqb p.total m.total ≡ true = and_second count total size in

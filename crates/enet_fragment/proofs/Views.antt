@@ -6,7 +6,7 @@ use Rattle.std.proofs.lemmas.List.Sums.{AllPass-from_list_all, list_all-from_All
 use borrow.Author.Tests.{eqb-true}
 use Rattle.std.specs.List.{list_all}
 use Rattle.enet_fragment.specs.declared.place.Place.{Place}
-use Rattle.enet_fragment.specs.Place.{told_cut}
+use Rattle.enet_fragment.specs.Place.{told_piece_len}
 use Rattle.enet_fragment.specs.PartialPacket.{PartialPacket, count_of, piece_at, nothing_yet, IsWhole, joined, is_same_cut, is_of_size, belongs, have_others_come, with_piece, without_piece}
 use Rattle.enet_fragment.specs.Assembly.{making_of, pieces_in, missing_in, written_at, AreKept}
 use Rattle.enet_fragment.proofs.Places.{Sound, Fits, Fits-from_test}
@@ -132,7 +132,7 @@ added bytes new came cut m p v b l =
       many = length-set came p.number true;
     }
 
-pub AreKept-added : (bytes new : List ℕ) (came : List Bool) (missing : ℕ) (cut : Option ℕ) (m : PartialPacket) (p : Place) → AreKept bytes came missing cut → making_of bytes came cut ≡ m → belongs m p ≡ true → piece_at m p.number ≡ None → p.len ≡ length new → AreKept (written_at p.offset new bytes) (set came p.number true) (missing - 1) (Some (told_cut p))
+pub AreKept-added : (bytes new : List ℕ) (came : List Bool) (missing : ℕ) (cut : Option ℕ) (m : PartialPacket) (p : Place) → AreKept bytes came missing cut → making_of bytes came cut ≡ m → belongs m p ≡ true → piece_at m p.number ≡ None → p.len ≡ length new → AreKept (written_at p.offset new bytes) (set came p.number true) (missing - 1) (Some (told_piece_len p))
 AreKept-added bytes new came missing cut m p k v b e l =
     let a : Added bytes new came p = added bytes new came cut m p v b l in
     let unmarked : get_or came p.number false ≡ false = sym (mark_of bytes came cut m p.number v) ∙ ap is_some e in
@@ -140,7 +140,7 @@ AreKept-added bytes new came missing cut m p k v b e l =
     let less : missing_in (set came p.number true) + 1 ≡ missing_in came = missing_in-set came p.number inside unmarked in
     let count : length (set came p.number true) ≡ p.count = a.many ∙ sym a.count in
     let total : length (written_at p.offset new bytes) ≡ p.total = a.long ∙ sym a.total in
-    let fits : (length (set came p.number true) - 1) * told_cut p ≤ length (written_at p.offset new bytes) = rw (count, total) a.sound.room in
+    let fits : (length (set came p.number true) - 1) * told_piece_len p ≤ length (written_at p.offset new bytes) = rw (count, total) a.sound.room in
     record {
       some_piece = omega (arith, k.some_piece, a.many);
       small_count = omega (arith, k.small_count, a.many);
@@ -148,36 +148,36 @@ AreKept-added bytes new came missing cut m p k v b e l =
       counted = omega (arith, k.counted);
       in_range = λ c h.
           let fits_in : ℕ → Type 0 = λ x. (length (set came p.number true) - 1) * x ≤ length (written_at p.offset new bytes) in
-          let same : told_cut p ≡ c = cc in
+          let same : told_piece_len p ≡ c = cc in
           subst fits_in same fits;
       nothing_told = λ h. cc;
     }
 
-pub making_of-added : (bytes new : List ℕ) (came : List Bool) (missing : ℕ) (cut : Option ℕ) (m : PartialPacket) (p : Place) → AreKept bytes came missing cut → making_of bytes came cut ≡ m → belongs m p ≡ true → p.len ≡ length new → making_of (written_at p.offset new bytes) (set came p.number true) (Some (told_cut p)) ≡ with_piece m p new
+pub making_of-added : (bytes new : List ℕ) (came : List Bool) (missing : ℕ) (cut : Option ℕ) (m : PartialPacket) (p : Place) → AreKept bytes came missing cut → making_of bytes came cut ≡ m → belongs m p ≡ true → p.len ≡ length new → making_of (written_at p.offset new bytes) (set came p.number true) (Some (told_piece_len p)) ≡ with_piece m p new
 making_of-added bytes new came missing cut m p k v b l =
     let f : Fits m p = Fits-from_test m p b in
     let a : Added bytes new came p = added bytes new came cut m p v b l in
     let inside : p.number < length came = omega (arith, a.sound.below, a.count) in
-    let begins : p.offset ≡ p.number * told_cut p = a.sound.begins in
+    let begins : p.offset ≡ p.number * told_piece_len p = a.sound.begins in
     let count : p.count ≡ length came = a.count in
     let total : p.total ≡ length bytes = a.total in
     let known : m.cut ≡ cut = ap (λ (q : PartialPacket). q.cut) (sym v) in
-    let same : is_same_cut cut (told_cut p) ≡ true = ap (λ c. is_same_cut c (told_cut p)) (sym known) ∙ f.cut in
-    let earlier : pieces_in (told_cut p) bytes came ≡ m.pieces = same_pieces bytes came cut (told_cut p) same (λ e. sym k.counted ∙ k.nothing_told e) ∙ ap (λ (q : PartialPacket). q.pieces) v in
-    let room : length came * told_cut p ≤ length bytes + told_cut p = room_of (length came) (length came - 1) (told_cut p) (length bytes) (omega arith) (rw (← count, ← total) a.sound.room) in
-    let written : pieces_in (told_cut p) (written_at p.offset new bytes) (set came p.number true) ≡ set m.pieces p.number (Some new) =
-    ap (λ o. pieces_in (told_cut p) (written_at o new bytes) (set came p.number true)) begins
-    ∙ (pieces_in-written (told_cut p) bytes new came p.number inside (λ e. omega (arith, a.sound.rest (omega arith))) (λ h. sym l ∙ a.sound.full (omega arith)) room
+    let same : is_same_cut cut (told_piece_len p) ≡ true = ap (λ c. is_same_cut c (told_piece_len p)) (sym known) ∙ f.cut in
+    let earlier : pieces_in (told_piece_len p) bytes came ≡ m.pieces = same_pieces bytes came cut (told_piece_len p) same (λ e. sym k.counted ∙ k.nothing_told e) ∙ ap (λ (q : PartialPacket). q.pieces) v in
+    let room : length came * told_piece_len p ≤ length bytes + told_piece_len p = room_of (length came) (length came - 1) (told_piece_len p) (length bytes) (omega arith) (rw (← count, ← total) a.sound.room) in
+    let written : pieces_in (told_piece_len p) (written_at p.offset new bytes) (set came p.number true) ≡ set m.pieces p.number (Some new) =
+    ap (λ o. pieces_in (told_piece_len p) (written_at o new bytes) (set came p.number true)) begins
+    ∙ (pieces_in-written (told_piece_len p) bytes new came p.number inside (λ e. omega (arith, a.sound.rest (omega arith))) (λ h. sym l ∙ a.sound.full (omega arith)) room
     ∙ ap (λ q. set q p.number (Some new)) earlier) in
-    ap (λ n. record { total = n; cut = Some (told_cut p); pieces = pieces_in (told_cut p) (written_at p.offset new bytes) (set came p.number true) }) (a.long ∙ sym (total_of-making bytes came cut m v))
-    ∙ ap (λ q. record { total = m.total; cut = Some (told_cut p); pieces = q }) written
+    ap (λ n. record { total = n; cut = Some (told_piece_len p); pieces = pieces_in (told_piece_len p) (written_at p.offset new bytes) (set came p.number true) }) (a.long ∙ sym (total_of-making bytes came cut m v))
+    ∙ ap (λ q. record { total = m.total; cut = Some (told_piece_len p); pieces = q }) written
 
 -- the same, of the fields as the code leaves them
-pub AreKept-after : (bytes new after : List ℕ) (came : List Bool) (missing : ℕ) (cut : Option ℕ) (m : PartialPacket) (p : Place) (told : ℕ) → after ≡ written_at p.offset new bytes → told ≡ told_cut p → AreKept bytes came missing cut → making_of bytes came cut ≡ m → belongs m p ≡ true → piece_at m p.number ≡ None → p.len ≡ length new → AreKept after (set came p.number true) (missing - 1) (Some told)
+pub AreKept-after : (bytes new after : List ℕ) (came : List Bool) (missing : ℕ) (cut : Option ℕ) (m : PartialPacket) (p : Place) (told : ℕ) → after ≡ written_at p.offset new bytes → told ≡ told_piece_len p → AreKept bytes came missing cut → making_of bytes came cut ≡ m → belongs m p ≡ true → piece_at m p.number ≡ None → p.len ≡ length new → AreKept after (set came p.number true) (missing - 1) (Some told)
 AreKept-after bytes new after came missing cut m p told e f k v b none l =
     rw (e, f) (AreKept-added bytes new came missing cut m p k v b none l)
 
-pub making_of-after : (bytes new after : List ℕ) (came : List Bool) (missing : ℕ) (cut : Option ℕ) (m : PartialPacket) (p : Place) (told : ℕ) → after ≡ written_at p.offset new bytes → told ≡ told_cut p → AreKept bytes came missing cut → making_of bytes came cut ≡ m → belongs m p ≡ true → p.len ≡ length new → making_of after (set came p.number true) (Some told) ≡ with_piece m p new
+pub making_of-after : (bytes new after : List ℕ) (came : List Bool) (missing : ℕ) (cut : Option ℕ) (m : PartialPacket) (p : Place) (told : ℕ) → after ≡ written_at p.offset new bytes → told ≡ told_piece_len p → AreKept bytes came missing cut → making_of bytes came cut ≡ m → belongs m p ≡ true → p.len ≡ length new → making_of after (set came p.number true) (Some told) ≡ with_piece m p new
 making_of-after bytes new after came missing cut m p told e f k v b l =
     ap (λ a. making_of a (set came p.number true) (Some told)) e
     ∙ (ap (λ t. making_of (written_at p.offset new bytes) (set came p.number true) (Some t)) f

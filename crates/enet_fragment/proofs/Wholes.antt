@@ -8,7 +8,7 @@ use Rattle.std.specs.List.{list_all}
 use Rattle.enet_fragment.specs.declared.place.Place.{Place}
 use Rattle.enet_fragment.specs.declared.partial_packet.State.{State}
 use Rattle.enet_fragment.specs.declared.partial_packet.State.TheVariants as states
-use Rattle.enet_fragment.specs.Place.{told_cut, is_sound}
+use Rattle.enet_fragment.specs.Place.{told_piece_len, is_sound}
 use Rattle.enet_fragment.specs.PartialPacket.{PartialPacket, count_of, piece_at, IsWhole, is_same_cut, belongs, with_piece, without_piece}
 use Rattle.enet_fragment.specs.Assembly.{making_of, missing_in}
 use Rattle.enet_fragment.specs.Whole.{is_whole, whole_of}
@@ -36,10 +36,10 @@ whole_of-making bytes came missing cut m v e w =
     ∙ (ap (λ marks. making_of bytes marks cut) (all_marks came none) ∙ v))
 
 -- which pieces can be those of a whole packet
-pub belongs-whole_of : (body : List ℕ) (count : ℕ) (cut : Option ℕ) (p : Place) → belongs (whole_of body count cut) p ≡ (is_sound p && (eqb p.count count && eqb p.total (length body)) && is_same_cut cut (told_cut p))
+pub belongs-whole_of : (body : List ℕ) (count : ℕ) (cut : Option ℕ) (p : Place) → belongs (whole_of body count cut) p ≡ (is_sound p && (eqb p.count count && eqb p.total (length body)) && is_same_cut cut (told_piece_len p))
 unfolding belongs
 belongs-whole_of body count cut p =
-    ap (λ n. is_sound p && (eqb p.count n && eqb p.total (length body)) && is_same_cut cut (told_cut p)) (count_of-whole_of body count cut)
+    ap (λ n. is_sound p && (eqb p.count n && eqb p.total (length body)) && is_same_cut cut (told_piece_len p)) (count_of-whole_of body count cut)
 
 -- a piece that is taken back as soon as it is put, where another one has told the cut
 told : (known : Option ℕ) (cut : ℕ) → IsSome known → is_same_cut known cut ≡ true → Some cut ≡ known
@@ -54,7 +54,7 @@ back (y ∷ rest) (suc i) x h = ap (λ r. y ∷ r) (back rest i x h)
 pub without_piece-with_piece : (m : PartialPacket) (p : Place) (bytes : List ℕ) → belongs m p ≡ true → piece_at m p.number ≡ None → IsSome m.cut → without_piece (with_piece m p bytes) p.number ≡ m
 without_piece-with_piece m p bytes b e s =
     let f : Fits m p = Fits-from_test m p b in
-    ap (λ c. record { total = m.total; cut = c; pieces = set (set m.pieces p.number (Some bytes)) p.number None }) (told m.cut (told_cut p) s f.cut)
+    ap (λ c. record { total = m.total; cut = c; pieces = set (set m.pieces p.number (Some bytes)) p.number None }) (told m.cut (told_piece_len p) s f.cut)
     ∙ ap (λ q. record { total = m.total; cut = m.cut; pieces = q }) (back m.pieces p.number (Some bytes) e)
 
 -- what a gathering's state stands for, where it is whole

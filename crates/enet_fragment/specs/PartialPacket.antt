@@ -5,7 +5,7 @@ use Rattle.std.specs.List.{list_all}
 use Rattle.enet_fragment.specs.declared.place.Place.{Place}
 use Rattle.enet_fragment.specs.declared.assembly.Put.{Put}
 use Rattle.enet_fragment.specs.declared.assembly.Put.TheVariants.{New, Again, Whole, Bad}
-use Rattle.enet_fragment.specs.Place.{is_sound, told_cut}
+use Rattle.enet_fragment.specs.Place.{is_sound, told_piece_len}
 
 -- how many bytes the packet has; the length of each piece but the last, once a piece has told it; and, in the order of
 -- their numbers, the bytes of each piece that has come
@@ -55,7 +55,7 @@ is_of_size m p = (p.count == count_of m) && (p.total == m.total)
 
 -- the piece can be one of this packet's
 unfoldable pub belongs : PartialPacket → Place → Bool
-belongs m p = is_sound p && is_of_size m p && is_same_cut m.cut (told_cut p)
+belongs m p = is_sound p && is_of_size m p && is_same_cut m.cut (told_piece_len p)
 
 -- the piece of each other number has come
 unfoldable pub have_others_come : PartialPacket → ℕ → Bool
@@ -70,7 +70,7 @@ put_outcome m p =
 
 -- the packet with this piece
 abbrev pub with_piece : PartialPacket → Place → List ℕ → PartialPacket
-with_piece m p bytes = record { total = m.total; cut = Some (told_cut p); pieces = slice_set m.pieces p.number (Some bytes) }
+with_piece m p bytes = record { total = m.total; cut = Some (told_piece_len p); pieces = slice_set m.pieces p.number (Some bytes) }
 
 -- the packet after an outcome: a piece that is new is in it, another one changes nothing
 abbrev pub after_outcome : Put → PartialPacket → Place → List ℕ → PartialPacket

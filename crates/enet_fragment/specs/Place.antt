@@ -13,8 +13,8 @@ is_last p = p.number + 1 == p.count
 
 -- the length of every piece but the last, as this piece tells it: its own length; the last piece tells it by its offset,
 -- which the pieces before it fill in equal shares (a piece that is alone has none before it and tells 0)
-unfoldable pub told_cut : Place → ℕ
-told_cut p = if is_last p then p.offset / (p.count - 1) else p.len
+unfoldable pub told_piece_len : Place → ℕ
+told_piece_len p = if is_last p then p.offset / (p.count - 1) else p.len
 
 -- the place of this piece in a packet that is cut into pieces of this length, of which the last one has the rest
 unfoldable pub is_even : ℕ → Place → Bool
@@ -29,4 +29,4 @@ is_sound p =
     nat_lt p.number p.count
     && nat_le p.count 16384
     && nat_le (p.offset + p.len) p.total
-    && is_even (told_cut p) p
+    && is_even (told_piece_len p) p

@@ -163,7 +163,7 @@ impl Assembly {
         if !place.is_sound() || !self.is_of_size(place) {
             return false;
         }
-        has_same_cut(self.cut, place.told_cut())
+        has_same_cut(self.cut, place.told_piece_len())
     }
 
     /// Whether a piece with this place speaks of a packet of this size.
@@ -203,7 +203,7 @@ impl Assembly {
         requires missing { piece_at self.old place.number ≡ None }
         ensures { self.new ≡ with_piece self.old place bytes.now }
     {
-        let cut = place.told_cut();
+        let cut = place.told_piece_len();
         write_at(&mut self.bytes, place.offset as usize, bytes);
         self.came[place.number as usize] = true;
         self.missing -= 1;

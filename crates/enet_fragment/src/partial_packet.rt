@@ -109,7 +109,7 @@ impl PartialPacket {
             State::Whole { body, count, cut } => {
                 place.is_sound()
                     && place.is_of_size(*count as usize, body.len())
-                    && has_same_cut(*cut, place.told_cut())
+                    && has_same_cut(*cut, place.told_piece_len())
             }
         }
     }
@@ -217,7 +217,7 @@ fn grown(mut assembly: Assembly, place: Place, bytes: &[u8]) -> Result<State, As
         Ok(body) => Ok(State::Whole {
             body,
             count: place.count,
-            cut: Some(place.told_cut()),
+            cut: Some(place.told_piece_len()),
         }),
         Err(mut kept) => {
             kept.unmark(place.number);

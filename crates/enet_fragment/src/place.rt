@@ -20,7 +20,7 @@ pub struct Place {
 }
 
 impl Place {
-    ghost use Rattle.enet_fragment.specs.Place.{is_sound, is_even, told_cut};
+    ghost use Rattle.enet_fragment.specs.Place.{is_sound, is_even, told_piece_len};
 
     /// Whether some packet that is cut evenly has this piece: its number is below the count, the piece ends within the packet
     /// (ENet 1.3), the count is at most the limit of 16,384, and the cut that it tells has it (our profile). It
@@ -33,23 +33,23 @@ impl Place {
         self.number < self.count
             && self.count <= FRAGMENT_LIMIT
             && self.ends_within()
-            && self.is_even(self.told_cut())
+            && self.is_even(self.told_piece_len())
     }
 
     /// Whether the piece ends where the packet does, or before.
     fn ends_within(self) -> bool
         ensures value { result ≡ nat_le (self.offset + self.len) self.total }
-        ensures small { IsTrue result → told_cut self < 2 ^ 32 }
+        ensures small { IsTrue result → told_piece_len self < 2 ^ 32 }
     {
         let total = self.total as usize;
         self.len <= total && self.offset as usize <= total - self.len
     }
 
     /// The length of every piece but the last, as this one tells it.
-    #[tactic(auto, unfolding(crate::specs::Place::told_cut))]
-    pub(crate) fn told_cut(self) -> usize
+    #[tactic(auto, unfolding(crate::specs::Place::told_piece_len))]
+    pub(crate) fn told_piece_len(self) -> usize
         requires { self.number < self.count }
-        ensures { result ≡ told_cut self }
+        ensures { result ≡ told_piece_len self }
     {
         if self.number + 1 == self.count {
             self.offset.checked_div(self.count - 1).unwrap_or(0) as usize

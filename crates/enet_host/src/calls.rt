@@ -14,7 +14,7 @@ use enet_slot::{Setting, Slot};
 use enet_types::{Addr, DisconnectMode, PeerRef, Refusal};
 
 /// The place of the slot of this name, where it has this generation.
-fn place_of(slots: &[Slot], name: PeerRef) -> Option<usize>
+fn position_of(slots: &[Slot], name: PeerRef) -> Option<usize>
     ensures place { IfSome result (λ i. (i ≡ name.slot) × (i < length slots.now)) }
     ensures found { IfSome result (λ i. IsTrue (is_some (slot_named (all_shown slots.now) name))) }
     ensures none { IfNone result (slot_named (all_shown slots.now) name ≡ None) }
@@ -30,7 +30,7 @@ fn place_of(slots: &[Slot], name: PeerRef) -> Option<usize>
 pub(crate) fn peer_of(slots: &[Slot], name: PeerRef) -> Option<&Peer>
     ensures { peer_shown (option_copied result) ≡ named (all_shown slots.now) name }
 {
-    let place = place_of(slots, name)?;
+    let place = position_of(slots, name)?;
     slots[place].peer()
 }
 
@@ -45,7 +45,7 @@ pub(crate) fn submit(
     ensures does { Submits result (record { flags = flags; body = body }) (on_named (all_shown slots.old.items) name (submission channel (record { flags = flags; body = body }))) (all_shown slots.old.items) (all_shown slots.new.items) }
     ensures count { length slots.new.items ≡ length slots.old.items }
 {
-    let Some(place) = place_of(slots, name) else {
+    let Some(place) = position_of(slots, name) else {
         return Err((Refusal::NoSuchPeer, body));
     };
     slots[place].submit(channel, flags, body)
@@ -61,7 +61,7 @@ pub(crate) fn disconnect(
     ensures does { Does result (on_named (all_shown slots.old.items) name (leaving mode info)) (all_shown slots.old.items) (all_shown slots.new.items) }
     ensures count { length slots.new.items ≡ length slots.old.items }
 {
-    let Some(place) = place_of(slots, name) else {
+    let Some(place) = position_of(slots, name) else {
         return Err(Refusal::NoSuchPeer);
     };
     slots[place].leave(mode, info)
@@ -78,7 +78,7 @@ pub(crate) fn throttle_configure(
     ensures does { DoesWithMemory result (on_named (all_shown slots.old.items) name (throttling interval acceleration deceleration)) (all_shown slots.old.items) (all_shown slots.new.items) }
     ensures count { length slots.new.items ≡ length slots.old.items }
 {
-    let Some(place) = place_of(slots, name) else {
+    let Some(place) = position_of(slots, name) else {
         return Err(Refusal::NoSuchPeer);
     };
     slots[place].configure(interval, acceleration, deceleration)
@@ -89,7 +89,7 @@ pub(crate) fn set(slots: &mut Vec<Slot>, name: PeerRef, setting: Setting) -> Res
     ensures does { Does result (on_named (all_shown slots.old.items) name (set_by setting)) (all_shown slots.old.items) (all_shown slots.new.items) }
     ensures count { length slots.new.items ≡ length slots.old.items }
 {
-    let Some(place) = place_of(slots, name) else {
+    let Some(place) = position_of(slots, name) else {
         return Err(Refusal::NoSuchPeer);
     };
     slots[place].set(setting)

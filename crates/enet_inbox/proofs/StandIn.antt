@@ -6,20 +6,20 @@ use Rattle.enet_seq.specs.Numbering.{wire}
 use Rattle.enet_seq.specs.Windows.{acknowledges}
 use Rattle.enet_fragment.specs.declared.data.DataCommand.{DataCommand}
 use Rattle.enet_fragment.specs.DataCommand.{place_in_packet}
-use Rattle.enet_fragment.specs.Place.{is_sound, is_even, told_cut}
+use Rattle.enet_fragment.specs.Place.{is_sound, is_even, told_piece_len}
 use Rattle.enet_packets.specs.declared.incoming_packet.IncomingPacket.{IncomingPacket}
 use Rattle.enet_receiver.specs.declared.took.Took.TheVariants.{Held, Again, Bad}
 use Rattle.enet_receiver.specs.Receiver.{Receiver}
 use Rattle.enet_receiver.specs.DataOutcome.{outcome_at, outcome_of, place_read, came_at, is_piece, is_behind, is_handled, acknowledged}
 
 abbrev stand_in : ℕ → DataCommand
-stand_in number = record { reliable = false; number = number; count = 0; fragment = None; body = [] }
+stand_in number = record { reliable = false; number = number; unreliable = 0; fragment = None; body = [] }
 
 at_least_none : (most : ℕ) → nat_le 0 most ≡ true
 at_least_none most = grind (arith, nat_tests)
 
 sound : (number : ℕ) → is_sound (place_in_packet (stand_in number)) ≡ true
-unfolding is_sound is_even told_cut
+unfolding is_sound is_even told_piece_len
 sound number = refl
 
 piece : (most number : ℕ) → is_piece most (stand_in number) ≡ true

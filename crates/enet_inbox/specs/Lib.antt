@@ -1,5 +1,5 @@
 pub mod Inbox
 pub mod DataEffect
-pub mod Kept
+pub mod Invariant
 pub mod Codes
-pub mod Parts
+pub mod InboxParts

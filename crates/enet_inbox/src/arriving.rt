@@ -2,7 +2,7 @@
 
 ghost use Rattle.std.specs.Prelude.{◌≡◌, ◌<◌};
 ghost use Rattle.enet_seq.specs.Windows as windows;
-ghost use Rattle.enet_inbox.specs.Parts.{seen};
+ghost use Rattle.enet_inbox.specs.InboxParts.{seen};
 
 use enet_codec::{Command, Head, Stop};
 use enet_receiver::{Foresight, Incoming, Took};

@@ -7,7 +7,7 @@ ghost use Rattle.enet_fragment.specs.DataCommand.{data_of};
 ghost use Rattle.enet_unsequenced.specs.Groups.{dispatches};
 ghost use Rattle.enet_inbox.specs.Inbox.{empty_inbox, is_full, cleared, forgotten, narrowed};
 ghost use Rattle.enet_inbox.specs.DataEffect.{arrival, sequenced, unsequenced_taken, passed_over, passed_length, passed_sequenced, is_kept, Arrives};
-ghost use Rattle.enet_inbox.specs.Parts.{foresight_of, unsequenced_verdict, foreseen, foreseen_sequenced, told};
+ghost use Rattle.enet_inbox.specs.InboxParts.{foresight_of, unsequenced_verdict, foreseen, foreseen_sequenced, told};
 
 use crate::arriving::{Foreseen, acknowledges, seen};
 use crate::receivers::{clear_all, held_in, open_all};
@@ -41,8 +41,8 @@ impl Model for Inbox {
 
     ghost coded = { inbox_code };
 
-    ghost use Rattle.enet_inbox.specs.Kept.{KeepsInbox};
-    ghost use Rattle.enet_inbox.specs.Parts.{inbox_of};
+    ghost use Rattle.enet_inbox.specs.Invariant.{KeepsInbox};
+    ghost use Rattle.enet_inbox.specs.InboxParts.{inbox_of};
 
     ghost view = { λ b. inbox_of b.max_packet b.max_waiting b.receivers.items b.groups b.untaken.items };
 

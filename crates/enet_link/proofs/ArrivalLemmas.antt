@@ -90,7 +90,7 @@ start_reads front start own sent low near high span below late = go (fragment_in
         → ((cond b (Some (front + ahead (front % 65536) (start % 65536))) None ≡ Some start) × (front ≤ start)) ⊎ ((cond b (Some (front + ahead (front % 65536) (start % 65536))) None ≡ None) × (start ≤ front))
     go true e =
         let both = and_both (in_window (front % 65536) (start % 65536)) (in_window (front % 65536) (own % 65536)) e in
-        let read : windows.number_read front (start % 65536) ≡ Some start = fragment_start front start own low near (omega arith) (omega arith) e in
+        let read : windows.number_in_window front (start % 65536) ≡ Some start = fragment_start front start own low near (omega arith) (omega arith) e in
         let is : Some (front + ahead (front % 65536) (start % 65536)) ≡ Some start = sym (ap (λ b. cond b (Some (front + ahead (front % 65536) (start % 65536))) None) both.0) ∙ read in
         let eq = some_is (front + ahead (front % 65536) (start % 65536)) start is in
         inl (is, omega arith)

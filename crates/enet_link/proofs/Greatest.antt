@@ -138,9 +138,9 @@ sends-told v n up t =
       few = omega arith;
     }
 
-marked-numbers : (reach : ℕ) (cs : List DataCommand) → map (λ (p : PutOut). p.command.number) (map (with_reach reach) cs) ≡ map (λ (c : DataCommand). c.number) cs
-marked-numbers reach [] = refl
-marked-numbers reach (c ∷ cs) = λ i. c.number ∷ marked-numbers reach cs i
+marked-numbers : (sent_then : ℕ) (cs : List DataCommand) → map (λ (p : PutOut). p.command.number) (map (with_reach sent_then) cs) ≡ map (λ (c : DataCommand). c.number) cs
+marked-numbers sent_then [] = refl
+marked-numbers sent_then (c ∷ cs) = λ i. c.number ∷ marked-numbers sent_then cs i
 
 puts-told : (v : WireLink) → Told v → Told (puts_out v)
 puts-told v t =

@@ -7,26 +7,26 @@ use Rattle.enet_fragment.specs.declared.data.DataCommand.{DataCommand}
 use Rattle.enet_receiver.specs.Receiver.{Receiver}
 use Rattle.enet_receiver.specs.DataOutcome.{received, outcome, is_handled}
 use Rattle.enet_sender.specs.CommandChoice.{ChosenPacket}
-use Rattle.enet_link.specs.Link.{Link, PutOut, Answer, accept, send, put_out, takes_in, queue_answer, put_answer, acknowledged, closed, is_late, number_below, wired}
+use Rattle.enet_link.specs.Link.{Link, PutOut, Answer, accept, send, put_out, takes_in, queue_answer, put_answer, after_acknowledgement, closed, is_late, number_below, wired}
 use Rattle.enet_link.proofs.Lists.{Has, Has-push_cases, Has-push_left, Has-push, Has-filter, Has-from_filter}
 use Rattle.enet_link.proofs.ContentLemmas.{Ready}
 use Rattle.enet_link.proofs.PieceLemmas.{IsPieceOf}
 use Rattle.enet_link.proofs.ReceiverLemmas.{IsReceived, Within, Grows, Lacks}
 use Rattle.enet_link.proofs.ArrivalLemmas.{Arrived, Arrived-command}
 
-pub number_below_true : (number reach : ℕ) → number ≤ reach → reach < number + 65536 → number_below reach (number % 65536) ≡ number
-number_below_true number reach low high = omega arith
+pub number_below_true : (number sent_then : ℕ) → number ≤ sent_then → sent_then < number + 65536 → number_below sent_then (number % 65536) ≡ number
+number_below_true number sent_then low high = omega arith
 
-pub in_time : (sent number reach : ℕ) → number ≤ reach → reach < number + 65536 → is_late sent reach (number % 65536) ≡ false → sent ≤ number + 32768
-in_time sent number reach low high h =
-    let e = number_below_true number reach low high in
+pub in_time : (sent number sent_then : ℕ) → number ≤ sent_then → sent_then < number + 65536 → is_late sent sent_then (number % 65536) ≡ false → sent ≤ number + 32768
+in_time sent number sent_then low high h =
+    let e = number_below_true number sent_then low high in
     let k : nat_lt 32768 (sent - number) ≡ false = ap (λ x. nat_lt 32768 (sent - x)) (sym e) ∙ h in
     grind (arith, nat_tests)
 
 -- the reaches of waiting acknowledgements rise
 abbrev pub Rises : List Answer → Type 0
 Rises [] = Unit {0}
-Rises (a ∷ rest) = ((b : Answer) → Has rest b → a.reach ≤ b.reach) × Rises rest
+Rises (a ∷ rest) = ((b : Answer) → Has rest b → a.sent_then ≤ b.sent_then) × Rises rest
 
 abbrev pub IsKnown : Link → ℕ → Type 0
 IsKnown l m = l.is_open ≡ true → IsReceived l.receiver m
@@ -34,28 +34,28 @@ IsKnown l m = l.is_open ≡ true → IsReceived l.receiver m
 -- an acknowledgement that waits
 pub record Waits (l : Link) (a : Answer) : Type 0 where
   pub positive : 0 < a.number
-  pub number : a.number ≤ a.reach
-  pub reach : a.reach ≤ l.sent
-  pub in_time : a.reach ≤ a.number + 32768
+  pub number : a.number ≤ a.sent_then
+  pub sent_then : a.sent_then ≤ l.sent
+  pub in_time : a.sent_then ≤ a.number + 32768
   pub known : IsKnown l a.number
   -- what an acknowledgement removed was sent before this one began to wait
-  pub removed : (m : ℕ) → 0 < m → m ≤ l.sent → Has l.unacked m ⊎ (m ≤ a.reach)
-  pub logged : (b : Answer) → Has l.acks b → b.number ≤ a.reach
+  pub removed : (m : ℕ) → 0 < m → m ≤ l.sent → Has l.unacked m ⊎ (m ≤ a.sent_then)
+  pub logged : (b : Answer) → Has l.acks b → b.number ≤ a.sent_then
 
 -- an acknowledgement in the log
 pub record IsLogged (l : Link) (a : Answer) : Type 0 where
   pub positive : 0 < a.number
-  pub number : a.number ≤ a.reach
-  pub reach : a.reach ≤ l.sent
-  pub in_time : a.reach ≤ a.number + 40960
+  pub number : a.number ≤ a.sent_then
+  pub sent_then : a.sent_then ≤ l.sent
+  pub in_time : a.sent_then ≤ a.number + 40960
   pub known : IsKnown l a.number
 
 -- a command in the log
 pub record IsPutOut (l : Link) (e : PutOut) : Type 0 where
   pub positive : e.command.reliable ≡ true → 0 < e.command.number
-  pub number : e.command.number ≤ e.reach
-  pub reach : e.reach ≤ l.sent
-  pub span : e.reach ≤ e.command.number + 8192
+  pub number : e.command.number ≤ e.sent_then
+  pub sent_then : e.sent_then ≤ l.sent
+  pub span : e.sent_then ≤ e.command.number + 8192
 
 pub record Numbers (l : Link) : Type 0 where
   -- what is unacknowledged is within the span
@@ -78,10 +78,10 @@ Numbers-accept l c g = record {
   span = g.span;
   within = g.within;
   gap = g.gap;
-  commands = λ e h. let k = g.commands e h in record { positive = k.positive; number = k.number; reach = k.reach; span = k.span };
-  answers = λ a h. let k = g.answers a h in record { positive = k.positive; number = k.number; reach = k.reach; in_time = k.in_time; known = k.known; removed = k.removed; logged = k.logged };
+  commands = λ e h. let k = g.commands e h in record { positive = k.positive; number = k.number; sent_then = k.sent_then; span = k.span };
+  answers = λ a h. let k = g.answers a h in record { positive = k.positive; number = k.number; sent_then = k.sent_then; in_time = k.in_time; known = k.known; removed = k.removed; logged = k.logged };
   rises = g.rises;
-  acks = λ a h. let k = g.acks a h in record { positive = k.positive; number = k.number; reach = k.reach; in_time = k.in_time; known = k.known };
+  acks = λ a h. let k = g.acks a h in record { positive = k.positive; number = k.number; sent_then = k.sent_then; in_time = k.in_time; known = k.known };
 }
 
 pub order : (a b : ℕ) → (a ≤ b) ⊎ (b < a)
@@ -121,11 +121,11 @@ Numbers-send l g room = record {
   span = span_after l g room;
   within = λ o. Within-more l.sent l.receiver (g.within o);
   gap = g.gap;
-  commands = λ e h. let k = g.commands e h in record { positive = k.positive; number = k.number; reach = let x = k.reach in omega arith; span = k.span };
+  commands = λ e h. let k = g.commands e h in record { positive = k.positive; number = k.number; sent_then = let x = k.sent_then in omega arith; span = k.span };
   answers = λ a h. let k = g.answers a h in record {
     positive = k.positive;
     number = k.number;
-    reach = let x = k.reach in omega arith;
+    sent_then = let x = k.sent_then in omega arith;
     in_time = k.in_time;
     known = k.known;
     removed = λ m low high. elim (last_or_before m l.sent high) [
@@ -135,32 +135,32 @@ Numbers-send l g room = record {
     logged = k.logged;
   };
   rises = g.rises;
-  acks = λ a h. let k = g.acks a h in record { positive = k.positive; number = k.number; reach = let x = k.reach in omega arith; in_time = k.in_time; known = k.known };
+  acks = λ a h. let k = g.acks a h in record { positive = k.positive; number = k.number; sent_then = let x = k.sent_then in omega arith; in_time = k.in_time; known = k.known };
 }
 
 -- a command goes into the log
-pub Numbers-put_out : (l : Link) (c : DataCommand) → Numbers l → IsPutOut l (record { command = c; reach = l.sent }) → Numbers (put_out l c)
+pub Numbers-put_out : (l : Link) (c : DataCommand) → Numbers l → IsPutOut l (record { command = c; sent_then = l.sent }) → Numbers (put_out l c)
 Numbers-put_out l c g new = record {
   unacked = g.unacked;
   removed = g.removed;
   span = g.span;
   within = g.within;
   gap = g.gap;
-  commands = λ e h. elim (Has-push_cases l.commands (record { command = c; reach = l.sent }) e h) [
-    | inl k ↦ let x = g.commands e k in record { positive = x.positive; number = x.number; reach = x.reach; span = x.span }
-    | inr is ↦ subst (λ x. IsPutOut (put_out l c) x) is (record { positive = new.positive; number = new.number; reach = new.reach; span = new.span })
+  commands = λ e h. elim (Has-push_cases l.commands (record { command = c; sent_then = l.sent }) e h) [
+    | inl k ↦ let x = g.commands e k in record { positive = x.positive; number = x.number; sent_then = x.sent_then; span = x.span }
+    | inr is ↦ subst (λ x. IsPutOut (put_out l c) x) is (record { positive = new.positive; number = new.number; sent_then = new.sent_then; span = new.span })
   ];
-  answers = λ a h. let k = g.answers a h in record { positive = k.positive; number = k.number; reach = k.reach; in_time = k.in_time; known = k.known; removed = k.removed; logged = k.logged };
+  answers = λ a h. let k = g.answers a h in record { positive = k.positive; number = k.number; sent_then = k.sent_then; in_time = k.in_time; known = k.known; removed = k.removed; logged = k.logged };
   rises = g.rises;
-  acks = λ a h. let k = g.acks a h in record { positive = k.positive; number = k.number; reach = k.reach; in_time = k.in_time; known = k.known };
+  acks = λ a h. let k = g.acks a h in record { positive = k.positive; number = k.number; sent_then = k.sent_then; in_time = k.in_time; known = k.known };
 }
 
 -- what is put out waits for its acknowledgement, or is an unreliable command that isn't far behind
-pub put_out-reliable : (l : Link) (c : DataCommand) → Numbers l → Has l.unacked c.number → IsPutOut l (record { command = c; reach = l.sent })
-put_out-reliable l c g there = let u = g.unacked c.number there in record { positive = λ _. u.0; number = u.1; reach = omega arith; span = let z = u.2 in omega arith }
+pub put_out-reliable : (l : Link) (c : DataCommand) → Numbers l → Has l.unacked c.number → IsPutOut l (record { command = c; sent_then = l.sent })
+put_out-reliable l c g there = let u = g.unacked c.number there in record { positive = λ _. u.0; number = u.1; sent_then = omega arith; span = let z = u.2 in omega arith }
 
-pub put_out-unreliable : (l : Link) (c : DataCommand) → c.reliable ≡ false → c.number ≤ l.sent → l.sent ≤ c.number + 8192 → IsPutOut l (record { command = c; reach = l.sent })
-put_out-unreliable l c kind low high = record { positive = λ e. absurd (let f : true ≡ false = sym e ∙ kind in cc); number = low; reach = omega arith; span = high }
+pub put_out-unreliable : (l : Link) (c : DataCommand) → c.reliable ≡ false → c.number ≤ l.sent → l.sent ≤ c.number + 8192 → IsPutOut l (record { command = c; sent_then = l.sent })
+put_out-unreliable l c kind low high = record { positive = λ e. absurd (let f : true ≡ false = sym e ∙ kind in cc); number = low; sent_then = omega arith; span = high }
 
 pub either : (b : Bool) → (b ≡ true) ⊎ (b ≡ false)
 either true = inl refl
@@ -177,25 +177,25 @@ Numbers-receiver l r g new = record {
   span = λ o. let k = (new o).1 in let x = k.front in let y = g.span o in omega arith;
   within = λ o. (new o).0;
   gap = λ o. (new o).2;
-  commands = λ e h. let k = g.commands e h in record { positive = k.positive; number = k.number; reach = k.reach; span = k.span };
-  answers = λ a h. let k = g.answers a h in record { positive = k.positive; number = k.number; reach = k.reach; in_time = k.in_time; known = on a.number k.known; removed = k.removed; logged = k.logged };
+  commands = λ e h. let k = g.commands e h in record { positive = k.positive; number = k.number; sent_then = k.sent_then; span = k.span };
+  answers = λ a h. let k = g.answers a h in record { positive = k.positive; number = k.number; sent_then = k.sent_then; in_time = k.in_time; known = on a.number k.known; removed = k.removed; logged = k.logged };
   rises = g.rises;
-  acks = λ a h. let k = g.acks a h in record { positive = k.positive; number = k.number; reach = k.reach; in_time = k.in_time; known = on a.number k.known };
+  acks = λ a h. let k = g.acks a h in record { positive = k.positive; number = k.number; sent_then = k.sent_then; in_time = k.in_time; known = on a.number k.known };
 }
   where
     on : (m : ℕ) → IsKnown l m → l.is_open ≡ true → IsReceived r m
     on m k o = let x = (new o).1 in x.received m (k o)
 
 -- what a command of the log does, if it isn't late
-pub arrives : (mtu most : ℕ) (l : Link) (e : PutOut) (full : Bool) → Numbers l → Ready mtu l.carried l.receiver → Has l.commands e → IsPieceOf mtu l.carried e.command → is_late l.sent e.reach (e.command.number % 65536) ≡ false → l.is_open ≡ true
+pub arrives : (mtu most : ℕ) (l : Link) (e : PutOut) (full : Bool) → Numbers l → Ready mtu l.carried l.receiver → Has l.commands e → IsPieceOf mtu l.carried e.command → is_late l.sent e.sent_then (e.command.number % 65536) ≡ false → l.is_open ≡ true
     → Arrived mtu l.carried l.sent most l.receiver e.command full
 arrives mtu most l e full g ready there piece late o =
     let p = g.commands e there in
-    let a = p.number in let b = p.reach in let c = p.span in
-    Arrived-command mtu l.carried l.sent most l.receiver e.command full piece ready (g.within o) (g.gap o) (omega arith) (g.span o) (in_time l.sent e.command.number e.reach p.number (omega arith) late)
+    let a = p.number in let b = p.sent_then in let c = p.span in
+    Arrived-command mtu l.carried l.sent most l.receiver e.command full piece ready (g.within o) (g.gap o) (omega arith) (g.span o) (in_time l.sent e.command.number e.sent_then p.number (omega arith) late)
 
 -- a command of the log comes, and isn't late
-pub Numbers-takes_in : (mtu most : ℕ) (l : Link) (e : PutOut) (full : Bool) → Numbers l → Ready mtu l.carried l.receiver → Has l.commands e → IsPieceOf mtu l.carried e.command → is_late l.sent e.reach (e.command.number % 65536) ≡ false
+pub Numbers-takes_in : (mtu most : ℕ) (l : Link) (e : PutOut) (full : Bool) → Numbers l → Ready mtu l.carried l.receiver → Has l.commands e → IsPieceOf mtu l.carried e.command → is_late l.sent e.sent_then (e.command.number % 65536) ≡ false
     → Numbers (takes_in l most e.command full)
 Numbers-takes_in mtu most l e full g ready there piece late =
     let new : Receiver = received unbounded most l.receiver (wired e.command) full in
@@ -206,7 +206,7 @@ Numbers-takes_in mtu most l e full g ready there piece late =
     subst (λ r. Within l.sent r × Grows l.receiver r × Lacks r) (is o) (st.within, st.grows, st.lacks))
 
 -- where it is considered, a reliable one is known then
-pub known-takes_in : (mtu most : ℕ) (l : Link) (e : PutOut) (full : Bool) → Numbers l → Ready mtu l.carried l.receiver → Has l.commands e → IsPieceOf mtu l.carried e.command → is_late l.sent e.reach (e.command.number % 65536) ≡ false
+pub known-takes_in : (mtu most : ℕ) (l : Link) (e : PutOut) (full : Bool) → Numbers l → Ready mtu l.carried l.receiver → Has l.commands e → IsPieceOf mtu l.carried e.command → is_late l.sent e.sent_then (e.command.number % 65536) ≡ false
     → e.command.reliable ≡ true → (l.is_open ≡ true → is_handled (outcome unbounded most l.receiver (wired e.command) full) ≡ true) → IsKnown (takes_in l most e.command full) e.command.number
 known-takes_in mtu most l e full g ready there piece late kind considered o =
     let new : Receiver = received unbounded most l.receiver (wired e.command) full in
@@ -215,39 +215,39 @@ known-takes_in mtu most l e full g ready there piece late kind considered o =
     subst (λ r. IsReceived r e.command.number) is (a.known kind (considered o))
 
 -- it is acknowledged
-pub Numbers-queue_answer : (l : Link) (e : PutOut) → Numbers l → Has l.commands e → is_late l.sent e.reach (e.command.number % 65536) ≡ false → e.command.reliable ≡ true → IsKnown l e.command.number → Numbers (queue_answer l e.command.number)
+pub Numbers-queue_answer : (l : Link) (e : PutOut) → Numbers l → Has l.commands e → is_late l.sent e.sent_then (e.command.number % 65536) ≡ false → e.command.reliable ≡ true → IsKnown l e.command.number → Numbers (queue_answer l e.command.number)
 Numbers-queue_answer l e g there late reliable known =
     let p = g.commands e there in
-    let u = p.number in let v = p.reach in let w = p.span in
-    let t = in_time l.sent e.command.number e.reach p.number (omega arith) late in
-    let new : Answer = record { number = e.command.number; reach = l.sent } in
+    let u = p.number in let v = p.sent_then in let w = p.span in
+    let t = in_time l.sent e.command.number e.sent_then p.number (omega arith) late in
+    let new : Answer = record { number = e.command.number; sent_then = l.sent } in
     record {
       unacked = g.unacked;
       removed = g.removed;
       span = g.span;
       within = g.within;
       gap = g.gap;
-      commands = λ x h. let k = g.commands x h in record { positive = k.positive; number = k.number; reach = k.reach; span = k.span };
+      commands = λ x h. let k = g.commands x h in record { positive = k.positive; number = k.number; sent_then = k.sent_then; span = k.span };
       answers = λ a h. elim (Has-push_cases l.answers new a h) [
-        | inl k ↦ let x = g.answers a k in record { positive = x.positive; number = x.number; reach = x.reach; in_time = x.in_time; known = x.known; removed = x.removed; logged = x.logged }
+        | inl k ↦ let x = g.answers a k in record { positive = x.positive; number = x.number; sent_then = x.sent_then; in_time = x.in_time; known = x.known; removed = x.removed; logged = x.logged }
         | inr is ↦ subst (λ x. Waits (queue_answer l e.command.number) x) is (record {
           positive = p.positive reliable;
           number = omega arith;
-          reach = omega arith;
+          sent_then = omega arith;
           in_time = t;
           known = known;
           removed = λ m low high. inr high;
-          logged = λ b k. let y = g.acks b k in let y1 = y.number in let y2 = y.reach in omega arith;
+          logged = λ b k. let y = g.acks b k in let y1 = y.number in let y2 = y.sent_then in omega arith;
         })
       ];
-      rises = Rises-push l.answers new g.rises (λ a h. let k = g.answers a h in k.reach);
-      acks = λ a h. let k = g.acks a h in record { positive = k.positive; number = k.number; reach = k.reach; in_time = k.in_time; known = k.known };
+      rises = Rises-push l.answers new g.rises (λ a h. let k = g.answers a h in k.sent_then);
+      acks = λ a h. let k = g.acks a h in record { positive = k.positive; number = k.number; sent_then = k.sent_then; in_time = k.in_time; known = k.known };
     }
   where
-    Rises-push : (xs : List Answer) (y : Answer) → Rises xs → ((a : Answer) → Has xs a → a.reach ≤ y.reach) → Rises (xs ++ y ∷ [])
+    Rises-push : (xs : List Answer) (y : Answer) → Rises xs → ((a : Answer) → Has xs a → a.sent_then ≤ y.sent_then) → Rises (xs ++ y ∷ [])
     Rises-push [] y r h = ((λ b k. absurd k), tt)
     Rises-push (x ∷ xs) y r h = (
-      (λ b k. elim (Has-push_cases xs y b k) [ inl j ↦ r.0 b j | inr is ↦ subst (λ z. x.reach ≤ z.reach) is (h x (inl refl)) ]),
+      (λ b k. elim (Has-push_cases xs y b k) [ inl j ↦ r.0 b j | inr is ↦ subst (λ z. x.sent_then ≤ z.sent_then) is (h x (inl refl)) ]),
       Rises-push xs y r.1 (λ a k. h a (inr k)),
     )
 
@@ -255,8 +255,8 @@ Numbers-queue_answer l e g there late reliable known =
 pub Numbers-put_answer : (l : Link) (a : Answer) (rest : List Answer) → l.answers ≡ a ∷ rest → Numbers l → Numbers (put_answer l a rest)
 Numbers-put_answer l a rest e g =
     let x = g.answers a (old a (inl refl)) in
-    let x1 = x.number in let x2 = x.reach in let x3 = x.in_time in
-    let new : Answer = record { number = a.number; reach = l.sent } in
+    let x1 = x.number in let x2 = x.sent_then in let x3 = x.in_time in
+    let new : Answer = record { number = a.number; sent_then = l.sent } in
     let rising = subst Rises e g.rises in
     record {
       unacked = g.unacked;
@@ -264,26 +264,26 @@ Numbers-put_answer l a rest e g =
       span = g.span;
       within = g.within;
       gap = g.gap;
-      commands = λ y h. let k = g.commands y h in record { positive = k.positive; number = k.number; reach = k.reach; span = k.span };
+      commands = λ y h. let k = g.commands y h in record { positive = k.positive; number = k.number; sent_then = k.sent_then; span = k.span };
       answers = λ b h. let k = g.answers b (old b (inr h)) in record {
         positive = k.positive;
         number = k.number;
-        reach = k.reach;
+        sent_then = k.sent_then;
         in_time = k.in_time;
         known = k.known;
         removed = k.removed;
         logged = λ c j. elim (Has-push_cases l.acks new c j) [
           | inl i ↦ k.logged c i
-          | inr is ↦ subst (λ z. z.number ≤ b.reach) is (let up = rising.0 b h in omega arith)
+          | inr is ↦ subst (λ z. z.number ≤ b.sent_then) is (let up = rising.0 b h in omega arith)
         ];
       };
       rises = rising.1;
       acks = λ b h. elim (Has-push_cases l.acks new b h) [
-        | inl k ↦ let y = g.acks b k in record { positive = y.positive; number = y.number; reach = y.reach; in_time = y.in_time; known = y.known }
+        | inl k ↦ let y = g.acks b k in record { positive = y.positive; number = y.number; sent_then = y.sent_then; in_time = y.in_time; known = y.known }
         | inr is ↦ subst (λ z. IsLogged (put_answer l a rest) z) is (record {
           positive = x.positive;
           number = omega arith;
-          reach = omega arith;
+          sent_then = omega arith;
           known = x.known;
           in_time = answer_in_time l a g x;
         })
@@ -296,8 +296,8 @@ Numbers-put_answer l a rest e g =
     answer_in_time : (l : Link) (a : Answer) → Numbers l → Waits l a → l.sent ≤ a.number + 40960
     answer_in_time l a g x =
         let x3 = x.in_time in
-        elim (order a.reach l.sent) [
-          | inl low ↦ elim (x.removed (a.reach + 1) (omega arith) low) [
+        elim (order a.sent_then l.sent) [
+          | inl low ↦ elim (x.removed (a.sent_then + 1) (omega arith) low) [
             | inl u ↦ let k = g.unacked _ u in omega arith
             | inr absurd_high ↦ omega arith
           ]
@@ -314,16 +314,16 @@ not_equal : (m n : ℕ) → not (m == n) ≡ false → m ≡ n
 not_equal m n h = grind (arith, nat_tests)
 
 -- an acknowledgement of the log removes its own command and no other
-pub removes_own : (l : Link) (a : Answer) → Numbers l → Has l.acks a → is_late l.sent a.reach (a.number % 65536) ≡ false
+pub removes_own : (l : Link) (a : Answer) → Numbers l → Has l.acks a → is_late l.sent a.sent_then (a.number % 65536) ≡ false
     → (m : ℕ) → Has l.unacked m → not (m % 65536 == a.number % 65536) ≡ false → m ≡ a.number
 removes_own l a g there late m h e =
     let x = g.acks a there in
-    let x1 = x.number in let x2 = x.reach in let x3 = x.in_time in
-    let t = in_time l.sent a.number a.reach x.number (omega arith) late in
+    let x1 = x.number in let x2 = x.sent_then in let x3 = x.in_time in
+    let t = in_time l.sent a.number a.sent_then x.number (omega arith) late in
     let u = g.unacked m h in
     same_residue l.sent m a.number u.1 u.2 (omega arith) t (not_equal _ _ e)
 
-pub Numbers-acknowledged : (l : Link) (a : Answer) → Numbers l → Has l.acks a → is_late l.sent a.reach (a.number % 65536) ≡ false → Numbers (acknowledged l a)
+pub Numbers-acknowledged : (l : Link) (a : Answer) → Numbers l → Has l.acks a → is_late l.sent a.sent_then (a.number % 65536) ≡ false → Numbers (after_acknowledgement l a)
 Numbers-acknowledged l a g there late = record {
   unacked = λ m h. g.unacked m (Has-from_filter test l.unacked m h);
   removed = λ m low high. elim (g.removed m low high) [
@@ -336,11 +336,11 @@ Numbers-acknowledged l a g there late = record {
   span = g.span;
   within = g.within;
   gap = g.gap;
-  commands = λ x h. let k = g.commands x h in record { positive = k.positive; number = k.number; reach = k.reach; span = k.span };
+  commands = λ x h. let k = g.commands x h in record { positive = k.positive; number = k.number; sent_then = k.sent_then; span = k.span };
   answers = λ b h. let k = g.answers b h in record {
     positive = k.positive;
     number = k.number;
-    reach = k.reach;
+    sent_then = k.sent_then;
     in_time = k.in_time;
     known = k.known;
     logged = k.logged;
@@ -353,7 +353,7 @@ Numbers-acknowledged l a g there late = record {
     ];
   };
   rises = g.rises;
-  acks = λ b h. let k = g.acks b h in record { positive = k.positive; number = k.number; reach = k.reach; in_time = k.in_time; known = k.known };
+  acks = λ b h. let k = g.acks b h in record { positive = k.positive; number = k.number; sent_then = k.sent_then; in_time = k.in_time; known = k.known };
 }
   where
     test : ℕ → Bool
@@ -370,8 +370,8 @@ Numbers-closed l g = record {
   span = λ o. absurd (cc);
   within = λ o. absurd (cc);
   gap = λ o. absurd (cc);
-  commands = λ x h. let k = g.commands x h in record { positive = k.positive; number = k.number; reach = k.reach; span = k.span };
-  answers = λ b h. let k = g.answers b h in record { positive = k.positive; number = k.number; reach = k.reach; in_time = k.in_time; known = λ o. absurd (cc); removed = k.removed; logged = k.logged };
+  commands = λ x h. let k = g.commands x h in record { positive = k.positive; number = k.number; sent_then = k.sent_then; span = k.span };
+  answers = λ b h. let k = g.answers b h in record { positive = k.positive; number = k.number; sent_then = k.sent_then; in_time = k.in_time; known = λ o. absurd (cc); removed = k.removed; logged = k.logged };
   rises = g.rises;
-  acks = λ b h. let k = g.acks b h in record { positive = k.positive; number = k.number; reach = k.reach; in_time = k.in_time; known = λ o. absurd (cc) };
+  acks = λ b h. let k = g.acks b h in record { positive = k.positive; number = k.number; sent_then = k.sent_then; in_time = k.in_time; known = λ o. absurd (cc) };
 }

@@ -8,7 +8,7 @@ use Rattle.std.specs.List.{list_all}
 use Rattle.enet_fragment.specs.declared.place.Place.{Place}
 use Rattle.enet_fragment.specs.PartialPacket.{PartialPacket, count_of, nothing_yet, piece_at, with_piece, joined}
 use Rattle.enet_fragment.specs.Whole.{is_whole}
-use Rattle.enet_sender.specs.Sender.{piece_at as cut_piece}
+use Rattle.enet_sender.specs.Sender.{piece_of_body}
 use Rattle.enet_link.specs.Meant.{has_piece}
 use Rattle.enet_receiver.proofs.Maps.{two_numbers}
 
@@ -92,7 +92,7 @@ missing m h = go m.pieces h
     go (Some x ∷ xs) h = let rest = go xs h in let low = rest.1 in (suc rest.0, omega arith, rest.2)
 
 -- the pieces of a body in their order are the body
-pub joined-pieces : (size : ℕ) (pieces : List (Option (List ℕ))) (body : List ℕ) → ((i : ℕ) (bytes : List ℕ) → get_or pieces i None ≡ Some bytes → bytes ≡ cut_piece size body i) → list_all is_some pieces ≡ true → joined pieces ≡ take (length pieces * size) body
+pub joined-pieces : (size : ℕ) (pieces : List (Option (List ℕ))) (body : List ℕ) → ((i : ℕ) (bytes : List ℕ) → get_or pieces i None ≡ Some bytes → bytes ≡ piece_of_body size body i) → list_all is_some pieces ≡ true → joined pieces ≡ take (length pieces * size) body
 unfolding joined
 joined-pieces size [] body h w = ap (λ k. take k body) (let e : 0 ≡ 0 * size = omega arith in e)
 joined-pieces size (None ∷ pieces) body h w = absurd (cc)
@@ -103,7 +103,7 @@ joined-pieces size (Some first ∷ pieces) body h w =
     let sum : size + length pieces * size ≡ suc (length pieces) * size = omega arith in
     (λ j. first_is j ++ rest j) ∙ sym (take-add size (length pieces * size) body) ∙ ap (λ k. take k body) sum
   where
-    further : (i : ℕ) → cut_piece size body (suc i) ≡ cut_piece size (drop size body) i
+    further : (i : ℕ) → piece_of_body size body (suc i) ≡ piece_of_body size (drop size body) i
     further i =
         let sum : suc i * size ≡ size + i * size = omega arith in
         ap (λ k. take size (drop k body)) sum ∙ ap (λ l. take size l) (sym (drop-drop (i * size) size body))

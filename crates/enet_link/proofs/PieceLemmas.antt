@@ -9,7 +9,7 @@ use Rattle.enet_fragment.specs.DataCommand.{piece_of, place_in_packet}
 use Rattle.enet_packets.specs.declared.incoming_packet.IncomingPacket.{IncomingPacket}
 use Rattle.enet_receiver.specs.DataOutcome.{earlier_or_new, with_more}
 use Rattle.enet_sender.specs.CommandChoice.{ChosenPacket, is_long}
-use Rattle.enet_sender.specs.Sender.{command_at, piece_at as cut_piece, fragment_at}
+use Rattle.enet_sender.specs.Sender.{command_at, piece_of_body, fragment_at}
 use Rattle.enet_link.specs.Link.{wired}
 pub use Rattle.enet_link.specs.Meant.{IsPlain, IsPieceOf}
 use Rattle.enet_link.proofs.Lists.{Has, Cuts, two_cuts}
@@ -29,7 +29,7 @@ pub record Says (mtu : ℕ) (d : DataCommand) (c : ChosenPacket) (number count i
   pub pieces : (piece_of (wired d)).count ≡ c.pieces
   pub index_is : (piece_of (wired d)).number ≡ index
   pub start : c.reliable ≡ true → (piece_of (wired d)).start ≡ (number + 1) % 65536
-  pub body : (wired d).body ≡ cut_piece (piece_length mtu) c.packet.body index
+  pub body : (wired d).body ≡ piece_of_body (piece_length mtu) c.packet.body index
   pub single : is_none (wired d).fragment ≡ true → c.pieces ≡ 1
 
 Says-command : (mtu : ℕ) (c : ChosenPacket) (number count index : ℕ) → index < c.pieces → IsPlain mtu c → Says mtu (command_at unbounded mtu number count c index) c number count index
@@ -37,9 +37,9 @@ Says-command mtu c number count index inside plain =
     elim (is_long mtu c.packet) as (λ b. is_long mtu c.packet ≡ b → Says mtu (record {
       reliable = c.reliable;
       number = cond c.reliable (number + (index + 1)) number;
-      count = cond c.reliable 0 (count + 1);
+      unreliable = cond c.reliable 0 (count + 1);
       fragment = cond b (Some (fragment_at (piece_length mtu) c (cond c.reliable (number + 1) (count + 1)) index)) None;
-      body = cut_piece (piece_length mtu) c.packet.body index;
+      body = piece_of_body (piece_length mtu) c.packet.body index;
     }) c number count index) [
       | true ↦ λ t. record {
         reliable = refl;
@@ -136,7 +136,7 @@ Matches-more mtu o d c number count index inside s old = go o old
         record {
           count = count_of-with m (place_in_packet (wired d)) (wired d).body ∙ h.count;
           pieces = λ i bytes e. elim (piece_cases m (place_in_packet (wired d)) (wired d).body i bytes (omega arith) e) [
-            | inl is ↦ (let a = is.0 in omega arith, sym is.1 ∙ s.body ∙ ap (cut_piece (piece_length mtu) c.packet.body) (sym (is.0 ∙ s.index_is)))
+            | inl is ↦ (let a = is.0 in omega arith, sym is.1 ∙ s.body ∙ ap (piece_of_body (piece_length mtu) c.packet.body) (sym (is.0 ∙ s.index_is)))
             | inr k ↦ h.pieces i bytes k.1
           ];
         }

@@ -7,7 +7,7 @@ use Rattle.enet_seq.specs.Numbering.{wire, unbounded}
 use Rattle.enet_fragment.specs.Cutting.{piece_length}
 use Rattle.enet_fragment.specs.declared.data.DataCommand.{DataCommand}
 use Rattle.enet_sender.specs.CommandChoice.{ChosenPacket, is_long}
-use Rattle.enet_sender.specs.Sender.{command_at, commands_of, fragment_at, piece_at as cut_piece}
+use Rattle.enet_sender.specs.Sender.{command_at, commands_of, fragment_at, piece_of_body}
 use Rattle.enet_link.specs.Link.{wired, wired_fragment}
 pub use Rattle.enet_link.specs.Image.{reliable_count}
 use Rattle.enet_link.proofs.Lists.{Has}
@@ -46,17 +46,17 @@ wired-fragment : (mtu start x : ℕ) (c : ChosenPacket) (i : ℕ) (r l : Bool) �
 wired-fragment mtu start x c i r true e = ap (λ z. Some (piece mtu c z i)) e
 wired-fragment mtu start x c i r false e = refl
 
-wired-kind : (mtu number count : ℕ) (c : ChosenPacket) (i : ℕ) (r : Bool) → let body = cut_piece (piece_length mtu) c.packet.body i in
+wired-kind : (mtu number count : ℕ) (c : ChosenPacket) (i : ℕ) (r : Bool) → let body = piece_of_body (piece_length mtu) c.packet.body i in
     let left : DataCommand = raw r (cond r ((number % 65536 + (i + 1)) % 65536) (number % 65536)) (cond r 0 (count + 1)) (cond (is_long mtu c.packet) (Some (piece mtu c (cond r ((number % 65536 + 1) % 65536) (count + 1)) i)) None) body in
     left ≡ wired (raw r (cond r (number + (i + 1)) number) (cond r 0 (count + 1)) (cond (is_long mtu c.packet) (Some (piece mtu c (cond r (number + 1) (count + 1)) i)) None) body)
 wired-kind mtu number count c i true =
     let a : (number % 65536 + (i + 1)) % 65536 ≡ (number + (i + 1)) % 65536 = omega arith in
     let b : (number % 65536 + 1) % 65536 ≡ (number + 1) % 65536 = omega arith in
     let f = wired-fragment mtu (number + 1) ((number % 65536 + 1) % 65536) c i true (is_long mtu c.packet) b in
-    (λ j. raw true (a j) 0 (f j) (cut_piece (piece_length mtu) c.packet.body i))
+    (λ j. raw true (a j) 0 (f j) (piece_of_body (piece_length mtu) c.packet.body i))
 wired-kind mtu number count c i false =
     let f = wired-fragment mtu (count + 1) (count + 1) c i false (is_long mtu c.packet) refl in
-    (λ j. raw false (number % 65536) (count + 1) (f j) (cut_piece (piece_length mtu) c.packet.body i))
+    (λ j. raw false (number % 65536) (count + 1) (f j) (piece_of_body (piece_length mtu) c.packet.body i))
 
 wired-command : (mtu number count : ℕ) (c : ChosenPacket) (i : ℕ) → command_at wire mtu (number % 65536) count c i ≡ wired (command_at unbounded mtu number count c i)
 wired-command mtu number count c i = wired-kind mtu number count c i c.reliable

@@ -7,7 +7,7 @@ use Rattle.enet_fragment.specs.Cutting.{piece_length}
 use Rattle.enet_fragment.specs.DataCommand.{data_of, message_of}
 use Rattle.enet_fragment.specs.declared.data.DataCommand.{DataCommand}
 use Rattle.enet_sender.specs.CommandChoice.{ChosenPacket, is_long}
-use Rattle.enet_sender.specs.Sender.{command_at, commands_of, fragment_at, piece_at as cut_piece}
+use Rattle.enet_sender.specs.Sender.{command_at, commands_of, fragment_at, piece_of_body}
 use Rattle.enet_link.specs.Link.{wired, wired_fragment}
 use Rattle.enet_link.specs.Meant.{IsPieceOf, IsReadAsItself}
 use Rattle.enet_link.proofs.Lists.{Has}
@@ -17,9 +17,9 @@ abbrev on_wire : ℕ → ℕ → ℕ → ChosenPacket → ℕ → Bool → Bool 
 on_wire mtu number count c i r l = record {
   reliable = r;
   number = cond r (number + (i + 1)) number % 65536;
-  count = cond r 0 (count + 1);
+  unreliable = cond r 0 (count + 1);
   fragment = option_map (wired_fragment r) (cond l (Some (fragment_at (piece_length mtu) c (cond r (number + 1) (count + 1)) i)) None);
-  body = cut_piece (piece_length mtu) c.packet.body i;
+  body = piece_of_body (piece_length mtu) c.packet.body i;
 }
 
 reads-command : (mtu number count : ℕ) (c : ChosenPacket) (i : ℕ) → IsReadAsItself (wired (command_at unbounded mtu number count c i))

@@ -120,10 +120,10 @@ Keeps-sound mtu v s =
       removed = λ m low high. elim (g.removed m low (omega arith)) [ inl u ↦ inl u | inr k ↦ inr (λ o. k (sym h.is_open ∙ o)) ];
       span = λ m u. let k = g.unacked m u in let a = k.1 in let b = k.2 in (k.0, omega arith, omega arith);
       oldest = λ o u high low. oldest (sym h.is_open ∙ o) u (omega arith) low;
-      marks = λ c t. (let y = h.commands c t in let k = g.commands (record { command = y.meant; reach = c.reach }) y.there in let m = k.reach in omega arith);
+      marks = λ c t. (let y = h.commands c t in let k = g.commands (record { command = y.meant; sent_then = c.sent_then }) y.there in let m = k.sent_then in omega arith);
       near = λ o. let k = g.span (sym h.is_open ∙ o) in omega arith;
       held = λ o n e t. subst (λ cs. OfReliable mtu cs n e.making) h.carried (s.ready.held n e t);
-      read = λ o c t late. subst (λ cs. (m : IsReadAsMeant mtu cs l.receiver c.command) × (m.meant.number ≡ number_below c.reach c.command.number)) h.carried (as_meant (sym h.is_open ∙ o) c t late);
+      read = λ o c t late. subst (λ cs. (m : IsReadAsMeant mtu cs l.receiver c.command) × (m.meant.number ≡ number_below c.sent_then c.command.number)) h.carried (as_meant (sym h.is_open ∙ o) c t late);
     }
   where
     -- the number that the receiver lacks waits, or did not go yet
@@ -141,20 +141,20 @@ Keeps-sound mtu v s =
           | inr beyond ↦ omega arith
         ]
 
-    as_meant : s.link.is_open ≡ true → (c : PutOut) → Has v.commands c → is_late v.greatest c.reach c.command.number ≡ false → (m : IsReadAsMeant mtu s.link.carried s.link.receiver c.command) × (m.meant.number ≡ number_below c.reach c.command.number)
+    as_meant : s.link.is_open ≡ true → (c : PutOut) → Has v.commands c → is_late v.greatest c.sent_then c.command.number ≡ false → (m : IsReadAsMeant mtu s.link.carried s.link.receiver c.command) × (m.meant.number ≡ number_below c.sent_then c.command.number)
     as_meant o c t late =
         let l = s.link in
         let h = s.shows in
         let g = s.numbers in
         let y = h.commands c t in
         let d = y.meant in
-        let f : PutOut = record { command = d; reach = c.reach } in
+        let f : PutOut = record { command = d; sent_then = c.sent_then } in
         let p = h.pieces f y.there in
         let out = g.commands f y.there in
-        let a = out.number in let b = out.reach in let e = out.span in
+        let a = out.number in let b = out.sent_then in let e = out.span in
         let w = g.within o in
-        let now : is_late l.sent c.reach (d.number % 65536) ≡ false = ap (λ z. is_late z c.reach (d.number % 65536)) (sym h.greatest) ∙ ap (λ (x : DataCommand). is_late v.greatest c.reach x.number) (sym y.command) ∙ late in
-        let low = in_time l.sent d.number c.reach out.number (omega arith) now in
+        let now : is_late l.sent c.sent_then (d.number % 65536) ≡ false = ap (λ z. is_late z c.sent_then (d.number % 65536)) (sym h.greatest) ∙ ap (λ (x : DataCommand). is_late v.greatest c.sent_then x.number) (sym y.command) ∙ late in
+        let low = in_time l.sent d.number c.sent_then out.number (omega arith) now in
         let place = place_as_meant mtu l.carried l.sent l.receiver d p s.ready w.front (omega arith) (g.span o) low in (
           record {
             meant = d;
@@ -165,7 +165,7 @@ Keeps-sound mtu v s =
               | inr some' ↦ inr (ap (place_read unbounded l.receiver) y.command ∙ some')
             ];
           },
-          sym (number_below_true d.number c.reach out.number (omega arith)) ∙ sym (ap (λ (x : DataCommand). number_below c.reach x.number) y.command),
+          sym (number_below_true d.number c.sent_then out.number (omega arith)) ∙ sym (ap (λ (x : DataCommand). number_below c.sent_then x.number) y.command),
         )
 
 pub follows : (mtu : ℕ) (events : List Event) (w : WireLink) → 28 < mtu → Runs mtu events fresh_link w → Follows mtu w.submitted (bodies_of w.incoming.dispatched)
@@ -179,4 +179,4 @@ reads mtu events w big h c k =
     let s = Sound-runs mtu events fresh_link w big (Sound-fresh mtu) h in
     let shows = s.shows in
     let y = shows.commands c k in
-    subst (λ (x : DataCommand). IsReadAsItself x) (sym y.command) (reads-piece mtu s.link.carried y.meant (shows.pieces (record { command = y.meant; reach = c.reach }) y.there))
+    subst (λ (x : DataCommand). IsReadAsItself x) (sym y.command) (reads-piece mtu s.link.carried y.meant (shows.pieces (record { command = y.meant; sent_then = c.sent_then }) y.there))

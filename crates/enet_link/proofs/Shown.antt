@@ -54,7 +54,7 @@ pub record Pending (mtu : ℕ) (l : Link) (c : DataCommand) : Type 0 where
 pub record Logged (l : Link) (e : PutOut) : Type 0 where
   pub meant : DataCommand
   pub command : e.command ≡ wired meant
-  pub there : Has l.commands (record { command = meant; reach = e.reach })
+  pub there : Has l.commands (record { command = meant; sent_then = e.sent_then })
 
 pub record Shows (mtu : ℕ) (v : WireLink) (l : Link) : Type 0 where
   pub carried : l.carried ≡ carried mtu v.submitted
@@ -70,7 +70,7 @@ pub record Shows (mtu : ℕ) (v : WireLink) (l : Link) : Type 0 where
   pub incoming : l.is_open ≡ true → ShowsReceiver v.incoming l.receiver
   pub dispatched : (rest : List Dispatched) × (l.receiver.dispatched ≡ v.incoming.dispatched ++ rest)
   pub answers : v.answers ≡ map (λ a. a.number % 65536) l.answers
-  pub acks : (a : Answer) → Has v.acks a → (n : ℕ) × (a.number ≡ n % 65536) × Has l.acks (record { number = n; reach = a.reach })
+  pub acks : (a : Answer) → Has v.acks a → (n : ℕ) × (a.number ≡ n % 65536) × Has l.acks (record { number = n; sent_then = a.sent_then })
 
 pub record Sound (mtu : ℕ) (v : WireLink) : Type 0 where
   pub link : Link

@@ -10,7 +10,7 @@ use Rattle.enet_packets.specs.declared.incoming_packet.Dispatched.{Dispatched}
 use Rattle.enet_receiver.specs.Receiver.{Receiver}
 use Rattle.enet_receiver.specs.DataOutcome.{received, outcome, is_handled}
 use Rattle.enet_sender.specs.CommandChoice.{ChosenPacket}
-use Rattle.enet_sender.specs.Sender.{Sender, place_of, without_place}
+use Rattle.enet_sender.specs.Sender.{Sender, position_of, without_place}
 use Rattle.enet_sender.specs.declared.sent.Sent.{Sent}
 use Rattle.enet_link.specs.Link.{Link, PutOut, Answer, accept, send, put_out, takes_in, queue_answer, put_answer, closed, wired}
 use Rattle.enet_link.specs.Link as link
@@ -35,7 +35,7 @@ Sound-puts_one mtu v c rest s e =
     let h = s.shows in
     let p = h.making c (subst (λ xs. Has xs c) (sym e) (inl refl)) in
     let d = p.meant in
-    let new : PutOut = record { command = d; reach = l.sent } in
+    let new : PutOut = record { command = d; sent_then = l.sent } in
     record {
       link = put_out l d;
       numbers = Numbers-put_out l d s.numbers (elim (either d.reliable) [
@@ -56,8 +56,8 @@ Sound-puts_one mtu v c rest s e =
         images = h.images;
         queues = λ j. let q = h.queues j in record { gone = q.gone; left = q.left; whole = q.whole; count = q.count; queued = q.queued; number = q.number; unreliable = q.unreliable };
         commands = λ x t. elim (Has-push_cases v.commands (with_reach v.greatest c) x t) [
-          | inl old ↦ let y = h.commands x old in record { meant = y.meant; command = y.command; there = Has-push_left l.commands new (record { command = y.meant; reach = x.reach }) y.there }
-          | inr is ↦ subst (λ y. Logged (put_out l d) y) is (record { meant = d; command = p.command; there = subst (λ z. Has (l.commands ++ new ∷ []) (record { command = d; reach = z })) (sym h.greatest) (Has-push l.commands new) })
+          | inl old ↦ let y = h.commands x old in record { meant = y.meant; command = y.command; there = Has-push_left l.commands new (record { command = y.meant; sent_then = x.sent_then }) y.there }
+          | inr is ↦ subst (λ y. Logged (put_out l d) y) is (record { meant = d; command = p.command; there = subst (λ z. Has (l.commands ++ new ∷ []) (record { command = d; sent_then = z })) (sym h.greatest) (Has-push l.commands new) })
         ];
         pieces = λ x t. elim (Has-push_cases l.commands new x t) [
           | inl old ↦ h.pieces x old
@@ -128,15 +128,15 @@ outcome_shown : (mtu most : ℕ) (v : WireLink) (l : Link) (c d : DataCommand) (
 outcome_shown mtu most v l c d full h piece is o =
     ap (λ x. outcome wire most v.incoming x full) is ∙ (Shows-received most v.incoming l.receiver (wired d) full (omega arith) (wired-start mtu l.carried d piece) (h.incoming o)).0
 
-pub Sound-arrives : (mtu most : ℕ) (v : WireLink) (e : PutOut) (full : Bool) → Sound mtu v → Has v.commands e → link.is_late v.greatest e.reach e.command.number ≡ false → Sound mtu (arrives v most e.command full false)
+pub Sound-arrives : (mtu most : ℕ) (v : WireLink) (e : PutOut) (full : Bool) → Sound mtu v → Has v.commands e → link.is_late v.greatest e.sent_then e.command.number ≡ false → Sound mtu (arrives v most e.command full false)
 Sound-arrives mtu most v e full s there late =
     let l = s.link in
     let h = s.shows in
     let k = h.commands e there in
     let d = k.meant in
-    let f : PutOut = record { command = d; reach = e.reach } in
+    let f : PutOut = record { command = d; sent_then = e.sent_then } in
     let piece = h.pieces f k.there in
-    let t : link.is_late l.sent e.reach (d.number % 65536) ≡ false = ap (λ z. link.is_late z e.reach (d.number % 65536)) (sym h.greatest) ∙ ap (λ (x : DataCommand). link.is_late v.greatest e.reach x.number) (sym k.command) ∙ late in
+    let t : link.is_late l.sent e.sent_then (d.number % 65536) ≡ false = ap (λ z. link.is_late z e.sent_then (d.number % 65536)) (sym h.greatest) ∙ ap (λ (x : DataCommand). link.is_late v.greatest e.sent_then x.number) (sym k.command) ∙ late in
     record {
       link = takes_in l most d full;
       numbers = Numbers-takes_in mtu most l f full s.numbers s.ready k.there piece t;
@@ -147,16 +147,16 @@ Sound-arrives mtu most v e full s there late =
     ready_after : (l : Link) (d : DataCommand) (full : Bool) → Ready mtu l.carried l.receiver → (l.is_open ≡ true → Ready mtu l.carried (received unbounded most l.receiver (wired d) full)) → Ready mtu l.carried (cond l.is_open (received unbounded most l.receiver (wired d) full) l.receiver)
     ready_after l d full old new = elim l.is_open as (λ b. l.is_open ≡ b → Ready mtu l.carried (cond b (received unbounded most l.receiver (wired d) full) l.receiver)) [ true ↦ λ o. new o | false ↦ λ o. old ] refl
 
-pub Sound-arrives_answered : (mtu most : ℕ) (v : WireLink) (e : PutOut) (full : Bool) → Sound mtu v → Has v.commands e → link.is_late v.greatest e.reach e.command.number ≡ false → e.command.reliable ≡ true
+pub Sound-arrives_answered : (mtu most : ℕ) (v : WireLink) (e : PutOut) (full : Bool) → Sound mtu v → Has v.commands e → link.is_late v.greatest e.sent_then e.command.number ≡ false → e.command.reliable ≡ true
     → (v.is_open ≡ true → is_handled (outcome wire most v.incoming e.command full) ≡ true) → Sound mtu (arrives v most e.command full true)
 Sound-arrives_answered mtu most v e full s there late kind considered =
     let l = s.link in
     let h = s.shows in
     let k = h.commands e there in
     let d = k.meant in
-    let f : PutOut = record { command = d; reach = e.reach } in
+    let f : PutOut = record { command = d; sent_then = e.sent_then } in
     let piece = h.pieces f k.there in
-    let t : link.is_late l.sent e.reach (d.number % 65536) ≡ false = ap (λ z. link.is_late z e.reach (d.number % 65536)) (sym h.greatest) ∙ ap (λ (x : DataCommand). link.is_late v.greatest e.reach x.number) (sym k.command) ∙ late in
+    let t : link.is_late l.sent e.sent_then (d.number % 65536) ≡ false = ap (λ z. link.is_late z e.sent_then (d.number % 65536)) (sym h.greatest) ∙ ap (λ (x : DataCommand). link.is_late v.greatest e.sent_then x.number) (sym k.command) ∙ late in
     let meant_kind : d.reliable ≡ true = ap (λ (x : DataCommand). x.reliable) (sym k.command) ∙ kind in
     let base = Sound-arrives mtu most v e full s there late in
     let shown = Shows-takes_in mtu most v l e.command d full h piece k.command in
@@ -180,7 +180,7 @@ Sound-arrives_answered mtu most v e full s there late kind considered =
         commands = λ x j. let y = shown.commands x j in record { meant = y.meant; command = y.command; there = y.there };
         making = λ x j. let y = shown.making x j in record { meant = y.meant; piece = y.piece; command = y.command; reliable = y.reliable; unreliable = y.unreliable };
         answers = ap (λ (x : List ℕ). x ++ e.command.number ∷ []) h.answers ∙ ap (λ (z : DataCommand). map (λ (a : Answer). a.number % 65536) l.answers ++ z.number ∷ []) k.command
-            ∙ sym (map_push l.answers (record { number = d.number; reach = l.sent }));
+            ∙ sym (map_push l.answers (record { number = d.number; sent_then = l.sent }));
       };
     }
   where
@@ -199,7 +199,7 @@ Sound-logs_answer mtu v a rest s e = go s.link.answers refl
         let g1 : rest ≡ map (λ (x : Answer). x.number % 65536) more = cc in
         let l = s.link in
         let h = s.shows in
-        let new : Answer = record { number = b.number; reach = l.sent } in
+        let new : Answer = record { number = b.number; sent_then = l.sent } in
         record {
           link = put_answer l b more;
           numbers = Numbers-put_answer l b more f s.numbers;
@@ -218,10 +218,10 @@ Sound-logs_answer mtu v a rest s e = go s.link.answers refl
             incoming = h.incoming;
             dispatched = h.dispatched;
             answers = g1;
-            acks = λ x j. elim (Has-push_cases v.acks (record { number = a; reach = v.greatest }) x j) [
-              | inl old ↦ let w = h.acks x old in (w.0, w.1, Has-push_left l.acks new (record { number = w.0; reach = x.reach }) w.2)
-              | inr is ↦ subst (λ (y : Answer). (n : ℕ) × (y.number ≡ n % 65536) × Has (l.acks ++ new ∷ []) (record { number = n; reach = y.reach })) is
-                  (b.number, g0, subst (λ z. Has (l.acks ++ new ∷ []) (record { number = b.number; reach = z })) (sym h.greatest) (Has-push l.acks new))
+            acks = λ x j. elim (Has-push_cases v.acks (record { number = a; sent_then = v.greatest }) x j) [
+              | inl old ↦ let w = h.acks x old in (w.0, w.1, Has-push_left l.acks new (record { number = w.0; sent_then = x.sent_then }) w.2)
+              | inr is ↦ subst (λ (y : Answer). (n : ℕ) × (y.number ≡ n % 65536) × Has (l.acks ++ new ∷ []) (record { number = n; sent_then = y.sent_then })) is
+                  (b.number, g0, subst (λ z. Has (l.acks ++ new ∷ []) (record { number = b.number; sent_then = z })) (sym h.greatest) (Has-push l.acks new))
             ];
           };
         }
@@ -266,15 +266,15 @@ Images-without mtu last cs (n ∷ ns) (p ∷ sent) w r near i =
         other : (m : ℕ) → n % 65536 ≡ w → n < m → m ≤ last → last < n + 8192 → not (m % 65536 == w) ≡ true
         other m e above high low = unlike (m % 65536) (λ f. omega arith)
 
-pub Sound-answered : (mtu : ℕ) (v : WireLink) (a : Answer) → Sound mtu v → v.making ≡ [] → Has v.acks a → link.is_late v.greatest a.reach a.number ≡ false → Sound mtu (answered v a)
+pub Sound-answered : (mtu : ℕ) (v : WireLink) (a : Answer) → Sound mtu v → v.making ≡ [] → Has v.acks a → link.is_late v.greatest a.sent_then a.number ≡ false → Sound mtu (answered v a)
 Sound-answered mtu v a s nothing there late =
     let l = s.link in
     let h = s.shows in
     let k = h.acks a there in
-    let b : Answer = record { number = k.0; reach = a.reach } in
-    let t : link.is_late l.sent b.reach (b.number % 65536) ≡ false = ap (λ z. link.is_late z a.reach (k.0 % 65536)) (sym h.greatest) ∙ ap (λ z. link.is_late v.greatest a.reach z) (sym k.1) ∙ late in
+    let b : Answer = record { number = k.0; sent_then = a.sent_then } in
+    let t : link.is_late l.sent b.sent_then (b.number % 65536) ≡ false = ap (λ z. link.is_late z a.sent_then (k.0 % 65536)) (sym h.greatest) ∙ ap (λ z. link.is_late v.greatest a.sent_then z) (sym k.1) ∙ late in
     record {
-      link = link.acknowledged l b;
+      link = link.after_acknowledgement l b;
       numbers = Numbers-acknowledged l b s.numbers k.2 t;
       ready = s.ready;
       shows = record {
@@ -284,7 +284,7 @@ Sound-answered mtu v a s nothing there late =
         is_open = h.is_open;
         pieces = h.pieces;
         queues = λ j. let q = h.queues j in record { gone = q.gone; left = q.left; whole = q.whole; count = q.count; queued = q.queued; number = q.number; unreliable = q.unreliable };
-        images = λ j. subst (λ z. Images mtu l.carried (filter (λ m. not (m % 65536 == k.0 % 65536)) l.unacked) (without_place v.outgoing.sent (place_of z v.outgoing.sent))) (sym k.1)
+        images = λ j. subst (λ z. Images mtu l.carried (filter (λ m. not (m % 65536 == k.0 % 65536)) l.unacked) (without_place v.outgoing.sent (position_of z v.outgoing.sent))) (sym k.1)
             (subst (λ x. Images mtu l.carried (filter (λ m. not (m % 65536 == k.0 % 65536)) l.unacked) x) (sym (without-first (λ (p : Sent). p.command.number == k.0 % 65536) v.outgoing.sent))
             (Images-without mtu l.sent l.carried l.unacked v.outgoing.sent (k.0 % 65536) h.rising (λ m x. let u = s.numbers.unacked m x in (u.1, u.2)) (h.images j)));
         rising = IsRising-filter (λ m. not (m % 65536 == k.0 % 65536)) l.unacked h.rising;
@@ -361,10 +361,10 @@ Sound-drops_answers mtu v s =
         span = g.span;
         within = g.within;
         gap = g.gap;
-        commands = λ x j. let k = g.commands x j in record { positive = k.positive; number = k.number; reach = k.reach; span = k.span };
+        commands = λ x j. let k = g.commands x j in record { positive = k.positive; number = k.number; sent_then = k.sent_then; span = k.span };
         answers = λ a j. absurd j;
         rises = tt;
-        acks = λ b j. let k = g.acks b j in record { positive = k.positive; number = k.number; reach = k.reach; in_time = k.in_time; known = k.known };
+        acks = λ b j. let k = g.acks b j in record { positive = k.positive; number = k.number; sent_then = k.sent_then; in_time = k.in_time; known = k.known };
       };
       ready = s.ready;
       shows = record {

@@ -14,7 +14,7 @@ use Rattle.enet_rtt.specs.declared.expiry.Expiry.{Expiry}
 use Rattle.enet_rtt.specs.declared.expiry.Expiry.TheVariants.{No, Resend, End}
 use Rattle.enet_fragment.specs.declared.data.DataCommand.{DataCommand}
 use Rattle.enet_sender.specs.CommandChoice.{Packet, ChosenPacket, carried_as}
-use Rattle.enet_sender.specs.Sender.{Sender, Next, nothing_sent, command_at, commands_of, with_queued, submitted, again, begun, is_in_span, may_go, first_sent, next_queued, next_resent, next_of, next, is_after_first, is_more, skipped, with_skipped, place_of, without_place, acknowledged, size_of, size_at, acknowledged_bytes, bytes_in_transit, is_late, marked, with_marked, ends, lateness, after_lateness, cleared, left}
+use Rattle.enet_sender.specs.Sender.{Sender, Next, nothing_sent, command_at, commands_of, with_queued, submitted, again, begun, is_in_span, may_go, first_sent, next_queued, next_resent, next_of, next, is_after_first, is_more, skipped, with_skipped, position_of, without_place, after_acknowledgement, size_of, size_at, acknowledged_bytes, bytes_in_transit, is_late, marked, with_marked, ends, lateness, after_lateness, cleared, left}
 use Rattle.enet_sender.specs.declared.sent.Sent.{Sent}
 use Rattle.enet_link.specs.Link.{wired, wired_fragment}
 use Rattle.enet_link.specs.Image.{reliable_count, reached, numbers_of, IsRising, IsRow, IsInOrder, wired_sent, ShowsSender, ShowsNext}
@@ -371,13 +371,13 @@ tests_same s n o low high p h =
     let b = o.span p.command.number (Has-numbers s.sent p h) in
     number_same p.command.number n (reached s) b.0 b.1 low high
 
-pub Shows-acknowledged : (v s : Sender) (n : ℕ) → n ≤ reached s → reached s < n + 65536 → ShowsSender v s → ShowsSender (acknowledged v (n % 65536)) (acknowledged s n)
+pub Shows-acknowledged : (v s : Sender) (n : ℕ) → n ≤ reached s → reached s < n + 65536 → ShowsSender v s → ShowsSender (after_acknowledgement v (n % 65536)) (after_acknowledgement s n)
 Shows-acknowledged v s n low high h =
     let o = h.in_order in
     let of_wire : Sent → Bool = λ p. p.command.number == n % 65536 in
     let of_true : Sent → Bool = λ p. p.command.number == n in
-    let gone : without_place s.sent (place_of n s.sent) ≡ drop_first of_true s.sent = without-first of_true s.sent in
-    let fewer : numbers_of (without_place s.sent (place_of n s.sent)) ≡ drop_first (λ m. m == n) (numbers_of s.sent) =
+    let gone : without_place s.sent (position_of n s.sent) ≡ drop_first of_true s.sent = without-first of_true s.sent in
+    let fewer : numbers_of (without_place s.sent (position_of n s.sent)) ≡ drop_first (λ m. m == n) (numbers_of s.sent) =
     ap numbers_of gone ∙ sym (drop_first-map (λ (p : Sent). p.command.number) (λ m. m == n) of_true s.sent (λ p k. refl)) in
     record {
       number = h.number;
@@ -404,9 +404,9 @@ size_at-same sent (Some i) = ap size_of (slice_get-map sent i) ∙ size_of-same 
 pub Shows-acknowledged_bytes : (v s : Sender) (n : ℕ) → n ≤ reached s → reached s < n + 65536 → ShowsSender v s → acknowledged_bytes v (n % 65536) ≡ acknowledged_bytes s n
 Shows-acknowledged_bytes v s n low high h =
     let o = h.in_order in
-    ap (λ l. size_at l (place_of (n % 65536) l)) h.sent
+    ap (λ l. size_at l (position_of (n % 65536) l)) h.sent
     ∙ ap (size_at (map wired_sent s.sent)) (position-map wired_sent (λ (p : Sent). p.command.number == n % 65536) (λ (p : Sent). p.command.number == n) s.sent (tests_same s n o low high))
-    ∙ size_at-same s.sent (place_of n s.sent)
+    ∙ size_at-same s.sent (position_of n s.sent)
 
 pub Shows-in_transit : (v s : Sender) → ShowsSender v s → bytes_in_transit v ≡ bytes_in_transit s
 Shows-in_transit v s h =

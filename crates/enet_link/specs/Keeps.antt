@@ -43,7 +43,7 @@ pub record Keeps (mtu : ℕ) (v : WireLink) : Type 0 where
   -- so are those that wait under one number and one unreliable number
   pub lines : v.is_open ≡ true → (n k : ℕ) (e : IncomingPacket) → get (line_at receiver.waiting n) k ≡ Some e → OfUnreliable mtu (carried mtu v.submitted) n k e.making
   -- the mark of a command of the log is not above the greatest number
-  pub marks : (c : PutOut) → Has v.commands c → c.reach ≤ v.greatest
+  pub marks : (c : PutOut) → Has v.commands c → c.sent_then ≤ v.greatest
   -- every command of the log that isn't late was meant with the number below its mark, and is read so, or as nothing
-  pub read : v.is_open ≡ true → (c : PutOut) → Has v.commands c → is_late v.greatest c.reach c.command.number ≡ false
-      → (m : IsReadAsMeant mtu (carried mtu v.submitted) receiver c.command) × (m.meant.number ≡ number_below c.reach c.command.number)
+  pub read : v.is_open ≡ true → (c : PutOut) → Has v.commands c → is_late v.greatest c.sent_then c.command.number ≡ false
+      → (m : IsReadAsMeant mtu (carried mtu v.submitted) receiver c.command) × (m.meant.number ≡ number_below c.sent_then c.command.number)

@@ -11,12 +11,12 @@ use Rattle.enet_receiver.specs.DataOutcome.{received}
 -- a command that was put out: reach is the greatest number sent just after its datagram
 pub record PutOut : Type 0 where
   pub command : DataCommand
-  pub reach : ℕ
+  pub sent_then : ℕ
 
 -- an acknowledgement: reach is the greatest number sent when its command came, or just after it was put out itself
 pub record Answer : Type 0 where
   pub number : ℕ
-  pub reach : ℕ
+  pub sent_then : ℕ
 
 pub record Link : Type 0 where
   pub carried : List ChosenPacket  -- what was submitted
@@ -37,11 +37,11 @@ wired c = record { reliable = c.reliable; number = c.number % 65536; unreliable 
 
 -- the greatest number that has this wire number and is at most `reach`
 abbrev pub number_below : ℕ → ℕ → ℕ
-number_below reach number = reach - (reach + 65536 - number) % 65536
+number_below sent_then number = sent_then - (sent_then + 65536 - number) % 65536
 
 -- more than 32,768 late: `sent` is the greatest number sent by now
 abbrev pub is_late : ℕ → ℕ → ℕ → Bool
-is_late sent reach number = nat_lt 32768 (sent - number_below reach number)
+is_late sent sent_then number = nat_lt 32768 (sent - number_below sent_then number)
 
 abbrev pub accept : Link → ChosenPacket → Link
 accept l c = record l { carried = l.carried ++ c ∷ [] }
@@ -52,22 +52,22 @@ send l = record l { sent = l.sent + 1; unacked = l.unacked ++ (l.sent + 1) ∷ [
 
 -- a command goes into the log
 abbrev pub put_out : Link → DataCommand → Link
-put_out l c = record l { commands = l.commands ++ (record { command = c; reach = l.sent }) ∷ [] }
+put_out l c = record l { commands = l.commands ++ (record { command = c; sent_then = l.sent }) ∷ [] }
 
 -- a command of the log comes; `max_packet` is the greatest packet that is taken in, in bytes
 abbrev pub takes_in : Link → ℕ → DataCommand → Bool → Link
 takes_in l max_packet c full = record l { receiver = if l.is_open then received unbounded max_packet l.receiver (wired c) full else l.receiver }
 
 abbrev pub queue_answer : Link → ℕ → Link
-queue_answer l number = record l { answers = l.answers ++ (record { number = number; reach = l.sent }) ∷ [] }
+queue_answer l number = record l { answers = l.answers ++ (record { number = number; sent_then = l.sent }) ∷ [] }
 
 -- a waiting acknowledgement goes into the log
 abbrev pub put_answer : Link → Answer → List Answer → Link
-put_answer l a rest = record l { answers = rest; acks = l.acks ++ (record { number = a.number; reach = l.sent }) ∷ [] }
+put_answer l a rest = record l { answers = rest; acks = l.acks ++ (record { number = a.number; sent_then = l.sent }) ∷ [] }
 
 -- an acknowledgement of the log comes: the sent command with its wire number is removed
-abbrev pub acknowledged : Link → Answer → Link
-acknowledged l a = record l { unacked = filter (λ m. not (m % 65536 == a.number % 65536)) l.unacked }
+abbrev pub after_acknowledgement : Link → Answer → Link
+after_acknowledgement l a = record l { unacked = filter (λ m. not (m % 65536 == a.number % 65536)) l.unacked }
 
 abbrev pub closed : Link → Link
 closed l = record l { is_open = false }

@@ -8,7 +8,7 @@ use Rattle.enet_fragment.specs.DataCommand.{data_of, message_of}
 use Rattle.enet_receiver.specs.Receiver.{Receiver}
 use Rattle.enet_receiver.specs.DataOutcome.{place_read}
 use Rattle.enet_sender.specs.CommandChoice.{ChosenPacket, is_long}
-use Rattle.enet_sender.specs.Sender.{command_at, piece_at as cut_piece}
+use Rattle.enet_sender.specs.Sender.{command_at, piece_of_body}
 use Rattle.enet_link.specs.Follows.{command_count, count_after}
 use Rattle.enet_link.specs.Link.{wired}
 
@@ -27,7 +27,7 @@ has_piece m i = is_some (piece_at m i)
 -- the pieces that came are pieces of the packet
 pub record Matches (mtu : ℕ) (m : PartialPacket) (c : ChosenPacket) : Type 0 where
   pub count : count_of m ≡ c.pieces
-  pub pieces : (i : ℕ) (bytes : List ℕ) → piece_at m i ≡ Some bytes → (i < c.pieces) × (bytes ≡ cut_piece (piece_length mtu) c.packet.body i)
+  pub pieces : (i : ℕ) (bytes : List ℕ) → piece_at m i ≡ Some bytes → (i < c.pieces) × (bytes ≡ piece_of_body (piece_length mtu) c.packet.body i)
 
 -- a packet on its way is a reliable one of the list, of which this is the number of the first piece
 pub record OfReliable (mtu : ℕ) (cs : List ChosenPacket) (start : ℕ) (m : PartialPacket) : Type 0 where

@@ -61,7 +61,7 @@ pub record StopsSending (left : Sender) (v w : WireLink) : Type 0 where
 -- a command of the log comes, not more than 32,768 late
 pub record Arrives (command : PutOut) (max_packet : ℕ) (full answer : Bool) (v w : WireLink) : Type 0 where
   pub logged : Has v.commands command
-  pub in_time : is_late v.greatest command.reach command.command.number ≡ false
+  pub in_time : is_late v.greatest command.sent_then command.command.number ≡ false
   pub after : w ≡ arrives v max_packet command.command full answer
 
 -- a reliable one is acknowledged: where the receiver dispatches, by its rule
@@ -78,7 +78,7 @@ pub record PutsAnswers (number : ℕ) (rest : List ℕ) (v w : WireLink) : Type 
 pub record Acknowledges (answer : Answer) (v w : WireLink) : Type 0 where
   pub between : v.making ≡ []
   pub logged : Has v.acks answer
-  pub in_time : is_late v.greatest answer.reach answer.number ≡ false
+  pub in_time : is_late v.greatest answer.sent_then answer.number ≡ false
   pub after : w ≡ answered v answer
 
 pub record StopsReceiving (left : Receiver) (kept gone : List Dispatched) (v w : WireLink) : Type 0 where

@@ -3,7 +3,7 @@ use Rattle.std.specs.Prelude.{ℕ, Bool, false, if◌then◌else◌, List, [], �
 use Rattle.enet_seq.specs.Numbering.{wire}
 use Rattle.enet_sender.specs.CommandChoice.{Packet}
 use Rattle.enet_fragment.specs.declared.data.DataCommand.{DataCommand}
-use Rattle.enet_sender.specs.Sender.{Sender, Next, submitted, with_skipped, with_marked, acknowledged}
+use Rattle.enet_sender.specs.Sender.{Sender, Next, submitted, with_skipped, with_marked, after_acknowledgement}
 use Rattle.enet_packets.specs.declared.incoming_packet.Dispatched.{Dispatched}
 use Rattle.enet_receiver.specs.Receiver.{Receiver}
 use Rattle.enet_receiver.specs.DataOutcome.{received}
@@ -39,7 +39,7 @@ abbrev pub marks : WireLink → ℕ → WireLink
 marks v now = record v { outgoing = with_marked now v.outgoing }
 
 abbrev pub with_reach : ℕ → DataCommand → PutOut
-with_reach reach c = record { command = c; reach = reach }
+with_reach sent_then c = record { command = c; sent_then = sent_then }
 
 -- the datagram is put out
 abbrev pub puts_out : WireLink → WireLink
@@ -55,11 +55,11 @@ arrives v max_packet c full answered = record v {
 
 -- the oldest waiting acknowledgement is put out
 abbrev pub logs_answer : WireLink → ℕ → List ℕ → WireLink
-logs_answer v a rest = record v { answers = rest; acks = v.acks ++ (record { number = a; reach = v.greatest }) ∷ [] }
+logs_answer v a rest = record v { answers = rest; acks = v.acks ++ (record { number = a; sent_then = v.greatest }) ∷ [] }
 
 -- an acknowledgement of the log comes
 abbrev pub answered : WireLink → Answer → WireLink
-answered v a = record v { outgoing = acknowledged v.outgoing a.number }
+answered v a = record v { outgoing = after_acknowledgement v.outgoing a.number }
 
 -- the sending end stops, whatever it then keeps
 abbrev pub stops_sending : WireLink → Sender → WireLink

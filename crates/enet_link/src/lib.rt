@@ -27,7 +27,7 @@ ghost use Rattle.enet_receiver.specs.Receiver as receiver;
 ghost use Rattle.enet_receiver.specs.DataOutcome.{outcome, received, dispatch_count};
 ghost use Rattle.enet_receiver.specs.DataOutcome as reception;
 ghost use Rattle.enet_sender.specs.CommandChoice.{Packet};
-ghost use Rattle.enet_sender.specs.Sender.{Sender, Next, nothing_sent, submitted, next, with_skipped, acknowledged, acknowledged_bytes, bytes_in_transit, with_marked, lateness, after_lateness, cleared, left};
+ghost use Rattle.enet_sender.specs.Sender.{Sender, Next, nothing_sent, submitted, next, with_skipped, after_acknowledgement, acknowledged_bytes, bytes_in_transit, with_marked, lateness, after_lateness, cleared, left};
 ghost use Rattle.enet_link.specs.Follows.{Follows};
 ghost use Rattle.enet_link.specs.Link.{PutOut};
 ghost use Rattle.enet_link.specs.Meant.{IsReadAsItself};
@@ -101,7 +101,7 @@ pub fn wire_sender()
     ensures submitted { (mtu : ℕ) (v s : Sender) (p : Packet) → ShowsSender v s → ShowsSender (submitted wire mtu v p) (submitted unbounded mtu s p) }
     ensures next { (now timeout transit most : ℕ) (v s : Sender) → ShowsSender v s → ShowsNext (next wire now timeout transit most v) (next unbounded now timeout transit most s) }
     ensures skipped { (v s : Sender) → ShowsSender v s → ShowsSender (with_skipped v) (with_skipped s) }
-    ensures acknowledged { (v s : Sender) (n : ℕ) → n ≤ reached s → reached s < n + 65536 → ShowsSender v s → ShowsSender (acknowledged v (n % 65536)) (acknowledged s n) }
+    ensures acknowledged { (v s : Sender) (n : ℕ) → n ≤ reached s → reached s < n + 65536 → ShowsSender v s → ShowsSender (after_acknowledgement v (n % 65536)) (after_acknowledgement s n) }
     ensures acknowledged_bytes { (v s : Sender) (n : ℕ) → n ≤ reached s → reached s < n + 65536 → ShowsSender v s → acknowledged_bytes v (n % 65536) ≡ acknowledged_bytes s n }
     ensures in_transit { (v s : Sender) → ShowsSender v s → bytes_in_transit v ≡ bytes_in_transit s }
     ensures marked { (now : ℕ) (v s : Sender) → ShowsSender v s → ShowsSender (with_marked now v) (with_marked now s) }

@@ -36,7 +36,7 @@ use Rattle.enet_isolation.proofs.Lists.{get-set, get-set_other, get-within}
 use Rattle.enet_isolation.proofs.Names.{IsThere}
 use Rattle.enet_isolation.proofs.Receiving.{is_open}
 use Rattle.enet_network.specs.Law.{HasNothingOf, Asked, Begins, Answered}
-use Rattle.enet_network.specs.Log.{Logged, Kept, fresh_kept, fresh_channels, fresh_greatest, kept_at, greatest_at}
+use Rattle.enet_network.specs.Log.{Logged, ChannelPackets, no_packets, fresh_channels, fresh_greatest, packets_at, greatest_at}
 use Rattle.enet_network.specs.Network.{HostEnd, Site, fresh_end}
 use Rattle.enet_network.specs.Shown.{IsLogged, Shows, ShowsFar}
 use Rattle.enet_network.specs.Steps.{BringsOne, Brought, end_in, end_in_slot, begun_in}
@@ -51,7 +51,7 @@ first-number zero i = refl
 first-number (suc n) zero = refl
 first-number (suc n) (suc i) = first-number n i
 
-first-kept : (n i : ℕ) → kept_at (replicate n fresh_kept) i ≡ fresh_kept
+first-kept : (n i : ℕ) → packets_at (replicate n no_packets) i ≡ no_packets
 first-kept zero i = refl
 first-kept (suc n) zero = refl
 first-kept (suc n) (suc i) = first-kept n i
@@ -66,9 +66,9 @@ shows-fresh s x name p live there none = record {
   numbers = refl;
   log = λ k d h of. absurd (none d (Has-slice_get s.log k d h) of);
   greatest = λ channel low. first-number 256 channel ∙ sym (reached-none channel 0);
-  submitted = λ channel low. ap (λ (k : Kept). k.submitted) (first-kept 256 channel);
+  submitted = λ channel low. ap (λ (k : ChannelPackets). k.submitted) (first-kept 256 channel);
   mtu = inl refl;
-  taken = λ channel low. ap (λ (k : Kept). k.taken) (first-kept 256 channel);
+  taken = λ channel low. ap (λ (k : ChannelPackets). k.taken) (first-kept 256 channel);
   events = refl;
 }
 

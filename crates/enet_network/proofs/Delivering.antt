@@ -87,15 +87,15 @@ in-time senders takers own far d k f t late x there = record {
     channel : ℕ
     channel = x.message.head.channel
 
-    not-late : (mark : Mark) → channel < 255 → mark_of x.message ≡ Some mark → lateness.is_late_command (greatest_at senders) (greatest_at takers) (record mark { reach = x.reach }) ≡ false
-    not-late mark low is = none-of (lateness.is_late_command (greatest_at senders) (greatest_at takers)) d.marks (record mark { reach = x.reach }) late (k.marked x mark there low is)
+    not-late : (mark : Mark) → channel < 255 → mark_of x.message ≡ Some mark → lateness.is_late_command (greatest_at senders) (greatest_at takers) (record mark { sent_then = x.sent_then }) ≡ false
+    not-late mark low is = none-of (lateness.is_late_command (greatest_at senders) (greatest_at takers)) d.marks (record mark { sent_then = x.sent_then }) late (k.marked x mark there low is)
 
-    data-in-time : (c : DataCommand) → data_of x.message ≡ Some c → channel < 255 → link.is_late (sent_on channel far) x.reach c.number ≡ false
-    data-in-time c is low = ap (λ (g : ℕ). link.is_late g x.reach c.number) (sym (f channel low)) ∙ not-late (mark_as Data channel c.number) low (data-mark-by x.message.head x.message.body c is)
+    data-in-time : (c : DataCommand) → data_of x.message ≡ Some c → channel < 255 → link.is_late (sent_on channel far) x.sent_then c.number ≡ false
+    data-in-time c is low = ap (λ (g : ℕ). link.is_late g x.sent_then c.number) (sym (f channel low)) ∙ not-late (mark_as Data channel c.number) low (data-mark-by x.message.head x.message.body c is)
 
-    answer-in-time : (number time : ℕ) → x.message.body ≡ acknowledge number time → channel < 255 → link.is_late (sent_on channel own) x.reach number ≡ false
+    answer-in-time : (number time : ℕ) → x.message.body ≡ acknowledge number time → channel < 255 → link.is_late (sent_on channel own) x.sent_then number ≡ false
     answer-in-time number time is low =
-        ap (λ (g : ℕ). link.is_late g x.reach number) (sym (t channel low)) ∙ not-late (mark_as Acknowledgement channel number) low (ap (mark_by_body x.message.head) is)
+        ap (λ (g : ℕ). link.is_late g x.sent_then number) (sym (t channel low)) ∙ not-late (mark_as Acknowledgement channel number) low (ap (mark_by_body x.message.head) is)
 
 -- the commands that are looked at
 

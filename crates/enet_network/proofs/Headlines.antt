@@ -18,7 +18,7 @@ use Rattle.enet_network.specs.declared.event.Side.{Side}
 use Rattle.enet_network.specs.declared.event.Side.TheVariants.{A, B}
 use Rattle.enet_network.specs.Headline.{end_at, submitted_at, taken_at, events_at, received, mtu_at, AreEnds, AreOn, IsInOrder, IsLife, HasHeadline}
 use Rattle.enet_network.specs.Law.{ShowsAt, LawfulEither, IsPaired, OfEachRun, OfEachJoinedRun, OfEachList, OfEachJoinedList}
-use Rattle.enet_network.specs.Log.{Kept, fresh_kept, kept_at}
+use Rattle.enet_network.specs.Log.{ChannelPackets, no_packets, packets_at}
 use Rattle.enet_network.specs.Network.{HostEnd, Site, end_of}
 use Rattle.enet_network.specs.Shown.{on_channel, Shows}
 use Rattle.enet_network.specs.World.{World, site_of, other}
@@ -65,7 +65,7 @@ same-come channel (q ∷ qs) = by (q.channel == channel) refl (same-come channel
     by true e rest = (λ i. cond (e i && not (q.flags == 2)) (content ∷ rest i) (rest i))
     by false e rest = rest
 
-kept-outside : (xs : List Kept) (i : ℕ) → length xs ≤ i → kept_at xs i ≡ fresh_kept
+kept-outside : (xs : List ChannelPackets) (i : ℕ) → length xs ≤ i → packets_at xs i ≡ no_packets
 kept-outside [] i h = refl
 kept-outside (x ∷ xs) zero h = absurd (omega arith)
 kept-outside (x ∷ xs) (suc i) h = kept-outside xs i (omega arith)
@@ -90,7 +90,7 @@ hands-some : (s : Site) (e : HostEnd) (own : End) → Shows s e own → Hands (S
 hands-some s e own k = record {
   submitted = k.submitted;
   taken = k.taken;
-  outside = λ channel far. (let none = kept-outside e.channels channel (let long = k.long in omega arith) in (ap (λ (y : Kept). y.submitted) none, ap (λ (y : Kept). y.taken) none));
+  outside = λ channel far. (let none = kept-outside e.channels channel (let long = k.long in omega arith) in (ap (λ (y : ChannelPackets). y.submitted) none, ap (λ (y : ChannelPackets). y.taken) none));
   mtu = elim k.mtu [ inl none ↦ inl none | inr goes ↦ inr (ap mtu_in k.has ∙ goes.1) ];
   received = ap received k.events ∙ same-received e.name own.events;
 }

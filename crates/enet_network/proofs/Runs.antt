@@ -23,7 +23,7 @@ use Rattle.enet_network.specs.declared.event.Side.{Side}
 use Rattle.enet_network.specs.declared.event.WorldEvent.{WorldEvent}
 use Rattle.enet_network.specs.declared.event.Side.TheVariants.{A, B}
 use Rattle.enet_network.specs.Law.{LawfulEither, AreLawful, OfEachRun, OfEachJoinedRun, OfEachList, OfEachJoinedList}
-use Rattle.enet_network.specs.Log.{Logged, Kept as KeptOf, fresh_kept, fresh_channels, joined_greatest, kept_at, greatest_at}
+use Rattle.enet_network.specs.Log.{Logged, ChannelPackets as KeptOf, no_packets, fresh_channels, joined_greatest, packets_at, greatest_at}
 use Rattle.enet_network.specs.Network.{HostEnd, Site, fresh_end}
 use Rattle.enet_network.specs.Shown.{Shows}
 use Rattle.enet_network.specs.Steps.{Happening, Calls, Hears, Happens, BringsOne, count_after}
@@ -180,7 +180,7 @@ first-number zero i last h = absurd (omega arith)
 first-number (suc n) zero last h = refl
 first-number (suc n) (suc i) last h = first-number n i last (omega arith)
 
-first-kept : (n i : ℕ) → kept_at (replicate n fresh_kept) i ≡ fresh_kept
+first-kept : (n i : ℕ) → packets_at (replicate n no_packets) i ≡ no_packets
 first-kept zero i = refl
 first-kept (suc n) zero = refl
 first-kept (suc n) (suc i) = first-kept n i

@@ -95,15 +95,15 @@ sent-with channel own g ms same =
 
 -- the reach of a mark
 
-noted-as : (kind : MarkKind) (channel number : ℕ) (mark : Mark) (reach : ℕ) (xs os : List ℕ) → Some (mark_as kind channel number) ≡ Some mark → greatest_at (numbers_for kind xs os) channel ≡ reach
-    → reached xs os mark ≡ record mark { reach = reach }
-noted-as kind channel number mark reach xs os e far =
+noted-as : (kind : MarkKind) (channel number : ℕ) (mark : Mark) (sent_then : ℕ) (xs os : List ℕ) → Some (mark_as kind channel number) ≡ Some mark → greatest_at (numbers_for kind xs os) channel ≡ sent_then
+    → reached xs os mark ≡ record mark { sent_then = sent_then }
+noted-as kind channel number mark sent_then xs os e far =
     let same : mark_as kind channel number ≡ mark = cc in
-    subst (λ (x : Mark). reached xs os x ≡ record x { reach = reach }) same
-    (ap (λ (r : ℕ). record (mark_as kind channel number) { reach = r }) far)
+    subst (λ (x : Mark). reached xs os x ≡ record x { sent_then = sent_then }) same
+    (ap (λ (r : ℕ). record (mark_as kind channel number) { sent_then = r }) far)
 
 noted-by : (h : Head) (b : Body) (mark : Mark) (own other : End) (xs os : List ℕ) → greatest_at xs h.channel ≡ sent_on h.channel own → greatest_at os h.channel ≡ sent_on h.channel other → mark_by_body h b ≡ Some mark
-    → reached xs os mark ≡ record mark { reach = (put_by own other (record { head = h; body = b })).reach }
+    → reached xs os mark ≡ record mark { sent_then = (put_by own other (record { head = h; body = b })).sent_then }
 noted-by h (acknowledge number time) mark own other xs os here there e = noted-as Acknowledgement h.channel number mark (sent_on h.channel other) xs os e there
 noted-by h (connect o) mark own other xs os here there e = noted-as Control h.channel h.number mark (sent_on h.channel own) xs os e here
 noted-by h (verify_connect v) mark own other xs os here there e = noted-as Control h.channel h.number mark (sent_on h.channel own) xs os e here
@@ -153,7 +153,7 @@ goes-unlogged old new e own far now q buf k out same shows = record {
     ms = (filled (pace_of k.peer now) k.peer.outbox).messages
 
     put : Message → Put
-    put = put_by (record own { log = own.log ++ map (λ (m : Message). record { message = m; reach = 0 }) ms }) far
+    put = put_by (record own { log = own.log ++ map (λ (m : Message). record { message = m; sent_then = 0 }) ms }) far
 
 -- or puts out a datagram, which is logged last
 
@@ -192,7 +192,7 @@ goes-logged old new e own far now len q buf k out shows numbers others noted' d 
     ms = (filled (pace_of k.peer now) k.peer.outbox).messages
 
     marking : End
-    marking = record own { log = own.log ++ map (λ (m : Message). record { message = m; reach = 0 }) ms }
+    marking = record own { log = own.log ++ map (λ (m : Message). record { message = m; sent_then = 0 }) ms }
 
     put : Message → Put
     put = put_by marking far
@@ -220,14 +220,14 @@ goes-logged old new e own far now len q buf k out shows numbers others noted' d 
         ap (λ (l : List ℕ). greatest_at l channel) counted ∙ counts-all ms e.greatest channel k.numbers low (plain-filled (pace_of k.peer now) k.peer.outbox)
         ∙ ap (λ (g : ℕ). connection.reached channel g ms) (k.greatest channel low)
 
-    noted : (m : Message) (mark : Mark) → m.head.channel < 255 → mark_of m ≡ Some mark → reached numbers others mark ≡ record mark { reach = (put m).reach }
+    noted : (m : Message) (mark : Mark) → m.head.channel < 255 → mark_of m ≡ Some mark → reached numbers others mark ≡ record mark { sent_then = (put m).sent_then }
     noted m mark low is =
-        noted-by m.head m.body mark marking far numbers others (far-as m.head.channel low ∙ sym (sent-with m.head.channel own (λ (m : Message). record { message = m; reach = 0 }) ms (λ m. refl)))
+        noted-by m.head m.body mark marking far numbers others (far-as m.head.channel low ∙ sym (sent-with m.head.channel own (λ (m : Message). record { message = m; sent_then = 0 }) ms (λ m. refl)))
         (theirs m.head.channel low) is
 
-    marked : (m : Message) (mark : Mark) → Has ms m → m.head.channel < 255 → mark_of m ≡ Some mark → Has d.marks (record mark { reach = (put m).reach })
+    marked : (m : Message) (mark : Mark) → Has ms m → m.head.channel < 255 → mark_of m ≡ Some mark → Has d.marks (record mark { sent_then = (put m).sent_then })
     marked m mark there low is =
-        subst (λ (l : List Mark). Has l (record mark { reach = (put m).reach })) (sym marks)
+        subst (λ (l : List Mark). Has l (record mark { sent_then = (put m).sent_then })) (sym marks)
         (subst (Has (map (reached numbers others) (marks_of ms))) (noted m mark low is) (Has-map (reached numbers others) (marks_of ms) mark (Has-marks ms m mark there is)))
 
     logged : IsLogged (own.log ++ map put ms) d
@@ -238,7 +238,7 @@ goes-logged old new e own far now len q buf k out shows numbers others noted' d 
       spelled = subst (λ (l : List ℕ). SpellsDatagram l header (messages_of (map put ms))) (sym text) (subst (SpellsDatagram (take len buf) header) (sym (put-messages put ms (λ m. refl))) spelled);
       logged = λ y there. Has-right own.log (map put ms) y there;
       marked = λ y mark there low is. (let r = Has-from_map put ms y there in
-          subst (λ (z : Put). z.message.head.channel < 255 → mark_of z.message ≡ Some mark → Has d.marks (record mark { reach = z.reach })) r.2 (λ low' is'. marked r.0 mark r.1 low' is') low is);
+          subst (λ (z : Put). z.message.head.channel < 255 → mark_of z.message ≡ Some mark → Has d.marks (record mark { sent_then = z.sent_then })) r.2 (λ low' is'. marked r.0 mark r.1 low' is') low is);
     }
 
 -- each slot is asked in vain

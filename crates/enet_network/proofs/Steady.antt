@@ -14,7 +14,7 @@ use Rattle.enet_peer.specs.Peering.{Peering}
 use Rattle.enet_peer.specs.CommandEffect.{obeyed}
 use Rattle.enet_peer.specs.Calls.{is_connected, submission_refusal, submitted, pace_of, gone_on, ticked, next_event}
 use Rattle.enet_connection.specs.Connection.{End}
-use Rattle.enet_connection.specs.Kept.{is_young}
+use Rattle.enet_connection.specs.Invariant.{is_young}
 use Rattle.enet_connection.specs.Steps.{Event, Answer, Submit, Emit, Come, Tick, Take, Disconnect, Set, Happens, with_setting}
 use Rattle.enet_connection.proofs.Events.{accepted, took}
 use Rattle.enet_connection.proofs.PeerChanges.{Core, Changes, kept-ticked, kept-left, kept-set, kept-emitted, kept-obeyed}

@@ -26,10 +26,10 @@ use Rattle.enet_isolation.specs.Falling.{deeds_if, taken_from}
 use Rattle.enet_isolation.proofs.Lists.{same-or}
 use Rattle.enet_isolation.proofs.Names.{IsThere, there-named}
 use Rattle.enet_isolation.proofs.Single.{Does, does-named}
-use Rattle.enet_network.specs.Log.{Kept, kept_at, with_submission as kept_submission, with_taken}
+use Rattle.enet_network.specs.Log.{ChannelPackets, packets_at, with_submission as kept_submission, with_taken}
 use Rattle.enet_network.specs.Network.{HostEnd, Site, is_same_name}
 use Rattle.enet_network.specs.Shown.{ShowsPeer, Shows, RunsAt, Went, on_channel}
-use Rattle.enet_network.specs.Steps.{with_packet, kept_by, with_event}
+use Rattle.enet_network.specs.Steps.{with_packet, packets_by, with_event}
 use Rattle.enet_network.proofs.Keeping.{part-stays, part-grows, with-long}
 use Rattle.enet_network.proofs.Peers.{Moved, is_gone, goes, moved, named-generation}
 use Rattle.enet_network.proofs.Quiet.{KeepsLog, goes-still}
@@ -128,30 +128,30 @@ goes-submitted name channel mtu q done old new e own far low acts same k goes-by
                 log = λ n d h of. k.log n d (same n d h of) of;
                 greatest = k.greatest;
                 mtu = mtu-submitted mtu k.peer r channel q (own.submitted ++ packet ∷ []) a.1.0 (sym (goes-by ∙ ap mtu_in held)) (sym a.1.1 ∙ a.2);
-                submitted = λ j few. part-grows (λ (y : Kept). y.submitted) (kept_submission packet) packet (λ y. refl) e.channels j own.submitted k.long few (k.submitted j few);
-                taken = λ j few. part-stays (λ (y : Kept). y.taken) (kept_submission packet) (λ y. refl) e.channels channel j k.long few ∙ k.taken j few;
+                submitted = λ j few. part-grows (λ (y : ChannelPackets). y.submitted) (kept_submission packet) packet (λ y. refl) e.channels j own.submitted k.long few (k.submitted j few);
+                taken = λ j few. part-stays (λ (y : ChannelPackets). y.taken) (kept_submission packet) (λ y. refl) e.channels channel j k.long few ∙ k.taken j few;
                 events = k.events;
               };
             })
 
 -- an event is taken
 
-event-long : (t : PeerEvent) (name : PeerRef) (xs : List Kept) → length xs ≡ 256 → length (kept_by (event_of name t) xs) ≡ 256
+event-long : (t : PeerEvent) (name : PeerRef) (xs : List ChannelPackets) → length xs ≡ 256 → length (packets_by (event_of name t) xs) ≡ 256
 event-long (told.Connect info) name xs long = long
 event-long (told.Receive q) name xs long = with-long xs q.channel (with_taken q) long
 event-long (told.Disconnect info) name xs long = long
 
-event-part : {A : Type 0} (part : Kept → A) → ((q : Packet) (x : Kept) → part (with_taken q x) ≡ part x) → (t : PeerEvent) (name : PeerRef) (xs : List Kept) (j : ℕ) → length xs ≡ 256 → j < 256
-    → part (kept_at (kept_by (event_of name t) xs) j) ≡ part (kept_at xs j)
+event-part : {A : Type 0} (part : ChannelPackets → A) → ((q : Packet) (x : ChannelPackets) → part (with_taken q x) ≡ part x) → (t : PeerEvent) (name : PeerRef) (xs : List ChannelPackets) (j : ℕ) → length xs ≡ 256 → j < 256
+    → part (packets_at (packets_by (event_of name t) xs) j) ≡ part (packets_at xs j)
 event-part part same (told.Connect info) name xs j long low = refl
 event-part part same (told.Receive q) name xs j long low = part-stays part (with_taken q) (same q) xs q.channel j long low
 event-part part same (told.Disconnect info) name xs j long low = refl
 
-event-taken : (t : PeerEvent) (name : PeerRef) (xs : List Kept) (j : ℕ) (es : List PeerEvent) → length xs ≡ 256 → j < 256 → (kept_at xs j).taken ≡ on_channel j (packets_of es)
-    → (kept_at (kept_by (event_of name t) xs) j).taken ≡ on_channel j (packets_of (es ++ t ∷ []))
+event-taken : (t : PeerEvent) (name : PeerRef) (xs : List ChannelPackets) (j : ℕ) (es : List PeerEvent) → length xs ≡ 256 → j < 256 → (packets_at xs j).taken ≡ on_channel j (packets_of es)
+    → (packets_at (packets_by (event_of name t) xs) j).taken ≡ on_channel j (packets_of (es ++ t ∷ []))
 event-taken (told.Connect info) name xs j es long low before = before ∙ ap (on_channel j) (sym (packets-push es (told.Connect info) ∙ append-nil (packets_of es)))
 event-taken (told.Receive q) name xs j es long low before =
-    part-grows (λ (x : Kept). x.taken) (with_taken q) q (λ x. refl) xs j (packets_of es) long low before ∙ ap (on_channel j) (sym (packets-push es (told.Receive q)))
+    part-grows (λ (x : ChannelPackets). x.taken) (with_taken q) q (λ x. refl) xs j (packets_of es) long low before ∙ ap (on_channel j) (sym (packets-push es (told.Receive q)))
 event-taken (told.Disconnect info) name xs j es long low before = before ∙ ap (on_channel j) (sym (packets-push es (told.Disconnect info) ∙ append-nil (packets_of es)))
 
 -- the event of a slot as its peer's
@@ -220,7 +220,7 @@ goes-taken told' old new e own far low acts same k = by (moved c old.host new.ho
                 log = λ n d h of. k.log n d (same n d h of) of;
                 greatest = k.greatest;
                 mtu = mtu-stays e.mtu (event.Take ∷ []) own far (taken-end a.0) k.peer r k.has (runs a.0 a.1) (ap (λ (y : Peering). Some y) a.2) refl k.mtu;
-                submitted = λ j few. event-part (λ (y : Kept). y.submitted) (λ q y. refl) t e.name e.channels j k.long few ∙ k.submitted j few;
+                submitted = λ j few. event-part (λ (y : ChannelPackets). y.submitted) (λ q y. refl) t e.name e.channels j k.long few ∙ k.submitted j few;
                 taken = λ j few. event-taken t e.name e.channels j own.events k.long few (k.taken j few);
                 events = ap (λ (l : List Told). l ++ event_of e.name t ∷ []) k.events ∙ sym (map-append (event_of e.name) own.events (t ∷ []));
               };

@@ -13,7 +13,7 @@ use Rattle.enet_peer.specs.Peering.{Peering}
 use Rattle.enet_link.specs.Steps.{Has}
 use Rattle.enet_link.proofs.Lists.{Has-push_cases, Has-slice_get}
 use Rattle.enet_connection.specs.Connection.{End, sent_on}
-use Rattle.enet_connection.specs.Kept.{Kept as KeptBetween}
+use Rattle.enet_connection.specs.Invariant.{Invariant as KeptBetween}
 use Rattle.enet_connection.specs.Steps.{One, Two, Event, no_end}
 use Rattle.enet_connection.proofs.Laws.{kept-at as kept-event}
 use Rattle.enet_connection.proofs.Runs.{reached-none}

@@ -13,7 +13,7 @@ use Rattle.enet_connection.specs.Law.{IsOneLife}
 use Rattle.enet_host.specs.Host.{named}
 use Rattle.enet_slot.specs.Calls.{event_of}
 use Rattle.enet_network.specs.declared.event.Side.{Side}
-use Rattle.enet_network.specs.Log.{kept_at}
+use Rattle.enet_network.specs.Log.{packets_at}
 use Rattle.enet_network.specs.Network.{HostEnd, Site, end_of}
 use Rattle.enet_network.specs.Shown.{on_channel}
 use Rattle.enet_network.specs.World.{World, site_of, other}
@@ -25,12 +25,12 @@ end_at w x side = end_of x (site_of w side).ends
 -- what the user of an end submitted on a channel
 abbrev pub submitted_at : ℕ → Option HostEnd → List Packet
 submitted_at channel None = []
-submitted_at channel (Some e) = (kept_at e.channels channel).submitted
+submitted_at channel (Some e) = (packets_at e.channels channel).submitted
 
 -- what the user of an end took of a channel
 abbrev pub taken_at : ℕ → Option HostEnd → List Packet
 taken_at channel None = []
-taken_at channel (Some e) = (kept_at e.channels channel).taken
+taken_at channel (Some e) = (packets_at e.channels channel).taken
 
 -- all events that the user of an end took
 abbrev pub events_at : Option HostEnd → List Event

@@ -10,8 +10,8 @@ use Rattle.enet_network.specs.declared.mark.MarkKind.TheVariants.{Data, Acknowle
 -- `sender channel` and `taker channel` are the greatest numbers sent on a channel by the end that put the datagram out and by
 -- the end that takes it in: the former numbers its commands, the latter what it acknowledges.
 abbrev pub is_late_by : MarkKind → (ℕ → ℕ) → (ℕ → ℕ) → Mark → Bool
-is_late_by Data sender taker m = link.is_late (sender m.channel) m.reach m.number
-is_late_by Acknowledgement sender taker m = link.is_late (taker m.channel) m.reach m.number
+is_late_by Data sender taker m = link.is_late (sender m.channel) m.sent_then m.number
+is_late_by Acknowledgement sender taker m = link.is_late (taker m.channel) m.sent_then m.number
 is_late_by Control sender taker m = false
 
 abbrev pub is_late_command : (ℕ → ℕ) → (ℕ → ℕ) → Mark → Bool

@@ -17,17 +17,17 @@ pub record Logged : Type 0 where
   pub marks : List Mark
 
 -- one channel at one end of a connection: the packets that its user submitted, and the packets that its user took
-pub record Kept : Type 0 where
+pub record ChannelPackets : Type 0 where
   pub submitted : List Packet
   pub taken : List Packet
 
 -- a channel on which nothing has happened
-abbrev pub fresh_kept : Kept
-fresh_kept = record { submitted = []; taken = [] }
+abbrev pub no_packets : ChannelPackets
+no_packets = record { submitted = []; taken = [] }
 
 -- what is kept at first of an end, by the channel's number up to 0xFF
-unfoldable pub fresh_channels : List Kept
-fresh_channels = replicate 256 fresh_kept
+unfoldable pub fresh_channels : List ChannelPackets
+fresh_channels = replicate 256 no_packets
 
 -- the numbers sent at first
 unfoldable pub fresh_greatest : List ℕ
@@ -37,20 +37,20 @@ fresh_greatest = replicate 256 0
 unfoldable pub joined_greatest : List ℕ
 joined_greatest = replicate 255 0 ++ 1 ∷ []
 
-abbrev pub kept_at : List Kept → ℕ → Kept
-kept_at channels channel = slice_index_or channels channel fresh_kept
+abbrev pub packets_at : List ChannelPackets → ℕ → ChannelPackets
+packets_at channels channel = slice_index_or channels channel no_packets
 
 abbrev pub greatest_at : List ℕ → ℕ → ℕ
 greatest_at greatest channel = slice_index_or greatest channel 0
 
 -- the channels with one of them as a function of it gives
-abbrev pub with_kept : List Kept → ℕ → (Kept → Kept) → List Kept
-with_kept channels channel f = slice_set channels channel (f (kept_at channels channel))
+abbrev pub with_packets : List ChannelPackets → ℕ → (ChannelPackets → ChannelPackets) → List ChannelPackets
+with_packets channels channel f = slice_set channels channel (f (packets_at channels channel))
 
-abbrev pub with_submission : Packet → Kept → Kept
+abbrev pub with_submission : Packet → ChannelPackets → ChannelPackets
 with_submission p k = record k { submitted = k.submitted ++ p ∷ [] }
 
-abbrev pub with_taken : Packet → Kept → Kept
+abbrev pub with_taken : Packet → ChannelPackets → ChannelPackets
 with_taken p k = record k { taken = k.taken ++ p ∷ [] }
 
 -- a command of this number was put out on a channel
@@ -77,4 +77,4 @@ numbers_for Control own other = own
 
 -- a mark with how far its number's end has come
 abbrev pub reached : List ℕ → List ℕ → Mark → Mark
-reached own other m = record m { reach = greatest_at (numbers_for m.kind own other) m.channel }
+reached own other m = record m { sent_then = greatest_at (numbers_for m.kind own other) m.channel }

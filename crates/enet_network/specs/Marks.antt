@@ -11,7 +11,7 @@ use Rattle.enet_network.specs.declared.mark.MarkKind.{MarkKind}
 use Rattle.enet_network.specs.declared.mark.MarkKind.TheVariants.{Data, Acknowledgement, Control}
 
 abbrev pub mark_as : MarkKind → ℕ → ℕ → Mark
-mark_as kind channel number = record { kind = kind; channel = channel; number = number; reach = 0 }
+mark_as kind channel number = record { kind = kind; channel = channel; number = number; sent_then = 0 }
 
 -- an acknowledgement has the number of the command that it acknowledges, any other command its own
 abbrev pub mark_by_body : Head → Body → Option Mark

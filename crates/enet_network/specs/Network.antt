@@ -12,7 +12,7 @@ use Rattle.enet_host.specs.Host.{Host, named}
 use Rattle.enet_host.specs.Calls.{address_named}
 use Rattle.enet_slot.specs.Hearing.{no_peer, is_deaf}
 use Rattle.enet_network.specs.Lateness.{has_late}
-use Rattle.enet_network.specs.Log.{Logged, Kept, greatest_at, fresh_channels, fresh_greatest}
+use Rattle.enet_network.specs.Log.{Logged, ChannelPackets, greatest_at, fresh_channels, fresh_greatest}
 
 -- one end of a connection, at a host
 pub record HostEnd : Type 0 where
@@ -20,7 +20,7 @@ pub record HostEnd : Type 0 where
   pub name : PeerRef  -- what the host calls its peer
   pub mtu : ℕ  -- that of its peer when its user last submitted a packet, in bytes; 0 before
   pub greatest : List ℕ  -- the greatest number sent on each of the 256 channel numbers
-  pub channels : List Kept  -- what is kept of each of them
+  pub channels : List ChannelPackets  -- what is kept of each of them
   pub events : List Event  -- what its user took
 
 -- a host at its address, all that it put out, and its ends of connections, the earliest first

@@ -8,14 +8,14 @@ use Rattle.enet_peer.specs.declared.parts.PeerState.TheVariants as state
 use Rattle.enet_peer.specs.Peering.{Peering}
 use Rattle.enet_link.specs.Steps.{Has}
 use Rattle.enet_connection.specs.Connection.{Put, End, messages_of, sent_on, packets_of}
-use Rattle.enet_connection.specs.Kept.{is_young}
+use Rattle.enet_connection.specs.Invariant.{is_young}
 use Rattle.enet_connection.specs.Steps.{Event, Happens}
 use Rattle.enet_slot.specs.Slot.{SlotState}
 use Rattle.enet_host.specs.Host.{Host}
 use Rattle.enet_slot.specs.Calls.{event_of}
 use Rattle.enet_isolation.specs.Law.{IsAt}
 use Rattle.enet_network.specs.declared.mark.Mark.{Mark}
-use Rattle.enet_network.specs.Log.{Logged, kept_at, greatest_at}
+use Rattle.enet_network.specs.Log.{Logged, packets_at, greatest_at}
 use Rattle.enet_network.specs.Marks.{mark_of}
 use Rattle.enet_network.specs.Network.{HostEnd, Site, numbers_of}
 
@@ -36,7 +36,7 @@ pub record IsLogged (log : List Put) (d : Logged) : Type 0 where
   pub puts : List Put
   pub spelled : SpellsDatagram d.text header (messages_of puts)
   pub logged : (x : Put) → Has puts x → Has log x
-  pub marked : (x : Put) (mark : Mark) → Has puts x → x.message.head.channel < 255 → mark_of x.message ≡ Some mark → Has d.marks (record mark { reach = x.reach })
+  pub marked : (x : Put) (mark : Mark) → Has puts x → x.message.head.channel < 255 → mark_of x.message ≡ Some mark → Has d.marks (record mark { sent_then = x.sent_then })
 
 -- the packets of a channel
 abbrev pub on_channel : ℕ → List Packet → List Packet
@@ -55,9 +55,9 @@ pub record Shows (s : Site) (e : HostEnd) (own : End) : Type 0 where
   pub numbers : length e.greatest ≡ 256
   pub log : (k : ℕ) (d : Logged) → slice_get s.log k ≡ Some d → d.connection ≡ e.connection → IsLogged own.log d
   pub greatest : (channel : ℕ) → channel < 255 → greatest_at e.greatest channel ≡ sent_on channel own
-  pub submitted : (channel : ℕ) → channel < 256 → (kept_at e.channels channel).submitted ≡ on_channel channel own.submitted
+  pub submitted : (channel : ℕ) → channel < 256 → (packets_at e.channels channel).submitted ≡ on_channel channel own.submitted
   pub mtu : GoesBy own.submitted e.mtu peer
-  pub taken : (channel : ℕ) → channel < 256 → (kept_at e.channels channel).taken ≡ on_channel channel (packets_of own.events)
+  pub taken : (channel : ℕ) → channel < 256 → (packets_at e.channels channel).taken ≡ on_channel channel (packets_of own.events)
   pub events : e.events ≡ map (event_of e.name) own.events
 
 -- what a host shows of the other end of connection x: its datagrams and how far its numbers have come; both are none where it has no such end

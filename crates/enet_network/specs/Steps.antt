@@ -17,7 +17,7 @@ use Rattle.enet_host.specs.Opening.{available}
 use Rattle.enet_isolation.specs.Calls.{Call, Acts}
 use Rattle.enet_isolation.specs.Calls as call
 use Rattle.enet_network.specs.declared.mark.Mark.{Mark}
-use Rattle.enet_network.specs.Log.{Logged, Kept, with_kept, with_submission, with_taken}
+use Rattle.enet_network.specs.Log.{Logged, ChannelPackets, with_packets, with_submission, with_taken}
 use Rattle.enet_network.specs.Marks.{Counts}
 use Rattle.enet_network.specs.Network.{HostEnd, Site, fresh_end, with_end, numbers_of, delivery_refusal}
 
@@ -27,15 +27,15 @@ pub data Happening : Type 0 where
 
 -- the user of an end submitted a packet, which goes by this mtu
 abbrev pub with_packet : ℕ → Packet → HostEnd → HostEnd
-with_packet mtu q e = record e { mtu = mtu; channels = with_kept e.channels q.channel (with_submission q) }
+with_packet mtu q e = record e { mtu = mtu; channels = with_packets e.channels q.channel (with_submission q) }
 
 -- the user of an end took an event, which may be a packet
-abbrev pub kept_by : Event → List Kept → List Kept
-kept_by (events.Receive name q) channels = with_kept channels q.channel (with_taken q)
-kept_by _ channels = channels
+abbrev pub packets_by : Event → List ChannelPackets → List ChannelPackets
+packets_by (events.Receive name q) channels = with_packets channels q.channel (with_taken q)
+packets_by _ channels = channels
 
 abbrev pub with_event : Event → HostEnd → HostEnd
-with_event event e = record e { channels = kept_by event e.channels; events = e.events ++ event ∷ [] }
+with_event event e = record e { channels = packets_by event e.channels; events = e.events ++ event ∷ [] }
 
 -- it is an event of the end that it names
 abbrev pub after_event : Event → List HostEnd → List HostEnd

@@ -21,5 +21,5 @@ pub struct Mark {
     /// The reliable number on the wire.
     pub number: u16,
     /// The greatest number that the end which gave it had sent on the channel, just after the datagram was put out.
-    pub reach: u128,
+    pub sent_then: u128,
 }

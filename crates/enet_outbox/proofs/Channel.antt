@@ -12,7 +12,7 @@ use Rattle.enet_sender.specs.declared.outgoing.Due.TheVariants as due
 use Rattle.enet_sender.specs.declared.outgoing.Kind.{Kind}
 use Rattle.enet_sender.specs.declared.outgoing.Kind.TheVariants as kind
 use Rattle.enet_sender.specs.Sender.{Next, next, with_skipped, bytes_in_transit, is_more}
-use Rattle.enet_sender.specs.Due.{SendingEnd, kind_of, Did}
+use Rattle.enet_sender.specs.Due.{SendingEnd, due_kind, Did}
 use Rattle.enet_sender.proofs.Transit.{transit-next}
 use Rattle.enet_outbox.specs.declared.parts.Pace.{Pace}
 use Rattle.enet_outbox.specs.declared.packing.Progress.{Progress}
@@ -60,7 +60,7 @@ transit-set senders i s t e = sum-set (λ (s : SendingEnd). bytes_in_transit s.s
 
 -- what a call did
 pub did-sent : (n : Option Next) (past added : ℕ) (k : Kind) (old new : SendingEnd) (from : List ℕ) (at : ℕ) (to : List ℕ) → Did n (due.Sent past added k) old new from at to →
-    (m : Next) × (n ≡ Some m) × Puts from at (canonical (message_of old.channel m.command)) to past × (added ≡ m.added) × (k ≡ kind_of m.command) × (new ≡ record old { sender = m.sender })
+    (m : Next) × (n ≡ Some m) × Puts from at (canonical (message_of old.channel m.command)) to past × (added ≡ m.added) × (k ≡ due_kind m.command) × (new ≡ record old { sender = m.sender })
     × IsMessage (message_of old.channel m.command)
 did-sent None past added k old new from at to d = absurd d
 did-sent (Some m) past added k old new from at to d = (m, refl, d.0, d.1, d.2, d.3, d.4)
@@ -83,7 +83,7 @@ channel-room p past added k old new from to n d =
     (w.0, w.2)
 
 -- what the throttle refuses is unreliable
-refused-unreliable : (c : DataCommand) (k : Kind) (t : Throttling) → k ≡ kind_of c → refuses k t ≡ true → c.reliable ≡ false
+refused-unreliable : (c : DataCommand) (k : Kind) (t : Throttling) → k ≡ due_kind c → refuses k t ≡ true → c.reliable ≡ false
 refused-unreliable c k t is e =
     elim c.reliable as (λ b. refuses (cond b kind.Reliable (cond (is_more c) kind.More kind.Begins)) t ≡ true → b ≡ false) [ true ↦ λ h. cc | false ↦ λ h. refl ]
     (ap (λ (k : Kind). refuses k t) (sym is) ∙ e)
@@ -126,15 +126,15 @@ channel-end pace channel turns f s opened there e = repeated-idle turns (with_on
 channel-stop : (pace : Pace) (channel turns : ℕ) (f : Filling) (s : SendingEnd) (n : Next) → 0 < turns → f.closed ≡ false → slice_get f.outbox.senders channel ≡ Some s → due_next pace f.outbox s ≡ Some n →
     fits f (message_of s.channel n.command) ≡ false → more_data pace channel turns f ≡ shut f
 channel-stop pace channel turns f s n some opened there e fit =
-    let go : Filling = data_step f channel s n (kind_of n.command) in
+    let go : Filling = data_step f channel s n (due_kind n.command) in
     repeated-shut turns (with_one_data pace channel) f some opened (turn-at pace channel f s (Some n) there e ∙ ap (λ (b : Bool). cond b go (shut f)) fit)
 
 channel-go : (pace : Pace) (channel turns : ℕ) (f g : Filling) (s : SendingEnd) (n : Next) (k : Kind) → 0 < turns → f.closed ≡ false → slice_get f.outbox.senders channel ≡ Some s → due_next pace f.outbox s ≡ Some n →
-    fits f (message_of s.channel n.command) ≡ true → k ≡ kind_of n.command → data_step f channel s n k ≡ g → more_data pace channel turns f ≡ more_data pace channel (turns - 1) g
+    fits f (message_of s.channel n.command) ≡ true → k ≡ due_kind n.command → data_step f channel s n k ≡ g → more_data pace channel turns f ≡ more_data pace channel (turns - 1) g
 channel-go pace channel turns f g s n k some opened there e fit is goes =
     let go : Kind → Filling = λ k. data_step f channel s n k in
     repeated-go turns (with_one_data pace channel) f g some opened
-    (turn-at pace channel f s (Some n) there e ∙ ap (λ (b : Bool). cond b (go (kind_of n.command)) (shut f)) fit ∙ ap go (sym is) ∙ goes)
+    (turn-at pace channel f s (Some n) there e ∙ ap (λ (b : Bool). cond b (go (due_kind n.command)) (shut f)) fit ∙ ap go (sym is) ∙ goes)
 
 -- the stage has come so far
 pub record ChannelAt (pace : Pace) (channel : ℕ) (f : Filling) (s : SendingEnd) (w : Flow) (p : Progress) (buf : List ℕ) : Type 0 where

@@ -14,7 +14,7 @@ use Rattle.enet_sender.specs.Due.{SendingEnd}
 use Rattle.enet_outbox.specs.declared.parts.Pace.{Pace}
 use Rattle.enet_outbox.specs.Outbox.{Outbox, has_no_packet, has_no_reliable}
 use Rattle.enet_outbox.specs.Emission.{Filling, filled}
-use Rattle.enet_outbox.specs.Kept.{HasNothing}
+use Rattle.enet_outbox.specs.Invariant.{HasNothing}
 use Rattle.enet_outbox.proofs.Filled.{Keeps, by-filling}
 
 none-left : {X : Type 0} (xs : List X) → length xs ≡ 0 → xs ≡ []

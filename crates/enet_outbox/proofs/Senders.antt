@@ -6,11 +6,11 @@ use Rattle.std.proofs.lemmas.List.FromFn.{map-range_with_len_more}
 use Rattle.enet_types.specs.declared.refusal.Refusal.{Refusal}
 use Rattle.std.proofs.lemmas.List.Edits.{map_over_more}
 use Rattle.std.proofs.lemmas.List.Sums.{sum_by-cons, sum_by-set, sum_by-take-le, get_or-le-sum_by}
-use Rattle.enet_sender.specs.Sender.{bytes_in_transit, acknowledged, acknowledged_bytes}
+use Rattle.enet_sender.specs.Sender.{bytes_in_transit, after_acknowledgement, acknowledged_bytes}
 use Rattle.enet_sender.specs.Due.{SendingEnd, new_end}
 use Rattle.enet_sender.proofs.Transit.{transit-acknowledged, transit-marked}
 use Rattle.enet_outbox.specs.Outbox.{cleared_sender, marked_sender}
-use Rattle.enet_outbox.specs.Kept.{KeepsOutbox, transit_over}
+use Rattle.enet_outbox.specs.Invariant.{KeepsOutbox, transit_over}
 
 abbrev transit_at : SendingEnd → ℕ
 transit_at s = bytes_in_transit s.sender
@@ -94,10 +94,10 @@ pub map_cleared : (xs ys : List SendingEnd) (i : ℕ) (x : SendingEnd) → i < l
 map_cleared xs ys i x = map_over_more cleared_sender xs ys i x
 
 -- an acknowledgement is taken in by a sender
-pub acknowledged-on : (s t : SendingEnd) (number : ℕ) (bytes : Option ℕ) → bytes ≡ acknowledged_bytes s.sender number → t ≡ record s { sender = acknowledged s.sender number }
+pub acknowledged-on : (s t : SendingEnd) (number : ℕ) (bytes : Option ℕ) → bytes ≡ acknowledged_bytes s.sender number → t ≡ record s { sender = after_acknowledgement s.sender number }
     → transit_at t + unwrap_or bytes 0 ≡ transit_at s
 acknowledged-on s t number bytes found is =
-    let e : transit_at t ≡ bytes_in_transit (acknowledged s.sender number) = ap transit_at is in
+    let e : transit_at t ≡ bytes_in_transit (after_acknowledgement s.sender number) = ap transit_at is in
     let d : unwrap_or bytes 0 ≡ unwrap_or (acknowledged_bytes s.sender number) 0 = ap (λ o. unwrap_or o 0) found in
     let h = transit-acknowledged s.sender number in
     omega arith

@@ -13,7 +13,7 @@ use Rattle.enet_fragment.specs.DataCommand.{message_of}
 use Rattle.enet_sender.specs.declared.outgoing.Kind.{Kind}
 use Rattle.enet_sender.specs.declared.outgoing.Kind.TheVariants.{Reliable, Begins, More}
 use Rattle.enet_sender.specs.Sender.{Next, next, with_skipped}
-use Rattle.enet_sender.specs.Due.{SendingEnd, kind_of}
+use Rattle.enet_sender.specs.Due.{SendingEnd, due_kind}
 use Rattle.enet_outbox.specs.declared.parts.Acknowledgement.{Acknowledgement}
 use Rattle.enet_outbox.specs.declared.parts.Unsequenced.{Unsequenced}
 use Rattle.enet_outbox.specs.declared.parts.Pace.{Pace}
@@ -146,7 +146,7 @@ data_step f channel s n Begins =
 abbrev pub due_step : Filling → ℕ → SendingEnd → Option Next → Filling
 due_step f channel s None = f
 due_step f channel s (Some n) =
-    if fits f (message_of s.channel n.command) then data_step f channel s n (kind_of n.command) else shut f
+    if fits f (message_of s.channel n.command) then data_step f channel s n (due_kind n.command) else shut f
 
 abbrev pub channel_step : Pace → ℕ → Filling → Option SendingEnd → Filling
 channel_step pace channel f None = f

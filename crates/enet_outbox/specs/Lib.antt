@@ -1,4 +1,4 @@
 pub mod Outbox
 pub mod Emission
-pub mod Kept
+pub mod Invariant
 pub mod Packing

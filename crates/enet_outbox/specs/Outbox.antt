@@ -126,12 +126,12 @@ matched_by o channel number =
 
 abbrev pub acknowledged_on : Outbox → ℕ → ℕ → Option SendingEnd → Outbox
 acknowledged_on o channel number None = o
-acknowledged_on o channel number (Some s) = record o { senders = slice_set o.senders channel (record s { sender = sender.acknowledged s.sender number }) }
+acknowledged_on o channel number (Some s) = record o { senders = slice_set o.senders channel (record s { sender = sender.after_acknowledgement s.sender number }) }
 
-abbrev pub acknowledged : Outbox → ℕ → ℕ → Outbox
-acknowledged o channel number =
+abbrev pub after_acknowledgement : Outbox → ℕ → ℕ → Outbox
+after_acknowledgement o channel number =
     if channel == 0xFF
-    then record o { control = controlling.acknowledged o.control number }
+    then record o { control = controlling.after_acknowledgement o.control number }
     else acknowledged_on o channel number (slice_get o.senders channel)
 
 -- a sent command has waited out the peer's patience

@@ -8,7 +8,7 @@ ghost use Rattle.enet_sender.specs.Due.{SendingEnd, new_end, with_submitted};
 ghost use Rattle.enet_sender.specs.CommandChoice.{fragment_limit};
 ghost use Rattle.enet_fragment.specs.Cutting.{piece_count};
 ghost use Rattle.enet_outbox.specs.Outbox.{cleared_sender, has_no_packet, has_no_reliable, marked_sender, matched_on};
-ghost use Rattle.enet_outbox.specs.Kept.{KeepsOutbox, with_accepted};
+ghost use Rattle.enet_outbox.specs.Invariant.{KeepsOutbox, with_accepted};
 
 use crate::{Acknowledgement, Matched};
 use bytes::Bytes;

@@ -7,7 +7,7 @@ ghost use Rattle.std.specs.List.{list_any};
 ghost use Rattle.enet_fragment.specs.Cutting.{piece_length, piece_count};
 ghost use Rattle.enet_sender.specs.Due.{SendingEnd};
 ghost use Rattle.enet_sender.specs.Sender as sender;
-ghost use Rattle.enet_outbox.specs.Outbox.{acknowledged, after_lateness, cleared, empty_outbox, is_done, is_quiet, lateness, marked, matched_by, narrowed, sampled, submitted, transit_of, with_acknowledgement, with_control, with_unsequenced};
+ghost use Rattle.enet_outbox.specs.Outbox.{after_acknowledgement, after_lateness, cleared, empty_outbox, is_done, is_quiet, lateness, marked, matched_by, narrowed, sampled, submitted, transit_of, with_acknowledgement, with_control, with_unsequenced};
 
 use crate::{Acknowledgement, Matched, Unsequenced, lists};
 use bytes::Bytes;
@@ -50,7 +50,7 @@ impl Model for Outbox {
 
     ghost use Rattle.std.specs.Prelude.{◌-◌};
     ghost use Rattle.std.specs.VecDeque.{deque_len, deque_capacity};
-    ghost use Rattle.enet_outbox.specs.Kept.{KeepsOutbox, KeepsIdle};
+    ghost use Rattle.enet_outbox.specs.Invariant.{KeepsOutbox, KeepsIdle};
 
     ghost view = { λ o. record {
       outbox = record {
@@ -214,7 +214,7 @@ impl Outbox {
     /// `Nothing`, with all as it was, where no sent command has them.
     pub fn matched(&mut self, channel: u8, number: u16) -> Matched
         ensures found { result ≡ matched_by self.old.outbox channel number }
-        ensures outbox { self.new.outbox ≡ acknowledged self.old.outbox channel number }
+        ensures outbox { self.new.outbox ≡ after_acknowledgement self.old.outbox channel number }
         ensures acknowledgement_room { self.new.acknowledgement_room ≡ self.old.acknowledgement_room }
         ensures control_room { self.old.control_room ≤ self.new.control_room }
     {

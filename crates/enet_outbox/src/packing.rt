@@ -8,7 +8,7 @@ ghost use Rattle.std.specs.VecDeque.{deque_len, deque_capacity};
 ghost use Rattle.enet_codec.specs.Header.{header_text};
 ghost use Rattle.enet_codec.specs.Message.{view, payload_of};
 ghost use Rattle.enet_outbox.specs.Emission.{acknowledgement_of, unsequenced_of, filled, Emits};
-ghost use Rattle.enet_outbox.specs.Kept.{HasNothing};
+ghost use Rattle.enet_outbox.specs.Invariant.{HasNothing};
 ghost use Rattle.enet_outbox.specs.Packing.{header_asking, Leads, taken_in, place_in, asked_for, refuses, TakesIn, PacksAcknowledgements, PacksControls, PacksUnsequenced, PacksChannel, PacksChannels};
 
 use crate::{Acknowledgement, Destination, Outbox, Pace, Unsequenced, lists};

@@ -1,3 +1,3 @@
 pub mod Codes
-pub mod Kept
+pub mod Invariant
 pub mod Packets

@@ -30,7 +30,7 @@ impl Model for Packets {
     ghost use Rattle.std.specs.Ordering.{nat_cmp};
     ghost use Rattle.std.specs.FinMap.{FinMap, from_entries};
     ghost use Rattle.enet_packets.specs.Codes.{packets_code};
-    ghost use Rattle.enet_packets.specs.Kept.{KeepsPackets};
+    ghost use Rattle.enet_packets.specs.Invariant.{KeepsPackets};
     ghost use Rattle.enet_packets.specs.declared.incoming_packet.IncomingPacket.{IncomingPacket};
 
     ghost Value = { FinMap nat_cmp IncomingPacket };
@@ -43,7 +43,7 @@ impl Model for Packets {
 }
 
 ghost use Rattle.enet_packets.specs.declared.incoming_packet.IncomingPacket.{IncomingPacket};
-ghost use Rattle.enet_packets.specs.Kept.{KeepsPackets, most_if, most_with};
+ghost use Rattle.enet_packets.specs.Invariant.{KeepsPackets, most_if, most_with};
 ghost use Rattle.enet_packets.specs.Packets.{bytes_of, fresh, last_fresh, still_ahead, handed_out};
 
 /// Adds a packet, where memory is not refused.

@@ -30,7 +30,7 @@ impl Model for Waiting {
     ghost use Rattle.std.specs.Ordering.{nat_cmp};
     ghost use Rattle.std.specs.FinMap.{FinMap, from_entries};
     ghost use Rattle.enet_packets.specs.Codes.{waiting_code};
-    ghost use Rattle.enet_packets.specs.Kept.{KeepsWaiting};
+    ghost use Rattle.enet_packets.specs.Invariant.{KeepsWaiting};
     ghost use Rattle.enet_packets.specs.declared.incoming_packet.IncomingPacket.{IncomingPacket};
 
     ghost Value = { FinMap nat_cmp (FinMap nat_cmp IncomingPacket) };
@@ -43,7 +43,7 @@ impl Model for Waiting {
 }
 
 ghost use Rattle.enet_packets.specs.declared.incoming_packet.IncomingPacket.{IncomingPacket};
-ghost use Rattle.enet_packets.specs.Kept.{KeepsLines, KeepsLine, KeepsWaiting, Settles, line_in};
+ghost use Rattle.enet_packets.specs.Invariant.{KeepsLines, KeepsLine, KeepsWaiting, Settles, line_in};
 ghost use Rattle.enet_packets.specs.Packets.{bytes_of, bytes_in, packets_in, fresh, last_fresh, still_ahead, line_at, with_line};
 
 /// How much a line has.

@@ -18,7 +18,7 @@ use Rattle.enet_outbox.specs.declared.parts.Matched.{Matched}
 use Rattle.enet_outbox.specs.declared.parts.Matched.TheVariants as matched
 use Rattle.enet_outbox.specs.declared.parts.Pace.{Pace}
 use Rattle.enet_outbox.specs.declared.parts.Destination.{Destination}
-use Rattle.enet_outbox.specs.Outbox.{Outbox, acknowledged, acknowledged_on, has_ended, has_late, matched_by}
+use Rattle.enet_outbox.specs.Outbox.{Outbox, after_acknowledgement, acknowledged_on, has_ended, has_late, matched_by}
 use Rattle.enet_outbox.specs.Emission.{Emits, acknowledgement_of, filled}
 use Rattle.enet_outbox.proofs.Oldest.{oldest-first}
 use Rattle.enet_peer.specs.Peering.{Peering}
@@ -62,21 +62,21 @@ answered-waits a p m sent may w = by (m.head.acknowledge && may && is_answered_i
         (w.0, w.1 ++ x ∷ [], ap (λ (xs : List Acknowledgement). xs ++ x ∷ []) w.2)
 
 -- what an acknowledgement matches isn't among those that wait
-matched-stays : (o : Outbox) (channel number : ℕ) → (acknowledged o channel number).acknowledgements ≡ o.acknowledgements
+matched-stays : (o : Outbox) (channel number : ℕ) → (after_acknowledgement o channel number).acknowledgements ≡ o.acknowledgements
 matched-stays o channel number = by (channel == 0xFF)
   where
     on : (x : Option SendingEnd) → (acknowledged_on o channel number x).acknowledgements ≡ o.acknowledgements
     on None = refl
     on (Some s) = refl
 
-    by : (b : Bool) → (cond b (record o { control = controlling.acknowledged o.control number }) (acknowledged_on o channel number (slice_get o.senders channel))).acknowledgements ≡ o.acknowledgements
+    by : (b : Bool) → (cond b (record o { control = controlling.after_acknowledgement o.control number }) (acknowledged_on o channel number (slice_get o.senders channel))).acknowledgements ≡ o.acknowledgements
     by true = refl
     by false = on (slice_get o.senders channel)
 
 acknowledged-waits : (a : Acknowledgement) (p : Peering) (now channel number time : ℕ) → IsAnswering a p → IsAnswering a (on_acknowledge (at-end p) now channel number time)
 acknowledged-waits a p now channel number time w = by (matched_by p.outbox channel number)
   where
-    left : IsAnswering a (at-end (record p { outbox = acknowledged p.outbox channel number }))
+    left : IsAnswering a (at-end (record p { outbox = after_acknowledgement p.outbox channel number }))
     left = (refl, w.1, matched-stays p.outbox channel number ∙ w.2)
 
     by : (x : Matched) → IsAnswering a (on_match x (at-end p) now channel number time)

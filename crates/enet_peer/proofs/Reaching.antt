@@ -43,7 +43,7 @@ use Rattle.enet_outbox.specs.declared.parts.Matched.{Matched}
 use Rattle.enet_outbox.specs.declared.parts.Matched.TheVariants as matched
 use Rattle.enet_outbox.specs.declared.parts.Pace.{Pace}
 use Rattle.enet_outbox.specs.declared.parts.Destination.{Destination}
-use Rattle.enet_outbox.specs.Outbox.{Outbox, cleared_sender, marked_sender, with_control, acknowledged, acknowledged_on, is_done, is_unsequenced, with_unsequenced, with_sequenced, matched_by, lateness}
+use Rattle.enet_outbox.specs.Outbox.{Outbox, cleared_sender, marked_sender, with_control, after_acknowledgement, acknowledged_on, is_done, is_unsequenced, with_unsequenced, with_sequenced, matched_by, lateness}
 use Rattle.enet_outbox.specs.Outbox as outbox
 use Rattle.enet_outbox.specs.Emission.{Filling, filled, Emits}
 use Rattle.enet_outbox.proofs.Filled.{by-filling}
@@ -55,7 +55,7 @@ use Rattle.enet_peer.specs.declared.parts.PeerEvent.{PeerEvent}
 use Rattle.enet_peer.specs.declared.parts.PeerEvent.TheVariants as event
 use Rattle.enet_peer.specs.Endings.{ended, freed, disconnecting, parting, settled, is_later, cut_off_in}
 use Rattle.enet_peer.specs.CommandEffect.{Outcome, Obeys, wants_memory, answered, answered_at, is_answered_in, is_allowed, is_connect, obeyed, by_body, by_answer, by_arrival, on_data, stopped, sampled, with_answer, on_match, on_acknowledge, welcomed, on_verify_in, on_last_disconnect, on_disconnect_in}
-use Rattle.enet_peer.specs.Calls.{Leave, AtOnce, Parts, Asks, AsksLater, Refused, Leaves, left, Submits, submitted, PutsOut, after_timeouts, after_timeouts_by, is_pinged, ticked, is_connected, pace_of, destination_of, gone_on, gone_on_in, Taken, Takes, next_event, event_after, packet_event, last_event, with_bandwidth, with_throttle}
+use Rattle.enet_peer.specs.Calls.{Leave, AtOnce, TellsOnce, Asks, AsksLater, Refused, Leaves, left, Submits, submitted, PutsOut, after_timeouts, after_timeouts_by, is_pinged, ticked, is_connected, pace_of, destination_of, gone_on, gone_on_in, Taken, Takes, next_event, event_after, packet_event, last_event, with_bandwidth, with_throttle}
 use Rattle.enet_peer.specs.Reachable.{IsReachable, IsStill, IsStillIn, Keeps, WaitsIn}
 
 -- ---- a fact of each element of a list and its place
@@ -217,7 +217,7 @@ answered-keeps p m sent may h = if-outcome (m.head.acknowledge && may && is_answ
     by None t = h
     by (Some time) t = with-answer-in p.state p m.body (record { channel = m.head.channel; number = m.head.number; time = time }) refl t h
 
-matched-keeps : (p : Peering) (channel number : ℕ) → IsReachable p → IsReachable (record p { outbox = acknowledged p.outbox channel number })
+matched-keeps : (p : Peering) (channel number : ℕ) → IsReachable p → IsReachable (record p { outbox = after_acknowledgement p.outbox channel number })
 matched-keeps p channel number h = by (channel == 0xFF)
   where
     o : Outbox
@@ -226,24 +226,24 @@ matched-keeps p channel number h = by (channel == 0xFF)
     on : (x : Option SendingEnd) → slice_get o.senders channel ≡ x → IsReachable (record p { outbox = acknowledged_on o channel number x })
     on None e = h
     on (Some s) e =
-        let t : SendingEnd = record s { sender = sender.acknowledged s.sender number } in
+        let t : SendingEnd = record s { sender = sender.after_acknowledgement s.sender number } in
         record {
           still = still-in p.state o.unsequenced o.unsequenced o.control o.control o.senders (slice_set o.senders channel t) (λ x. record {
             no_unsequenced = x.no_unsequenced;
             no_control_sent = x.no_control_sent;
             no_queued = at-set NoQueued o.senders channel t (x.no_queued channel s e) x.no_queued;
-            no_sent = at-set NoSent o.senders channel t (ap (λ (l : List Sent). sender.without_place l (sender.place_of number l)) (x.no_sent channel s e)) x.no_sent;
+            no_sent = at-set NoSent o.senders channel t (ap (λ (l : List Sent). sender.without_place l (sender.position_of number l)) (x.no_sent channel s e)) x.no_sent;
           }) h.still;
           waits = h.waits;
           places = at-set InPlace o.senders channel t (h.places channel s e) h.places;
           handed_over = h.handed_over;
         }
 
-    by : (b : Bool) → IsReachable (record p { outbox = cond b (record o { control = controlling.acknowledged o.control number }) (acknowledged_on o channel number (slice_get o.senders channel)) })
+    by : (b : Bool) → IsReachable (record p { outbox = cond b (record o { control = controlling.after_acknowledgement o.control number }) (acknowledged_on o channel number (slice_get o.senders channel)) })
     by true = record {
-      still = still-in p.state o.unsequenced o.unsequenced o.control (controlling.acknowledged o.control number) o.senders o.senders (λ x. record {
+      still = still-in p.state o.unsequenced o.unsequenced o.control (controlling.after_acknowledgement o.control number) o.senders o.senders (λ x. record {
         no_unsequenced = x.no_unsequenced;
-        no_control_sent = ap (λ (l : List SentControl). controlling.without_place l (controlling.place_of number l)) x.no_control_sent;
+        no_control_sent = ap (λ (l : List SentControl). controlling.without_place l (controlling.position_of number l)) x.no_control_sent;
         no_queued = x.no_queued;
         no_sent = x.no_sent;
       }) h.still;
@@ -266,7 +266,7 @@ acknowledged-keeps : (p : Peering) (now channel number time : ℕ) → IsReachab
 acknowledged-keeps p now channel number time h = by (matched_by p.outbox channel number)
   where
     q : Peering
-    q = sampled (record p { outbox = acknowledged p.outbox channel number }) now time
+    q = sampled (record p { outbox = after_acknowledgement p.outbox channel number }) now time
 
     a : IsReachable q
     a = matched-keeps p channel number h
@@ -578,7 +578,7 @@ ticked-keeps p now h =
 
 left-by : (how : Leave) (p q : Peering) (info : ℕ) → IsReachable p → left how p info ≡ Some q → IsReachable q
 left-by AtOnce p q info h e = (let same : freed p ≡ q = cc in subst IsReachable same (freed-keeps p h))
-left-by Parts p q info h e = (let same : parting p info ≡ q = cc in subst IsReachable same (parting-keeps p info h))
+left-by TellsOnce p q info h e = (let same : parting p info ≡ q = cc in subst IsReachable same (parting-keeps p info h))
 left-by Asks p q info h e = (let same : disconnecting p info ≡ q = cc in subst IsReachable same (disconnecting-keeps p info h))
 left-by AsksLater p q info h e =
     let waiting : Peering = record p { state = state.DisconnectLater; info = info } in

@@ -4,13 +4,13 @@ use Rattle.std.specs.Prelude.{slice_get, slice_set}
 use Rattle.std.proofs.lemmas.List.{set-get_or}
 use Rattle.std.proofs.lemmas.Option.{get_or_from_slice_get}
 use Rattle.enet_control.specs.declared.control.SentControl.{SentControl}
-use Rattle.enet_control.specs.Controlling.{Commands, control_at, control_of, without_place, place_of}
+use Rattle.enet_control.specs.Controlling.{Commands, control_at, control_of, without_place, position_of}
 use Rattle.enet_sender.specs.declared.sent.Sent.{Sent}
 use Rattle.enet_sender.specs.Sender.{Sender, size_at, size_of}
 use Rattle.enet_sender.specs.Sender as sender
 use Rattle.enet_sender.specs.Due.{SendingEnd}
 use Rattle.enet_outbox.specs.declared.parts.Matched.TheVariants as matched
-use Rattle.enet_outbox.specs.Outbox.{Outbox, as_control, as_data, matched_by, matched_on, acknowledged, acknowledged_on}
+use Rattle.enet_outbox.specs.Outbox.{Outbox, as_control, as_data, matched_by, matched_on, after_acknowledgement, acknowledged_on}
 
 remove-past : {X : Type 0} (xs : List X) (i : ℕ) → slice_get xs i ≡ None → take i xs ++ drop (suc i) xs ≡ xs
 remove-past [] zero h = refl
@@ -37,14 +37,14 @@ unmatched-sender s (Some i) h = by (slice_get s.sender.sent i) refl h
 unmatched-on : (o : Outbox) (channel number : ℕ) (s : Option SendingEnd) → slice_get o.senders channel ≡ s → matched_on s number ≡ matched.Nothing → acknowledged_on o channel number s ≡ o
 unmatched-on o channel number None e h = refl
 unmatched-on o channel number (Some s) e h =
-    let same = unmatched-sender s (sender.place_of number s.sender.sent) h in
+    let same = unmatched-sender s (sender.position_of number s.sender.sent) h in
     let back : set o.senders channel s ≡ o.senders = ap (λ (t : SendingEnd). set o.senders channel t) (sym (get_or_from_slice_get o.senders channel s s e)) ∙ set-get_or o.senders channel s in
     ap (λ (t : SendingEnd). record o { senders = slice_set o.senders channel t }) same ∙ ap (λ (xs : List SendingEnd). record o { senders = xs }) back
 
-pub unmatched : (o : Outbox) (channel number : ℕ) → matched_by o channel number ≡ matched.Nothing → acknowledged o channel number ≡ o
+pub unmatched : (o : Outbox) (channel number : ℕ) → matched_by o channel number ≡ matched.Nothing → after_acknowledgement o channel number ≡ o
 unmatched o channel number h = by (channel == 0xFF) h
   where
-    by : (b : Bool) → cond b (as_control (control_at o.control.sent (place_of number o.control.sent))) (matched_on (slice_get o.senders channel) number) ≡ matched.Nothing
-        → cond b (record o { control = record o.control { sent = without_place o.control.sent (place_of number o.control.sent) } }) (acknowledged_on o channel number (slice_get o.senders channel)) ≡ o
-    by true h = ap (λ (c : Commands). record o { control = c }) (unmatched-control o.control (place_of number o.control.sent) h)
+    by : (b : Bool) → cond b (as_control (control_at o.control.sent (position_of number o.control.sent))) (matched_on (slice_get o.senders channel) number) ≡ matched.Nothing
+        → cond b (record o { control = record o.control { sent = without_place o.control.sent (position_of number o.control.sent) } }) (acknowledged_on o channel number (slice_get o.senders channel)) ≡ o
+    by true h = ap (λ (c : Commands). record o { control = c }) (unmatched-control o.control (position_of number o.control.sent) h)
     by false h = unmatched-on o channel number (slice_get o.senders channel) refl h

@@ -75,35 +75,35 @@ pub record PutsOut (now : ℕ) (len : Option ℕ) (old new : Peering) (buf : Lis
 -- how a disconnect call goes in a state: at once, by one unsequenced DISCONNECT, by a reliable one, later, or not
 pub data Leave : Type 0 where
   AtOnce : Leave
-  Parts : Leave
+  TellsOnce : Leave
   Asks : Leave
   AsksLater : Leave
   Refused : Leave
 
 abbrev pub left : Leave → Peering → ℕ → Option Peering
 left AtOnce p info = Some (freed p)
-left Parts p info = Some (parting p info)
+left TellsOnce p info = Some (parting p info)
 left Asks p info = Some (disconnecting p info)
 left AsksLater p info = Some (settled (record p { state = state.DisconnectLater; info = info }))
 left Refused p info = None
 
 abbrev pub leave_by_asking : PeerState → Leave
 leave_by_asking state.Connecting = AtOnce
-leave_by_asking state.Answering = Parts
+leave_by_asking state.Answering = TellsOnce
 leave_by_asking state.Connected = Asks
 leave_by_asking state.DisconnectLater = Asks
 leave_by_asking _ = Refused
 
 abbrev pub leave_now : PeerState → Leave
 leave_now state.Connecting = AtOnce
-leave_now state.Answering = Parts
-leave_now state.Connected = Parts
-leave_now state.DisconnectLater = Parts
+leave_now state.Answering = TellsOnce
+leave_now state.Connected = TellsOnce
+leave_now state.DisconnectLater = TellsOnce
 leave_now _ = Refused
 
 abbrev pub leave_later : PeerState → Leave
 leave_later state.Connecting = AtOnce
-leave_later state.Answering = Parts
+leave_later state.Answering = TellsOnce
 leave_later state.Connected = AsksLater
 leave_later _ = Refused
 

@@ -18,7 +18,7 @@ use Rattle.enet_inbox.specs.DataEffect.{DataEffect, arrival, passed_over}
 use Rattle.enet_inbox.specs.DataEffect as coming
 use Rattle.enet_outbox.specs.declared.parts.Matched.{Matched}
 use Rattle.enet_outbox.specs.declared.parts.Matched.TheVariants as matched
-use Rattle.enet_outbox.specs.Outbox.{with_acknowledgement, matched_by, acknowledged}
+use Rattle.enet_outbox.specs.Outbox.{with_acknowledgement, matched_by, after_acknowledgement}
 use Rattle.enet_outbox.specs.Outbox as outbox
 use Rattle.enet_peer.specs.declared.parts.PeerState.{PeerState}
 use Rattle.enet_peer.specs.declared.parts.PeerState.TheVariants as state
@@ -100,9 +100,9 @@ with_answer _ _ p = p
 
 abbrev pub on_match : Matched → Peering → ℕ → ℕ → ℕ → ℕ → Peering
 on_match matched.Nothing p now channel number time = p
-on_match matched.Data p now channel number time = settled (sampled (record p { outbox = acknowledged p.outbox channel number }) now time)
+on_match matched.Data p now channel number time = settled (sampled (record p { outbox = after_acknowledgement p.outbox channel number }) now time)
 on_match (matched.Control what) p now channel number time =
-    settled (with_answer p.state what (sampled (record p { outbox = acknowledged p.outbox channel number }) now time))
+    settled (with_answer p.state what (sampled (record p { outbox = after_acknowledgement p.outbox channel number }) now time))
 
 -- an acknowledgement comes; one that matches nothing has no effect
 abbrev pub on_acknowledge : Peering → ℕ → ℕ → ℕ → ℕ → Peering

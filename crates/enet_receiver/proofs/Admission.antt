@@ -18,9 +18,9 @@ use Rattle.enet_packets.specs.Packets.{line_at, with_line}
 use Rattle.enet_receiver.specs.declared.took.Took.TheVariants.{Held, Again, Bad, Waiting}
 use Rattle.enet_receiver.specs.Receiver.{Receiver}
 use Rattle.enet_receiver.specs.DataOutcome.{outcome, outcome_at, outcome_of, place_read, came_at, is_piece, agrees_with, came, is_behind, earlier_or_new, with_more, with_added}
-use Rattle.enet_receiver.specs.Parts.{grown_at, with_stored}
+use Rattle.enet_receiver.specs.ReceiverParts.{grown_at, with_stored}
 use Rattle.enet_receiver.specs.Admitted.{Admitted, IsInside}
-use Rattle.enet_receiver.specs.Kept.{IsHeld, Keeps}
+use Rattle.enet_receiver.specs.Invariant.{IsHeld, Keeps}
 use Rattle.enet_receiver.proofs.Maps.{get_inserted}
 use Rattle.enet_receiver.proofs.LineLemmas.{Line, get_with_line}
 use Rattle.enet_receiver.proofs.Keeping.{packets_at}

@@ -9,8 +9,8 @@ use Rattle.enet_packets.specs.declared.incoming_packet.IncomingPacket.{IncomingP
 use Rattle.enet_packets.specs.Packets.{line_at, still_ahead}
 use Rattle.enet_receiver.specs.Receiver.{Receiver, without, with_passed, with_dispatched, released, all_released, flushed_from, flushed_last, front_line, cleared}
 use Rattle.enet_packets.specs.declared.incoming_packet.Dispatched.{Dispatched}
-use Rattle.enet_receiver.specs.Parts.{receiver_of}
-use Rattle.enet_receiver.specs.Kept.{IsWaiting, Keeps}
+use Rattle.enet_receiver.specs.ReceiverParts.{receiver_of}
+use Rattle.enet_receiver.specs.Invariant.{IsWaiting, Keeps}
 use Rattle.enet_receiver.specs.Laws.{HavePieces}
 use Rattle.enet_receiver.proofs.Without.{get_without, get-without_wire_inside}
 use Rattle.enet_receiver.proofs.Entries.{get_retained}

@@ -14,8 +14,8 @@ use Rattle.enet_receiver.specs.declared.foreseeing.Completed.{Completed}
 use Rattle.enet_receiver.specs.declared.took.Took.TheVariants.{Held, Outside, Bad}
 use Rattle.enet_receiver.specs.Receiver.{Receiver, all_released}
 use Rattle.enet_receiver.specs.DataOutcome.{outcome, outcome_at, is_piece, received, received_with, place_read, added_at, dispatch_count}
-use Rattle.enet_receiver.specs.Parts.{receiver_of, holding, with_stored, with_kept}
-use Rattle.enet_receiver.specs.Kept.{Keeps}
+use Rattle.enet_receiver.specs.ReceiverParts.{receiver_of, holding, with_stored, with_kept}
+use Rattle.enet_receiver.specs.Invariant.{Keeps}
 use Rattle.enet_receiver.specs.Admitted.{Admitted, IsInside}
 use Rattle.enet_receiver.specs.Walk.{walked, Completes}
 use Rattle.enet_receiver.specs.ArrivingData.{own_place}

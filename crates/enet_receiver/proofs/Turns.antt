@@ -11,7 +11,7 @@ use Rattle.enet_packets.specs.declared.incoming_packet.IncomingPacket.{IncomingP
 use Rattle.enet_packets.specs.declared.incoming_packet.Dispatched.{Dispatched}
 use Rattle.enet_packets.specs.Packets.{Lines, line_at, with_line, fresh, last_fresh, still_ahead, handed_out}
 use Rattle.enet_receiver.specs.Receiver.{Receiver, without, next_whole, with_passed, with_dispatched, flushed_from, flushed}
-use Rattle.enet_receiver.specs.Parts.{receiver_of}
+use Rattle.enet_receiver.specs.ReceiverParts.{receiver_of}
 use Rattle.enet_receiver.proofs.Without.{len-without, without-first}
 use Rattle.enet_receiver.proofs.Released.{whole_is, wire_begins, nothing_held}
 

@@ -2,10 +2,10 @@ pub mod Receiver
 pub mod DataOutcome
 pub mod Foresight
 pub mod ArrivingData
-pub mod Kept
+pub mod Invariant
 pub mod Codes
 pub mod Walk
 pub mod Laws
 pub mod Sequenced
-pub mod Parts
+pub mod ReceiverParts
 pub mod Admitted

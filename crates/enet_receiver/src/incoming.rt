@@ -8,7 +8,7 @@ ghost use Rattle.enet_fragment.specs.DataCommand.{data_of};
 ghost use Rattle.enet_fragment.specs.Whole.{is_whole};
 ghost use Rattle.enet_receiver.specs.ArrivingData.{data_command};
 ghost use Rattle.enet_receiver.specs.Admitted.{Admitted, IsInside};
-ghost use Rattle.enet_receiver.specs.Parts.{with_first, with_kept, grown_at, answered_with};
+ghost use Rattle.enet_receiver.specs.ReceiverParts.{with_first, with_kept, grown_at, answered_with};
 ghost use Rattle.enet_receiver.specs.Walk.{Completes};
 ghost use Rattle.enet_receiver.specs.Receiver.{held_bytes, cleared};
 ghost use Rattle.enet_receiver.specs.DataOutcome.{outcome, outcome_of, place_read, came_at, is_behind, is_handled, dispatch_count};
@@ -55,8 +55,8 @@ impl Model for Incoming {
 
     ghost coded = { receiving_code };
 
-    ghost use Rattle.enet_receiver.specs.Kept.{Keeps};
-    ghost use Rattle.enet_receiver.specs.Parts.{receiver_of};
+    ghost use Rattle.enet_receiver.specs.Invariant.{Keeps};
+    ghost use Rattle.enet_receiver.specs.ReceiverParts.{receiver_of};
 
     ghost view = { λ s. record {
       channel = s.channel;

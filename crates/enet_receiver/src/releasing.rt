@@ -9,7 +9,7 @@ ghost use Rattle.enet_fragment.specs.Whole.{is_whole};
 ghost use Rattle.enet_packets.specs.Packets.{packets_in};
 ghost use Rattle.enet_receiver.specs.Receiver.{without, next_whole, all_released};
 ghost use Rattle.enet_receiver.specs.Laws.{HavePieces};
-ghost use Rattle.enet_receiver.specs.Parts.{receiver_of};
+ghost use Rattle.enet_receiver.specs.ReceiverParts.{receiver_of};
 
 use enet_packets::{Dispatched, IncomingPacket, Packets, Waiting};
 use enet_seq::after;

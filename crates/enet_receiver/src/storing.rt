@@ -8,7 +8,7 @@ ghost use Rattle.enet_fragment.specs.DataCommand.{place_in_packet};
 ghost use Rattle.enet_packets.specs.Packets.{line_at, with_line, packets_in};
 ghost use Rattle.enet_receiver.specs.ArrivingData.{data_command};
 ghost use Rattle.enet_receiver.specs.DataOutcome.{agrees_with, came, came_at, earlier_or_new, with_more};
-ghost use Rattle.enet_receiver.specs.Parts.{holding, with_stored};
+ghost use Rattle.enet_receiver.specs.ReceiverParts.{holding, with_stored};
 
 use crate::arriving_data::ArrivingData;
 use enet_codec::Refusal;
@@ -83,7 +83,12 @@ fn wait(
     ensures err { OnErr result (waiting.new ≡ waiting.old) }
 {
     if waiting.get(number, arriving.unreliable).is_some() {
-        return waiting.add(number, arriving.unreliable, arriving.place(), arriving.payload);
+        return waiting.add(
+            number,
+            arriving.unreliable,
+            arriving.place(),
+            arriving.payload,
+        );
     }
     let coming = begun(alloc, arriving)?;
     waiting.insert(number, arriving.unreliable, coming)

@@ -2,14 +2,14 @@
 use Rattle.std.proofs.Common.{◌≡◌, ℕ, zero, suc, ◌+◌, ◌*◌, ◌^◌, ◌<◌, List, [], ◌∷◌, ◌++◌, length, replicate, Some, None, Option, refl, sym, ap, subst, ◌∙◌, inl, inr, arith}
 use Rattle.enet_types.specs.declared.event.PeerRef.{PeerRef}
 use Rattle.enet_link.specs.Steps.{Has}
-use Rattle.enet_network.specs.Log.{Logged, Kept, fresh_kept, fresh_channels, fresh_greatest, joined_greatest, greatest_at}
+use Rattle.enet_network.specs.Log.{Logged, ChannelPackets, no_packets, fresh_channels, fresh_greatest, joined_greatest, greatest_at}
 use Rattle.enet_network.specs.Network.{HostEnd, fresh_end}
 use Rattle.enet_network.specs.World.{joined_end}
 use Rattle.enet_records.specs.Records.{first_numbers, AreBelow, IsKept, AreApart, AreKept}
 
-pub channels-of : (n : ℕ) (all : List Kept) → n ≡ 256 → all ≡ replicate n fresh_kept → all ≡ fresh_channels
+pub channels-of : (n : ℕ) (all : List ChannelPackets) → n ≡ 256 → all ≡ replicate n no_packets → all ≡ fresh_channels
 unfolding fresh_channels
-channels-of n all count fresh = subst (λ (m : ℕ). all ≡ replicate m fresh_kept) count fresh
+channels-of n all count fresh = subst (λ (m : ℕ). all ≡ replicate m no_packets) count fresh
 
 pub numbers-of : (n control : ℕ) (first all : List ℕ) → n ≡ 255 → first ≡ replicate n 0 → all ≡ first ++ control ∷ [] → all ≡ first_numbers control
 unfolding first_numbers

@@ -3,7 +3,7 @@
 ghost use Rattle.std.specs.Prelude.{◌≡◌, ◌==◌, ◌<◌, length, IfSome};
 ghost use Rattle.std.specs.Option.{option_copied};
 ghost use Rattle.std.specs.List.{position};
-ghost use Rattle.enet_network.specs.Log.{kept_at};
+ghost use Rattle.enet_network.specs.Log.{packets_at};
 ghost use Rattle.enet_network.specs.Network.{HostEnd, is_same_name, end_of, numbers_in};
 ghost use Rattle.enet_network.specs.Headline.{submitted_at, taken_at, events_at};
 
@@ -20,9 +20,9 @@ pub struct Channel {
 }
 
 impl Model for Channel {
-    ghost use Rattle.enet_network.specs.Log.{Kept};
+    ghost use Rattle.enet_network.specs.Log.{ChannelPackets};
 
-    ghost Value = { Kept };
+    ghost Value = { ChannelPackets };
 
     ghost view = { λ k. record { submitted = k.submitted.items; taken = k.taken.items } };
 }
@@ -70,7 +70,7 @@ impl End {
 
     /// What its user submitted on a channel.
     fn submitted(&self, channel: u8) -> &[Packet]
-        ensures { result.now ≡ (kept_at self.now.channels channel).submitted }
+        ensures { result.now ≡ (packets_at self.now.channels channel).submitted }
     {
         match self.channels.get(usize::from(channel)) {
             Some(kept) => &kept.submitted,
@@ -80,7 +80,7 @@ impl End {
 
     /// What its user took of a channel.
     fn taken(&self, channel: u8) -> &[Packet]
-        ensures { result.now ≡ (kept_at self.now.channels channel).taken }
+        ensures { result.now ≡ (packets_at self.now.channels channel).taken }
     {
         match self.channels.get(usize::from(channel)) {
             Some(kept) => &kept.taken,
@@ -90,7 +90,7 @@ impl End {
 }
 
 /// The place of the first end of this name; None where there is none.
-pub fn place_of(ends: &[End], name: PeerRef) -> Option<usize>
+pub fn position_of(ends: &[End], name: PeerRef) -> Option<usize>
     ensures first { result ≡ position (λ (e : HostEnd). is_same_name e.name name) ends.now }
     ensures within { IfSome result (λ i. i < length ends.now) }
 {

@@ -3,7 +3,7 @@
 ghost use Rattle.std.specs.Prelude.{◌≡◌, OnOk, OnErr, IfOk, IfErr, IsTrue};
 ghost use Rattle.std.specs.Bool.{OnFalse};
 ghost use Rattle.enet_types.specs.declared.event.Event.TheVariants as events;
-ghost use Rattle.enet_network.specs.Log.{with_kept, with_taken};
+ghost use Rattle.enet_network.specs.Log.{with_packets, with_taken};
 ghost use Rattle.enet_network.specs.Steps.{with_event};
 
 use crate::end::{Channel, End};
@@ -26,7 +26,7 @@ fn copy_of(packet: &Packet) -> Result<Packet, Refusal>
 
 /// Keeps a packet that is taken. Where there is no memory it answers false, and nothing is changed.
 fn keep_taken(channels: &mut [Channel], packet: Packet) -> bool
-    ensures kept { IsTrue result → channels.new ≡ with_kept channels.old packet.channel (with_taken packet) }
+    ensures kept { IsTrue result → channels.new ≡ with_packets channels.old packet.channel (with_taken packet) }
     ensures unchanged { OnFalse result (channels.new ≡ channels.old) }
 {
     let i = usize::from(packet.channel);

@@ -15,10 +15,10 @@ use enet_seq::ahead;
 const LATEST: u128 = 32_768;
 
 /// The greatest number that has this wire number and is at most `reach`.
-fn number_below(reach: u128, wire: u16) -> u128
-    ensures { result ≡ number_below reach wire }
+fn number_below(sent_then: u128, wire: u16) -> u128
+    ensures { result ≡ number_below sent_then wire }
 {
-    reach.saturating_sub(u128::from(ahead(wire, (reach % 65536) as u16)))
+    sent_then.saturating_sub(u128::from(ahead(wire, (sent_then % 65536) as u16)))
 }
 
 /// Whether a command of a datagram of the sender is more than 32,768 numbers late at the taker.
@@ -31,7 +31,7 @@ fn is_late_command(mark: &Mark, sender: &[u128], taker: &[u128]) -> bool
         MarkKind::Control => return false,
     };
     let sent = greatest_at(greatest, mark.channel);
-    sent.saturating_sub(number_below(mark.reach, mark.number)) > LATEST
+    sent.saturating_sub(number_below(mark.sent_then, mark.number)) > LATEST
 }
 
 /// Whether such a command is among those of a datagram. `sender` and `taker` are the greatest numbers that its connection's two

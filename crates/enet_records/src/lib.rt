@@ -17,7 +17,7 @@ mod numbers;
 mod opening;
 mod records;
 
-pub use end::{Channel, End, events, place_of, submitted, taken};
+pub use end::{Channel, End, events, position_of, submitted, taken};
 pub use lateness::comes_late;
 pub use marks::MAX_COMMANDS;
 pub use opening::fresh_end;

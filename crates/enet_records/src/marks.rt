@@ -45,7 +45,7 @@ fn mark_as(kind: MarkKind, channel: u8, number: u16) -> Mark
         kind,
         channel,
         number,
-        reach: 0,
+        sent_then: 0,
     }
 }
 

@@ -56,7 +56,7 @@ fn reached(mark: Mark, own: &[u128], other: &[u128]) -> Mark
         MarkKind::Data | MarkKind::Control => own,
     };
     Mark {
-        reach: greatest_at(greatest, mark.channel),
+        sent_then: greatest_at(greatest, mark.channel),
         ..mark
     }
 }

@@ -1,7 +1,7 @@
 //! What is kept of a host at first.
 
 ghost use Rattle.std.specs.Prelude.{◌≡◌, [], ◌∷◌, IfOk, IfErr};
-ghost use Rattle.enet_network.specs.Log.{fresh_kept, fresh_channels};
+ghost use Rattle.enet_network.specs.Log.{no_packets, fresh_channels};
 ghost use Rattle.enet_network.specs.Network.{fresh_end};
 ghost use Rattle.enet_network.specs.World.{joined_end};
 ghost use Rattle.enet_records.specs.Records.{first_numbers};
@@ -18,8 +18,8 @@ const FIRST_PEER: PeerRef = PeerRef {
 };
 
 /// What is kept of a channel on which nothing has happened.
-fn fresh_kept(alloc: Global) -> Channel
-    ensures { result ≡ fresh_kept }
+fn no_packets(alloc: Global) -> Channel
+    ensures { result ≡ no_packets }
 {
     Channel {
         submitted: Vec::new(alloc),
@@ -36,7 +36,7 @@ fn fresh_channels(alloc: Global) -> Result<Vec<Channel>, Refusal>
         return Err(Refusal::Memory);
     };
     for _channel in 0..256u16 {
-        all.push_reserved(fresh_kept(alloc));
+        all.push_reserved(no_packets(alloc));
     }
     Ok(all)
 }

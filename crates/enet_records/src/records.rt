@@ -8,7 +8,7 @@ ghost use Rattle.enet_link.specs.Steps.{Has};
 ghost use Rattle.enet_network.specs.Network.{HostEnd};
 ghost use Rattle.enet_records.specs.Records.{AreBelow, AreApart, HasEnd, Notes};
 
-use crate::end::{End, numbers_of, place_of};
+use crate::end::{End, numbers_of, position_of};
 use crate::numbers::marks_of;
 use enet_datagram::read_heading;
 use enet_network::Mark;
@@ -92,7 +92,7 @@ pub fn note(
     requires read { (header : Header) × (commands : List ℕ) × IsRead text.items header commands }
     ensures { Notes far.now name to text.items ends.old ends.new result }
 {
-    let place = place_of(ends, name).unwrap_or(0);
+    let place = position_of(ends, name).unwrap_or(0);
     let own = &mut ends[place];
     let peer = peer_in(&text);
     let numbers = numbers_of(far, own.connection);

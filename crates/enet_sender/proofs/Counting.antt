@@ -9,7 +9,7 @@ use Rattle.enet_sender.specs.declared.course.Course.{Course}
 use Rattle.enet_sender.specs.Course.{piece_command, course_commands}
 use Rattle.enet_sender.specs.Sender.{Sender, is_more, is_after_first, left}
 use Rattle.enet_sender.specs.declared.outgoing.Left.{Left}
-use Rattle.enet_sender.specs.Kept.{reliable_in}
+use Rattle.enet_sender.specs.Invariant.{reliable_in}
 
 abbrev one_if : Bool → ℕ
 one_if b = cond b 1 0

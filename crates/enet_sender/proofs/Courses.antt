@@ -11,7 +11,7 @@ use Rattle.enet_fragment.specs.declared.data.DataCommand.{DataCommand}
 use Rattle.enet_sender.specs.declared.course.Course.{Course}
 use Rattle.enet_sender.specs.declared.sent.Sent.{Sent}
 use Rattle.enet_sender.specs.Course.{command_of, piece_command, course_commands}
-use Rattle.enet_sender.specs.Kept.{IsShort, IsShortSent, reliable_in, KeepsSender}
+use Rattle.enet_sender.specs.Invariant.{IsShort, IsShortSent, reliable_in, KeepsSender}
 use Rattle.enet_sender.proofs.Counting.{counted-queued}
 
 one_if : (empty : Bool) (n : ℕ) → n ≡ 0 → cond empty 1 (n + 1) ≡ 1

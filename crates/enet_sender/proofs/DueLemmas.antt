@@ -5,7 +5,7 @@ use Rattle.std.specs.Option.{is_some}
 use Rattle.std.proofs.lemmas.Bool.{both_ways, lt-ltb, le-ltb, ltb-false}
 use Rattle.std.proofs.lemmas.List.Elements.{All-nil, All-cons, All-head, All-tail, All-same, All-push, All-set, All-take, All-drop, All-append}
 use Rattle.enet_sender.specs.declared.sent.Sent.{Sent}
-use Rattle.enet_sender.specs.Kept.{IsNotDue, TellsDue}
+use Rattle.enet_sender.specs.Invariant.{IsNotDue, TellsDue}
 use Rattle.enet_sender.proofs.Counting.{is_some-cond}
 
 -- what is due, as the list changes

@@ -5,7 +5,7 @@ use Rattle.std.proofs.lemmas.List.Elements.{All-drop, All-take, All-same, All-ma
 use Rattle.enet_fragment.specs.declared.data.DataCommand.{DataCommand}
 use Rattle.enet_sender.specs.declared.sent.Sent.{Sent}
 use Rattle.enet_sender.specs.Sender.{marked, is_more, skipped}
-use Rattle.enet_sender.specs.Kept.{IsShort, IsShortSent}
+use Rattle.enet_sender.specs.Invariant.{IsShort, IsShortSent}
 
 all-marked : (now : ℕ) (sent : List Sent) → All IsShortSent sent → All IsShortSent (map (marked now) sent)
 all-marked now sent h = All-map IsShortSent (marked now) sent (All-weaker IsShortSent (λ p. IsShortSent (marked now p)) (λ p short. short) sent h)

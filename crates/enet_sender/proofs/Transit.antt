@@ -9,8 +9,8 @@ use Rattle.enet_seq.specs.Numbering.{Numbering}
 use Rattle.enet_fragment.specs.declared.data.DataCommand.{DataCommand}
 use Rattle.enet_sender.specs.declared.sent.Sent.{Sent}
 use Rattle.enet_sender.specs.declared.outgoing.Left.{Left}
-use Rattle.enet_sender.specs.Sender.{Sender, Next, next, next_of, next_queued, next_resent, first_sent, resent, begun, again, may_go, is_after_first, skipped, with_skipped, acknowledged, acknowledged_bytes, without_place, place_of, size_at, size_of, marked, with_marked, bytes_in_transit, left}
-use Rattle.enet_sender.specs.Kept.{reliable_in}
+use Rattle.enet_sender.specs.Sender.{Sender, Next, next, next_of, next_queued, next_resent, first_sent, resent, begun, again, may_go, is_after_first, skipped, with_skipped, after_acknowledgement, acknowledged_bytes, without_place, position_of, size_at, size_of, marked, with_marked, bytes_in_transit, left}
+use Rattle.enet_sender.specs.Invariant.{reliable_in}
 use Rattle.enet_sender.proofs.Counting.{found_by_count, counted-head}
 
 abbrev bytes_of : Sent → ℕ
@@ -77,8 +77,8 @@ bytes-remove (x ∷ sent) (suc i) =
     let h = bytes-remove sent i in
     omega arith
 
-pub transit-acknowledged : (s : Sender) (number : ℕ) → bytes_in_transit (acknowledged s number) + unwrap_or (acknowledged_bytes s number) 0 ≡ bytes_in_transit s
-transit-acknowledged s number = by_place (place_of number s.sent)
+pub transit-acknowledged : (s : Sender) (number : ℕ) → bytes_in_transit (after_acknowledgement s number) + unwrap_or (acknowledged_bytes s number) 0 ≡ bytes_in_transit s
+transit-acknowledged s number = by_place (position_of number s.sent)
   where
     by_place : (o : Option ℕ) → all_bytes (without_place s.sent o) + unwrap_or (size_at s.sent o) 0 ≡ all_bytes s.sent
     by_place None = omega arith

@@ -7,7 +7,7 @@ use Rattle.enet_fragment.specs.declared.data.DataCommand.{DataCommand}
 use Rattle.enet_codec.specs.declared.command.Fragment.{Fragment}
 use Rattle.enet_sender.specs.declared.course.Course.{Course}
 use Rattle.enet_sender.specs.CommandChoice.{ChosenPacket, carried_as}
-use Rattle.enet_sender.specs.Sender.{piece_at}
+use Rattle.enet_sender.specs.Sender.{piece_of_body}
 
 -- the number by which the pieces of the packet find one another
 abbrev pub start_of : Course → ℕ
@@ -27,7 +27,7 @@ command_of s i body = record {
 }
 
 abbrev pub piece_command : Course → List ℕ → ℕ → DataCommand
-piece_command s body i = command_of s i (piece_at (piece_length s.mtu) body i)
+piece_command s body i = command_of s i (piece_of_body (piece_length s.mtu) body i)
 
 -- all commands of a body
 abbrev pub course_commands : Course → List ℕ → List DataCommand

@@ -25,14 +25,14 @@ abbrev pub with_submitted : ℕ → SendingEnd → ℕ → List ℕ → SendingE
 with_submitted mtu e flags body = record e { sender = submitted wire mtu e.sender (record { flags = flags; body = body }) }
 
 -- how a command is carried
-abbrev pub kind_of : DataCommand → Kind
-kind_of c = if c.reliable then kind.Reliable else (if is_more c then kind.More else kind.Begins)
+abbrev pub due_kind : DataCommand → Kind
+due_kind c = if c.reliable then kind.Reliable else (if is_more c then kind.More else kind.Begins)
 
 -- what is written has its numbers in their ranges, so its bytes spell it
 abbrev pub Did : Option Next → Due → SendingEnd → SendingEnd → List ℕ → ℕ → List ℕ → Type 0
 Did (Some n) (due.Sent past added kind) old new from at to =
     Puts from at (canonical (message_of old.channel n.command)) to past
-    × (added ≡ n.added) × (kind ≡ kind_of n.command) × (new ≡ record old { sender = n.sender })
+    × (added ≡ n.added) × (kind ≡ due_kind n.command) × (new ≡ record old { sender = n.sender })
     × IsMessage (message_of old.channel n.command)
 Did (Some n) due.NoRoom old new from at to =
     (length from < at + length (canonical (message_of old.channel n.command))) × (new ≡ old) × (to ≡ from)

@@ -1,5 +1,5 @@
 pub mod CommandChoice
 pub mod Sender
 pub mod Due
-pub mod Kept
+pub mod Invariant
 pub mod Course

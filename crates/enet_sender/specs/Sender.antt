@@ -23,8 +23,8 @@ abbrev pub nothing_sent : Sender
 nothing_sent = record { number = 0; unreliable = 0; queued = []; sent = [] }
 
 -- piece i of a body that is cut at each multiple of `size`
-abbrev pub piece_at : ℕ → List ℕ → ℕ → List ℕ
-piece_at size body i = take size (drop (i * size) body)
+abbrev pub piece_of_body : ℕ → List ℕ → ℕ → List ℕ
+piece_of_body size body i = take size (drop (i * size) body)
 
 abbrev pub fragment_at : ℕ → ChosenPacket → ℕ → ℕ → Fragment
 fragment_at size c start i = record { start = start; count = c.pieces; number = i; total = length c.packet.body; offset = i * size }
@@ -37,7 +37,7 @@ command_at g mtu number count c i = record {
   number = if c.reliable then g.after number (i + 1) else number;
   unreliable = if c.reliable then 0 else count + 1;
   fragment = if is_long mtu c.packet then Some (fragment_at (piece_length mtu) c (if c.reliable then g.after number 1 else count + 1) i) else None;
-  body = piece_at (piece_length mtu) c.packet.body i;
+  body = piece_of_body (piece_length mtu) c.packet.body i;
 }
 
 abbrev pub commands_of : Numbering → ℕ → ℕ → ℕ → ChosenPacket → List DataCommand
@@ -122,16 +122,16 @@ abbrev pub with_skipped : Sender → Sender
 with_skipped s = record s { queued = skipped s.queued }
 
 -- where the sent command of this number stands
-abbrev pub place_of : ℕ → List Sent → Option ℕ
-place_of number sent = position (λ (p : Sent). p.command.number == number) sent
+abbrev pub position_of : ℕ → List Sent → Option ℕ
+position_of number sent = position (λ (p : Sent). p.command.number == number) sent
 
 abbrev pub without_place : List Sent → Option ℕ → List Sent
 without_place sent None = sent
 without_place sent (Some i) = remove sent i
 
 -- an acknowledgement removes the sent command of its number
-abbrev pub acknowledged : Sender → ℕ → Sender
-acknowledged s number = record s { sent = without_place s.sent (place_of number s.sent) }
+abbrev pub after_acknowledgement : Sender → ℕ → Sender
+after_acknowledgement s number = record s { sent = without_place s.sent (position_of number s.sent) }
 
 abbrev pub size_of : Option Sent → Option ℕ
 size_of None = None
@@ -143,7 +143,7 @@ size_at sent (Some i) = size_of (slice_get sent i)
 
 -- the bytes of that command's payload, if there is one
 abbrev pub acknowledged_bytes : Sender → ℕ → Option ℕ
-acknowledged_bytes s number = size_at s.sent (place_of number s.sent)
+acknowledged_bytes s number = size_at s.sent (position_of number s.sent)
 
 -- the payload bytes of what is sent and not acknowledged, also where it waits to go again
 abbrev pub bytes_in_transit : Sender → ℕ

@@ -3,7 +3,7 @@
 ghost use Rattle.std.specs.Prelude.{◌≡◌, ◌+◌, ◌-◌, ◌*◌, ◌<◌, ◌≤◌, ◌||◌, ◌&&◌, ◌==◌, ◌/◌, ◌%◌, nat_lt, not, if◌then◌else◌, Some, None, IfSome, IfNone, length};
 ghost use Rattle.enet_seq.specs.Windows.{after};
 ghost use Rattle.enet_fragment.specs.Cutting.{piece_length, piece_count};
-ghost use Rattle.enet_sender.specs.Sender.{piece_at};
+ghost use Rattle.enet_sender.specs.Sender.{piece_of_body};
 ghost use Rattle.enet_sender.specs.Course.{IsCourse, packet_course, start_of, fragment_of, command_of};
 
 use bytes::Bytes;
@@ -50,7 +50,7 @@ pub fn is_long(len: usize, mtu: u32) -> bool
 pub fn cut(body: &Bytes, i: u32, mtu: u32) -> Option<Bytes>
     requires low { 576 ≤ mtu }
     requires high { mtu ≤ 4096 }
-    ensures { IfSome result (λ cut. cut ≡ piece_at (piece_length mtu) body.now i) }
+    ensures { IfSome result (λ cut. cut ≡ piece_of_body (piece_length mtu) body.now i) }
 {
     let (offset, len) = piece(body, i, mtu)?;
     let (offset, len) = (offset as usize, len as usize);

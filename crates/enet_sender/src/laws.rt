@@ -4,7 +4,7 @@
 ghost use Rattle.std.specs.Prelude.{◌≡◌, ℕ, ◌+◌, Some, unwrap_or};
 ghost use Rattle.enet_seq.specs.Numbering.{Numbering};
 ghost use Rattle.enet_sender.specs.CommandChoice.{Packet};
-ghost use Rattle.enet_sender.specs.Sender.{Sender, Next, next, submitted, with_skipped, acknowledged, acknowledged_bytes, with_marked, cleared, bytes_in_transit, left};
+ghost use Rattle.enet_sender.specs.Sender.{Sender, Next, next, submitted, with_skipped, after_acknowledgement, acknowledged_bytes, with_marked, cleared, bytes_in_transit, left};
 
 /// How the payload bytes of what is sent and not acknowledged change: what is due next adds just the bytes that it tells, an
 /// acknowledgement takes out just those that it answers, `clear` takes out all, and nothing else changes them.
@@ -12,7 +12,7 @@ pub fn transit_follows()
     ensures next { (g : Numbering) (now timeout transit most : ℕ) (s : Sender) (n : Next) → next g now timeout transit most s ≡ Some n
         → bytes_in_transit n.sender ≡ bytes_in_transit s + n.added }
     ensures acknowledged { (s : Sender) (number : ℕ)
-        → bytes_in_transit (acknowledged s number) + unwrap_or (acknowledged_bytes s number) 0 ≡ bytes_in_transit s }
+        → bytes_in_transit (after_acknowledgement s number) + unwrap_or (acknowledged_bytes s number) 0 ≡ bytes_in_transit s }
     ensures submitted { (g : Numbering) (mtu : ℕ) (s : Sender) (p : Packet) → bytes_in_transit (submitted g mtu s p) ≡ bytes_in_transit s }
     ensures skipped { (s : Sender) → bytes_in_transit (with_skipped s) ≡ bytes_in_transit s }
     ensures marked { (now : ℕ) (s : Sender) → bytes_in_transit (with_marked now s) ≡ bytes_in_transit s }

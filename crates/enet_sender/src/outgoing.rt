@@ -6,14 +6,14 @@ ghost use Rattle.enet_sender.specs.declared.sent.Sent.{Sent};
 ghost use Rattle.enet_fragment.specs.Cutting.{piece_count};
 ghost use Rattle.enet_seq.specs.Numbering.{wire};
 ghost use Rattle.enet_sender.specs.CommandChoice.{fragment_limit};
-ghost use Rattle.enet_sender.specs.Sender.{next, next_queued, next_resent, acknowledged, acknowledged_bytes, with_skipped, with_marked, lateness, after_lateness, ends, is_late, cleared, left};
+ghost use Rattle.enet_sender.specs.Sender.{next, next_queued, next_resent, after_acknowledgement, acknowledged_bytes, with_skipped, with_marked, lateness, after_lateness, ends, is_late, cleared, left};
 ghost use Rattle.enet_sender.specs.Due.{new_end, with_submitted, Did};
 
 use crate::Sent;
 use crate::course::Course;
 use crate::queue::{
-    any_ends, any_late, bytes_of, kind_of, lateness, make_room, mark, may_go, place_of,
-    place_of_due, push_packet, put, send_again, send_head, skip_more,
+    any_ends, any_late, bytes_of, due_kind, lateness, make_room, mark, may_go, position_of,
+    position_of_due, push_packet, put, send_again, send_head, skip_more,
 };
 use bytes::Bytes;
 use enet_codec::Refusal;
@@ -76,7 +76,7 @@ impl Model for Outgoing {
     ghost Value = { SendingEnd };
 
     ghost use Rattle.std.specs.VecDeque.{deque_len, deque_capacity};
-    ghost use Rattle.enet_sender.specs.Kept.{KeepsEnd};
+    ghost use Rattle.enet_sender.specs.Invariant.{KeepsEnd};
 
     ghost view = { λ s. record {
       channel = s.channel;
@@ -167,7 +167,7 @@ impl Outgoing {
         if !self.may_be_due {
             return None;
         }
-        let place = place_of_due(&self.sent);
+        let place = position_of_due(&self.sent);
         self.may_be_due = place.is_some();
         place
     }
@@ -180,7 +180,7 @@ impl Outgoing {
         let Some(sent) = self.sent.get(place) else {
             unreachable!()
         };
-        let kind = kind_of(&sent.command);
+        let kind = due_kind(&sent.command);
         let Some(past) = put(buf, at, self.channel, &sent.command) else {
             return Due::NoRoom;
         };
@@ -210,7 +210,7 @@ impl Outgoing {
         if !may_go(&self.sent, head, transit, most) {
             return Due::Nothing;
         }
-        let kind = kind_of(head);
+        let kind = due_kind(head);
         let added = bytes_of(head);
         let Some(past) = put(buf, at, self.channel, head) else {
             return Due::NoRoom;
@@ -237,9 +237,9 @@ impl Outgoing {
     /// where no sent command has it.
     pub fn acknowledge(&mut self, number: u16) -> Option<u32>
         ensures bytes { result ≡ acknowledged_bytes self.old.sender number }
-        ensures removed { self.new ≡ record self.old { sender = acknowledged self.old.sender number } }
+        ensures removed { self.new ≡ record self.old { sender = after_acknowledgement self.old.sender number } }
     {
-        let place = place_of(&self.sent, number)?;
+        let place = position_of(&self.sent, number)?;
         let sent = self.sent.remove(place)?;
         Some(sent.command.body.len() as u32)
     }

@@ -10,9 +10,9 @@ ghost use Rattle.enet_fragment.specs.Cutting.{piece_count};
 ghost use Rattle.enet_fragment.specs.DataCommand.{message_of};
 ghost use Rattle.enet_fragment.specs.declared.data.DataCommand.{DataCommand};
 ghost use Rattle.enet_sender.specs.declared.sent.Sent.{Sent};
-ghost use Rattle.enet_sender.specs.Sender.{Sender, lateness, is_in_span, may_go, begun, again, is_more, is_late, ends, marked, skipped, place_of};
-ghost use Rattle.enet_sender.specs.Due.{kind_of};
-ghost use Rattle.enet_sender.specs.Kept.{IsShort, KeepsSender, TellsDue};
+ghost use Rattle.enet_sender.specs.Sender.{Sender, lateness, is_in_span, may_go, begun, again, is_more, is_late, ends, marked, skipped, position_of};
+ghost use Rattle.enet_sender.specs.Due.{due_kind};
+ghost use Rattle.enet_sender.specs.Invariant.{IsShort, KeepsSender, TellsDue};
 ghost use Rattle.enet_sender.specs.Course.{IsCourse, course_commands};
 
 use crate::course::{Course, cut};
@@ -92,7 +92,7 @@ pub fn push_packet(
 }
 
 /// The first sent command that is due to go again.
-pub fn place_of_due(sent: &VecDeque<Sent>) -> Option<usize>
+pub fn position_of_due(sent: &VecDeque<Sent>) -> Option<usize>
     ensures place { result ≡ position (λ (p : Sent). p.transmission.due) sent.now.items }
     ensures bound { IfSome result (λ place. place < deque_len sent.now) }
 {
@@ -100,8 +100,8 @@ pub fn place_of_due(sent: &VecDeque<Sent>) -> Option<usize>
 }
 
 /// Where the sent command of this number stands.
-pub fn place_of(sent: &VecDeque<Sent>, number: u16) -> Option<usize>
-    ensures { result ≡ place_of number sent.now.items }
+pub fn position_of(sent: &VecDeque<Sent>, number: u16) -> Option<usize>
+    ensures { result ≡ position_of number sent.now.items }
 {
     sent.iter().position(|sent| sent.command.number == number)
 }
@@ -136,8 +136,8 @@ fn is_more(command: &DataCommand) -> bool
 }
 
 /// How a command is carried.
-pub fn kind_of(command: &DataCommand) -> Kind
-    ensures { result ≡ kind_of command.now }
+pub fn due_kind(command: &DataCommand) -> Kind
+    ensures { result ≡ due_kind command.now }
 {
     if command.reliable {
         Kind::Reliable

@@ -1,7 +1,7 @@
 -- Which distances are inside the window, and what a wire number is read as.
 use Rattle.std.proofs.Common.{◌≡◌, ℕ, ◌+◌, ◌-◌, ◌%◌, ◌<◌, ◌≤◌, true, false, Some, None, arith}
 use Rattle.std.proofs.lemmas.Bool.Decides.{nat_tests}
-use Rattle.enet_seq.specs.Windows.{in_window, acknowledges, ahead, after, fragment_in_window, number_read}
+use Rattle.enet_seq.specs.Windows.{in_window, acknowledges, ahead, after, fragment_in_window, number_in_window}
 
 pub near_is_inside : (front number : ℕ) → front < 65536 → number < 65536 → ahead front number ≤ 24576 → in_window front number ≡ true
 near_is_inside front number front_fits number_fits near = grind (arith, nat_tests)
@@ -31,7 +31,7 @@ pub ahead_behind : (front number : ℕ) → number < front → front ≤ number 
 ahead_behind front number low high = omega arith
 
 -- a number at most 24,576 ahead of the front is read as itself
-pub read_ahead : (front number : ℕ) → front ≤ number → number ≤ front + 24576 → number_read front (number % 65536) ≡ Some number
+pub read_ahead : (front number : ℕ) → front ≤ number → number ≤ front + 24576 → number_in_window front (number % 65536) ≡ Some number
 read_ahead front number low high = grind (arith, nat_tests)
 
 -- a number 1 to 36,864 behind the front is outside the window
@@ -39,9 +39,9 @@ pub behind_is_outside : (front number : ℕ) → number < front → front ≤ nu
 behind_is_outside front number low high = grind (arith, nat_tests)
 
 -- and is read as nothing
-pub read_behind : (front number : ℕ) → number < front → front ≤ number + 36864 → number_read front (number % 65536) ≡ None
+pub read_behind : (front number : ℕ) → number < front → front ≤ number + 36864 → number_in_window front (number % 65536) ≡ None
 read_behind front number low high = grind (arith, nat_tests)
 
 -- a fragment in the window gives away its packet's start
-pub fragment_start : (front start own : ℕ) → start ≤ own → own ≤ start + 16383 → own ≤ front + 24575 → front ≤ own + 32768 → fragment_in_window (front % 65536) (start % 65536) (own % 65536) ≡ true → number_read front (start % 65536) ≡ Some start
+pub fragment_start : (front start own : ℕ) → start ≤ own → own ≤ start + 16383 → own ≤ front + 24575 → front ≤ own + 32768 → fragment_in_window (front % 65536) (start % 65536) (own % 65536) ≡ true → number_in_window front (start % 65536) ≡ Some start
 fragment_start front start own below length high low inside = grind (arith, nat_tests)

@@ -29,5 +29,5 @@ abbrev pub fragment_in_window : ℕ → ℕ → ℕ → Bool
 fragment_in_window front start own = in_window front start && in_window front own
 
 -- the true number, counted without wrapping, that a wire number stands for at a receiver whose true front is `front`
-abbrev pub number_read : ℕ → ℕ → Option ℕ
-number_read front wire = if in_window (front % 65536) wire then Some (front + ahead (front % 65536) wire) else None
+abbrev pub number_in_window : ℕ → ℕ → Option ℕ
+number_in_window front wire = if in_window (front % 65536) wire then Some (front + ahead (front % 65536) wire) else None

@@ -2,7 +2,7 @@
 //! their contracts are laws of the definitions that the other functions compute.
 
 ghost use Rattle.std.specs.Prelude.{◌≡◌, ℕ, ◌+◌, ◌%◌, ◌<◌, ◌≤◌, true, Some, None};
-ghost use Rattle.enet_seq.specs.Windows.{in_window, acknowledges, ahead, after, fragment_in_window, number_read};
+ghost use Rattle.enet_seq.specs.Windows.{in_window, acknowledges, ahead, after, fragment_in_window, number_in_window};
 
 /// Which distances ahead of the front are inside the window, and which numbers are acknowledged.
 pub fn window_reach()
@@ -30,13 +30,13 @@ pub fn distances_and_sums()
 pub fn wire_numbers_as_meant()
     // At most 24,576 ahead of the front, it is read as itself.
     ensures ahead { (front number : ℕ) → front ≤ number → number ≤ front + 24576
-        → number_read front (number % 65536) ≡ Some number }
+        → number_in_window front (number % 65536) ≡ Some number }
     // At most 32,768 behind the front, it is read as nothing.
     ensures behind { (front number : ℕ) → number < front → front ≤ number + 32768
-        → number_read front (number % 65536) ≡ None }
+        → number_in_window front (number % 65536) ≡ None }
     // The start of a fragmented packet is read as itself where a fragment of it is in the window.
     ensures fragment { (front start own : ℕ) → start ≤ own → own ≤ start + 16383
         → own ≤ front + 24575 → front ≤ own + 32768
         → fragment_in_window (front % 65536) (start % 65536) (own % 65536) ≡ true
-        → number_read front (start % 65536) ≡ Some start }
+        → number_in_window front (start % 65536) ≡ Some start }
 {}

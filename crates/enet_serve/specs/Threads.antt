@@ -7,14 +7,14 @@ use Rattle.enet_bridge.specs.declared.desk.Desk.{Desk}
 use Rattle.enet_bridge.specs.declared.inbox.Inbox.{Inbox}
 use Rattle.enet_bridge.specs.Ends.{orders}
 use Rattle.enet_bridge.specs.Holding.{desk_queue, asked}
-use Rattle.enet_chat.specs.declared.relaying.Parts.{Parts}
+use Rattle.enet_chat.specs.declared.relaying.RelayParts.{RelayParts}
 use Rattle.enet_chat.specs.declared.relaying.Relay.{Relay}
 use Rattle.enet_chat.specs.Relaying.{peers_of, backlog_of, desk_of, inbox_of}
 use Rattle.enet_shift.specs.declared.settling.Returned.{Returned}
-use Rattle.enet_serve.specs.declared.threads.Kept.{Kept}
+use Rattle.enet_serve.specs.declared.threads.Carryover.{Carryover}
 
 -- a relay that goes on from what was kept: of this desk the orders that were kept are asked
-pub record IsBegun (kept : Kept) (desk : Desk) (inbox : Inbox) (relay : Relay) : Type 0 where
+pub record IsBegun (kept : Carryover) (desk : Desk) (inbox : Inbox) (relay : Relay) : Type 0 where
   pub peers : peers_of relay ≡ kept.table
   pub backlog : backlog_of relay ≡ kept.backlog.items
   pub orders_asked : asked (desk_of relay) ≡ asked desk ++ kept.orders.items
@@ -22,11 +22,11 @@ pub record IsBegun (kept : Kept) (desk : Desk) (inbox : Inbox) (relay : Relay) :
   pub inbox_is : inbox_of relay ≡ inbox
 
 -- what both threads hand back of the queues
-abbrev pub returned : Parts → Drain → PosterState → Returned
+abbrev pub returned : RelayParts → Drain → PosterState → Returned
 returned parts drain poster = record { drain = drain; poster = poster; seat = parts.seat; taker = parts.taker }
 
 -- what is kept: all that was posted was taken, and what was asked for was given to the turns or is kept
-pub record IsLeft (parts : Parts) (drain : Drain) (poster : PosterState) (kept : Kept) : Type 0 where
+pub record IsLeft (parts : RelayParts) (drain : Drain) (poster : PosterState) (kept : Carryover) : Type 0 where
   pub peers : kept.table ≡ parts.table
   pub backlog : kept.backlog.items ≡ parts.backlog.items
   pub more_orders : length parts.orders.items ≤ length kept.orders.items

@@ -4,8 +4,8 @@ ghost use Rattle.enet_chat.specs.Relaying.{Relays, IsThrough};
 ghost use Rattle.enet_shift.specs.Shifts.{CanSettle, IsNotSettled};
 ghost use Rattle.enet_serve.specs.Threads.{IsLeft, returned};
 
-use crate::threads::{Kept, begin_relay};
-use enet_chat::Parts;
+use crate::threads::{Carryover, begin_relay};
+use enet_chat::RelayParts;
 use enet_events::Poster;
 use enet_host::HostCore;
 use enet_service::{Desk, Inbox, MioWire, QueueSink, QueueSource, Report};
@@ -38,7 +38,7 @@ pub struct Server {
     alloc: Global,
     room: u32,
     station: Station,
-    kept: Kept,
+    kept: Carryover,
 }
 
 impl Server {
@@ -65,7 +65,7 @@ impl Server {
             alloc,
             room: settings.room,
             station: Station::open(alloc, wire, config)?,
-            kept: Kept::new(alloc),
+            kept: Carryover::new(alloc),
         })
     }
 
@@ -124,7 +124,7 @@ impl Server {
             bell,
             signals,
         } = shared;
-        let kept = mem::replace(&mut self.kept, Kept::new(self.alloc));
+        let kept = mem::replace(&mut self.kept, Carryover::new(self.alloc));
         let desk = Desk::new(self.alloc, queue, ends.seat, bell);
         let inbox = Inbox::new(events, ends.taker);
         let mut relay = begin_relay(self.alloc, kept, desk, inbox)?;
@@ -182,15 +182,15 @@ fn after_shift<R: Wait>(
     rt: &R,
     alloc: Global,
     shared: Shared<'_>,
-    parts: Parts,
+    parts: RelayParts,
     drain: Drain,
     poster: Poster,
-) -> Result<Kept, Refusal>
+) -> Result<Carryover, Refusal>
     requires { CanSettle shared.queue.now shared.events.now (returned parts drain poster) }
     ensures left { IfOk result (IsLeft parts drain poster) }
     ensures refused { IfErr result IsNotSettled }
 {
-    let Parts {
+    let RelayParts {
         table,
         backlog,
         orders: waiting,
@@ -208,7 +208,7 @@ fn after_shift<R: Wait>(
     if orders.append(&mut waiting).is_err() {
         return Err(Refusal::Memory);
     }
-    Ok(Kept {
+    Ok(Carryover {
         table,
         backlog,
         orders,

@@ -11,20 +11,20 @@ use std::collections::VecDeque;
 
 /// What the relay keeps from one shift to the next: the peers, the events not expanded yet, and the orders not carried out.
 #[derive(Drop)]
-pub(crate) struct Kept {
+pub(crate) struct Carryover {
     pub(crate) table: Table,
     pub(crate) backlog: VecDeque<Event>,
     pub(crate) orders: VecDeque<Order>,
 }
 
-impl Kept {
+impl Carryover {
     ghost use Rattle.std.specs.Prelude.{◌≡◌, []};
 
     /// Nothing is kept.
-    pub(crate) fn new(alloc: Global) -> Kept
+    pub(crate) fn new(alloc: Global) -> Carryover
         ensures { (result.table ≡ []) × (result.backlog.items ≡ []) × (result.orders.items ≡ []) }
     {
-        Kept {
+        Carryover {
             table: Table::open(alloc),
             backlog: VecDeque::new(alloc),
             orders: VecDeque::new(alloc),
@@ -35,7 +35,7 @@ impl Kept {
 /// The relay of a shift: the orders that were kept are asked for first.
 pub(crate) fn begin_relay<'a>(
     alloc: Global,
-    kept: Kept,
+    kept: Carryover,
     desk: Desk<'a>,
     inbox: Inbox<'a>,
 ) -> Result<Relay<'a>, Refusal>

@@ -12,7 +12,7 @@ ghost use Rattle.enet_site.specs.Sites.{IsWhole, CallsOn};
 
 use bytes::Bytes;
 use enet_host::HostCore;
-use enet_records::{End, Records, place_of};
+use enet_records::{End, Records, position_of};
 use enet_types::{Packet, PeerRef, Refusal};
 
 /// The mtu of the peer of this name, in bytes; 0 where there is none.
@@ -79,7 +79,7 @@ pub(crate) fn submit(
         flags,
         body,
     };
-    let place = place_of(&own.ends, peer).unwrap_or(0);
+    let place = position_of(&own.ends, peer).unwrap_or(0);
     let end = &mut own.ends[place];
     submit_to(host, end, packet, mtu)
 }

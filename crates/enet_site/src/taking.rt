@@ -7,7 +7,7 @@ ghost use Rattle.enet_isolation.specs.Calls as call;
 ghost use Rattle.enet_site.specs.Sites.{IsWhole, CallsOn, told};
 
 use enet_host::HostCore;
-use enet_records::{End, Records, place_of};
+use enet_records::{End, Records, position_of};
 use enet_types::{Event, Refusal};
 
 /// An event that is no packet, twice over.
@@ -89,7 +89,7 @@ pub(crate) fn take(host: &mut HostCore, own: &mut Records) -> Result<Option<Even
     let Some(name) = host.next_event_of() else {
         return Ok(None);
     };
-    let place = place_of(&own.ends, name).unwrap_or(0);
+    let place = position_of(&own.ends, name).unwrap_or(0);
     let end = &mut own.ends[place];
     take_of(host, end)
 }

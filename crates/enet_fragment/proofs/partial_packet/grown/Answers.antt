@@ -10,8 +10,8 @@ pub returns-then-not-is_whole-clause-kept : goal.returns-then-not-is_whole-claus
 returns-then-not-is_whole-clause-kept c =
     (is_whole-refused c.add.new.self _ c.is_whole.ensures c.if-not-is_whole.true, rw c.add.ensures refl)
 
-pub told_cut-requires : goal.told_cut-requires
-told_cut-requires c = (Fits-from_test c.args.assembly c.args.place c.requires.belongs).sound.below
+pub told_piece_len-requires : goal.told_piece_len-requires
+told_piece_len-requires c = (Fits-from_test c.args.assembly c.args.place c.requires.belongs).sound.below
 
 pub returns-in-Ok-clause-ok : goal.returns-in-Ok-clause-ok
 returns-in-Ok-clause-ok c =
@@ -19,8 +19,8 @@ returns-in-Ok-clause-ok c =
     let after : PartialPacket = with_piece c.args.assembly c.args.place c.args.bytes.now in
     let count : c.args.place.count ≡ count_of c.add.new.self =
     fits.count ∙ (sym (length-set c.args.assembly.pieces c.args.place.number (Some c.args.bytes.now)) ∙ sym (ap (λ (m : PartialPacket). count_of m) c.add.ensures)) in
-    let cut : Some c.told_cut.result ≡ c.add.new.self.cut = ap Some c.told_cut.ensures ∙ sym (ap (λ (m : PartialPacket). m.cut) c.add.ensures) in
-    ap (λ n. whole_of c.in-Ok.body n (Some c.told_cut.result)) count
+    let cut : Some c.told_piece_len.result ≡ c.add.new.self.cut = ap Some c.told_piece_len.ensures ∙ sym (ap (λ (m : PartialPacket). m.cut) c.add.ensures) in
+    ap (λ n. whole_of c.in-Ok.body n (Some c.told_piece_len.result)) count
     ∙ (ap (λ t. whole_of c.in-Ok.body (count_of c.add.new.self) t) cut ∙ (c.in-Ok.ensures.whole ∙ c.add.ensures))
 
 pub returns-in-Ok-clause-kept : goal.returns-in-Ok-clause-kept

@@ -2,7 +2,7 @@ use Rattle.std.proofs.Common.{◌≡◌, ◌-◌, ◌<◌, ◌≤◌, length, re
 use Rattle.std.specs.List.{slice_get, slice_set}
 use Rattle.std.proofs.lemmas.Option.{slice_get_read}
 use Rattle.enet_outbox.specs.Outbox.{as_data, matched_on}
-use Rattle.enet_outbox.specs.Kept.{with_accepted}
+use Rattle.enet_outbox.specs.Invariant.{with_accepted}
 use Rattle.enet_outbox.proofs.Senders.{acknowledged-on, enough, keeps-accepted}
 use Rattle.enet_outbox.proofs.lists.accept.Goals as goal
 

@@ -1,6 +1,6 @@
 use Rattle.std.proofs.Common.{sym, ap, subst, ◌∙◌}
 use Rattle.std.specs.FinMap.{len}
-use Rattle.enet_packets.specs.Kept.{KeepsLine}
+use Rattle.enet_packets.specs.Invariant.{KeepsLine}
 use Rattle.enet_packets.specs.Packets.{bytes_of}
 use Rattle.enet_packets.proofs.LineLemmas.{Line, line_absent, len_nothing, bytes_nothing, nothing_kept}
 use Rattle.enet_packets.proofs.waiting.size_at.Goals as goal

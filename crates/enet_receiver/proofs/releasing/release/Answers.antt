@@ -6,7 +6,7 @@ use Rattle.enet_fragment.specs.PartialPacket.{count_of}
 use Rattle.enet_packets.specs.declared.incoming_packet.Dispatched.{Dispatched}
 use Rattle.enet_packets.specs.Packets.{line_at, fresh}
 use Rattle.enet_receiver.specs.Receiver.{Receiver, without, next_whole, all_released}
-use Rattle.enet_receiver.specs.Parts.{receiver_of}
+use Rattle.enet_receiver.specs.ReceiverParts.{receiver_of}
 use Rattle.enet_receiver.proofs.Released.{all_released-some, all_released-none, wire_begins, HavePieces-dispatched}
 use Rattle.enet_receiver.proofs.Turns.{held_after, fewer_after, turn_is, end_is}
 use Rattle.enet_receiver.proofs.releasing.release.Goals as goal

@@ -5,7 +5,7 @@ use Rattle.enet_seq.specs.Numbering.{wire}
 use Rattle.enet_packets.specs.Packets.{packets_in}
 use Rattle.enet_receiver.specs.Receiver.{all_released}
 use Rattle.enet_receiver.specs.Laws.{HavePieces}
-use Rattle.enet_receiver.specs.Parts.{receiver_of}
+use Rattle.enet_receiver.specs.ReceiverParts.{receiver_of}
 use Rattle.enet_receiver.proofs.releasing.release.Given as goal
 
 abbrev pub invariant-loop-coming : goal.invariant-loop-coming

@@ -7,7 +7,7 @@ use Rattle.enet_network.specs.Log.{reached}
 use Rattle.enet_records.proofs.numbers.note_reach.Goals as goal
 
 blank : Mark
-blank = record { kind = Data; channel = 0; number = 0; reach = 0 }
+blank = record { kind = Data; channel = 0; number = 0; sent_then = 0 }
 
 pub loop-mark-preserved : goal.loop-mark-preserved
 unfolding blank

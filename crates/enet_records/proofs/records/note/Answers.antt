@@ -10,13 +10,13 @@ use Rattle.enet_records.proofs.records.note.Goals as goal
 
 pub marks_of-marks-requires-clause-below : goal.marks_of-marks-requires-clause-below
 marks_of-marks-requires-clause-below c =
-    let p = placed c.args.ends.now c.args.name c.place_of.result c.unwrap_or-place.result c.index-ends-place.result c.place_of.ensures.first c.requires.there c.unwrap_or-place.ensures c.index-ends-place.is in
+    let p = placed c.args.ends.now c.args.name c.position_of.result c.unwrap_or-place.result c.index-ends-place.result c.position_of.ensures.first c.requires.there c.unwrap_or-place.ensures c.index-ends-place.is in
     subst (AreBelow (2 ^ 126)) (sym (c.deref_mut.ensures.value ∙ ap (λ (e : HostEnd). e.greatest) (c.own.view_is ∙ sym c.index-ends-place.is))) (c.requires.below c.index-ends-place.result p.there)
 
 pub returns : goal.returns
 returns c =
     let e = c.index-ends-place.result in
-    let p = placed c.args.ends.now c.args.name c.place_of.result c.unwrap_or-place.result e c.place_of.ensures.first c.requires.there c.unwrap_or-place.ensures c.index-ends-place.is in
+    let p = placed c.args.ends.now c.args.name c.position_of.result c.unwrap_or-place.result e c.position_of.ensures.first c.requires.there c.unwrap_or-place.ensures c.index-ends-place.is in
     let greatest = c.marks_of-marks.new.own in
     let marks = c.marks_of-marks.result.items in
     let header : Header = c.requires.read.0 in

@@ -4,7 +4,7 @@ use Rattle.enet_rtt.specs.declared.transmission.Transmission.{Transmission}
 use Rattle.enet_sender.proofs.Counting.{counted-less, counted-same}
 use Rattle.enet_sender.proofs.DueLemmas.{due-push}
 use Rattle.enet_sender.proofs.Keeping.{short-rest}
-use Rattle.enet_sender.specs.Kept.{IsShort, IsShortSent}
+use Rattle.enet_sender.specs.Invariant.{IsShort, IsShortSent}
 use Rattle.enet_sender.proofs.queue.send_head.Goals as goal
 
 pub returns-then-command-clause-kept : goal.returns-then-command-clause-kept

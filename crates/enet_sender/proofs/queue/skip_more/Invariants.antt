@@ -1,7 +1,7 @@
 use Rattle.std.proofs.Common.{◌≡◌, ◌≤◌, All}
 use Rattle.std.specs.VecDeque.{deque_len}
 use Rattle.enet_sender.specs.Sender.{skipped}
-use Rattle.enet_sender.specs.Kept.{IsShort, reliable_in}
+use Rattle.enet_sender.specs.Invariant.{IsShort, reliable_in}
 use Rattle.enet_sender.proofs.queue.skip_more.Given as goal
 
 abbrev pub invariant-loop-queued : goal.invariant-loop-queued

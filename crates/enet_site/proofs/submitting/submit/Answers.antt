@@ -8,14 +8,14 @@ use Rattle.enet_site.proofs.submitting.submit.Goals as goal
 pub submit_to-requires-clause-channel : goal.submit_to-requires-clause-channel
 submit_to-requires-clause-channel c =
     channel-inside c.own.inside.log.items c.own.inside.ends.items c.unwrap_or-place.result c.index_mut-end.result.now c.args.peer c.args.channel c.own.invariant
-    (at-place c.own.inside.ends.items c.deref.result.now c.args.peer c.place_of.result c.unwrap_or-place.result c.index_mut-end.result.now c.deref.ensures.value c.place_of.ensures.first
+    (at-place c.own.inside.ends.items c.deref.result.now c.args.peer c.position_of.result c.unwrap_or-place.result c.index_mut-end.result.now c.deref.ensures.value c.position_of.ensures.first
     (has-end c.args.host.now c.args.own.now c.own.inside.log.items c.own.inside.ends.items c.args.peer c.args.channel c.len.result c.own.view_is c.requires c.in_default.ensures.refusal)
     c.unwrap_or-place.ensures c.index_mut-end.ensures.value)
     c.ranges.channel.fits
 
 pub submit_to-requires-clause-open : goal.submit_to-requires-clause-open
 submit_to-requires-clause-open c =
-    let p = at-place c.own.inside.ends.items c.deref.result.now c.args.peer c.place_of.result c.unwrap_or-place.result c.index_mut-end.result.now c.deref.ensures.value c.place_of.ensures.first
+    let p = at-place c.own.inside.ends.items c.deref.result.now c.args.peer c.position_of.result c.unwrap_or-place.result c.index_mut-end.result.now c.deref.ensures.value c.position_of.ensures.first
     (has-end c.args.host.now c.args.own.now c.own.inside.log.items c.own.inside.ends.items c.args.peer c.args.channel c.len.result c.own.view_is c.requires c.in_default.ensures.refusal)
     c.unwrap_or-place.ensures c.index_mut-end.ensures.value in
     is-open (λ (n : PeerRef) (q : command_choice.Packet). on_named c.args.host.now.slots n (submission c.args.channel q)) c.index_mut-end.result.now.name c.args.peer c.args.flags c.args.body.now c.in-Ok.body c.len.result
@@ -25,14 +25,14 @@ pub invariant_of-own : goal.invariant_of-own
 invariant_of-own c =
     kept-submitted c.submit_to.result c.own.inside.log.items c.own.inside.ends.items c.unwrap_or-place.result c.index_mut-end.result.now c.submit_to.new.end c.args.peer c.mtu_of-mtu.result
     (record { channel = c.args.channel; flags = c.args.flags; body = c.in-Ok.body }) c.own.invariant
-    (at-place c.own.inside.ends.items c.deref.result.now c.args.peer c.place_of.result c.unwrap_or-place.result c.index_mut-end.result.now c.deref.ensures.value c.place_of.ensures.first
+    (at-place c.own.inside.ends.items c.deref.result.now c.args.peer c.position_of.result c.unwrap_or-place.result c.index_mut-end.result.now c.deref.ensures.value c.position_of.ensures.first
     (has-end c.args.host.now c.args.own.now c.own.inside.log.items c.own.inside.ends.items c.args.peer c.args.channel c.len.result c.own.view_is c.requires c.in_default.ensures.refusal)
     c.unwrap_or-place.ensures c.index_mut-end.ensures.value)
     c.submit_to.ensures.unchanged c.submit_to.ensures.keeps
 
 pub returns-clause-refused : goal.returns-clause-refused
 returns-clause-refused c =
-    let p = at-place c.own.inside.ends.items c.deref.result.now c.args.peer c.place_of.result c.unwrap_or-place.result c.index_mut-end.result.now c.deref.ensures.value c.place_of.ensures.first
+    let p = at-place c.own.inside.ends.items c.deref.result.now c.args.peer c.position_of.result c.unwrap_or-place.result c.index_mut-end.result.now c.deref.ensures.value c.position_of.ensures.first
     (has-end c.args.host.now c.args.own.now c.own.inside.log.items c.own.inside.ends.items c.args.peer c.args.channel c.len.result c.own.view_is c.requires c.in_default.ensures.refusal)
     c.unwrap_or-place.ensures c.index_mut-end.ensures.value in
     refused-so c.submit_to.result c.args.host.now c.index_mut-end.result.now.name c.args.peer c.args.channel c.args.flags c.args.body.now c.in-Ok.body p.named c.in-Ok.ensures.cases c.submit_to.ensures.refused
@@ -41,7 +41,7 @@ pub returns-clause-submits : goal.returns-clause-submits
 returns-clause-submits c =
     submitted-on c.submit_to.result c.args.host.now c.submit_to.new.host c.args.own.now c.own.inside.log.items c.own.inside.ends.items c.unwrap_or-place.result c.index_mut-end.result.now c.submit_to.new.end c.args.peer
     c.mtu_of-mtu.result c.args.channel c.args.flags c.args.body.now c.in-Ok.body c.own.view_is c.own.invariant.apart
-    (at-place c.own.inside.ends.items c.deref.result.now c.args.peer c.place_of.result c.unwrap_or-place.result c.index_mut-end.result.now c.deref.ensures.value c.place_of.ensures.first
+    (at-place c.own.inside.ends.items c.deref.result.now c.args.peer c.position_of.result c.unwrap_or-place.result c.index_mut-end.result.now c.deref.ensures.value c.position_of.ensures.first
     (has-end c.args.host.now c.args.own.now c.own.inside.log.items c.own.inside.ends.items c.args.peer c.args.channel c.len.result c.own.view_is c.requires c.in_default.ensures.refusal)
     c.unwrap_or-place.ensures c.index_mut-end.ensures.value)
     c.mtu_of-mtu.ensures c.in-Ok.ensures.cases c.submit_to.ensures.submits c.submit_to.ensures.keeps

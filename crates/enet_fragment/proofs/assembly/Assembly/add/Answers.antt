@@ -3,8 +3,8 @@ use Rattle.enet_fragment.proofs.Places.{Fits, Fits-from_test}
 use Rattle.enet_fragment.proofs.Views.{AreKept-after, making_of-after, missing-some, count_of-making, total_of-making}
 use Rattle.enet_fragment.proofs.assembly.Assembly.add.Goals as goal
 
-pub told_cut-cut-requires : goal.told_cut-cut-requires
-told_cut-cut-requires c = (Fits-from_test c.args.self.now c.args.place c.requires.belongs).sound.below
+pub told_piece_len-cut-requires : goal.told_piece_len-cut-requires
+told_piece_len-cut-requires c = (Fits-from_test c.args.self.now c.args.place c.requires.belongs).sound.below
 
 pub write_at-requires : goal.write_at-requires
 write_at-requires c =
@@ -24,9 +24,9 @@ overflow_sub-self c = missing-some _ _ _ _ c.args.self.now c.args.place c.self.i
 pub invariant_of-self : goal.invariant_of-self
 invariant_of-self c =
     AreKept-after c.self.inside.bytes.items c.args.bytes.now _ c.self.inside.came.items _ c.self.inside.cut c.args.self.now c.args.place _
-    c.write_at.ensures c.told_cut-cut.ensures c.self.invariant c.self.view_is c.requires.belongs c.requires.missing c.requires.fits
+    c.write_at.ensures c.told_piece_len-cut.ensures c.self.invariant c.self.view_is c.requires.belongs c.requires.missing c.requires.fits
 
 pub returns : goal.returns
 returns c =
     making_of-after c.self.inside.bytes.items c.args.bytes.now _ c.self.inside.came.items _ c.self.inside.cut c.args.self.now c.args.place _
-    c.write_at.ensures c.told_cut-cut.ensures c.self.invariant c.self.view_is c.requires.belongs c.requires.fits
+    c.write_at.ensures c.told_piece_len-cut.ensures c.self.invariant c.self.view_is c.requires.belongs c.requires.fits

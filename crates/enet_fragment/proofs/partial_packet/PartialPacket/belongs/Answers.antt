@@ -14,7 +14,7 @@ returns-then-is_of_size c =
     ] in
     let here = whole_seen _ _ _ _ _ c.self.view_is c.in-Whole.is in
     c.has_same_cut.ensures
-    ∙ (ap (λ n. is_same_cut c.in-Whole.cut n) c.told_cut.ensures
+    ∙ (ap (λ n. is_same_cut c.in-Whole.cut n) c.told_piece_len.ensures
     ∙ last_test c.if-is_sound.value (is_sound c.args.place && size) _ _ tests c.if-is_of_size.true
     (ap (λ (m : PartialPacket). belongs m c.args.place) (sym here) ∙ belongs-whole_of c.in-Whole.body c.in-Whole.count c.in-Whole.cut c.args.place))
 

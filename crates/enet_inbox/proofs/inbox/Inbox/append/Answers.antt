@@ -1,5 +1,5 @@
 use Rattle.std.proofs.Common.{◌<◌, ◌^◌, length, arith}
-use Rattle.enet_inbox.specs.Parts.{inbox_of}
+use Rattle.enet_inbox.specs.InboxParts.{inbox_of}
 use Rattle.enet_inbox.proofs.Keeping.{keeps_pushed, push_fits}
 use Rattle.enet_inbox.proofs.inbox.Inbox.append.Goals as goal
 

@@ -1,7 +1,7 @@
 use Rattle.std.proofs.Common.{sym, refl, ap, ◌∙◌}
 use Rattle.std.proofs.lemmas.Result.{err_from_is_err_and}
 use Rattle.enet_codec.specs.Message.{view}
-use Rattle.enet_inbox.specs.Parts.{told}
+use Rattle.enet_inbox.specs.InboxParts.{told}
 use Rattle.enet_inbox.proofs.Foresights.{arrives_stopped}
 use Rattle.enet_inbox.proofs.inbox.Inbox.data.Goals as goal
 

@@ -1,7 +1,7 @@
 use Rattle.std.proofs.Common.{◌≡◌, sym, subst}
 use Rattle.enet_inbox.specs.Inbox.{Inbox, forgotten}
-use Rattle.enet_inbox.specs.Kept.{KeepsInbox}
-use Rattle.enet_inbox.specs.Parts.{inbox_of}
+use Rattle.enet_inbox.specs.Invariant.{KeepsInbox}
+use Rattle.enet_inbox.specs.InboxParts.{inbox_of}
 use Rattle.enet_inbox.proofs.Keeping.{keeps_forgotten}
 use Rattle.enet_inbox.proofs.inbox.Inbox.forget.Goals as goal
 

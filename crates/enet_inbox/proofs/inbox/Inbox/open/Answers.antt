@@ -1,7 +1,7 @@
 use Rattle.std.proofs.Common.{◌≡◌, ◌<◌, sym, subst, arith}
 use Rattle.enet_inbox.specs.Inbox.{Inbox, empty_inbox}
-use Rattle.enet_inbox.specs.Kept.{KeepsInbox}
-use Rattle.enet_inbox.specs.Parts.{inbox_of}
+use Rattle.enet_inbox.specs.Invariant.{KeepsInbox}
+use Rattle.enet_inbox.specs.InboxParts.{inbox_of}
 use Rattle.enet_inbox.proofs.Keeping.{keeps_new}
 use Rattle.enet_inbox.proofs.inbox.Inbox.open.Goals as goal
 

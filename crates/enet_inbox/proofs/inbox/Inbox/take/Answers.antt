@@ -1,6 +1,6 @@
 use Rattle.std.proofs.Common.{◌-◌, sym, subst}
-use Rattle.enet_inbox.specs.Kept.{KeepsInbox}
-use Rattle.enet_inbox.specs.Parts.{inbox_of}
+use Rattle.enet_inbox.specs.Invariant.{KeepsInbox}
+use Rattle.enet_inbox.specs.InboxParts.{inbox_of}
 use Rattle.enet_inbox.proofs.Keeping.{keeps_popped}
 use Rattle.enet_inbox.proofs.inbox.Inbox.take.Goals as goal
 

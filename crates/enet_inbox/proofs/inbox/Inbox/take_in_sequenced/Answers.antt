@@ -5,7 +5,7 @@ use Rattle.enet_fragment.specs.DataCommand.{data_of}
 use Rattle.enet_receiver.specs.Receiver.{held_bytes}
 use Rattle.enet_inbox.specs.Inbox.{Inbox}
 use Rattle.enet_inbox.specs.DataEffect.{sequenced}
-use Rattle.enet_inbox.specs.Parts.{inbox_of}
+use Rattle.enet_inbox.specs.InboxParts.{inbox_of}
 use Rattle.enet_inbox.proofs.Outcomes.{foresight_in}
 use Rattle.enet_inbox.proofs.Keeping.{taken_at, handed_at, kept_after, held_counted, bounded}
 use Rattle.enet_inbox.proofs.inbox.Inbox.take_in_sequenced.Goals as goal

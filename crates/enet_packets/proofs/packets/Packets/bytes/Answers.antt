@@ -1,5 +1,5 @@
 use Rattle.std.proofs.Common.{sym, ◌∙◌}
-use Rattle.enet_packets.specs.Kept.{total_of}
+use Rattle.enet_packets.specs.Invariant.{total_of}
 use Rattle.enet_packets.proofs.Maps.{values-sorted}
 use Rattle.enet_packets.proofs.PacketLemmas.{bytes_bounded}
 use Rattle.enet_packets.proofs.packets.Packets.bytes.Goals as goal

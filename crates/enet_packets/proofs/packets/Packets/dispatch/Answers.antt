@@ -6,7 +6,7 @@ use Rattle.std.specs.FinMap.Entries.{where_key}
 use Rattle.std.proofs.lemmas.List.{append-nil}
 use Rattle.enet_packets.specs.declared.incoming_packet.IncomingPacket.{IncomingPacket}
 use Rattle.enet_packets.specs.declared.incoming_packet.Dispatched.{Dispatched}
-use Rattle.enet_packets.specs.Kept.{AreWholeUpTo, KeepsPackets, total_of}
+use Rattle.enet_packets.specs.Invariant.{AreWholeUpTo, KeepsPackets, total_of}
 use Rattle.enet_packets.specs.Packets.{fresh, last_fresh}
 use Rattle.enet_packets.proofs.Maps.{entries-sorted, len-sorted, retained}
 use Rattle.enet_packets.proofs.PacketLemmas.{Entries, keeps-pop, left_after, none_fresh, whole_to_last, items_step, goes, past_stay}

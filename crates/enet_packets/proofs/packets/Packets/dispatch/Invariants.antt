@@ -4,7 +4,7 @@ use Rattle.std.specs.Ordering.{nat_cmp}
 use Rattle.std.specs.BTreeMap.{btree_map_len}
 use Rattle.std.specs.FinMap.Entries.{where_key}
 use Rattle.std.specs.VecDeque.{deque_len, deque_capacity}
-use Rattle.enet_packets.specs.Kept.{AreWholeUpTo, KeepsPackets}
+use Rattle.enet_packets.specs.Invariant.{AreWholeUpTo, KeepsPackets}
 use Rattle.enet_packets.specs.Packets.{fresh}
 use Rattle.enet_packets.proofs.packets.Packets.dispatch.Given as goal
 

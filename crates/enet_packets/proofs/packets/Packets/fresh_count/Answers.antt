@@ -8,7 +8,7 @@ use Rattle.enet_packets.proofs.PacketLemmas.{Entries, count_step, left_after, le
 use Rattle.enet_packets.specs.declared.incoming_packet.Dispatched.{Dispatched}
 use Rattle.std.specs.List.Sorted.{IsStrictlySortedBy}
 use Rattle.std.specs.Map.{keys_of}
-use Rattle.enet_packets.specs.Kept.{AreWholeUpTo}
+use Rattle.enet_packets.specs.Invariant.{AreWholeUpTo}
 use Rattle.enet_packets.proofs.packets.Packets.fresh_count.Goals as goal
 
 pub loop-number-init : goal.loop-number-init

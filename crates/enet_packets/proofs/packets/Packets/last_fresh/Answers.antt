@@ -4,7 +4,7 @@ use Rattle.std.specs.FinMap.{FinMap, entries}
 use Rattle.enet_packets.specs.declared.incoming_packet.IncomingPacket.{IncomingPacket}
 use Rattle.std.specs.List.Sorted.{IsStrictlySortedBy}
 use Rattle.std.specs.Map.{keys_of}
-use Rattle.enet_packets.specs.Kept.{AreWholeUpTo}
+use Rattle.enet_packets.specs.Invariant.{AreWholeUpTo}
 use Rattle.enet_packets.specs.Packets.{last_fresh}
 use Rattle.enet_packets.proofs.PacketLemmas.{Entries, last_step, left_after, none_fresh_after}
 use Rattle.enet_packets.proofs.Maps.{entries-sorted}

@@ -3,7 +3,7 @@ use Rattle.std.specs.FinMap.{entries}
 use Rattle.std.specs.Ordering.{nat_cmp}
 use Rattle.std.specs.List.Sorted.{IsStrictlySortedBy}
 use Rattle.std.specs.Map.{keys_of}
-use Rattle.enet_packets.specs.Kept.{AreWholeUpTo}
+use Rattle.enet_packets.specs.Invariant.{AreWholeUpTo}
 use Rattle.enet_packets.specs.Packets.{last_fresh}
 use Rattle.enet_packets.proofs.packets.Packets.last_fresh.Given as goal
 

@@ -2,7 +2,7 @@ use Rattle.std.proofs.Common.{◌≡◌, ◌-◌, Some, sym, subst, ◌∙◌, a
 use Rattle.std.specs.Ordering.{nat_cmp}
 use Rattle.std.specs.Map.{lookup}
 use Rattle.std.specs.BTreeMap.{is_at}
-use Rattle.enet_packets.specs.Kept.{KeepsPackets, total_of}
+use Rattle.enet_packets.specs.Invariant.{KeepsPackets, total_of}
 use Rattle.enet_packets.proofs.Maps.{get-from, removed}
 use Rattle.enet_packets.proofs.PacketLemmas.{keeps-remove, bytes_removed}
 use Rattle.enet_packets.proofs.packets.Packets.remove.Goals as goal

@@ -1,4 +1,4 @@
-use Rattle.enet_receiver.specs.Parts.{receiver_of}
+use Rattle.enet_receiver.specs.ReceiverParts.{receiver_of}
 use Rattle.enet_receiver.proofs.Keeping.{Keeps-cleared}
 use Rattle.enet_receiver.proofs.incoming.Incoming.clear.Goals as goal
 

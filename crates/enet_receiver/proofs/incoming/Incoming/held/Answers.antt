@@ -1,5 +1,5 @@
 use Rattle.std.proofs.Common.{arith}
-use Rattle.enet_receiver.specs.Parts.{receiver_of}
+use Rattle.enet_receiver.specs.ReceiverParts.{receiver_of}
 use Rattle.enet_receiver.proofs.Bounds.{bytes_fit}
 use Rattle.enet_receiver.proofs.incoming.Incoming.held.Goals as goal
 

@@ -13,5 +13,5 @@ returns-then-not-self-clause-place c =
 pub invariant_of-self : goal.invariant_of-self
 invariant_of-self c = record {
   lists = c.self.invariant.lists;
-  due = rw c.is_some-self-inside.ensures (due-found c.self.inside.sent.items _ c.place_of_due-place.ensures.place);
+  due = rw c.is_some-self-inside.ensures (due-found c.self.inside.sent.items _ c.position_of_due-place.ensures.place);
 }

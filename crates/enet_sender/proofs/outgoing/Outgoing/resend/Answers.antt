@@ -16,7 +16,7 @@ returns c =
     rw (← c.self.view_is, there) (
       c.in-Some-put.ensures.some,
       refl,
-      c.kind_of-kind.ensures,
+      c.due_kind-kind.ensures,
       λ i. record {
         channel = c.self.inside.channel;
         sender = record { number = c.self.inside.number; unreliable = c.self.inside.unreliable; queued = c.self.inside.queued.items; sent = c.send_again.ensures.sent p there i };

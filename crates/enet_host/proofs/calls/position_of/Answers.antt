@@ -1,5 +1,5 @@
 use Rattle.enet_host.proofs.Slots.{found-at}
-use Rattle.enet_host.proofs.calls.place_of.Goals as goal
+use Rattle.enet_host.proofs.calls.position_of.Goals as goal
 
 pub returns-in-Some-clause-found : goal.returns-in-Some-clause-found
 returns-in-Some-clause-found c =

@@ -64,7 +64,7 @@ pub record IsFit (e : End) : Type 0 where
   pub peer : PeerFits e.submitted e.peer
 
 -- what both ends keep; `joined` says that they were connected from the start
-pub record Kept (joined : Bool) (c : Connection) : Type 0 where
+pub record Invariant (joined : Bool) (c : Connection) : Type 0 where
   pub both : AreLinked c.one c.two
   pub one : IsFit c.one
   pub two : IsFit c.two

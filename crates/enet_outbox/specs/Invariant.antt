@@ -2,7 +2,7 @@
 use Rattle.std.specs.Prelude.{◌≡◌, ℕ, ◌≤◌, Bool, true, IsTrue, List, length, sum_by, Option, Some, None, slice_set}
 use Rattle.std.specs.List.{list_all}
 use Rattle.enet_control.specs.Controlling.{is_idle}
-use Rattle.enet_sender.specs.Sender.{bytes_in_transit, acknowledged}
+use Rattle.enet_sender.specs.Sender.{bytes_in_transit, after_acknowledgement}
 use Rattle.enet_sender.specs.Due.{SendingEnd}
 use Rattle.enet_outbox.specs.Outbox.{Outbox, has_no_packet, has_no_reliable}
 
@@ -30,4 +30,4 @@ pub record HasNothing (o : Outbox) : Type 0 where
 -- an acknowledgement of a channel's command comes
 abbrev pub with_accepted : List SendingEnd → ℕ → ℕ → Option SendingEnd → List SendingEnd
 with_accepted senders channel number None = senders
-with_accepted senders channel number (Some s) = slice_set senders channel (record s { sender = acknowledged s.sender number })
+with_accepted senders channel number (Some s) = slice_set senders channel (record s { sender = after_acknowledgement s.sender number })
