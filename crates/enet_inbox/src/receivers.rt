@@ -1,6 +1,6 @@
 //! A peer's receivers, by channel.
 
-ghost use Rattle.std.specs.Prelude.{◌≡◌, ◌^◌, ◌<◌, map, sum_by, IfOk, IfErr};
+ghost use Rattle.std.specs.Prelude.{◌≡◌, ◌^◌, ◌<◌, map, IfOk, IfErr};
 ghost use Rattle.std.specs.List.{range_with_len};
 ghost use Rattle.enet_receiver.specs.Foresight.{new_end};
 ghost use Rattle.enet_inbox.specs.Inbox.{cleared_receiver};

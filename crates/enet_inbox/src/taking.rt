@@ -1,6 +1,6 @@
 //! How what comes is put to the packets that wait to be taken.
 
-ghost use Rattle.std.specs.Prelude.{◌≡◌, ◌+◌, ◌++◌, ◌≤◌, [], ◌∷◌, All, IsTrue, IfSome, IfNone, false, length, map, sum_by};
+ghost use Rattle.std.specs.Prelude.{◌≡◌, ◌+◌, ◌++◌, ◌≤◌, [], ◌∷◌, All, IsTrue, IfSome, IfNone, false, length, map};
 ghost use Rattle.std.specs.VecDeque.{deque_len, deque_capacity};
 ghost use Rattle.enet_codec.specs.Message.{view};
 ghost use Rattle.enet_types.specs.declared.packet.Packet.{Packet};

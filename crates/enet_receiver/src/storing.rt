@@ -1,6 +1,6 @@
 //! Where a piece goes that is taken in.
 
-ghost use Rattle.std.specs.Prelude.{◌≡◌, ℕ, ◌+◌, ◌≤◌, ◌<◌, ◌^◌, IsTrue, OnOk, OnErr, IfOk, length, true, false, None};
+ghost use Rattle.std.specs.Prelude.{◌≡◌, ◌+◌, ◌≤◌, ◌<◌, ◌^◌, IsTrue, OnOk, OnErr, IfOk, length, true, false, None};
 ghost use Rattle.std.specs.FinMap.{get, insert, len};
 ghost use Rattle.std.specs.VecDeque.{deque_len, deque_capacity};
 ghost use Rattle.enet_fragment.specs.Place.{is_sound};
