@@ -1,5 +1,5 @@
 -- The stages together, and the datagram that they make.
-use Rattle.std.proofs.Common.{◌≡◌, ℕ, zero, suc, ◌+◌, ◌-◌, ◌<◌, ◌≤◌, ◌%◌, List, [], ◌∷◌, ◌++◌, length, take, map, flat_map, refl, sym, ap, ◌∙◌, subst, arith, Bool, true, false, cond, Option, Some, None, slice_range, unwrap_or, option_map}
+use Rattle.std.proofs.Common.{◌≡◌, ℕ, ◌+◌, ◌-◌, ◌<◌, ◌≤◌, ◌%◌, List, [], ◌∷◌, ◌++◌, length, take, map, flat_map, refl, sym, ap, ◌∙◌, subst, arith, false, Option, Some, None, slice_range, unwrap_or, option_map}
 use Rattle.std.specs.List.{range_with_len, list_any}
 use Rattle.std.proofs.lemmas.List.{length-append, length-take, take-append-le}
 use Rattle.enet_codec.specs.declared.header.Header.{Header}

@@ -1,6 +1,6 @@
 //! What an outbox's lists do.
 
-ghost use Rattle.std.specs.Prelude.{◌≡◌, ℕ, ◌+◌, ◌-◌, ◌≤◌, ◌<◌, ◌⊎◌, ◌↔◌, Some, None, IsErrAnd, IsTrue, IfOk, IfErr, OnOk, false, length, map, slice_get, slice_set};
+ghost use Rattle.std.specs.Prelude.{◌≡◌, ℕ, ◌+◌, ◌-◌, ◌≤◌, ◌<◌, ◌⊎◌, ◌↔◌, Some, IsErrAnd, IsTrue, IfOk, IfErr, OnOk, false, length, map, slice_get, slice_set};
 ghost use Rattle.std.specs.List.{range_with_len, list_all, list_any};
 ghost use Rattle.std.specs.VecDeque.{deque_len, deque_capacity};
 ghost use Rattle.enet_sender.specs.Sender as sender;
