@@ -89,8 +89,9 @@ pub struct Fragment {
     pub offset: u32,
 }
 
-/// A command of ENet 1.3. A payload lies in the datagram that the command was read from; its length is a field of 16 bits
-/// on the wire, so a payload has at most 65,535 bytes.
+/// A command of ENet 1.3: its `head`, and what it says. A `payload` is the bytes of a packet or of one fragment, borrowed from
+/// the datagram that the command was read from, or from what is to be written. Its length is a field of 16 bits on the wire,
+/// so it has at most 65,535 bytes.
 #[derive(Clone, Copy)]
 pub enum Command<'a> {
     /// Command 1: a command with ACKNOWLEDGE came. Channel and number of the head are those of that command.

@@ -6,8 +6,8 @@
 //! changes no other byte, and answers None with nothing changed exactly where it doesn't fit (`write_command`: `written`,
 //! `fits`, `unchanged`, `spells`). No spelling begins another's, so what was written is read again, whatever follows
 //! (`one_spelling`). The same of headers (`read_header`, `write_header`, `one_header`), of lists of commands and of whole
-//! datagrams (`what_is_written_is_spelled`, `one_datagram`). What 'spells' means is specs/Message
-//! and specs/Header, a line a command.
+//! datagrams (`what_is_written_is_spelled`, `one_datagram`). What 'spells' means is specs/Message and specs/Header, a line a
+//! command.
 //! Only tested, by `check_captures`: that these definitions are ENet 1.3's, on 446 captured datagrams of the reference
 //! library.
 #![tactic(auto)]

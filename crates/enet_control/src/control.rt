@@ -13,7 +13,9 @@ const CHANNEL: u8 = 0xFF;
 /// What one end tells the other of the connection itself.
 #[derive(Clone, Copy)]
 pub enum Control {
+    /// A client asks for a connection.
     Connect(Offer),
+    /// A server answers that.
     VerifyConnect(Verify),
     /// The end of the connection, with a word for the other end's user.
     Disconnect {
@@ -23,13 +25,14 @@ pub enum Control {
     DisconnectNow {
         info: u32,
     },
+    /// Asks for nothing but its acknowledgement.
     Ping,
-    /// The sender's bandwidths, in bytes per second.
+    /// The sender's bandwidths, in bytes per second; 0 says that no limit is known.
     BandwidthLimit {
         incoming: u32,
         outgoing: u32,
     },
-    /// The throttle's interval in milliseconds, and by how much it moves.
+    /// The throttle's interval in milliseconds, and by how much it rises and falls in one move, of 32.
     ThrottleConfigure {
         interval: u32,
         acceleration: u32,
@@ -40,13 +43,16 @@ pub enum Control {
 /// A command with its number.
 #[derive(Clone, Copy)]
 pub struct Numbered {
+    /// Its number on channel 0xFF, modulo 65536.
     pub number: u16,
+    /// What it tells.
     pub control: Control,
 }
 
 /// A command that was sent and is not acknowledged yet.
 #[derive(Clone, Copy)]
 pub struct SentControl {
+    /// The command, which keeps its number however often it is sent.
     pub command: Numbered,
     /// How it was sent so far.
     pub transmission: Transmission,

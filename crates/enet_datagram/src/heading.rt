@@ -8,6 +8,7 @@ use crate::bytes_after;
 use enet_codec::{Command, Header, Offer, read_command, read_header};
 use enet_types::Stop;
 
+/// The bit of the first byte that says that the datagram is compressed.
 const COMPRESSED: u8 = 0x40;
 
 /// The header of a datagram, and all that stands behind it. S1 where the datagram has fewer than two bytes; S2 where it is

@@ -8,7 +8,8 @@ use crate::{FRAGMENT_LIMIT, FRAGMENT_OVERHEAD};
 use bytes::Bytes;
 
 /// How many pieces a packet of so many bytes is cut into: the least number of pieces of at most `mtu - 28` bytes, and 1
-/// for an empty packet (ENet 1.3). None exactly where that is above the limit of 16,384 (our profile).
+/// for an empty packet (ENet 1.3). `mtu` is 576 to 4,096. None exactly where the number is above the limit of 16,384 (our
+/// profile).
 #[tactic(auto, unfolding(crate::specs::Cutting::planned, crate::specs::Cutting::piece_count))]
 pub fn plan(len: usize, mtu: u32) -> Option<u32>
     requires low { 576 ≤ mtu }
@@ -28,8 +29,8 @@ pub fn plan(len: usize, mtu: u32) -> Option<u32>
     }
 }
 
-/// Where piece `i` of a body begins, and how many bytes it has. The pieces have `mtu - 28` bytes each, and the last one
-/// has the rest. None past the last piece, and where `plan` gives none.
+/// Where piece `i` of a body, from 0, begins, and how many bytes it has. The pieces have `mtu - 28` bytes each, and the last
+/// one has the rest. `mtu` is 576 to 4,096. None past the last piece, and where `plan` gives none.
 #[tactic(auto, unfolding(crate::specs::Cutting::piece_span, crate::specs::Cutting::planned, crate::specs::Cutting::piece_count))]
 pub fn piece(body: &Bytes, i: u32, mtu: u32) -> Option<(u32, u32)>
     requires low { 576 ≤ mtu }

@@ -23,8 +23,8 @@ impl Place {
     ghost use Rattle.enet_fragment.specs.Place.{is_sound, is_even, told_piece_len};
 
     /// Whether some packet that is cut evenly has this piece: its number is below the count, the piece ends within the packet
-    /// (ENet 1.3), the count is at most the limit of 16,384, and the cut that it tells has it (our profile). It
-    /// is evenly cut where all pieces but the last have one length, and the last one has the rest.
+    /// (ENet 1.3), the count is at most the limit of 16,384, and the cut that it tells has it (our profile). A packet is cut
+    /// evenly where all pieces but the last have one length, and the last one has the rest.
     #[tactic(auto, unfolding(crate::specs::Place::is_sound))]
     pub fn is_sound(self) -> bool
         ensures value { result ≡ is_sound self }

@@ -160,7 +160,7 @@ impl Inbox {
         Some(packet)
     }
 
-    /// The packet that `take` would give.
+    /// The packet that `take` would give; None where none waits.
     pub fn next(&self) -> Option<&Packet>
         ensures { option_copied result ≡ slice_get self.now.untaken 0 }
     {

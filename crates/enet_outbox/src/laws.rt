@@ -16,7 +16,7 @@ pub fn what_goes_is_spelled()
         → SpellsDatagram (take len buf) (masked (header_for now to messages)) messages }
 {}
 
-/// Where an acknowledgement waits, the next datagram begins with the one that waits longest.
+/// Where an acknowledgement waits and the mtu is at least 12 bytes, the next datagram begins with the one that waits longest.
 pub fn oldest_goes_first()
     ensures { (pace : Pace) (o : Outbox) (a : Acknowledgement) (rest : List Acknowledgement) → 12 ≤ pace.mtu → o.acknowledgements ≡ a ∷ rest
         → (more : List Message) × ((filled pace o).messages ≡ acknowledgement_of a ∷ more) }

@@ -6,7 +6,9 @@ use enet_control::Control;
 /// An acknowledgement that waits to be put out.
 #[derive(Clone, Copy)]
 pub struct Acknowledgement {
+    /// The channel of the command that came; 0xFF for one that concerns the connection itself.
     pub channel: u8,
+    /// The reliable number of that command.
     pub number: u16,
     /// The sent time of the datagram that brought the command, in milliseconds modulo 65,536.
     pub time: u16,
@@ -15,9 +17,11 @@ pub struct Acknowledgement {
 /// An unsequenced packet that waits to be put out.
 #[derive(Drop)]
 pub struct Unsequenced {
+    /// The channel on which it was submitted.
     pub channel: u8,
     /// Its number among the unsequenced packets to this peer, modulo 65536, from 1 on.
     pub group: u16,
+    /// Its bytes.
     pub body: Bytes,
 }
 

@@ -6,14 +6,14 @@ ghost use Rattle.enet_outbox.specs.Outbox.{transit_of};
 use crate::Outbox;
 
 impl Outbox {
-    /// How many payload bytes are sent and not acknowledged.
+    /// How many payload bytes of reliable packets are sent and not acknowledged.
     pub fn in_transit(&self) -> u32
         ensures { result ≡ transit_of self.now.outbox }
     {
         self.transit
     }
 
-    /// How much of the unreliable packets goes, in parts of 32.
+    /// The throttle, 0 to 32: of 32 unreliable or unsequenced packets in a row one more than it says goes, and all from 31 on.
     pub fn throttle(&self) -> u32
         ensures { result ≡ self.now.outbox.throttle.value }
     {

@@ -165,7 +165,7 @@ impl Packets {
         self.bytes
     }
 
-    /// The packet of this number.
+    /// The packet of this number, if there is one.
     pub fn get(&self, number: u16) -> Option<&IncomingPacket>
         ensures { option_copied result ≡ map.get self.now number }
     {
@@ -206,7 +206,7 @@ impl Packets {
         Ok(())
     }
 
-    /// Takes the packet of this number out.
+    /// Takes the packet of this number out. None, with nothing changed, where there is none.
     pub fn remove(&mut self, number: u16) -> Option<IncomingPacket>
         ensures value { result ≡ map.get self.old number }
         ensures rest { self.new ≡ map.remove self.old number }

@@ -245,7 +245,7 @@ impl Waiting {
         self.bytes
     }
 
-    /// The packet of unreliable number `count` in the line of `number`.
+    /// The packet of unreliable number `count` in the line of `number`, if there is one.
     pub fn get(&self, number: u16, count: u16) -> Option<&IncomingPacket>
         ensures { option_copied result ≡ map.get (line_at self.now number) count }
     {
@@ -290,7 +290,7 @@ impl Waiting {
         add_piece(&mut self.lines, number, count, place, bytes)
     }
 
-    /// Takes the line of a number out.
+    /// Takes the line of a number out, with all its packets; where there is none, nothing changes.
     pub fn forget(&mut self, number: u16)
         ensures rest { self.new ≡ map.remove self.old number }
         ensures fewer { packets_in self.new ≤ packets_in self.old }

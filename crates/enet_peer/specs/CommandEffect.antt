@@ -108,7 +108,8 @@ on_match (matched.Control what) p now channel number time =
 abbrev pub on_acknowledge : Peering → ℕ → ℕ → ℕ → ℕ → Peering
 on_acknowledge p now channel number time = on_match (matched_by p.outbox channel number) p now channel number time
 
--- a client's connection stands; VERIFY_CONNECT is the acknowledgement of its CONNECT, which is all that it had to send
+-- a server's answer comes to a client. Where it isn't accepted, the connection has ended; else it stands, and the answer is the
+-- acknowledgement of CONNECT, which is all that the client had to send
 abbrev pub welcomed : Peering → Verify → Option Terms → Peering
 welcomed p v None = ended p 0
 welcomed p v (Some terms) = record p {
@@ -137,7 +138,7 @@ on_disconnect_in state.Disconnecting p answerable info = ended p info
 on_disconnect_in state.Answering p answerable info = freed p
 on_disconnect_in _ p answerable info = p
 
--- the other end tells its bandwidths
+-- the other end tells its incoming bandwidth, in bytes per second, by which the window goes
 abbrev pub on_bandwidth : Peering → ℕ → Peering
 on_bandwidth p incoming = record p {
   other_incoming = incoming;

@@ -11,6 +11,7 @@ pub enum PeerState {
     Connecting,
     /// A server has answered, and waits for the client's acknowledgement.
     Answering,
+    /// The connection stands.
     Connected,
     /// The user has asked for the end; what is queued and unacknowledged goes first.
     DisconnectLater,

@@ -34,7 +34,7 @@ impl Peer {
         self.outbox.in_transit()
     }
 
-    /// How much of its unreliable packets goes, in parts of 32.
+    /// The throttle, 0 to 32: of 32 unreliable or unsequenced packets in a row one more than it says goes, and all from 31 on.
     pub fn throttle(&self) -> u32
         ensures { result ≡ self.now.peer.outbox.throttle.value }
     {

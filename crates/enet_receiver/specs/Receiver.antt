@@ -44,7 +44,8 @@ unfoldable pub without : {X : Type 0} → Numbering → FinMap nat_cmp X → ℕ
 without g packets number zero = packets
 without g packets number (suc count) = remove (without g packets number count) (g.after number count)
 
--- the front goes to the last number of the packet just past it: what is held for its numbers goes, and what waits for a number before that
+-- the front goes to the last number of the packet just past it: what is held for its numbers goes, and what waits for a number
+-- before that
 abbrev pub with_passed : Numbering → Receiver → IncomingPacket → Receiver
 with_passed g r c = record {
   front = g.after r.front (count_of c.making);

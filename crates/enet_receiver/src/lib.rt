@@ -9,7 +9,8 @@
 //! data command a command is). Laws: as many turns as packets are held are enough to dispatch all that is due
 //! (`turns_suffice`), and what was dispatched before makes no difference (`earlier_dispatches_do_not_matter`); what comes in
 //! sequence never has the flags 2 of an unsequenced packet (`sequenced_has_other_flags`).
-//! Only tested, in `check_numbers` and `check_peer`: that calls succeed with ample memory, and the worked scripts of one channel.
+//! Only tested, in `check_numbers` and `check_peer`: that calls succeed with ample memory, and the worked scripts of one
+//! channel.
 #![tactic(auto)]
 
 mod arriving_data;

@@ -24,8 +24,8 @@ is_flagged_unreliable_fragment p = p.flags / 8 % 2 == 1
 abbrev pub is_long : ℕ → Packet → Bool
 is_long mtu p = nat_lt (piece_length mtu) (length p.body)
 
--- whether a packet goes reliable, `count` unreliable packets having been submitted since the last reliable one: it asks for it, or
--- the unreliable numbers are used up, or it is long and doesn't ask for unreliable fragments
+-- whether a packet goes reliable, `count` unreliable packets having been submitted since the last reliable one: it asks for it,
+-- or the unreliable numbers are used up, or it is long and doesn't ask for unreliable fragments
 abbrev pub goes_reliable : ℕ → ℕ → Packet → Bool
 goes_reliable mtu count p = is_flagged_reliable p || count == 65535 || (is_long mtu p && not (is_flagged_unreliable_fragment p))
 

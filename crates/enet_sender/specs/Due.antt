@@ -28,7 +28,7 @@ with_submitted mtu e flags body = record e { sender = submitted wire mtu e.sende
 abbrev pub due_kind : DataCommand → Kind
 due_kind c = if c.reliable then kind.Reliable else (if is_more c then kind.More else kind.Begins)
 
--- what is written has its numbers in their ranges, so its bytes spell it
+-- what a call did, by what was due and what it answers: what is written has its numbers in their ranges, so its bytes spell it
 abbrev pub Did : Option Next → Due → SendingEnd → SendingEnd → List ℕ → ℕ → List ℕ → Type 0
 Did (Some n) (due.Sent past added kind) old new from at to =
     Puts from at (canonical (message_of old.channel n.command)) to past

@@ -45,7 +45,7 @@ pub fn is_long(len: usize, mtu: u32) -> bool
     len > (mtu - FRAGMENT_OVERHEAD) as usize
 }
 
-/// Piece `i` of a body, sharing its bytes; None for want of memory.
+/// Piece `i` of a body, sharing its bytes; None for want of memory, and where `piece` gives none.
 #[tactic(auto, unfolding(enet_fragment::specs::Cutting::piece_span, enet_fragment::specs::Cutting::planned, enet_fragment::specs::Cutting::piece_count))]
 pub fn cut(body: &Bytes, i: u32, mtu: u32) -> Option<Bytes>
     requires low { 576 ≤ mtu }

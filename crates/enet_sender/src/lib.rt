@@ -5,8 +5,8 @@
 //! commands and their numbers, all or none; E5 exactly above 16,384 pieces, `too_large`; a refused body comes back and
 //! nothing has changed, `refused`), `next_due` (the first due resend, else the head of the queue exactly where the sender's
 //! span and the bytes in transit let it go, written where it fits; NoRoom and Nothing change nothing), `skip`,
-//! `acknowledge`, `late`, `clear`, `left`. Laws: how the bytes in transit change (`transit_follows`) and what stays left
-//! (`reliable_stays_left`).
+//! `acknowledge`, `late`, `ends`, `is_late`, `mark`, `clear`, `left`. Laws: how the bytes in transit change
+//! (`transit_follows`) and what stays left (`reliable_stays_left`).
 //! Only tested, by `check_peer`: that calls succeed with ample memory, and worked rows.
 #![tactic(auto)]
 

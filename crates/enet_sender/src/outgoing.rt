@@ -37,7 +37,8 @@ pub enum Kind {
 /// What `next_due` did.
 #[derive(Clone, Copy)]
 pub enum Due {
-    /// A command was written, which ends before `past`; `added` payload bytes are new in transit.
+    /// A command was written, which ends before `past` and is carried as `kind` says; `added` payload bytes are new in
+    /// transit.
     Sent { past: usize, added: u32, kind: Kind },
     /// A command may go, and does not fit.
     NoRoom,

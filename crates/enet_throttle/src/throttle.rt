@@ -6,9 +6,8 @@ ghost use Rattle.enet_throttle.specs.Throttle.{start, after_sample, moved, next_
 use std::marker::Model;
 
 /// The packet throttle of a peer: of 32 unreliable or unsequenced packets in a row one more than it says goes out, and all
-/// from 31 on.
-/// Samples of the round trip move it, between 0 and its limit, which is at most 32. It remembers the lowest round trip and
-/// the highest variance of an interval.
+/// from 31 on. Samples of the round trip move it, between 0 and its limit, which is at most 32. It remembers the lowest round
+/// trip and the highest variance of an interval.
 #[derive(Clone, Copy)]
 pub struct Throttle {
     value: u32,
@@ -137,8 +136,8 @@ impl Throttle {
         }
     }
 
-    /// Whether the next unreliable or unsequenced packet goes out. A counter, 0 at first, goes on by 7 modulo 32; a packet goes where
-    /// the counter isn't above the throttle (our profile).
+    /// Whether the next unreliable or unsequenced packet goes out. A counter, 0 at first, goes on by 7 modulo 32; a packet goes
+    /// where the counter isn't above the throttle (our profile).
     pub fn admits(&mut self) -> bool
         ensures answer { result ≡ is_admitted self.old }
         ensures counted { self.new ≡ record self.old { counter = next_counter self.old } }

@@ -32,8 +32,7 @@ pub enum Event {
     /// A packet came.
     Receive { peer: PeerRef, packet: Packet },
     /// The connection has ended. `info` is the word of the other end's DISCONNECT, 0 where this end's own was acknowledged or
-    /// the peer timed out.
-    /// Once the event is taken the peer's name is spent.
+    /// the peer timed out. Once the event is taken the peer's name is spent.
     Disconnect { peer: PeerRef, info: u32 },
     /// An order taken from the submit queue was refused: the seat that submitted it, its number there and the reason. A
     /// service makes it; a host never does.

@@ -70,8 +70,8 @@ impl Groups {
         past_base < REACH && !(past_base < BLOCK_SIZE && self.marks[past_base as usize])
     }
 
-    /// Marks a group that is dispatched. A group of another block of 1,024 moves the base to its block
-    /// and clears the marks of the block before (ENet 1.3).
+    /// Marks a group that is dispatched, so one that passes `check`. A group of another block of 1,024 moves
+    /// the base to its block and clears the marks of the block before (ENet 1.3).
     pub fn mark(&mut self, group: u16)
         requires { IsTrue (dispatches self.old group) }
         ensures { self.new ≡ mark self.old group }
