@@ -4,8 +4,8 @@
 //! packet goes once to each other peer of the table and never back to its sender. Of the thread that relays (`Relays`): the events
 //! that it took are, in order, those that it expanded and those that wait; what was asked for is, in order, what the expanded ones
 //! give; after every refusal too; and it ends well only where it found no event, with all expanded unless orders wait for room.
-//! Only tested: that the calls succeed where there is memory, and, by scripts/check-clients.sh through `enet_relay serve`, that the
-//! thread gets on. Neither: that the bodies of the orders share their bytes, so that no copy is made, and that a call with Wait
+//! Only tested: by `check_queues`, that the calls succeed where there is memory; by scripts/check-clients.sh through `enet_relay serve`,
+//! that the thread gets on. Neither: that the bodies of the orders share their bytes, so that no copy is made, and that a call with Wait
 //! returns.
 #![tactic(auto)]
 

@@ -12,7 +12,7 @@ use Rattle.enet_peer.specs.declared.parts.PeerEvent.TheVariants as told
 use Rattle.enet_peer.specs.Peering.{Peering}
 use Rattle.enet_link.specs.Greatest.{greatest_after}
 
--- a command that was put out: `reach` is the greatest number sent on its channel, just after its datagram, by the end that numbers it;
+-- a command that was put out: `sent_then` is the greatest number sent on its channel, just after its datagram, by the end that numbers it;
 -- an acknowledgement is numbered by the end that sent its command
 pub record Put : Type 0 where
   pub message : Message

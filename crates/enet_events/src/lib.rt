@@ -6,8 +6,8 @@
 //! were posted, with E9 and None come a state of the queue, full or empty, that fits all that the token knows; `settle`
 //! answers an account exactly where every token is back and all is taken, and then the takers' lists are the posted list
 //! shared out (`IsSharedOut`).
-//! Only tested: that E9 and None aren't answered needlessly, that threads get on (one poster of 4,000 events and four
-//! takers, fifty times), and, by hand, want of memory in `open` (1 to 5).
+//! Only tested, by `check_queues`: that E9 and None aren't answered needlessly, that threads get on (one poster of 4,000 events
+//! and four takers, fifty times), and, by hand, want of memory at each of the five growths of `open`.
 //! Neither: who takes which event, that anything is taken, and how long a call takes.
 #![tactic(auto)]
 

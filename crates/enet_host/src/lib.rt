@@ -14,8 +14,7 @@
 //! `set_bandwidth` are one change on each slot; once a second the outgoing bandwidth is shared out among the connected peers.
 //! No slot of any host holds a peer that is free (`HostCore::keeps`). Want of memory, of which no clause can say when it comes,
 //! changes nothing.
-//! Only tested, by `check_hosts`: that calls succeed with ample memory, worked scripts,
-//! captured files, foreign bytes.
+//! Only tested, by `check_hosts`: that calls succeed with ample memory, worked scripts, captured files, foreign bytes.
 #![tactic(auto)]
 
 mod calls;

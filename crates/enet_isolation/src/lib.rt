@@ -1,6 +1,9 @@
 //! The law of isolation: the peers of one host share nothing but what is said here. No code but the law.
 //!
 //! It speaks of the definitions that the contracts of `enet_host::HostCore` and `enet_peer::Peer` name.
+//!
+//! Proved over every list of calls, with no premise on other connections: the peer of each name is where one peer alone would be after
+//! what fell to it (`isolation`), and so it is at any host that there is (`isolation_of`).
 #![tactic(auto)]
 
 ghost use Rattle.enet_isolation.specs.Ends.{Matches};

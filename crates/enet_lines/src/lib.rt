@@ -2,6 +2,7 @@
 //!
 //! Proved: `read_line` gives what specs/Lines says that a line spells, no more and no less; `answer_text` and `outcome_text` give
 //! the text that specs/Answers says. Only want of memory keeps them from it.
+//! Only tested, by scripts/rows: that there is memory for it, and worked lines with their answers.
 #![tactic(auto)]
 
 mod answer;

@@ -8,12 +8,12 @@ use Rattle.enet_fragment.specs.declared.data.DataCommand.{DataCommand}
 use Rattle.enet_receiver.specs.Receiver.{Receiver}
 use Rattle.enet_receiver.specs.DataOutcome.{received}
 
--- a command that was put out: reach is the greatest number sent just after its datagram
+-- a command that was put out: `sent_then` is the greatest number sent just after its datagram
 pub record PutOut : Type 0 where
   pub command : DataCommand
   pub sent_then : ℕ
 
--- an acknowledgement: reach is the greatest number sent when its command came, or just after it was put out itself
+-- an acknowledgement: `sent_then` is the greatest number sent when its command came, or just after it was put out itself
 pub record Answer : Type 0 where
   pub number : ℕ
   pub sent_then : ℕ
@@ -35,7 +35,7 @@ wired_fragment reliable f = record { start = if reliable then f.start % 65536 el
 abbrev pub wired : DataCommand → DataCommand
 wired c = record { reliable = c.reliable; number = c.number % 65536; unreliable = c.unreliable; fragment = option_map (wired_fragment c.reliable) c.fragment; body = c.body }
 
--- the greatest number that has this wire number and is at most `reach`
+-- the greatest number that has this wire number and is at most `sent_then`
 abbrev pub number_below : ℕ → ℕ → ℕ
 number_below sent_then number = sent_then - (sent_then + 65536 - number) % 65536
 

@@ -13,7 +13,7 @@
 //! are of one packet (`keeps`); each command that is put out is read again as itself (`reads`). A receiver with wire numbers
 //! does with every command, hostile ones too, what one with unbounded numbers does (`wire_receiver`), and a sender with wire
 //! numbers does in each of its calls what one with unbounded numbers does (`wire_sender`).
-//! Not yet: no clause compares the bytes held of the two receivers.
+//! Neither: that the two receivers count equally many bytes as held.
 #![tactic(auto)]
 
 ghost use Rattle.std.specs.Prelude.{◌≡◌, ℕ, ◌+◌, ◌%◌, ◌<◌, ◌≤◌, Bool, true, List, length, Some};

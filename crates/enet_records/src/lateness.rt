@@ -14,7 +14,7 @@ use enet_seq::ahead;
 /// By how many numbers a command may be late.
 const LATEST: u128 = 32_768;
 
-/// The greatest number that has this wire number and is at most `reach`.
+/// The greatest number that has this wire number and is at most `sent_then`.
 fn number_below(sent_then: u128, wire: u16) -> u128
     ensures { result ≡ number_below sent_then wire }
 {

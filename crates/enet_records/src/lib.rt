@@ -7,6 +7,7 @@
 //! `End::keep_packet` keeps a packet that is taken as the network's definition says (`with_event`). `comes_late` is the network's
 //! test for lateness. What was submitted and taken, events and numbers are lent by connection and channel as they are. Of all that
 //! is kept `AreKept` holds: an end has 256 channels and numbers, which stay far below 128 bits, and no two ends have one name.
+//! Only tested, by scripts/rows and `check_lists`, through `enet_world`: that calls succeed with ample memory.
 #![tactic(auto)]
 
 mod end;

@@ -2,11 +2,12 @@
 //! real ENet clients, and `enet_relay demo` shows a server with clients in one process.
 //!
 //! Proved: that it is safe; what a shift of the server did is said by `enet_serve`, what came of each client of the demonstration by
-//! `enet_demo`, and how a script of the lab is answered by `enet_lab`. Only tested, by scripts/check-rows.sh: the scripts of
-//! scripts/rows; the command lines `--help`, no subcommand, an unknown one, a word too many, and those of `serve` with numbers out of
-//! range; what `serve` prints; an input that can't be read, an output that can't be written, a port that is taken. By
-//! scripts/check-clients.sh: what clients of the reference library get from `serve`, and those of `demo` from a server of that library.
-//! By hand alone: want of memory (`E1 Memory`, status 1), and the line of totals of `serve --forever`.
+//! `enet_demo`, and how a script of the lab is answered by `enet_lab`.
+//! Only tested, by scripts/check-rows.sh: the scripts of scripts/rows; the command lines `--help`, no subcommand, an unknown one, a word
+//! too many, and those of `serve` and `demo` with numbers out of range; what both print; an input that can't be read, an output that
+//! can't be written, a port that is taken. By scripts/check-clients.sh: what clients of the reference library get from `serve`, and those
+//! of `demo` from a server of that library. By hand alone: want of memory (`E1 Memory`, status 1), and the line of totals of `serve
+//! --forever`.
 //! Neither: that `serve` ends, since threads may wait.
 #![tactic(auto)]
 

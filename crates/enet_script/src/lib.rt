@@ -2,6 +2,7 @@
 //!
 //! Proved, by the definitions of specs/: which words a line has (`word`, `one` to `five`, `end`); which number, peer, connect
 //! id or bytes a word spells, and that no other word spells one (`u8_of` and its kin); and the text of each answer.
+//! Only tested, by scripts/rows: that the texts find memory.
 #![tactic(auto)]
 
 mod answers;

@@ -6,8 +6,8 @@
 //! wait only where orders do. So nothing is lost or doubled between the threads, nor from one shift to the next. A shift ends early only
 //! for what [`Server::serve`] names. A server opens with the standard host of its
 //! settings, with nothing waiting ([`Server::open`]). After a shift that was refused nothing is said of the server.
-//! Only tested, by scripts over `enet_relay`: what real clients get, that a shift ends, at which address a server listens, and that the
-//! queues settle (no E16). Neither: what a network gives, and when; what `present` shows.
+//! Only tested, by scripts/check-rows.sh and scripts/check-clients.sh: what real clients get, that a shift ends, at which address a
+//! server listens, and that the queues settle (no E16). Neither: what a network gives, and when; what `present` shows.
 #![tactic(auto)]
 
 mod server;

@@ -6,7 +6,7 @@
 //! `connect`, `submit`, `deliver`, `turn`, `tick`, `take` and `disconnect`. `delivery_refusal` is the network's definition of
 //! that name: E13, then E12, then E11, each exactly where it is the first that applies. The lists and datagrams are lent as
 //! they are. Of every site `IsWhole` holds: each peer of the host is that of an end, and no name of an end is given again.
-//! Neither: that memory is there.
+//! Only tested, by scripts/rows and `check_lists`, through `enet_world`: that calls succeed with ample memory.
 #![tactic(auto)]
 
 mod arriving;

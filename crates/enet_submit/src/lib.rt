@@ -10,8 +10,8 @@
 //! queue, full or empty, that fits all that the token knows (`else_full`, `empty`); a refused order comes back equal
 //! (`back`); an account exactly where each seat is back and all was taken, and then what was taken of each seat is all that
 //! it submitted (`settled`, `all_taken`, `account`).
-//! Only tested: that E9 and None aren't answered needlessly, that an opening finds memory, and that threads get on: four
-//! seats of 1,000 orders, and a seat that ends early, 50 times each.
+//! Only tested, by `check_queues`: that E9 and None aren't answered needlessly, that an opening finds memory, and that threads
+//! get on: four seats of 1,000 orders, and a seat that ends early, 50 times each.
 //! Neither: that a call with Wait returns, order between seats.
 #![tactic(auto)]
 

@@ -3,7 +3,7 @@
 //!
 //! Proved: numbers and names of refusals and stops (`label`, `number`); `Config::standard` gives exactly the stated numbers,
 //! and `Config::is_in_range` is exactly the test that opening answers E8 by; `Packet::is_same` compares channel and bytes.
-//! Neither: the text of the derived `Display`.
+//! Only tested, in `check_numbers`: worked settings, packets and names. Neither: the text of the derived `Display`.
 #![tactic(auto)]
 
 mod address;

@@ -56,7 +56,7 @@ pub enum Refusal {
     /// The queue was settled before it was empty, or before each token came back.
     #[error("E16 StillHeld")]
     StillHeld,
-    /// A fleet's: no host has that place.
+    /// A number that no call answers: no host of a network has that place.
     #[error("E17 NoSuchHost")]
     NoSuchHost,
 }
