@@ -1,8 +1,8 @@
 //! A datagram of ENet 1.3: its header, and its commands, as they come to a peer one after another.
 //!
 //! Proved: `obey` is exact by the relation `Handles` over the bytes: command after command as the bytes spell them, each as
-//! `obeyed` says, until none is left, none stands at the front (S6) or one stops the datagram; how many were handled, and
-//! S12's command counts. `read_heading` and `read_offer` read the header and a stranger's offer exactly. Law
+//! `obeyed` says, until none is left, none stands at the front (S6) or one stops the datagram; how many were handled,
+//! that of S12 among them. `read_heading` and `read_offer` read the header and a stranger's offer exactly. Law
 //! `what_was_put_out_comes`: of bytes that spell a list of commands, just these come to the peer.
 //! Only tested, by `check_peer`: that commands find memory, and worked datagrams.
 #![tactic(auto)]

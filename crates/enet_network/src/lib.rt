@@ -8,8 +8,9 @@
 //!
 //! specs/Headline has the headline, of the lists that are kept of each connection, end and channel.
 //!
-//! Proved: `each_thing_is_events`, `each_thing_at`, `one_world` and `each_connection_in_order`, of these definitions, which the calls
-//! of `enet_site` and `enet_world` meet.
+//! Proved, of these definitions, which the calls of `enet_site` and `enet_world` meet: what happens at a host is events of each of its
+//! connections (`each_thing_is_events`, `each_thing_at`); over every run of two hosts the law of one connection holds of each
+//! (`one_world`), and with it the headline (`each_connection_in_order`).
 #![tactic(auto)]
 
 ghost use Rattle.std.specs.Prelude.{true, false};

@@ -3,8 +3,8 @@
 //! Proved, each call exactly by small definitions over a slot (`SlotState`): what a user's call does is that call of its peer
 //! (`on_peer`), with E2 where the slot is free; `hear` and `serve` are its peer's (`Hears`, `Gives`, `Passes`), and so is `take`
 //! (`GivesEvent`). After each of them a slot whose peer is free gives it up: it keeps the sessions of the connection that it had,
-//! and has the next generation (`vacated`). `ask` and `answer` give it to a peer (`asking`, `answering`). Which datagrams it takes
-//! in say the tests of `refused_by` in their order, and whether it can be given out `is_available`. Want of memory changes nothing.
+//! and has the next generation (`vacated`). `ask` and `answer` give it to a peer (`asking`, `answering`). The tests of `refused_by`, in
+//! their order, say which datagrams it takes in, and `is_available` says whether it can be given out. Want of memory changes nothing.
 //! Over all slots of a host: `unused_slots` and `joined_slots` make them, `first_available` and `any_is_connection` look for one,
 //! and `tick_all`, `set_bandwidth` (`changed`) and `share_out` (`shared`) are one change on each.
 //! Only tested, with the host's calls by `check_hosts`: that calls succeed with ample memory.
