@@ -410,7 +410,7 @@ static void leave(int id, End end)
     until(nobody_leaves, "too late: a connection's end");
 }
 
-// All leave, one by one, and those that stay talk on. Nothing comes twice afterwards.
+// All leave, one by one, and those that stay talk on. Afterwards nothing comes that may not.
 static void all_leave(void)
 {
     for (int id = count - 1; id >= 0; id--)
@@ -419,7 +419,6 @@ static void all_leave(void)
             chat(2);
         }
     pass_for(0.3);
-    settled();
 }
 
 static void all_join(int first, int last)

@@ -10,6 +10,7 @@ seconds=${2:-2}
 room=$(mktemp -d) || exit 1
 trap 'rm -rf "$room"; kill $relay 2> /dev/null' EXIT
 relay=
+[ -x "$program" ] || { echo "$program isn't there: run 'rt ci', or 'rt run' in crates/enet_relay" >&2; exit 1; }
 build_clients "$room" || exit 1
 
 # What load.c says of the relay $1 with $2 clients, $3 bytes, channel $4.
@@ -17,7 +18,8 @@ measure() {
     free_port
     relay "$1" "$port" 40 "$room" > /dev/null 2> "$room/relay" &
     relay=$!
-    timeout 120 "$room/load" "$port" "$relay" "$2" "$3" "$4" "$seconds" 2> "$room/load.err" || echo '0 0 0 0'
+    timeout 120 "$room/load" "$port" "$relay" "$2" "$3" "$4" "$seconds" 2> "$room/load.err" ||
+        { cat "$room/load.err" >&2; echo '0 0 0 0'; }
     kill "$relay"
     wait "$relay" 2> /dev/null
     relay=

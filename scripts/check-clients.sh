@@ -17,44 +17,54 @@ fail() {
     failed=$((failed + 1))
 }
 
+# Ends what an attempt started.
+end_attempt() {
+    kill $relay $proxy $client 2> /dev/null
+    wait $relay $proxy $client 2> /dev/null
+    relay=
+    proxy=
+    client=
+}
+
 # The scenario $2 with $3 clients and a relay of $4 slots, on ports $5 and $6. $1 is its name here, which says whether it is lossy; $7
 # seeds the proxy. The status is the client's, or 1 where the relay or the proxy ended; what went wrong is on standard output.
-attempt() (
-    words=()
+attempt() {
+    local words=() places=65536 to=$5 status
     [ "$program" = reference ] && words+=(reference)
-    places=65536
     [ "$2" = crowd ] && places=64
-    (relay "$program" "$5" "$4" "$room" "$places") > /dev/null 2> "$room/$1.relay" &
+    relay "$program" "$5" "$4" "$room" "$places" > /dev/null 2> "$room/$1.relay" &
     relay=$!
-    proxy=
-    to=$5
     if [[ $1 == *lossy ]]; then
         words+=(lossy)
         to=$6
         "$room/proxy" "$6" "$5" "$7" 2> "$room/$1.proxy" &
         proxy=$!
     fi
-    trap 'kill $relay $proxy 2> /dev/null; wait $relay $proxy 2> /dev/null' EXIT
     if [ "$2" = crowd ]; then
-        timeout 110 "$room/crowd" "$to" "$3" 2 2> "$room/$1.client"
+        timeout 110 "$room/crowd" "$to" "$3" 2 2> "$room/$1.client" &
     else
-        timeout 110 "$room/client" "$to" "$2" "$3" "${words[@]}" 2> "$room/$1.client"
+        timeout 110 "$room/client" "$to" "$2" "$3" "${words[@]}" 2> "$room/$1.client" &
     fi
+    client=$!
+    wait "$client"
     status=$?
     [ "$status" -eq 0 ] || echo "status $status: $(head -c 2000 "$room/$1.client")"
     kill -0 "$relay" 2> /dev/null || { echo "the relay ended: $(head -c 400 "$room/$1.relay")"; status=1; }
-    [ -z "$proxy" ] || kill -0 "$proxy" || { echo "the proxy ended: $(<"$room/$1.proxy")"; status=1; }
-    exit "$status"
-)
+    [ -z "$proxy" ] || kill -0 "$proxy" 2> /dev/null || { echo "the proxy ended: $(<"$room/$1.proxy")"; status=1; }
+    end_attempt
+    return "$status"
+}
 
-# A scenario, whose faults go to the file of its name. ENet ends a connection that stands still for 5 seconds, as a machine may that is
-# busy; so where a client lost its connection or came too late (status 2), and only there, the scenario is tried once more.
+# A scenario: what went wrong is in the files of its name, and the file NAME.passed is there where it passed. ENet ends a connection
+# that stands still for 5 seconds, as a machine may that is busy; so where a client lost its connection or came too late (status 2),
+# and only there, the scenario is tried once more.
 scenario() {
+    trap end_attempt EXIT
+    trap 'exit 1' TERM
     attempt "$@" > "$room/$1.first"
     case $? in
-        0) ;;
-        2) attempt "$@" > "$room/$1.second" || cp "$room/$1.second" "$room/$1" ;;
-        *) cp "$room/$1.first" "$room/$1" ;;
+        0) : > "$room/$1.passed" ;;
+        2) attempt "$@" > "$room/$1.second" && : > "$room/$1.passed" ;;
     esac
 }
 
@@ -69,13 +79,18 @@ start() {
 
 # Clients of ours at a server of the reference library: the three packets of each come back to it.
 visit() {
+    trap end_attempt EXIT
+    trap 'exit 1' TERM
     "$room/server" "$1" 2 2 echo 2> "$room/visit.server" &
-    local server=$!
-    timeout 110 "$program" demo --clients 2 --port "$1" --turns 1000 > "$room/visit.out" 2> "$room/visit.err"
+    relay=$!
+    timeout 110 "$program" demo --clients 2 --port "$1" --turns 1000 > "$room/visit.out" 2> "$room/visit.err" &
+    client=$!
+    wait "$client"
     local status=$?
-    kill "$server"
-    if [ "$status" -ne 0 ] || [ "$(<"$room/visit.out")" != $'client 0 got 3\nclient 1 got 3\ndemo done' ]; then
-        echo "status $status: $(head -c 400 "$room/visit.out" "$room/visit.err" "$room/visit.server")" > "$room/visit"
+    if [ "$status" -eq 0 ] && [ "$(<"$room/visit.out")" = $'client 0 got 3\nclient 1 got 3\ndemo done' ]; then
+        : > "$room/visit.passed"
+    else
+        echo "status $status: $(head -c 400 "$room/visit.out" "$room/visit.err" "$room/visit.server")" > "$room/visit.first"
     fi
 }
 
@@ -106,8 +121,11 @@ END
 }
 
 room=$(mktemp -d) || exit 1
-trap 'kill $(jobs -p) 2> /dev/null; rm -rf "$room"' EXIT
+trap 'kill $(jobs -p) 2> /dev/null; wait; rm -rf "$room"' EXIT
 names=()
+relay=
+proxy=
+client=
 if [ "$program" != reference ] && [ ! -x "$program" ]; then
     fail "$program" "it isn't there: run 'rt ci', or 'rt run' in crates/enet_relay"
 elif ! build_clients "$room"; then
@@ -115,7 +133,7 @@ elif ! build_clients "$room"; then
 else
     all
     for name in "${names[@]}"; do
-        if [ -e "$room/$name" ]; then fail "$name" "$(<"$room/$name")"; else passed=$((passed + 1)); fi
+        if [ -e "$room/$name.passed" ]; then passed=$((passed + 1)); else fail "$name" "$(cat "$room/$name".{first,second} 2> /dev/null)"; fi
     done
 fi
 echo "$passed passed, $failed failed"

@@ -44,6 +44,7 @@ awk -v last="$last" '
             else silent++
         }
         for (i = 1; i <= count; i++) printf "%s: %d refused calls repeated\n", rows[i], told[rows[i]]
+        if (over && !tried) { print "the rows have no growths"; wrong++ }
         if (!over) { print "the rows have more growths than " last - 1; wrong++ }
         printf "%d growths refused in turn: %d answered by a refusal and repeated, %d that no answer needs, %d of the program itself, %d wrong\n", tried, answered, silent, own, wrong
         exit (wrong > 0)

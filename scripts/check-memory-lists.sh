@@ -22,7 +22,7 @@ rt try --steps 1 --fail-alloc "$last" --cases "$room/cases" > "$room/out" 2> "$r
 grep -q '^case=' "$room/lines" || cat "$room/lines"
 
 # What the runs printed comes case by case under '== NAME', each case's last line on standard error.
-awk '
+awk -v cases="$cases" '
     FNR == NR {
         if (match($0, /^case=[^ ]+/)) {
             name = substr($0, 6, RLENGTH - 5)
@@ -39,8 +39,10 @@ awk '
             else if (stopped[name] > 0) stops++
             else if (undrawn[name] > 0) own++
             else silent++
+            count++
         }
-        printf "%d growths refused: %d answered by E1 and %d by S11, with nothing changed, %d of the draw itself, %d that no answer needs or behind the list, %d lists broken\n", answered + stops + own + silent + broken, answered, stops, own, silent, broken
+        if (count != cases) { print "of " cases " cases " count + 0 " were told of"; broken++ }
+        printf "%d growths refused: %d answered by E1 and %d by S11, with nothing changed, %d of the draw itself, %d that no answer needs or behind the list, %d lists broken\n", count, answered, stops, own, silent, broken
         exit (broken > 0)
     }
 ' "$room/lines" "$room/out"

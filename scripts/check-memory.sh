@@ -48,6 +48,7 @@ awk -v last="$last" -v names="$names" '
                 else silent++
             }
             printf "%s: %d refused calls repeated\n", rows[i], told
+            if (over && k == 1) { print rows[i] " has no growths"; wrong++ }
             if (!over) { print rows[i] " has more growths than " last - 1; wrong++ }
         }
         printf "%d growths refused in turn: %d answered by a refusal and repeated, %d that no answer needs, %d of the program itself, %d wrong\n", tried, answered, silent, own, wrong

@@ -97,6 +97,13 @@ start_service() {
     done
 }
 
+# Ends it.
+end_service() {
+    kill "$first"
+    wait "$first" 2> "$room/gone"
+    first=
+}
+
 refused_command_lines() {
     local words
     while IFS= read -r words; do
@@ -131,14 +138,12 @@ services() {
     start_service --turns 1000000
     service_line port-taken 1 'E14 WireFault' '' serve --port "$port" --turns 2
     service_line another-address 0 '' 'served 2 received 0 sent 0' serve --port "$port" --turns 2 --address 127.0.0.2
-    kill "$first"
-    wait "$first" 2> "$room/gone"
+    end_service
     free_port
     start_service --forever
     sleep 2
     kill -0 "$first" 2> "$room/gone" || fail forever 'it ended by itself'
-    kill "$first"
-    wait "$first" 2> "$room/gone"
+    end_service
     [ ! -s "$room/first" ] && [ ! -s "$room/first.err" ] || fail forever "it wrote: $(head -c 200 "$room/first" "$room/first.err")"
 }
 
@@ -161,13 +166,11 @@ demonstrations() {
     port=47100
     start_service --turns 1000000
     service_line demo-server-port-taken 1 'E14 WireFault' '' demo
-    kill "$first"
-    wait "$first" 2> "$room/gone"
+    end_service
     port=47102
     start_service --turns 1000000
     service_line demo-client-port-taken 1 'E14 WireFault' '' demo
-    kill "$first"
-    wait "$first" 2> "$room/gone"
+    end_service
 }
 
 command_lines() {
@@ -182,7 +185,8 @@ command_lines() {
 }
 
 room=$(mktemp -d) || exit 1
-trap 'rm -rf "$room"' EXIT
+first=
+trap 'kill $first 2> /dev/null; rm -rf "$room"' EXIT
 if [ ! -x "$program" ]; then
     fail "$program" "it isn't there: run 'rt ci', or 'rt run' in crates/enet_relay"
 elif [ ! -r "$rows/list.txt" ] || [ ! -r "$rows/unreadable-lines.txt" ]; then

@@ -3,7 +3,7 @@
 # through the built program, and clients of the reference library that talk through it. Each of the two last ends with a line
 # 'N passed, M failed'; the status is other than 0 where anything failed.
 set -u
-cd "$(dirname "$0")/.."
+cd "$(dirname "$0")/.." || exit 1
 begun=$SECONDS
 # One check a processor: several processors on one check take twice the processor time for the same proof.
 RT_JOBS=${RT_JOBS:-$(nproc)} rt ci
