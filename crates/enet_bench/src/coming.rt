@@ -17,12 +17,13 @@ pub enum Coming {
     FragmentsOfMany,
     /// By turns an unreliable fragment, the first of a packet of its own, and a whole unreliable packet before all of those.
     BeforeFragments,
+    /// Empty unsequenced packets, each of the next group.
     Unsequenced,
     /// Reliable packets that come to a peer which dispatches nothing more.
     PassedOver,
 }
 
-/// The command at a place, 0 to 99,999.
+/// The command at a place, 0 to 99,999; of `BeforeFragments` 0 to 59,999.
 pub fn command(what: Coming, i: u32) -> Command<'static> {
     match what {
         Coming::Reliable | Coming::PassedOver => reliable(i % 100_000 + 1),

@@ -7,6 +7,7 @@ use Rattle.enet_types.specs.declared.event.PeerRef.{PeerRef}
 abbrev pub is_same : PeerRef → PeerRef → Bool
 is_same one other = eqb one.slot other.slot && eqb one.generation other.generation
 
+-- whether the peer is there
 abbrev pub has : List PeerRef → PeerRef → Bool
 has peers peer = list_any (λ p. is_same p peer) peers
 
@@ -15,6 +16,7 @@ abbrev pub count : List PeerRef → PeerRef → ℕ
 count [] peer = 0
 count (p ∷ ps) peer = (if is_same p peer then 1 else 0) + count ps peer
 
+-- whether no peer is there twice
 abbrev pub has_each_once : List PeerRef → Bool
 has_each_once [] = true
 has_each_once (p ∷ ps) = not (has ps p) && has_each_once ps

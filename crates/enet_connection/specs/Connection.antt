@@ -37,6 +37,7 @@ is_data_on channel m = is_some (data_of m) && m.head.channel == channel
 abbrev pub counted : ℕ → ℕ → Message → ℕ
 counted channel greatest m = if is_data_on channel m then greatest_after greatest m.head.number else greatest
 
+-- the same after several
 unfoldable pub reached : ℕ → ℕ → List Message → ℕ
 reached channel greatest [] = greatest
 reached channel greatest (m ∷ ms) = reached channel (counted channel greatest m) ms
@@ -44,6 +45,7 @@ reached channel greatest (m ∷ ms) = reached channel (counted channel greatest 
 abbrev pub messages_of : List Put → List Message
 messages_of log = map (λ (p : Put). p.message) log
 
+-- the greatest number that an end has sent on a channel
 abbrev pub sent_on : ℕ → End → ℕ
 sent_on channel e = reached channel 0 (messages_of e.log)
 

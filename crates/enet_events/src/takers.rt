@@ -1,7 +1,7 @@
 //! How the takers' passes are made, and joined at the end.
 
-ghost use Rattle.std.specs.Prelude.{◌≡◌, ◌<◌, ◌≤◌, ℕ, [], length, IfOk};
-ghost use Rattle.std.specs.List.{All, Contains};
+ghost use Rattle.std.specs.Prelude.{◌≡◌, ◌<◌, ◌≤◌, [], IfOk};
+ghost use Rattle.std.specs.List.{All};
 ghost use Rattle.crossbeam_queue.specs.Passes.{view, IsPassOf};
 ghost use Rattle.enet_events.specs.Rule.{posting, taking, made_of, known_of, posted_of, takers_of, share, Among};
 ghost use Rattle.enet_events.specs.Words.{new_takers};

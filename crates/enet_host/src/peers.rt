@@ -24,8 +24,9 @@ impl HostCore {
     /// Submits a packet to a peer on a channel; `flags` are its flags (RELIABLE 1, UNSEQUENCED 2, UNRELIABLE_FRAGMENT 8, others
     /// are ignored).
     ///
-    /// A refusal is the first that applies: E2; E3 where the peer is not connected; E4 where there is no such channel; E5 where the body is longer than the settings allow, or would be cut into more than 16,384 pieces; E1
-    /// where memory is refused. After it nothing has changed, and the body comes back.
+    /// A refusal is the first that applies: E2; E3 where the peer is not connected; E4 where there is no such channel; E5 where
+    /// the body is longer than the settings allow, or would be cut into more than 16,384 pieces; E1 where memory is refused.
+    /// After it nothing has changed, and the body comes back.
     pub fn submit(
         &mut self,
         peer: PeerRef,
@@ -125,7 +126,7 @@ impl HostCore {
         calls::set(&mut self.slots, peer, setting)
     }
 
-    /// How far the peer's connection has come.
+    /// How far the peer's connection has come; None where there is no such peer.
     pub fn state(&self, peer: PeerRef) -> Option<PeerState>
         ensures { result ≡ option_map (λ p. p.state) (named self.now.slots peer) }
     {
@@ -133,35 +134,36 @@ impl HostCore {
     }
 
     /// The terms on which this end of the connection stands; while it still connects, those that it asked for, with slot
-    /// 0xFFF.
+    /// 0xFFF. None where there is no such peer.
     pub fn terms(&self, peer: PeerRef) -> Option<Terms>
         ensures { result ≡ option_map (λ p. p.terms) (named self.now.slots peer) }
     {
         Some(calls::peer_of(&self.slots, peer)?.terms())
     }
 
-    /// How long the peer's acknowledgements take, as it is estimated.
+    /// How long the peer's acknowledgements take, as it is estimated, in milliseconds; None where there is no such peer.
     pub fn round_trip(&self, peer: PeerRef) -> Option<RoundTrip>
         ensures { result ≡ option_map (λ p. record { mean = p.estimate.round_trip; variance = p.estimate.variance }) (named self.now.slots peer) }
     {
         Some(calls::peer_of(&self.slots, peer)?.round_trip())
     }
 
-    /// How many payload bytes of reliable packets were sent to the peer and are not acknowledged.
+    /// How many payload bytes of reliable packets were sent to the peer and are not acknowledged; None where there is no such
+    /// peer.
     pub fn in_transit(&self, peer: PeerRef) -> Option<u32>
         ensures { result ≡ option_map (λ p. transit_of p.outbox) (named self.now.slots peer) }
     {
         Some(calls::peer_of(&self.slots, peer)?.in_transit())
     }
 
-    /// How much of the peer's unreliable packets goes, in parts of 32.
+    /// How much of the peer's unreliable packets goes, in parts of 32; None where there is no such peer.
     pub fn throttle(&self, peer: PeerRef) -> Option<u32>
         ensures { result ≡ option_map (λ p. p.outbox.throttle.value) (named self.now.slots peer) }
     {
         Some(calls::peer_of(&self.slots, peer)?.throttle())
     }
 
-    /// Where the peer is.
+    /// Where the peer is; None where there is no such peer.
     pub fn address(&self, peer: PeerRef) -> Option<Addr>
         ensures { result ≡ address_named self.now.slots peer }
     {

@@ -12,7 +12,7 @@ use enet_types::Refusal;
 use std::alloc::{AllocError, Global};
 
 /// The text of what a side answered to an event. Where it put a datagram out, `datagram` is what the datagram's bytes are; of
-/// other answers it says nothing.
+/// other answers it says nothing. An error where there is no memory for the text.
 pub fn answer_text(
     alloc: Global,
     side: Side,

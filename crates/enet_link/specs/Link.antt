@@ -43,6 +43,7 @@ number_below sent_then number = sent_then - (sent_then + 65536 - number) % 65536
 abbrev pub is_late : ℕ → ℕ → ℕ → Bool
 is_late sent sent_then number = nat_lt 32768 (sent - number_below sent_then number)
 
+-- a packet is submitted
 abbrev pub accept : Link → ChosenPacket → Link
 accept l c = record l { carried = l.carried ++ c ∷ [] }
 
@@ -58,6 +59,7 @@ put_out l c = record l { commands = l.commands ++ (record { command = c; sent_th
 abbrev pub takes_in : Link → ℕ → DataCommand → Bool → Link
 takes_in l max_packet c full = record l { receiver = if l.is_open then received unbounded max_packet l.receiver (wired c) full else l.receiver }
 
+-- the command of this number came, and is to be acknowledged
 abbrev pub queue_answer : Link → ℕ → Link
 queue_answer l number = record l { answers = l.answers ++ (record { number = number; sent_then = l.sent }) ∷ [] }
 
@@ -69,5 +71,6 @@ put_answer l a rest = record l { answers = rest; acks = l.acks ++ (record { numb
 abbrev pub after_acknowledgement : Link → Answer → Link
 after_acknowledgement l a = record l { unacked = filter (λ m. not (m % 65536 == a.number % 65536)) l.unacked }
 
+-- the receiver no longer dispatches
 abbrev pub closed : Link → Link
 closed l = record l { is_open = false }

@@ -23,7 +23,7 @@ mark_by_body h (send_unreliable_fragment fragment payload) = Some (mark_as Data 
 mark_by_body h (send_unsequenced group payload) = None
 mark_by_body h _ = Some (mark_as Control h.channel h.number)
 
--- the mark of a command, if it has one, before its reach is noted
+-- the mark of a command, if it has one, before `sent_then` is noted
 abbrev pub mark_of : Message → Option Mark
 mark_of m = mark_by_body m.head m.body
 

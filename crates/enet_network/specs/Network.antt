@@ -18,7 +18,7 @@ use Rattle.enet_network.specs.Log.{Logged, ChannelPackets, greatest_at, fresh_ch
 pub record HostEnd : Type 0 where
   pub connection : ℕ  -- the connection's number
   pub name : PeerRef  -- what the host calls its peer
-  pub mtu : ℕ  -- that of its peer when its user last submitted a packet, in bytes; 0 before
+  pub mtu : ℕ  -- the mtu of its peer when its user last submitted a packet, in bytes; 0 before
   pub greatest : List ℕ  -- the greatest number sent on each of the 256 channel numbers
   pub channels : List ChannelPackets  -- what is kept of each of them
   pub events : List Event  -- what its user took

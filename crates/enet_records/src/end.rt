@@ -34,12 +34,12 @@ pub struct End {
     pub connection: u64,
     /// What the host calls its peer.
     pub name: PeerRef,
-    /// That of its peer when its user last submitted a packet, in bytes; 0 before.
+    /// The mtu of its peer when its user last submitted a packet, in bytes; 0 before.
     pub mtu: u32,
     /// The greatest reliable number sent on each of the 256 channel numbers. A datagram raises it by less than 2 ^ 20, so it
     /// stays far below its limit.
     pub greatest: Vec<u128>,
-    /// What is kept of each of them.
+    /// What is kept of each of the 256 channel numbers.
     pub channels: Vec<Channel>,
     /// What its user took.
     pub events: Vec<Event>,

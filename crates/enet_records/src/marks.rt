@@ -10,7 +10,7 @@ use enet_network::{Mark, MarkKind};
 /// At most so many commands stand in a datagram that is put out, so it has at most so many marks.
 pub const MAX_COMMANDS: usize = 32;
 
-/// The mark of a command, before its reach is noted. An unsequenced packet has none.
+/// The mark of a command, before `sent_then` is noted. An unsequenced packet has none.
 fn mark_of(command: &Command<'_>) -> Option<Mark>
     ensures { result ≡ mark_of (view command.now) }
 {

@@ -9,14 +9,14 @@ ghost use Rattle.enet_script.specs.Texts.{bytes_text, event_text, peer_text, rec
 use enet_types::{Event, Packet, PeerRef, Received, Refusal};
 use std::alloc::{AllocError, Global};
 
-/// A refusal: its number and its name.
+/// A refusal: its number and its name. An error where there is no memory for the text.
 pub fn refusal_text(alloc: Global, refusal: Refusal) -> Result<String, AllocError>
     ensures { IfOk result (λ text. string_bytes text ≡ label_of refusal) }
 {
     String::from_str(alloc, refusal.label())
 }
 
-/// A peer as `slot.generation`.
+/// A peer as `slot.generation`. An error where there is no memory for the text.
 pub fn peer_text(alloc: Global, peer: PeerRef) -> Result<String, AllocError>
     ensures { IfOk result (λ text. string_bytes text ≡ peer_text peer) }
 {
@@ -24,7 +24,8 @@ pub fn peer_text(alloc: Global, peer: PeerRef) -> Result<String, AllocError>
     format!(in alloc; "{slot}.{generation}")
 }
 
-/// What came of a datagram: how many commands were handled, and the number of the stop, if there was one.
+/// What came of a datagram: how many commands were handled, and the number of the stop, if there was one. An error
+/// where there is no memory for the text.
 pub fn received_text(alloc: Global, received: Received) -> Result<String, AllocError>
     ensures { IfOk result (λ text. string_bytes text ≡ received_text received) }
 {
@@ -38,7 +39,7 @@ pub fn received_text(alloc: Global, received: Received) -> Result<String, AllocE
     }
 }
 
-/// An event that was taken.
+/// An event that was taken. An error where there is no memory for the text.
 pub fn event_text(alloc: Global, event: &Event) -> Result<String, AllocError>
     ensures { IfOk result (λ text. string_bytes text ≡ event_text event.now) }
 {
@@ -75,7 +76,7 @@ fn receive_text(alloc: Global, peer: PeerRef, packet: &Packet) -> Result<String,
     format!(in alloc; "receive {slot}.{generation} ch {channel} flags {flags} {body}")
 }
 
-/// Bytes in hex, or `-` for none.
+/// Bytes in hex of lower case, or `-` for none. An error where there is no memory for the text.
 pub fn bytes_text(alloc: Global, bytes: &[u8]) -> Result<String, AllocError>
     ensures { IfOk result (λ text. string_bytes text ≡ bytes_text bytes.now) }
 {

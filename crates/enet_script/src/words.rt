@@ -180,7 +180,7 @@ pub fn id_of(word: &[u8]) -> Option<u32>
     Some(u32::from_be_bytes(bytes))
 }
 
-/// A number of 8 bits.
+/// The number of 8 bits that the first word spells, and what is left behind it; None where it spells none.
 pub fn u8_word(text: &[u8]) -> Option<(u8, &[u8])>
     ensures { Reads (number_below (2 ^ 8)) text.now result }
 {
@@ -188,7 +188,7 @@ pub fn u8_word(text: &[u8]) -> Option<(u8, &[u8])>
     Some((u8_of(digits)?, rest))
 }
 
-/// A number of 32 bits.
+/// The same of 32 bits.
 pub fn u32_word(text: &[u8]) -> Option<(u32, &[u8])>
     ensures { Reads (number_below (2 ^ 32)) text.now result }
 {
@@ -196,7 +196,7 @@ pub fn u32_word(text: &[u8]) -> Option<(u32, &[u8])>
     Some((u32_of(digits)?, rest))
 }
 
-/// A number of 64 bits.
+/// The same of 64 bits.
 pub fn u64_word(text: &[u8]) -> Option<(u64, &[u8])>
     ensures { Reads (number_below (2 ^ 64)) text.now result }
 {
@@ -204,7 +204,7 @@ pub fn u64_word(text: &[u8]) -> Option<(u64, &[u8])>
     Some((u64_of(digits)?, rest))
 }
 
-/// A peer: its slot and its generation with a point between them.
+/// The peer that the first word spells, and what is left behind it; None where it spells none.
 pub fn peer_word(text: &[u8]) -> Option<(PeerRef, &[u8])>
     ensures { Reads peer_of text.now result }
 {
@@ -212,7 +212,8 @@ pub fn peer_word(text: &[u8]) -> Option<(PeerRef, &[u8])>
     Some((peer_of(name)?, rest))
 }
 
-/// Bytes: hex of either case, or `-` for none. An error where there is no memory for them.
+/// The bytes that the first word spells, and what is left behind it; None where it spells none. An error where there is no memory
+/// for them.
 pub fn bytes_word(alloc: Global, text: &[u8]) -> Result<Option<(Bytes, &[u8])>, AllocError>
     ensures { IfOk result (λ read. Reads bytes_of text.now read) }
 {

@@ -221,14 +221,15 @@ impl Site {
         enet_records::submitted(&self.records.ends, connection, channel)
     }
 
-    /// What the user of this end of a connection took of a channel, in order.
+    /// What the user of this end of a connection took of a channel, in order; empty where there is no such connection or
+    /// channel.
     pub fn taken(&self, connection: u64, channel: u8) -> &[Packet]
         ensures { result.now ≡ taken_at channel (end_of connection self.now.ends) }
     {
         enet_records::taken(&self.records.ends, connection, channel)
     }
 
-    /// The events that the user of this end of a connection took, in order.
+    /// The events that the user of this end of a connection took, in order; none where there is no such connection.
     pub fn events(&self, connection: u64) -> &[Event]
         ensures { result.now ≡ events_at (end_of connection self.now.ends) }
     {

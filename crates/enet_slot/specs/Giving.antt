@@ -45,11 +45,12 @@ given s address p = record s { address = address; emitted = 0; peer = Some p }
 abbrev pub joined_slots : Config → Addr → List SlotState
 joined_slots c address = slice_set (replicate c.peers unused_slot) 0 (given unused_slot address (peers.joined c.clock (joined_terms c) (limits_of c)))
 
--- the lowest slot that is free and has a generation left
+-- whether a slot that holds this is free
 abbrev pub is_vacant : Option Peering → Bool
 is_vacant None = true
 is_vacant (Some p) = false
 
+-- whether a slot is free and has a generation left of so many
 abbrev pub is_available : ℕ → SlotState → Bool
 is_available generations s = is_vacant s.peer && nat_lt s.generation generations
 

@@ -1,5 +1,5 @@
 -- Each step keeps the rule.
-use Rattle.std.proofs.Common.{◌≡◌, ◌≢◌, ℕ, zero, suc, ◌+◌, ◌<◌, ◌≤◌, ◌==◌, ◌⊎◌, inl, inr, ⊎_elim, Bool, cond, List, [], ◌∷◌, ◌++◌, length, set, sym, refl, ap, ◌∙◌, subst, append_assoc, append-nil, lt_of_not-le, length-append, arith, eq-eqb, ne_eqb}
+use Rattle.std.proofs.Common.{◌≡◌, ◌≢◌, ℕ, zero, suc, ◌+◌, ◌<◌, ◌≤◌, ◌==◌, ◌⊎◌, inl, inr, ⊎_elim, cond, List, [], ◌∷◌, ◌++◌, length, set, sym, refl, ap, ◌∙◌, subst, append_assoc, append-nil, lt_of_not-le, length-append, arith, eq-eqb, ne_eqb}
 use Rattle.std.proofs.lemmas.List.Elements.{filter-append}
 use native.Mathlib.Decide.{ℕ_discrete}
 use mathlib.Core.Option.{some, some-injective, some-ne-none}
@@ -16,9 +16,6 @@ use Rattle.enet_submit.specs.Rule.{with_sent, log, Among, Knows, Agrees, Invaria
 -- ---- lists
 of_append : (s : ℕ) (a b : List Submission) → of s (a ++ b) ≡ of s a ++ of s b
 of_append s a b = filter-append (λ x. x.seat == s) a b
-
-pick : (b : Bool) (x : Submission) → List Submission
-pick b x = cond b (x ∷ []) []
 
 of_one_same : (s : ℕ) (x : Submission) → x.seat ≡ s → of s (x ∷ []) ≡ x ∷ []
 of_one_same s x e = ap (λ b. cond b (x ∷ []) []) (eq-eqb x.seat s e)

@@ -1,9 +1,9 @@
 //! How a queue is opened: its seats are counted, and then made one by one.
-ghost use Rattle.std.specs.Prelude.{◌≡◌, ◌↔◌, ◌<◌, ◌≤◌, ◌+◌, [], length, vec_len, IsTrue, IfOk};
+ghost use Rattle.std.specs.Prelude.{◌≡◌, ◌↔◌, ◌<◌, [], length, IsTrue, IfOk};
 ghost use Rattle.std.specs.Vec.{vec_capacity};
 ghost use Rattle.crossbeam_queue.specs.Passes.{view, IsPassOf};
 ghost use Rattle.enet_submit.specs.Rule.{draining, sending, seats_in};
-ghost use Rattle.enet_submit.specs.Words.{seats_of, limit_of, IsInRange, IsOpened, IsSeatOf, IsNew, EachFrom};
+ghost use Rattle.enet_submit.specs.Words.{seats_of, IsInRange, IsOpened, IsSeatOf, IsNew, EachFrom};
 
 use crate::order::Submission;
 use crate::queue::{Ring, SubmitQueue};

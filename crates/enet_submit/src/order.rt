@@ -14,7 +14,7 @@ pub enum Order {
         info: u32,
         word: u32,
     },
-    /// To send a packet of these bytes and packet flags on a channel.
+    /// To send a packet of these bytes on a channel; `flags` are RELIABLE 1, UNSEQUENCED 2 and UNRELIABLE_FRAGMENT 8.
     Submit {
         peer: PeerRef,
         channel: u8,

@@ -5,6 +5,7 @@ use Rattle.enet_submit.specs.declared.order.Submission.{Submission}
 use Rattle.enet_wire.specs.declared.told.Told.{Told}
 use Rattle.enet_wire.specs.declared.told.Told.TheVariants.{Came, Went, Blocked}
 
+-- 1 where it is so, else 0
 abbrev pub count_of : Bool → ℕ
 count_of true = 1
 count_of false = 0
@@ -20,16 +21,19 @@ given_in [] = 0
 given_in (None ∷ xs) = given_in xs
 given_in (Some x ∷ xs) = 1 + given_in xs
 
+-- the datagrams that came
 abbrev pub came_in : List Told → ℕ
 came_in [] = 0
 came_in (Came from bytes ∷ xs) = 1 + came_in xs
 came_in (_ ∷ xs) = came_in xs
 
+-- the datagrams that went
 abbrev pub went_in : List Told → ℕ
 went_in [] = 0
 went_in (Went to bytes ∷ xs) = 1 + went_in xs
 went_in (_ ∷ xs) = went_in xs
 
+-- the datagrams that were not taken
 abbrev pub blocked_in : List Told → ℕ
 blocked_in [] = 0
 blocked_in (Blocked to bytes ∷ xs) = 1 + blocked_in xs

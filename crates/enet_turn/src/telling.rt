@@ -9,7 +9,7 @@ use enet_bridge::Sink;
 use enet_types::Event;
 use std::sync::Wait;
 
-/// Offers an event to the sink. One that is handed back waits.
+/// Offers an event to the sink. One that is handed back waits. Answers how many were taken: 1 or 0.
 pub fn offer<K: Sink, R: Wait>(
     rt: &R,
     sink: &mut K,
@@ -30,7 +30,7 @@ pub fn offer<K: Sink, R: Wait>(
     }
 }
 
-/// Offers the event that waits, if one does.
+/// Offers the event that waits, if one does. Answers how many were taken: 1 or 0.
 pub fn offer_again<K: Sink, R: Wait>(rt: &R, sink: &mut K, waiting: &mut Option<Event>) -> u32
     ensures { (puts : List (Told × Bool)) × Chain (λ s x t. K.puts s x.0 x.1 t) sink.old puts sink.new × Offers waiting.old puts waiting.new × (result ≡ taken_in puts) }
 {
@@ -40,7 +40,8 @@ pub fn offer_again<K: Sink, R: Wait>(rt: &R, sink: &mut K, waiting: &mut Option<
     }
 }
 
-/// Offers the host's events one after another, until it has none or one waits.
+/// Offers the host's events one after another, until it has none or one waits. Answers how many were taken; the
+/// count stops at 4,294,967,295.
 pub fn tell_all<H: Core, K: Sink, R: Wait>(
     rt: &R,
     host: &mut H,

@@ -59,7 +59,7 @@ pub struct MioWire {
 impl MioWire {
     /// A socket at this address, with a receive buffer of 4 MB where the system grants that.
     ///
-    /// E14 where the address can't be had, E1 for want of memory.
+    /// E14 where the address can't be had, or the system grants nothing to wait by; E1 for want of memory.
     pub fn bind<R: Net + AllocGlobal>(rt: &R, addr: Addr) -> Result<MioWire, Refusal>
         ensures new { IfOk result (λ wire. failures_of wire ≡ 0) }
         ensures refused { IfErr result (λ why. (why ≡ Refusal.WireFault) ⊎ (why ≡ Refusal.Memory)) }
@@ -217,8 +217,10 @@ enum Sending {
     Failed,
 }
 
+/// EMSGSIZE of Linux.
 const TOO_LONG: i32 = 90;
 
+/// ENOBUFS of Linux.
 const NO_BUFFERS: i32 = 105;
 
 fn outcome_of(why: &io::Error) -> Sending {

@@ -8,7 +8,7 @@ use std::time::Clock;
 
 /// Datagrams in and out, and the wait between two turns.
 ///
-/// A call that fails answers E14, changes nothing but `failures`, which rises by one, and can be repeated. Once `failures` is
+/// A call that fails answers E14 and tells nothing; `failures` rises by one, and the call can be repeated. Once `failures` is
 /// 18,446,744,073,709,551,615 the wire is spent: its calls do nothing and answer None, false and 0.
 pub trait Wire {
     ghost use Rattle.enet_wire.specs.declared.told.Told.{Told as Call};

@@ -153,14 +153,15 @@ impl World {
         self.hosts.site(side).submitted(conn, channel)
     }
 
-    /// What the other side's user has taken of it, in order.
+    /// What the other side's user has taken of what a side's user submitted so, in order; empty where there is no such connection
+    /// or channel.
     pub fn dispatched(&self, conn: u64, side: Side, channel: u8) -> &[Packet]
         ensures { result.now ≡ taken_at channel (end_at self.now.world conn (other side)) }
     {
         self.hosts.site(other(side)).taken(conn, channel)
     }
 
-    /// The events that a side's user has taken of a connection, in order.
+    /// The events that a side's user has taken of a connection, in order; none where there is no such connection.
     pub fn events(&self, conn: u64, side: Side) -> &[Event]
         ensures { result.now ≡ events_at (end_at self.now.world conn side) }
     {
