@@ -274,10 +274,13 @@ has_receiver : (b : Inbox) (channel : ℕ) (o : Option DataCommand) (f : Foresig
 has_receiver b channel None f e = absurd (cc)
 has_receiver b channel (Some c) f e = has_on b channel c f (slice_get b.receivers channel) refl e
 
--- a receiver that takes a command in as was foreseen, seen from its place
+-- the receiver of a command's channel, where it takes the command in as was foreseen
+abbrev pub Reached : Inbox → Head → Head → Option DataCommand → Foreseen → ReceivingEnd → Bool → Type 0
+Reached b own h o what d full = (own.channel < length b.receivers) × Taken b h.channel o (foresight_in what) d full × IsInPlace b.max_packet own.channel d
+
+-- seen from its place
 pub taken_at : (b inside : Inbox) (waiting : ℕ) (own h : Head) (o : Option DataCommand) (what : Foreseen) (d : ReceivingEnd) (full : Bool) → inside ≡ b → KeepsInbox inside waiting → own ≡ h
-    → d ≡ get_or inside.receivers own.channel d → full ≡ is_full b → foreseen_sequenced b h.channel o ≡ Ok what → what.kept ≡ true
-    → (own.channel < length inside.receivers) × Taken inside h.channel o (foresight_in what) d full × IsInPlace inside.max_packet own.channel d
+    → d ≡ get_or inside.receivers own.channel d → full ≡ is_full b → foreseen_sequenced b h.channel o ≡ Ok what → what.kept ≡ true → Reached inside own h o what d full
 taken_at b inside waiting own h o what d full view k is at same foreseen kept =
     let f = foresight_in what in
     let inner : foresight_of inside h.channel o ≡ Ok f = at_inside b inside h.channel o f view (foresight_is b h.channel o what foreseen kept) in
