@@ -21,7 +21,7 @@ behind bytes h g front commands ms split spelled s =
     let rest : commands ≡ s.commands = append_cancel_left s.front commands s.commands (ap (λ (xs : List ℕ). xs ++ commands) (sym one.0) ∙ both) in
     subst (λ (xs : List ℕ). SpellsAll xs ms) (sym rest) s.messages
 
--- the marks of commands, before their reach is noted
+-- the marks of commands, before it is noted how far their channel had got
 abbrev pub marks_of : List Message → List Mark
 marks_of ms = flat_map (λ (m : Message). option_to_list (mark_of m)) ms
 
