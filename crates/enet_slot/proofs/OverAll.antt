@@ -10,19 +10,22 @@ use Rattle.std.specs.Int.{from_bool}
 use Rattle.enet_slot.specs.declared.slot.Slot.{Slot}
 use Rattle.enet_slot.specs.Slot.{SlotState}
 use Rattle.enet_slot.specs.Slotted.{HasRoom, shown, all_shown}
-use Rattle.enet_slot.proofs.Shown.{set-shown}
+use Rattle.enet_slot.proofs.Shown.{set-shown, length-shown}
 
 -- a change that goes over the slots one by one
-pub map-more : (f : SlotState → SlotState) (all : List SlotState) (xs : List Slot) (i : ℕ) (x y : Slot) → i < length all → i < length xs
-    → all_shown xs ≡ map f (take i all) ++ drop i all → x ≡ get_or xs i x → shown y ≡ f (shown x)
-    → all_shown (slice_set xs i y) ≡ map f (take (i + 1) all) ++ drop (i + 1) all
+pub map-more : (f : SlotState → SlotState) (all xs : List Slot) (i : ℕ) (x y : Slot) → i < length all → i < length xs
+    → all_shown xs ≡ map f (take i (all_shown all)) ++ drop i (all_shown all) → x ≡ get_or xs i x → shown y ≡ f (shown x)
+    → all_shown (slice_set xs i y) ≡ map f (take (i + 1) (all_shown all)) ++ drop (i + 1) (all_shown all)
 map-more f all xs i x y inside within so_far read changed =
+    let count = length-shown all in
     let there : shown x ≡ get_or (all_shown xs) i (shown x) = ap shown read ∙ sym (get_or-map shown xs i x (shown x) within) in
-    set-shown xs i y ∙ ap (λ (s : SlotState). slice_set (all_shown xs) i s) changed ∙ map_over_more f all (all_shown xs) i (shown x) inside so_far there
+    set-shown xs i y ∙ ap (λ (s : SlotState). slice_set (all_shown xs) i s) changed ∙ map_over_more f (all_shown all) (all_shown xs) i (shown x) (omega arith) so_far there
 
-pub map-done : (f : SlotState → SlotState) (all new : List SlotState) (i : ℕ) → length all ≤ i → new ≡ map f (take i all) ++ drop i all → new ≡ map f all
-map-done f all new i past so_far =
-    so_far ∙ ap₂ (λ (front back : List SlotState). map f front ++ back) (take_all i all past) (drop_all i all past) ∙ append-nil (map f all)
+pub map-done : (f : SlotState → SlotState) (all xs : List Slot) (i : ℕ) → length all ≤ i → all_shown xs ≡ map f (take i (all_shown all)) ++ drop i (all_shown all) → all_shown xs ≡ map f (all_shown all)
+map-done f all xs i past so_far =
+    let count = length-shown all in
+    let over : length (all_shown all) ≤ i = omega arith in
+    so_far ∙ ap₂ (λ (front back : List SlotState). map f front ++ back) (take_all i (all_shown all) over) (drop_all i (all_shown all) over) ∙ append-nil (map f (all_shown all))
 
 count-one : (p : SlotState → Bool) (s : SlotState) → count_by p (s ∷ []) ≡ (if p s then 1 else 0)
 count-one p s = zero-add (if p s then 1 else 0)

@@ -2,8 +2,6 @@ use Rattle.std.proofs.Common.{arith}
 use Rattle.enet_peer.specs.Peering.{Peering}
 use Rattle.enet_peer.specs.Calls as peers
 use Rattle.enet_slot.specs.Slot.{changed}
-use Rattle.enet_slot.specs.Slotted.{all_shown}
-use Rattle.enet_slot.proofs.Shown.{length-shown}
 use Rattle.enet_slot.proofs.OverAll.{map-more, map-done, still-room, later-more}
 use Rattle.enet_slot.proofs.all.set_all.Goals as goal
 
@@ -16,11 +14,10 @@ set_bandwidth-requires c =
 
 pub loop-place-preserved : goal.loop-place-preserved
 loop-place-preserved c =
-    let count = length-shown c.args.slots.now.items in
     let len = c.loop-place.invariant.len in
     let end = c.loop-place.invariant.end in
     record {
-      items = map-more (changed (λ (p : Peering). peers.with_bandwidth p c.args.incoming c.args.outgoing)) (all_shown c.args.slots.now.items) c.loop-place.slots.items c.loop-place.place c.index_mut.result.now c.set_bandwidth.new.self (grind (arith, count)) (grind arith)
+      items = map-more (changed (λ (p : Peering). peers.with_bandwidth p c.args.incoming c.args.outgoing)) c.args.slots.now.items c.loop-place.slots.items c.loop-place.place c.index_mut.result.now c.set_bandwidth.new.self (grind arith) (grind arith)
           c.loop-place.invariant.items c.index_mut.ensures.value c.set_bandwidth.ensures;
       later = later-more c.args.slots.now.items c.loop-place.slots.items c.loop-place.place c.set_bandwidth.new.self c.loop-place.invariant.later;
       len = len;
@@ -29,6 +26,4 @@ loop-place-preserved c =
 
 pub returns-clause-slots : goal.returns-clause-slots
 returns-clause-slots c =
-    let count = length-shown c.args.slots.now.items in
-    let end = c.loop-place.invariant.end in
-    map-done (changed (λ (p : Peering). peers.with_bandwidth p c.args.incoming c.args.outgoing)) (all_shown c.args.slots.now.items) (all_shown c.loop-place.slots.items) c.loop-place.place (grind (arith, count)) c.loop-place.invariant.items
+    map-done (changed (λ (p : Peering). peers.with_bandwidth p c.args.incoming c.args.outgoing)) c.args.slots.now.items c.loop-place.slots.items c.loop-place.place (grind (arith, c.loop-place.invariant.end)) c.loop-place.invariant.items

@@ -1,17 +1,14 @@
 use Rattle.std.proofs.Common.{arith}
 use Rattle.enet_slot.specs.Sharing.{shared}
-use Rattle.enet_slot.specs.Slotted.{all_shown}
-use Rattle.enet_slot.proofs.Shown.{length-shown}
 use Rattle.enet_slot.proofs.OverAll.{map-more, map-done}
 use Rattle.enet_slot.proofs.all.share_all.Goals as goal
 
 pub loop-place-preserved : goal.loop-place-preserved
 loop-place-preserved c =
-    let count = length-shown c.args.slots.now.items in
     let len = c.loop-place.invariant.len in
     let end = c.loop-place.invariant.end in
     record {
-      items = map-more (shared c.args.outgoing c.args.standing) (all_shown c.args.slots.now.items) c.loop-place.slots.items c.loop-place.place c.index_mut.result.now c.share.new.self (grind (arith, count)) (grind arith)
+      items = map-more (shared c.args.outgoing c.args.standing) c.args.slots.now.items c.loop-place.slots.items c.loop-place.place c.index_mut.result.now c.share.new.self (grind arith) (grind arith)
           c.loop-place.invariant.items c.index_mut.ensures.value c.share.ensures;
       len = grind arith;
       end = end;
@@ -19,6 +16,4 @@ loop-place-preserved c =
 
 pub returns-clause-slots : goal.returns-clause-slots
 returns-clause-slots c =
-    let count = length-shown c.args.slots.now.items in
-    let end = c.loop-place.invariant.end in
-    map-done (shared c.args.outgoing c.args.standing) (all_shown c.args.slots.now.items) (all_shown c.loop-place.slots.items) c.loop-place.place (grind (arith, count)) c.loop-place.invariant.items
+    map-done (shared c.args.outgoing c.args.standing) c.args.slots.now.items c.loop-place.slots.items c.loop-place.place (grind (arith, c.loop-place.invariant.end)) c.loop-place.invariant.items
