@@ -1,4 +1,4 @@
-use Rattle.std.proofs.Common.{◌+◌, ◌≤◌, refl, arith}
+use Rattle.std.proofs.Common.{rules, ◌+◌, ◌≤◌, refl, arith}
 use Rattle.std.specs.VecDeque.{deque_len, deque_capacity}
 use Rattle.enet_sender.proofs.Courses.{keeps-queued}
 use Rattle.enet_sender.proofs.outgoing.Outgoing.submit.Goals as goal
@@ -13,3 +13,6 @@ invariant_of-self-2 c =
           );
       due = rw c.make_room.ensures.sent c.self.invariant.due;
     }
+
+pub returns-in_default-clause-refused : goal.returns-in_default-clause-refused
+returns-in_default-clause-refused c = search rules
