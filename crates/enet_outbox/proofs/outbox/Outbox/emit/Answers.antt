@@ -1,5 +1,9 @@
+use Rattle.std.proofs.Common.{rules}
 use Rattle.enet_outbox.proofs.Idle.{nothing-goes}
 use Rattle.enet_outbox.proofs.outbox.Outbox.emit.Goals as goal
 
 pub returns-then-has_nothing-clause-emits : goal.returns-then-has_nothing-clause-emits
 returns-then-has_nothing-clause-emits c = nothing-goes c.args.pace c.args.self.now.outbox (c.has_nothing.ensures c.if-has_nothing.true)
+
+pub returns-then-is_none-clause-emits : goal.returns-then-is_none-clause-emits
+returns-then-is_none-clause-emits c = search rules
