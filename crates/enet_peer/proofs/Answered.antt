@@ -1,5 +1,5 @@
 -- The other end's DISCONNECT is acknowledged.
-use Rattle.std.proofs.Common.{◌≡◌, ℕ, ◌+◌, ◌≤◌, Bool, true, false, cond, ◌||◌, ◌&&◌, ◌==◌, List, [], ◌∷◌, ◌++◌, refl, sym, ap, subst, ◌∙◌, ◌⊎◌, inl, inr, arith, Option, Some, None, Result, Ok, Err}
+use Rattle.std.proofs.Common.{◌≡◌, ℕ, ◌+◌, ◌≤◌, Bool, true, false, cond, ◌||◌, ◌&&◌, ◌==◌, List, [], ◌∷◌, ◌++◌, refl, sym, ap, subst, ◌∙◌, ◌⊎◌, inl, inr, arith, Option, Some, None, Result}
 use Rattle.std.specs.Prelude.{is_some, max, min}
 use Rattle.std.specs.List.{list_any, slice_get}
 use Rattle.enet_codec.specs.declared.command.Head.{Head}
@@ -27,6 +27,7 @@ use Rattle.enet_peer.specs.declared.parts.PeerState.TheVariants as state
 use Rattle.enet_peer.specs.CommandEffect.{Obeys, wants_memory, answered, answered_at, is_answered_in, obeyed, on_acknowledge, on_match}
 use Rattle.enet_peer.specs.Calls.{PutsOut, after_timeouts, after_timeouts_by, destination_of, gone_on, gone_on_in, is_pinged, pace_of, ticked}
 use Rattle.enet_peer.specs.Reachable.{Answers, IsAnswering, IsReachable, IsStill, answer_to}
+use Rattle.enet_peer.proofs.Obeying.{obeys-holds}
 
 -- a peer in that state
 abbrev at-end : Peering → Peering
@@ -100,26 +101,9 @@ obeyed-waits a p h now sent (send_unsequenced group payload) w = (refl, w.1, w.2
 obeyed-waits a p h now sent (send_unreliable_fragment f payload) w = (refl, w.1, w.2)
 
 pub obeys-waits : (r : Result (Unit {0}) Stop) (a : Acknowledgement) (p q : Peering) (now : ℕ) (sent : Option ℕ) (m : Message) → IsAnswering a p → Obeys r (wants_memory p now sent m) (obeyed p now sent m) p q → IsAnswering a q
-obeys-waits r a p q now sent m w o = by r o
-  where
-    done : q ≡ (obeyed p now sent m).after → IsAnswering a q
-    done e = subst (λ (x : Peering). IsAnswering a x) (sym (e ∙ ap (λ (x : Peering). (obeyed x now sent m).after) (is-at-end p w.0))) (obeyed-waits a p m.head now sent m.body w)
-
-    by : (r : Result (Unit {0}) Stop) → Obeys r (wants_memory p now sent m) (obeyed p now sent m) p q → IsAnswering a q
-    by (Ok it) o = done o.1
-    by (Err stop.Memory) o = subst (λ (x : Peering). IsAnswering a x) (sym o.2) w
-    by (Err stop.Short) o = done o.1
-    by (Err stop.Compressed) o = done o.1
-    by (Err stop.UnknownPeer) o = done o.1
-    by (Err stop.WrongAddress) o = done o.1
-    by (Err stop.WrongSession) o = done o.1
-    by (Err stop.BadCommand) o = done o.1
-    by (Err stop.NotConnected) o = done o.1
-    by (Err stop.BadChannel) o = done o.1
-    by (Err stop.BadFragment) o = done o.1
-    by (Err stop.Waiting) o = done o.1
-    by (Err stop.NoSentTime) o = done o.1
-    by (Err stop.NoSlot) o = done o.1
+obeys-waits r a p q now sent m w o =
+    let after = subst (λ (x : Peering). IsAnswering a (obeyed x now sent m).after) (sym (is-at-end p w.0)) (obeyed-waits a p m.head now sent m.body w) in
+    obeys-holds (IsAnswering a) r (wants_memory p now sent m) (obeyed p now sent m) p q w after o
 
 -- ---- the clock: nothing is sent that could be late
 

@@ -1,5 +1,6 @@
 pub mod Submitting
 pub mod Taking
+pub mod Obeying
 pub mod Answered
 pub mod Arriving
 pub mod Reaching

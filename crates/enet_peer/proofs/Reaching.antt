@@ -57,6 +57,7 @@ use Rattle.enet_peer.specs.Endings.{ended, freed, disconnecting, parting, settle
 use Rattle.enet_peer.specs.CommandEffect.{Outcome, Obeys, wants_memory, answered, answered_at, is_answered_in, is_allowed, is_connect, obeyed, by_body, by_answer, by_arrival, on_data, stopped, sampled, with_answer, on_match, on_acknowledge, welcomed, on_verify_in, on_last_disconnect, on_disconnect_in}
 use Rattle.enet_peer.specs.Calls.{Leave, AtOnce, TellsOnce, Asks, AsksLater, Refused, Leaves, left, Submits, submitted, PutsOut, after_timeouts, after_timeouts_by, is_pinged, ticked, is_connected, pace_of, destination_of, gone_on, gone_on_in, Taken, Takes, next_event, event_after, packet_event, last_event, with_bandwidth, with_throttle}
 use Rattle.enet_peer.specs.Reachable.{IsReachable, IsStill, IsStillIn, Keeps, WaitsIn}
+use Rattle.enet_peer.proofs.Obeying.{obeys-holds}
 
 -- ---- a fact of each element of a list and its place
 
@@ -381,26 +382,7 @@ obeyed-keeps p now sent m h =
     (if-outcome (is_allowed p.state m.body) (by_body p now sent m m.body) (stopped p stop.NotConnected) (λ t. body-keeps p m.head now sent m.body h) h)
 
 pub obeys-keeps : (r : Result (Unit {0}) Stop) (p q : Peering) (now : ℕ) (sent : Option ℕ) (m : Message) → IsReachable p → Obeys r (wants_memory p now sent m) (obeyed p now sent m) p q → IsReachable q
-obeys-keeps r p q now sent m h o = by r o
-  where
-    done : q ≡ (obeyed p now sent m).after → IsReachable q
-    done e = subst IsReachable (sym e) (obeyed-keeps p now sent m h)
-
-    by : (r : Result (Unit {0}) Stop) → Obeys r (wants_memory p now sent m) (obeyed p now sent m) p q → IsReachable q
-    by (Ok it) o = done o.1
-    by (Err stop.Memory) o = subst IsReachable (sym o.2) h
-    by (Err stop.Short) o = done o.1
-    by (Err stop.Compressed) o = done o.1
-    by (Err stop.UnknownPeer) o = done o.1
-    by (Err stop.WrongAddress) o = done o.1
-    by (Err stop.WrongSession) o = done o.1
-    by (Err stop.BadCommand) o = done o.1
-    by (Err stop.NotConnected) o = done o.1
-    by (Err stop.BadChannel) o = done o.1
-    by (Err stop.BadFragment) o = done o.1
-    by (Err stop.Waiting) o = done o.1
-    by (Err stop.NoSentTime) o = done o.1
-    by (Err stop.NoSlot) o = done o.1
+obeys-keeps r p q now sent m h o = obeys-holds IsReachable r (wants_memory p now sent m) (obeyed p now sent m) p q h (obeyed-keeps p now sent m h) o
 
 -- ---- a datagram goes
 
