@@ -1,6 +1,6 @@
 use Rattle.std.proofs.Common.{ℕ, List, subst, ap, sym, ◌∙◌}
 use Rattle.enet_slot.specs.declared.slot.Slot.{Slot}
-use Rattle.enet_host.specs.Host.{Host}
+use Rattle.enet_host.specs.contracts.host.HostCore.{the_view}
 use Rattle.enet_host.specs.Turns.{IsFirst, slot_after}
 use Rattle.enet_slot.specs.Calls.{tells}
 use Rattle.enet_slot.specs.Slotted.{all_shown}
@@ -12,16 +12,7 @@ use Rattle.enet_host.proofs.host.HostCore.next_event.Goals as goal
 pub returns : goal.returns
 returns c =
     let inside = c.self.inside in
-    let v : Host = record {
-      config = inside.start.config;
-      clock = inside.start.clock;
-      shared_at = inside.shared_at;
-      service_from = inside.service_from;
-      event_from = inside.event_from;
-      totals = inside.totals;
-      slots = all_shown inside.slots.items;
-    } in
-    takes-at v c.args.self.now (all_shown c.take_from.new.slots.items) c.in_ok-slot.slot c.slot_after-self-inside.result c.in_ok-event.event c.self.view_is
+    takes-at (the_view inside) c.args.self.now (all_shown c.take_from.new.slots.items) c.in_ok-slot.slot c.slot_after-self-inside.result c.in_ok-event.event c.self.view_is
     (subst (λ (xs : List Slot). IsFirst tells (all_shown xs) inside.event_from c.in_ok-slot.slot) c.deref.ensures.value c.in_ok-slot.ensures.first) c.in_ok-event.ensures.gives
     (c.slot_after-self-inside.ensures.after ∙ ap (λ (m : ℕ). slot_after m c.in_ok-slot.slot) (sym (length-shown inside.slots.items ∙ c.self.invariant.count)))
 

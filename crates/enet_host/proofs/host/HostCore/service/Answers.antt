@@ -1,7 +1,7 @@
 use Rattle.std.proofs.Common.{ℕ, ap, sym, ◌∙◌}
 use Rattle.enet_slot.specs.Slotted.{all_shown}
 use Rattle.enet_slot.proofs.Shown.{length-shown}
-use Rattle.enet_host.specs.Host.{Host}
+use Rattle.enet_host.specs.contracts.host.HostCore.{the_view}
 use Rattle.enet_host.specs.Turns.{slot_after}
 use Rattle.enet_host.proofs.Holding.{keeps-after, served-held, passed-held}
 use Rattle.enet_host.proofs.Telling.{serves-at}
@@ -22,16 +22,7 @@ invariant_of-self-2 c =
 pub returns-clause-serves : goal.returns-clause-serves
 returns-clause-serves c =
     let inside = c.self.inside in
-    let v : Host = record {
-      config = inside.start.config;
-      clock = inside.start.clock;
-      shared_at = inside.shared_at;
-      service_from = inside.service_from;
-      event_from = inside.event_from;
-      totals = inside.totals;
-      slots = all_shown inside.slots.items;
-    } in
-    serves-at v c.args.self.now (all_shown c.serve.new.slots.items) c.slot_after-self-inside.result c.with_datagram_out-self-inside.result c.in-Some.sent c.serve.new.buf c.self.view_is
+    serves-at (the_view inside) c.args.self.now (all_shown c.serve.new.slots.items) c.slot_after-self-inside.result c.with_datagram_out-self-inside.result c.in-Some.sent c.serve.new.buf c.self.view_is
     c.in-Some.ensures.gives
     (c.slot_after-self-inside.ensures.after ∙ ap (λ (m : ℕ). slot_after m c.in-Some.sent.0.slot) (sym (length-shown inside.slots.items ∙ c.self.invariant.count)))
     c.with_datagram_out-self-inside.ensures
