@@ -1,6 +1,6 @@
 //! Whether what a user was told of a connection is one life.
 
-ghost use Rattle.std.specs.Prelude.{◌≡◌, ◌↔◌, IsTrue};
+ghost use Rattle.std.specs.Prelude.{◌↔◌, IsTrue};
 ghost use Rattle.check_outcome.specs.Life.{AreLastOf, IsSomeLife};
 
 use enet_types::{Event, PeerRef};

@@ -1,6 +1,6 @@
 //! What is tested once a list has happened.
 
-ghost use Rattle.std.specs.Prelude.{◌≡◌, ◌<◌, ◌≤◌, ◌↔◌, ℕ, IsTrue};
+ghost use Rattle.std.specs.Prelude.{◌<◌, ◌≤◌, ◌↔◌, ℕ, IsTrue};
 ghost use Rattle.enet_network.specs.Headline.{AreOn};
 ghost use Rattle.check_outcome.specs.Sound.{AreInOrder, IsInOrderAt, IsSideSound, IsSound};
 

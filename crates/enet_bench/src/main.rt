@@ -15,11 +15,11 @@ use crate::coming::Coming;
 use crate::peer::{Order, Submission};
 use anyhow::{Context, Result};
 use std::alloc::Global;
+use std::env;
 use std::rt::{Clock, Env};
 use std::sync::Wait;
 use std::thread::Threads;
 use std::time::Instant;
-use std::{env, io};
 
 const DEFAULT: u32 = 1_000_000;
 

@@ -1,5 +1,5 @@
 //! Orders from seats in threads of their own to one thread that takes.
-ghost use Rattle.std.specs.Prelude.{◌≡◌, IfOk};
+ghost use Rattle.std.specs.Prelude.{IfOk};
 ghost use Rattle.std.specs.List.{All};
 ghost use Rattle.enet_submit.specs.Words.{IsSeatOf, IsDrainOf, IsFinishedOf};
 

@@ -1,13 +1,11 @@
 -- Steps of a relay, one after another.
 use Rattle.std.proofs.Common.{◌≡◌, List, [], ◌∷◌, ◌++◌, refl, sym, ◌∙◌, ap, append_assoc}
-use Rattle.std.proofs.lemmas.List.{append-nil, map-append}
+use Rattle.std.proofs.lemmas.List.{append-nil}
 use Rattle.enet_types.specs.declared.event.PeerRef.{PeerRef}
 use Rattle.enet_types.specs.declared.event.Event.{Event}
-use Rattle.enet_types.specs.declared.event.Event.TheVariants.{Connect, Receive, Disconnect, Refused}
 use Rattle.enet_submit.specs.declared.order.Order.{Order}
-use Rattle.enet_events.specs.declared.numbered.Numbered.{Numbered}
 use Rattle.enet_bridge.specs.Holding.{asked, received}
-use Rattle.enet_chat.specs.Chat.{noted, relayed, IsNewcomer}
+use Rattle.enet_chat.specs.Chat.{noted, relayed}
 use Rattle.enet_chat.specs.declared.relaying.Relay.{Relay}
 use Rattle.enet_chat.specs.Relaying.{events, noted_all, relayed_all, SameQueues, Relays}
 
@@ -52,19 +50,6 @@ relays_none a b same inbox backlog table desk = record {
   orders = desk ∙ sym (append-nil (asked a.desk));
 }
 
--- an event was taken
-pub relays_taken : (a b : Relay) (x : Numbered) → SameQueues a b → received b.inbox ≡ received a.inbox ++ x ∷ [] → b.backlog.items ≡ a.backlog.items ++ x.event ∷ [] → b.table ≡ a.table
-    → asked b.desk ≡ asked a.desk → Relays a b
-relays_taken a b x same inbox backlog table desk = record {
-  same_queues = same;
-  taken = x.event ∷ [];
-  expanded = [];
-  took = ap events inbox ∙ map-append (λ (y : Numbered). y.event) (received a.inbox) (x ∷ []);
-  in_order = sym backlog;
-  peers = table;
-  orders = desk ∙ sym (append-nil (asked a.desk));
-}
-
 -- an event was expanded
 pub relays_expanded : (a b : Relay) (e : Event) → SameQueues a b → received b.inbox ≡ received a.inbox → a.backlog.items ≡ e ∷ b.backlog.items → b.table ≡ noted a.table e
     → asked b.desk ≡ asked a.desk ++ relayed (noted a.table e) e → Relays a b
@@ -77,16 +62,3 @@ relays_expanded a b e same inbox backlog table desk = record {
   peers = table;
   orders = desk ∙ ap (λ (os : List Order). asked a.desk ++ os) (sym (append-nil (relayed (noted a.table e) e)));
 }
-
--- it makes no difference whether an event is noted before its orders are made or after
-pub same_orders : (peers : List PeerRef) (e : Event) → relayed (noted peers e) e ≡ relayed peers e
-same_orders peers (Connect peer info) = refl
-same_orders peers (Receive peer packet) = refl
-same_orders peers (Disconnect peer info) = refl
-same_orders peers (Refused seat number why) = refl
-
-pub newcomer_gives_none : (peers : List PeerRef) (e : Event) → IsNewcomer peers e → relayed peers e ≡ []
-newcomer_gives_none peers (Connect peer info) h = refl
-newcomer_gives_none peers (Receive peer packet) h = absurd h
-newcomer_gives_none peers (Disconnect peer info) h = absurd h
-newcomer_gives_none peers (Refused seat number why) h = absurd h

@@ -1,6 +1,5 @@
 //! What the relay makes of an event.
-ghost use Rattle.std.specs.Prelude.{◌≡◌, ◌↔◌, ◌++◌, [], ◌∷◌, List, IfOk, OnOk, IfErr};
-ghost use Rattle.enet_types.specs.declared.event.PeerRef.{PeerRef as Peer};
+ghost use Rattle.std.specs.Prelude.{◌≡◌, ◌++◌, [], ◌∷◌, IfOk, OnOk, IfErr};
 ghost use Rattle.enet_chat.specs.Peers.{others};
 ghost use Rattle.enet_chat.specs.Chat.{relayed, to_each};
 

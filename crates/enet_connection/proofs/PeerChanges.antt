@@ -29,7 +29,7 @@ use Rattle.enet_sender.specs.Due.{SendingEnd}
 use Rattle.enet_outbox.specs.declared.parts.Matched.{Matched}
 use Rattle.enet_outbox.specs.declared.parts.Matched.TheVariants as matched
 use Rattle.enet_outbox.specs.declared.parts.Pace.{Pace}
-use Rattle.enet_outbox.specs.Outbox.{Outbox, with_control, after_acknowledgement, is_done, matched_by, has_ended, has_late, transit_of}
+use Rattle.enet_outbox.specs.Outbox.{with_control, after_acknowledgement, is_done, matched_by, has_ended, has_late, transit_of}
 use Rattle.enet_outbox.specs.Outbox as outbox
 use Rattle.enet_outbox.specs.Emission.{Filling, transit_limit, filled}
 use Rattle.enet_types.specs.declared.packet.Packet.{Packet}

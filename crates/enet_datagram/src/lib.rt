@@ -12,7 +12,7 @@ ghost use Rattle.enet_types.specs.declared.event.Received.{Received};
 ghost use Rattle.enet_codec.specs.Message.{Message};
 ghost use Rattle.enet_codec.specs.Datagram.{SpellsAll};
 ghost use Rattle.enet_peer.specs.Peering.{Peering};
-ghost use Rattle.enet_datagram.specs.Handling.{Handles, HandlesEach, counted, one_more};
+ghost use Rattle.enet_datagram.specs.Handling.{Handles, HandlesEach, counted};
 
 use enet_codec::{Stop, read_command};
 use enet_peer::Peer;

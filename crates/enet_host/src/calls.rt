@@ -3,10 +3,9 @@
 ghost use Rattle.std.specs.Prelude.{◌≡◌, ◌<◌, length, is_some, IsTrue, IfSome, IfNone, None, Some};
 ghost use Rattle.std.specs.Option.{option_copied};
 ghost use Rattle.enet_slot.specs.Calls.{Submits, Does, DoesWithMemory, submission, leaving, throttling, set_by};
-ghost use Rattle.enet_slot.specs.Slotted.{peer_shown};
+ghost use Rattle.enet_slot.specs.Slotted.{peer_shown, all_shown};
 ghost use Rattle.enet_host.specs.Calls.{address_named, on_named};
 ghost use Rattle.enet_host.specs.Host.{named, slot_named};
-ghost use Rattle.enet_slot.specs.Slotted.{all_shown};
 
 use bytes::Bytes;
 use enet_peer::Peer;

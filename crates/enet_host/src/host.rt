@@ -1,7 +1,6 @@
 //! A host, and what it does with slots, datagrams and time.
 
-ghost use Rattle.std.specs.Prelude.{◌≡◌, ◌<◌, ◌≤◌, length, IsTrue, IfSome, IfOk, IfErr, OnOk, OnErr};
-ghost use Rattle.enet_types.specs.Config.{is_in_range};
+ghost use Rattle.std.specs.Prelude.{◌≡◌, ◌≤◌, IfSome, IfErr, OnOk, OnErr};
 ghost use Rattle.enet_host.specs.Host.{Keeps, KeepsRest};
 ghost use Rattle.enet_host.specs.Opening.{opened, joined, Opens, Connects};
 ghost use Rattle.enet_host.specs.Receiving.{Receives};
@@ -10,7 +9,6 @@ ghost use Rattle.enet_slot.specs.Slotted.{all_shown};
 ghost use Rattle.enet_host.specs.Serving.{Serves};
 ghost use Rattle.enet_host.specs.Ticking.{ticked, clock_after};
 ghost use Rattle.enet_host.specs.Calls.{with_bandwidth, Takes};
-ghost use Rattle.enet_host.specs.Calls as calls;
 
 use crate::connecting::connect;
 use crate::events::{first_telling, take_from};

@@ -6,7 +6,7 @@ ghost use Rattle.std.specs.Option.{option_map};
 ghost use Rattle.enet_types.specs.declared.event.DisconnectMode.TheVariants.{Now, Ask, Later};
 ghost use Rattle.enet_outbox.specs.Outbox.{transit_of};
 ghost use Rattle.enet_sender.specs.CommandChoice.{Packet};
-ghost use Rattle.enet_host.specs.Host.{KeepsRest, named, slot_named};
+ghost use Rattle.enet_host.specs.Host.{KeepsRest, named};
 ghost use Rattle.enet_host.specs.Foretelling.{submission_refusal, refusal_of};
 ghost use Rattle.enet_slot.specs.Calls.{Submits, Does, DoesWithMemory, submission, leaving, throttling, pinging, waiting};
 ghost use Rattle.enet_host.specs.Calls.{address_named, on_named};

@@ -5,7 +5,6 @@ use Rattle.enet_peer.specs.Peering.{Peering}
 use Rattle.enet_peer.specs.CommandEffect.{obeyed}
 use Rattle.enet_connection.specs.Steps.{with_peer}
 use Rattle.enet_isolation.specs.Deeds as deed
-use Rattle.enet_isolation.specs.Deeds.{Deed, Alone}
 use Rattle.enet_isolation.specs.Ends.{Matches}
 
 some : (p q : Peering) → p ≡ q → ◌≡◌ {A = Option Peering} (Some q) (Some p)

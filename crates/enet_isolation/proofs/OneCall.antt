@@ -10,7 +10,6 @@ use Rattle.enet_peer.specs.Calls.{is_connected, submission_refusal, submitted}
 use Rattle.enet_peer.specs.Calls as peers
 use Rattle.enet_host.specs.Host.{Host}
 use Rattle.enet_slot.specs.Calls.{submission, submitted_unless, leaving, left_by, or_not_connected, throttling, pinging, waiting}
-use Rattle.enet_connection.specs.Steps.{leave_by}
 use Rattle.enet_connection.specs.Steps as setting
 use Rattle.enet_isolation.specs.Calls.{Call, Acts}
 use Rattle.enet_isolation.specs.Calls as call

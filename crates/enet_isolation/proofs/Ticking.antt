@@ -44,10 +44,6 @@ alone-if : (b : Bool) (d : Deed) (p q : Peering) → (b ≡ false → p ≡ q) �
 alone-if true d p q no' yes' = (q, yes' refl, refl)
 alone-if false d p q no' yes' = no' refl
 
-limited_if : Bool → Peering → ℕ → Peering
-limited_if true p limit = with_throttle_limit p limit
-limited_if false p limit = p
-
 shares-live : (outgoing standing : ℕ) (s : SlotState) (p : Peering) (c : Bool) → is_connected p.state ≡ c → p.state ≢ state.Free → Shares outgoing standing true s p
 shares-live outgoing standing s p true e n =
     let q : Peering = with_throttle_limit p (limit_for outgoing standing s.emitted p) in

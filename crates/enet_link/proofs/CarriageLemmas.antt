@@ -189,7 +189,3 @@ Stands-passed mtu passed left n k c all t w low =
         let same : c ≡ x = cc in
         let k : command_count (x ∷ mid) ≡ command_count mid + c.pieces = subst (λ (y : ChosenPacket). command_count (y ∷ mid) ≡ command_count mid + c.pieces) same (command_count-reliable c mid t) in
         omega (arith, ap command_count e, command_count-append w.before (x ∷ mid), k, w.number_is)
-
--- what is behind the last command isn't a packet
-pub Stands-bound : (mtu : ℕ) (cs : List ChosenPacket) (n k : ℕ) (c : ChosenPacket) → c.reliable ≡ true → Stands cs n k c → n + c.pieces ≤ command_count cs
-Stands-bound mtu cs n k c t w = omega (arith, ap command_count w.whole, command_count-append w.before (c ∷ w.behind), command_count-reliable c w.behind t, w.number_is)

@@ -12,7 +12,7 @@ use Rattle.enet_receiver.specs.DataOutcome.{received, outcome, is_handled}
 use Rattle.enet_sender.specs.CommandChoice.{ChosenPacket}
 use Rattle.enet_sender.specs.Sender.{Sender, position_of, without_place}
 use Rattle.enet_sender.specs.declared.sent.Sent.{Sent}
-use Rattle.enet_link.specs.Link.{Link, PutOut, Answer, accept, send, put_out, takes_in, queue_answer, put_answer, closed, wired}
+use Rattle.enet_link.specs.Link.{Link, PutOut, Answer, put_out, takes_in, queue_answer, put_answer, closed, wired}
 use Rattle.enet_link.specs.Link as link
 use Rattle.enet_link.specs.WireLink.{WireLink, with_reach, puts_out, arrives, logs_answer, answered, stops_sending, stops_receiving, drops_answers}
 use Rattle.enet_link.proofs.Lists.{Has, Has-push_cases, Has-push_left, Has-push}

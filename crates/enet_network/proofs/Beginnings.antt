@@ -24,10 +24,9 @@ use Rattle.enet_link.proofs.Lists.{Has-push, Has-slice_get}
 use Rattle.enet_connection.specs.Connection.{Put, End, messages_of}
 use Rattle.enet_connection.specs.Steps.{Answer, with_peer, no_end}
 use Rattle.enet_connection.proofs.Runs.{reached-none}
-use Rattle.enet_slot.specs.Giving.{limits_of}
+use Rattle.enet_slot.specs.Giving.{limits_of, unused_slot, is_available, offer_from, server_from, asking, answering}
 use Rattle.enet_slot.specs.Slot.{SlotState, name_of}
 use Rattle.enet_host.specs.Host.{Host}
-use Rattle.enet_slot.specs.Giving.{unused_slot, is_available, offer_from, server_from, asking, answering}
 use Rattle.enet_host.specs.Opening.{available, Connects, no_channel, no_slot, no_memory, asks}
 use Rattle.enet_slot.specs.Hearing.{no_peer}
 use Rattle.enet_host.specs.Receiving.{offer_refused, Offers, Arrives}

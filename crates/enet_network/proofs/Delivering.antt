@@ -22,12 +22,10 @@ use Rattle.enet_link.specs.Link as link
 use Rattle.enet_link.specs.Steps.{Has}
 use Rattle.enet_connection.specs.Connection.{Put, End, messages_of, sent_on}
 use Rattle.enet_connection.specs.Steps.{Event, Come, InTime, with_peer}
-use Rattle.enet_slot.specs.Hearing.{is_same_address}
-use Rattle.enet_slot.specs.Slot.{SlotState, greatest}
-use Rattle.enet_slot.specs.Slot.{with_peer as slot_with_peer}
+use Rattle.enet_slot.specs.Hearing.{is_same_address, no_peer, is_deaf, fits_session, refused_by_peer, refused_by_slot, Hears}
+use Rattle.enet_slot.specs.Slot.{SlotState, greatest, with_peer as slot_with_peer}
 use Rattle.enet_host.specs.Calls.{address_in, address_of, address_named}
-use Rattle.enet_slot.specs.Hearing.{no_peer, is_deaf, fits_session, refused_by_peer, refused_by_slot, Hears}
-use Rattle.enet_host.specs.Receiving.{refused_by, Offers, Arrives}
+use Rattle.enet_host.specs.Receiving.{Offers, Arrives}
 use Rattle.enet_host.specs.Receiving as receiving
 use Rattle.enet_isolation.specs.Calls.{Call, Acts}
 use Rattle.enet_isolation.specs.Calls as call

@@ -15,10 +15,9 @@ use Rattle.enet_peer.specs.Peering.{Peering}
 use Rattle.enet_link.specs.Steps.{Has}
 use Rattle.enet_link.proofs.Lists.{Has-slice_get}
 use Rattle.enet_connection.specs.Connection.{Put, messages_of}
-use Rattle.enet_slot.specs.Hearing.{is_same_address}
+use Rattle.enet_slot.specs.Hearing.{is_same_address, no_peer, is_deaf, is_connection, is_connection_in}
 use Rattle.enet_slot.specs.Slot.{SlotState, with_peer_in}
 use Rattle.enet_host.specs.Host.{Host, named}
-use Rattle.enet_slot.specs.Hearing.{no_peer, is_deaf, is_connection, is_connection_in}
 use Rattle.enet_host.specs.Receiving.{is_known}
 use Rattle.enet_isolation.specs.Calls.{Call, Acts}
 use Rattle.enet_isolation.specs.Calls as call

@@ -14,8 +14,7 @@ use Rattle.enet_peer.specs.Calls as peers
 use Rattle.enet_link.specs.Steps.{Has}
 use Rattle.enet_slot.specs.Slot.{SlotState, name_of, with_peer, with_peer_in, changed}
 use Rattle.enet_host.specs.Host.{Host}
-use Rattle.enet_slot.specs.Calls.{DoesWithMemory, submission, leaving, throttling, pinging, waiting}
-use Rattle.enet_slot.specs.Calls.{Does as DoesCall}
+use Rattle.enet_slot.specs.Calls.{DoesWithMemory, submission, leaving, throttling, pinging, waiting, Does as DoesCall}
 use Rattle.enet_host.specs.Calls.{on_named}
 use Rattle.enet_slot.specs.Giving.{unused_slot, asking, answering}
 use Rattle.enet_host.specs.Opening.{Connects, no_channel, no_slot, no_memory, asks}

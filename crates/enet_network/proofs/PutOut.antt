@@ -1,8 +1,7 @@
 -- What a peer puts out: commands of channel 0xFF go on it alone.
-use Rattle.std.proofs.Common.{◌≡◌, Bool, true, false, List, [], ◌∷◌, ◌++◌, refl, subst, inl, inr, Option, Some, None}
+use Rattle.std.proofs.Common.{◌≡◌, Bool, true, false, List, [], ◌∷◌, ◌++◌, refl, subst, inl, inr, Option, Some, None, ℕ}
 use Rattle.enet_codec.specs.Message.{Message}
 use Rattle.enet_codec.specs.declared.command.Fragment.{Fragment}
-use Rattle.std.proofs.Common.{ℕ}
 use Rattle.enet_control.specs.Controlling as controlling
 use Rattle.enet_fragment.specs.DataCommand.{message_of, wire_body}
 use Rattle.enet_outbox.specs.declared.parts.Pace.{Pace}

@@ -12,7 +12,7 @@ use Rattle.enet_peer.specs.Peering.{Peering}
 use Rattle.enet_peer.specs.Calls.{next_event}
 use Rattle.enet_connection.specs.Connection.{End, packets_of}
 use Rattle.enet_connection.specs.Law.{mtu_in}
-use Rattle.enet_connection.specs.Steps.{with_peer, with_submission}
+use Rattle.enet_connection.specs.Steps.{with_submission}
 use Rattle.enet_connection.specs.Steps as event
 use Rattle.enet_connection.proofs.Moves.{packets-push}
 use Rattle.enet_slot.specs.Slot.{SlotState, name_of, greatest}

@@ -7,10 +7,9 @@ use Rattle.enet_types.specs.declared.event.PeerRef.{PeerRef}
 use Rattle.enet_types.specs.declared.refusal.Refusal.{Refusal}
 use Rattle.enet_types.specs.declared.refusal.Refusal.TheVariants.{NoSuchDatagram, Late, Earlier}
 use Rattle.enet_peer.specs.Peering.{Peering}
-use Rattle.enet_slot.specs.Hearing.{is_same_address}
+use Rattle.enet_slot.specs.Hearing.{is_same_address, no_peer, is_deaf}
 use Rattle.enet_host.specs.Host.{Host, named}
 use Rattle.enet_host.specs.Calls.{address_named}
-use Rattle.enet_slot.specs.Hearing.{no_peer, is_deaf}
 use Rattle.enet_network.specs.Lateness.{has_late}
 use Rattle.enet_network.specs.Log.{Logged, ChannelPackets, greatest_at, fresh_channels, fresh_greatest}
 

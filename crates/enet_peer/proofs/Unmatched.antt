@@ -6,7 +6,7 @@ use Rattle.std.proofs.lemmas.Option.{get_or_from_slice_get}
 use Rattle.enet_control.specs.declared.control.SentControl.{SentControl}
 use Rattle.enet_control.specs.Controlling.{Commands, control_at, control_of, without_place, position_of}
 use Rattle.enet_sender.specs.declared.sent.Sent.{Sent}
-use Rattle.enet_sender.specs.Sender.{Sender, size_at, size_of}
+use Rattle.enet_sender.specs.Sender.{size_at, size_of}
 use Rattle.enet_sender.specs.Sender as sender
 use Rattle.enet_sender.specs.Due.{SendingEnd}
 use Rattle.enet_outbox.specs.declared.parts.Matched.TheVariants as matched

@@ -1,6 +1,6 @@
 //! The commands that come to a peer.
 
-ghost use Rattle.std.specs.Prelude.{◌≡◌, ◌≤◌, ◌&&◌, IsTrue, OnOk, OnErr, IfOk, IfErr, Ok, Some, None, is_some, true};
+ghost use Rattle.std.specs.Prelude.{◌≡◌, ◌≤◌, ◌&&◌, IsTrue, OnOk, OnErr, IfOk, IfErr, Ok, Some, is_some, true};
 ghost use Rattle.enet_codec.specs.Message.{view};
 ghost use Rattle.enet_inbox.specs.InboxParts.{told};
 ghost use Rattle.enet_inbox.specs.InboxParts as coming;

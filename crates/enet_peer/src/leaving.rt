@@ -1,6 +1,5 @@
 //! How the user ends a connection.
 
-ghost use Rattle.std.specs.Prelude.{◌≡◌};
 ghost use Rattle.enet_peer.specs.Calls.{left, leave_by_asking, leave_now, leave_later, Leaves};
 
 use crate::{Peer, PeerState};

@@ -1,6 +1,6 @@
 //! What a peer is given to send, and puts out.
 
-ghost use Rattle.std.specs.Prelude.{◌≡◌, ◌≤◌, nat_lt, length};
+ghost use Rattle.std.specs.Prelude.{◌≡◌, ◌≤◌, nat_lt};
 ghost use Rattle.enet_fragment.specs.Cutting.{planned, piece_count};
 ghost use Rattle.enet_sender.specs.CommandChoice.{fragment_limit};
 ghost use Rattle.enet_peer.specs.Calls.{is_connected, submission_refusal, Submits, pace_of, destination_of, gone_on, PutsOut};

@@ -45,9 +45,6 @@ channels-long = refl
 
 -- all that is kept at first
 
-pub none-kept : AreKept [] []
-none-kept = record { each = λ e h. absurd h; apart = λ i j e f there also same. absurd (let z : ◌≡◌ {A = Option HostEnd} None (Some e) = there in cc) }
-
 first-kept : (n control : ℕ) (e : HostEnd) → control < 2 → e.channels ≡ fresh_channels → e.greatest ≡ first_numbers control → IsKept n e
 first-kept n control e low channels numbers = record {
   channels = ap length channels ∙ channels-long;

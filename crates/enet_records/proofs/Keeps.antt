@@ -1,5 +1,5 @@
 -- What is kept of a host stays in its bounds.
-use Rattle.std.proofs.Common.{◌≡◌, ◌≢◌, ℕ, zero, suc, ◌+◌, ◌*◌, ◌^◌, ◌<◌, Bool, true, false, cond, List, [], ◌∷◌, ◌++◌, length, map, refl, sym, ap, subst, ◌∙◌, arith, inl, inr, ◌⊎◌, Option, Some, None, slice_get, slice_set}
+use Rattle.std.proofs.Common.{◌≡◌, ◌≢◌, ℕ, zero, suc, ◌+◌, ◌*◌, ◌^◌, Bool, true, false, cond, List, [], ◌∷◌, ◌++◌, length, map, refl, sym, ap, subst, ◌∙◌, arith, inl, inr, ◌⊎◌, Option, Some, None, slice_get, slice_set}
 use Rattle.std.proofs.lemmas.List.{length-append, length-set}
 use Rattle.enet_types.specs.declared.address.Addr.{Addr}
 use Rattle.enet_types.specs.declared.event.Event.{Event}
@@ -71,9 +71,6 @@ kept-noted far name to text old new logged log after k n grown =
         subst (λ (m : ℕ). IsKept m e) (sym more)
         (subst (IsKept (length log + 1)) x.2
         (kept-cond (length log + 1) (is_same_name (x.0).name name) (record x.0 { greatest = n.greatest }) x.0 (record { channels = o.channels; numbers = long; below = below }) (kept-longer (length log) x.0 o)))
-
-pub low-enough : (log : List Logged) (ends : List HostEnd) → length log < 2 ^ 64 → AreKept log ends → (e : HostEnd) → Has ends e → AreBelow (2 ^ 126) e.greatest
-low-enough log ends short k e h i = (let kept = k.each e h in let b = kept.below i in omega arith)
 
 -- an end begins whose name no other has
 

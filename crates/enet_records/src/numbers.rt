@@ -1,6 +1,6 @@
 //! The greatest numbers that an end of a connection has sent, by channel.
 
-ghost use Rattle.std.specs.Prelude.{◌≡◌, ℕ, ◌+◌, ◌≤◌, ◌<◌, ◌^◌, [], length, map, vec_len, vec_capacity};
+ghost use Rattle.std.specs.Prelude.{◌≡◌, ◌+◌, ◌≤◌, ◌<◌, ◌^◌, [], length, map, vec_len, vec_capacity};
 ghost use Rattle.enet_network.specs.Log.{greatest_at, counted, counted_all, reached};
 ghost use Rattle.enet_network.specs.Marks.{Counts};
 ghost use Rattle.enet_records.specs.Records.{AreBelow};

@@ -1,6 +1,5 @@
 //! The service's thread of a shift.
 ghost use Rattle.std.specs.Prelude.{◌≡◌, IfOk, IfErr};
-ghost use Rattle.enet_events.specs.Words.{PosterState};
 ghost use Rattle.enet_bridge.specs.Serving.{queue_of, drain_of, poster_of};
 ghost use Rattle.enet_shift.specs.Shifts.{HasTurned, state_of};
 

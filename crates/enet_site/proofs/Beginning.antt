@@ -1,11 +1,10 @@
 -- A slot is given to a peer, whose end begins.
-use Rattle.std.proofs.Common.{◌≡◌, ◌≢◌, ℕ, ◌==◌, Bool, true, cond, List, [], ◌∷◌, refl, sym, ap, subst, ◌∙◌, arith, Option, Some, None, Result, Ok, Err, is_some, slice_get}
+use Rattle.std.proofs.Common.{◌≡◌, ◌≢◌, ℕ, ◌==◌, Bool, true, cond, List, [], ◌∷◌, refl, sym, ap, subst, ◌∙◌, arith, Option, Some, None, Err, is_some, slice_get}
 use Rattle.std.specs.Option.{option_map, option_and_then}
 use Rattle.std.proofs.lemmas.Bool.Decides.{nat_tests}
 use Rattle.enet_types.specs.declared.address.Addr.{Addr}
 use Rattle.enet_types.specs.declared.event.PeerRef.{PeerRef}
 use Rattle.enet_types.specs.declared.event.Received.{Received}
-use Rattle.enet_types.specs.declared.refusal.Refusal.{Refusal}
 use Rattle.enet_types.specs.declared.refusal.Refusal.TheVariants as refusal
 use Rattle.enet_codec.specs.declared.header.Header.{Header}
 use Rattle.enet_datagram.specs.Heading.{IsRead}
@@ -14,7 +13,7 @@ use Rattle.enet_peer.specs.Peering.{Peering}
 use Rattle.enet_link.specs.Steps.{Has}
 use Rattle.enet_slot.specs.Slot.{SlotState, name_of}
 use Rattle.enet_host.specs.Host.{Host, named, peer_in, with_generation}
-use Rattle.enet_host.specs.Opening.{available, no_channel, no_slot, no_memory, asks, Connects}
+use Rattle.enet_host.specs.Opening.{available, no_channel, no_slot, no_memory, asks}
 use Rattle.enet_host.specs.Foretelling.{next_name}
 use Rattle.enet_slot.specs.Hearing.{no_peer}
 use Rattle.enet_isolation.specs.Calls.{Call, Acts}
@@ -26,7 +25,6 @@ use Rattle.enet_isolation.proofs.Receiving.{is_open}
 use Rattle.enet_network.specs.Network.{HostEnd, fresh_end}
 use Rattle.enet_network.specs.Steps.{end_in, end_in_slot, begun_in, begun}
 use Rattle.enet_network.proofs.Beginnings.{free-there}
-use Rattle.enet_network.proofs.Submitting.{same-some}
 use Rattle.enet_network.proofs.Worlds.{IsFresh, not-fresh, kept-generation}
 use Rattle.enet_site.specs.Sites.{AreShown, begun_if}
 
@@ -72,30 +70,6 @@ none-left h address channels info word some none = (no_slot some (next-none h no
 
 pub none-wanting : (h : Host) (address : Addr) (channels info word : ℕ) (name : PeerRef) → channels ≢ 0 → next_name h.config h.slots ≡ Some name → Acts (call.Connect address channels info word (Err refusal.Memory)) h h
 none-wanting h address channels info word name some is = (let n = next-is h name is in (no_memory n.place some n.free, refl))
-
-asked-refused : (h : Host) (address : Addr) (channels info word : ℕ) (why : Refusal) (answer : Result PeerRef Refusal) (slots after : List SlotState) → Connects h.config h.clock slots address channels info word answer after → answer ≡ Err why → after ≡ slots
-asked-refused h address channels info word why answer slots after (no_channel z) e = refl
-asked-refused h address channels info word why answer slots after (no_slot some none) e = refl
-asked-refused h address channels info word why answer slots after (no_memory i some free) e = refl
-asked-refused h address channels info word why answer slots after (asks i s some free there) e = absurd (cc)
-
-pub connect-unchanged : (old new : Host) (address : Addr) (channels info word : ℕ) (why : Refusal) → Acts (call.Connect address channels info word (Err why)) old new → new ≡ old
-connect-unchanged old new address channels info word why acts =
-    acts.1 ∙ ap (λ (slots : List SlotState). record old { slots = slots }) (asked-refused old address channels info word why (Err why) old.slots new.slots acts.0 refl)
-
-asked-name : (h : Host) (address : Addr) (channels info word : ℕ) (name made : PeerRef) (answer : Result PeerRef Refusal) (slots after : List SlotState) → slots ≡ h.slots → Connects h.config h.clock slots address channels info word answer after → answer ≡ Ok made
-    → IsNext h name → made ≡ name
-asked-name h address channels info word name made answer slots after same (no_channel z) e n = absurd (cc)
-asked-name h address channels info word name made answer slots after same (no_slot some none) e n = absurd (cc)
-asked-name h address channels info word name made answer slots after same (no_memory i some free) e n = absurd (cc)
-asked-name h address channels info word name made answer slots after same (asks i s some free there) e n =
-    let place : i ≡ n.place = same-some i n.place (sym free ∙ ap (available h.config) same ∙ n.free) in
-    let slot : s ≡ n.slot = same-some s n.slot (sym there ∙ (λ k. slice_get (same k) (place k)) ∙ n.there) in
-    let is : name_of i s ≡ made = (let y : ◌≡◌ {A = Result PeerRef Refusal} (Ok (name_of i s)) (Ok made) = e in cc) in
-    sym is ∙ (λ k. name_of (place k) (slot k)) ∙ sym n.named
-
-pub made-is-next : (old new : Host) (address : Addr) (channels info word : ℕ) (name made : PeerRef) → Acts (call.Connect address channels info word (Ok made)) old new → next_name old.config old.slots ≡ Some name → made ≡ name
-made-is-next old new address channels info word name made acts is = asked-name old address channels info word name made (Ok made) old.slots new.slots refl acts.0 refl (next-is old name is)
 
 -- no end has the next name
 

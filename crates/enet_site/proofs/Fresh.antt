@@ -6,10 +6,9 @@ use Rattle.enet_types.specs.declared.config.Config.{Config}
 use Rattle.enet_types.specs.Config.{is_in_range}
 use Rattle.enet_peer.specs.declared.parts.PeerState.TheVariants as state
 use Rattle.enet_peer.specs.Peering.{Peering, joined as joined_peer}
-use Rattle.enet_slot.specs.Giving.{limits_of}
+use Rattle.enet_slot.specs.Giving.{limits_of, unused_slot, joined_terms, given}
 use Rattle.enet_slot.specs.Slot.{SlotState}
 use Rattle.enet_host.specs.Host.{Host}
-use Rattle.enet_slot.specs.Giving.{unused_slot, joined_terms, given}
 use Rattle.enet_host.specs.Opening.{opened, joined}
 use Rattle.enet_isolation.proofs.Keeping.{each-keeps}
 use Rattle.enet_isolation.proofs.Names.{named-there}

@@ -1,5 +1,5 @@
 //! What a turn does with a host.
-ghost use Rattle.std.specs.Prelude.{◌≡◌, ℕ, ◌<◌, ◌≤◌, List, Option, IfSome, take};
+ghost use Rattle.std.specs.Prelude.{ℕ, ◌<◌, ◌≤◌, List, Option, IfSome, take};
 ghost use Rattle.std.specs.Option.{option_map};
 
 use enet_submit::Order;

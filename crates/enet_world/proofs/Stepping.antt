@@ -13,7 +13,7 @@ use Rattle.enet_network.specs.declared.event.WorldEvent.{WorldEvent}
 use Rattle.enet_network.specs.declared.event.WorldEvent.TheVariants as happen
 use Rattle.enet_network.specs.Network.{Site}
 use Rattle.enet_network.specs.Steps.{Happening, Calls, Hears, Happens, count_after}
-use Rattle.enet_network.specs.World.{World, Steps, Makes, Refuses, RefusesCall, IsRefusedFor, address_of, other, side_of}
+use Rattle.enet_network.specs.World.{Steps, Makes, side_of}
 use Rattle.enet_site.specs.Sites.{CallsAt}
 use Rattle.enet_site.specs.Turning.{TurnsAt}
 use Rattle.enet_world.specs.Worlds.{world_of}

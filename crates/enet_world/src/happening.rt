@@ -1,6 +1,6 @@
 //! What an event does at its side. `far` is the other side, and `count` says how many connections there have been.
 
-ghost use Rattle.std.specs.Prelude.{◌≡◌, ◌+◌, ◌<◌};
+ghost use Rattle.std.specs.Prelude.{◌≡◌, ◌<◌};
 ghost use Rattle.enet_network.specs.declared.event.WorldEvent.TheVariants as happen;
 ghost use Rattle.enet_network.specs.World.{Steps, address_of, other, side_of};
 ghost use Rattle.enet_world.specs.Worlds.{world_of};

@@ -1,6 +1,6 @@
 //! Both hosts, and how many connections there have been.
 
-ghost use Rattle.std.specs.Prelude.{◌≡◌, ◌&&◌, true, false, IfOk, IfErr};
+ghost use Rattle.std.specs.Prelude.{◌≡◌, ◌&&◌, true, IfOk, IfErr};
 ghost use Rattle.enet_types.specs.Config.{is_in_range};
 ghost use Rattle.enet_network.specs.World.{Steps, joined_config, open_world, joined_world, site_of};
 

@@ -1,5 +1,5 @@
 //! Threads: each seat in a thread of its own, and one thread that takes.
-ghost use Rattle.std.specs.Prelude.{◌≡◌, IfOk, length};
+ghost use Rattle.std.specs.Prelude.{IfOk};
 ghost use Rattle.std.specs.List.{All};
 ghost use Rattle.enet_submit.specs.Words.{IsSeatOf, IsDrainOf, IsFinishedOf};
 

@@ -1,4 +1,4 @@
-use Rattle.std.proofs.Common.{◌≡◌, ◌++◌, List, [], append-nil, refl}
+use Rattle.std.proofs.Common.{[], append-nil, refl}
 use Rattle.enet_codec.specs.Message.{connect}
 use Rattle.enet_datagram.proofs.heading.read_offer.Goals as goal
 
