@@ -39,7 +39,7 @@ use Rattle.enet_demo.specs.declared.player.Player.{Player}
 use Rattle.enet_demo.specs.declared.player.Played.{Played}
 use Rattle.enet_demo.specs.declared.player.Visit.{Visit}
 use Rattle.enet_demo.specs.Plans.{asks}
-use Rattle.enet_demo.specs.Visits.{first_peer, packets, peer_of, Tells, plan_of, beginning, Visits, AreOutcomes, AreVisits}
+use Rattle.enet_demo.specs.Visits.{first_peer, packets, peer_of, IsToldBy, plan_of, beginning, Visits, AreOutcomes, AreVisits}
 use Rattle.enet_demo.specs.Playing.{told, HasPlayed, HasVisited, IsSettled, IsGuest}
 
 -- ---- one event more
@@ -94,7 +94,7 @@ visited queue id plan turns old new from to before after report played visit non
       connected = v.connected ∙ ap first_peer all;
       asked = v.asked_for ∙ (ap (λ (os : List Order). os ++ v.left) (s.front ∙ ap (λ (xs : List Submission). orders xs ++ s.rest) gave)
           ∙ append_assoc (orders (given (all_gave t.rounds))) s.rest v.left);
-      told = subst (λ (es : List Event). Tells es visit) all (subst (Tells (events played.taker.taken)) (sym s.visit_is) v.tells);
+      told = subst (λ (es : List Event). IsToldBy es visit) all (subst (IsToldBy (events played.taker.taken)) (sym s.visit_is) v.tells);
     }
 
 pub visited_or_fault : (queue : SubmitQueue) (id : QueueId) (plan : Plan) (turns : ℕ) (old new : Host × Option Event) (from to : Drain) (before after : PosterState)

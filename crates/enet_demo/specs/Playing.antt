@@ -20,7 +20,7 @@ use Rattle.enet_demo.specs.declared.player.Player.{Player}
 use Rattle.enet_demo.specs.declared.player.Played.{Played}
 use Rattle.enet_demo.specs.declared.player.Visit.{Visit}
 use Rattle.enet_demo.specs.Plans.{asks}
-use Rattle.enet_demo.specs.Visits.{first_peer, packets, peer_of, Tells, plan_of}
+use Rattle.enet_demo.specs.Visits.{first_peer, packets, peer_of, IsToldBy, plan_of}
 
 -- a client that takes part by this plan for so many turns
 pub record IsGuest (plan : Plan) (turns : ℕ) (guest : Guest) : Type 0 where
@@ -60,7 +60,7 @@ pub record HasVisited (queue : SubmitQueue) (id : QueueId) (plan : Plan) (played
   pub left : List Order
   pub connected : peer_of stage ≡ first_peer (events played.taker.taken)
   pub asked_for : asks plan stage ≡ orders (all_sent played.seat) ++ left
-  pub tells : Tells (events played.taker.taken) played.visit
+  pub tells : IsToldBy (events played.taker.taken) played.visit
   pub seat : IsFinishedOf queue played.seat
   pub taker : played.taker.queue ≡ id
 

@@ -47,8 +47,8 @@ packets (Disconnect peer info ∷ es) = packets es
 packets (Refused seat number why ∷ es) = packets es
 
 -- the visit tells whether these events connect the client, and how many packets they bring
-abbrev pub Tells : List Event → Visit → Type 0
-Tells events visit = (visit.connected ≡ is_some (first_peer events)) × (visit.received ≡ stopped (packets events))
+abbrev pub IsToldBy : List Event → Visit → Type 0
+IsToldBy events visit = (visit.connected ≡ is_some (first_peer events)) × (visit.received ≡ stopped (packets events))
 
 -- the server that the clients visit
 abbrev pub or_own : Option Addr → Addr
@@ -77,7 +77,7 @@ pub record Visits (old : Host × Option Event) (plan : Plan) (turns : ℕ) (visi
   pub left : List Order
   pub connected : peer_of stage ≡ first_peer (accepted (all_puts rounds))
   pub asked : asks plan stage ≡ orders (given (all_gave rounds)) ++ left
-  pub told : Tells (accepted (all_puts rounds)) visit
+  pub told : IsToldBy (accepted (all_puts rounds)) visit
 
 -- what a client's threads ended with: its visit, or what ended them early
 abbrev pub IsOutcome : Plan → ℕ → Result Visit Refusal → Type 0

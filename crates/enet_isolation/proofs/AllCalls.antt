@@ -10,7 +10,7 @@ use Rattle.enet_host.specs.Host.{Host, slot_named, named}
 use Rattle.enet_isolation.specs.Calls.{Call, Steps}
 use Rattle.enet_isolation.specs.Deeds.{Deed, AllAlone}
 use Rattle.enet_isolation.specs.Falling.{Fell, fell_in, fell_to, FellAll, counted}
-use Rattle.enet_isolation.specs.Law.{Fares, untouched, goes_on, begins, with_emitted, held_if, IsIsolated, Isolation}
+use Rattle.enet_isolation.specs.Law.{Fares, untouched, goes_on, begins, having_emitted, held_if, IsIsolated, Isolation}
 use Rattle.enet_isolation.proofs.Slots.{held}
 use Rattle.enet_isolation.proofs.OneCall.{one-call}
 use Rattle.enet_isolation.proofs.Names.{free-or, IsThere, named-there, there-slot, there-named, IsSpent, same-generations, past-freed, spent-step, spent-fell, spent-nobody}
@@ -65,7 +65,7 @@ isolated-step c cs old new steps name p low live x t there (goes_on p2 q ds has 
         let r : FellAll name cs steps.0 new steps.2 [] × (named new.slots name ≡ None) = spent-all cs steps.0 new steps.2 name few spent in
         record { deeds = ds ++ []; fell = (ds, [], refl, fell2, r.0); after = q; alone = alone-append ds [] p q q alone2 refl; is = r.1 ∙ sym (ap (λ (st : PeerState). held_if st q) free) }
     by (inr stays) =
-        let f : t ≡ with_emitted (record x.slot { peer = Some q }) n = e ∙ ap (λ (s : SlotState). with_emitted s n) (held x.slot q stays) in
+        let f : t ≡ having_emitted (record x.slot { peer = Some q }) n = e ∙ ap (λ (s : SlotState). having_emitted s n) (held x.slot q stays) in
         let r : IsIsolated cs steps.0 new steps.2 name q = later q stays (record { slot = t; there = there; same = ap (λ (s : SlotState). s.generation) f ∙ x.same; peer = ap (λ (s : SlotState). s.peer) f }) in
         record { deeds = ds ++ r.deeds; fell = (ds, r.deeds, refl, fell2, r.fell); after = r.after; alone = alone-append ds r.deeds p q r.after alone2 r.alone; is = r.is }
 isolated-step c cs old new steps name p low live x t there (begins none left b) later = absurd (let y : ◌≡◌ {A = Option Peering} None (Some p) = sym none ∙ x.peer in cc)

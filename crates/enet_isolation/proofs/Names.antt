@@ -11,7 +11,7 @@ use Rattle.enet_host.specs.Host.{Host, with_generation, slot_named, peer_in, nam
 use Rattle.enet_isolation.specs.Calls.{Call, Acts}
 use Rattle.enet_isolation.specs.Calls as call
 use Rattle.enet_isolation.specs.Falling.{fell_in, fell_to, Begins, asks, answers, counted}
-use Rattle.enet_isolation.specs.Law.{Fares, untouched, goes_on, begins, with_emitted}
+use Rattle.enet_isolation.specs.Law.{Fares, untouched, goes_on, begins, having_emitted}
 use Rattle.enet_isolation.proofs.Slots.{held, freed-in}
 use Rattle.enet_isolation.proofs.OneCall.{one-call}
 
@@ -75,11 +75,11 @@ none-some : {X : Type 0} (o : Option X) (x : X) → o ≡ None → o ≡ Some x 
 none-some o x e f = let y : ◌≡◌ {A = Option _} None (Some x) = sym e ∙ f in absurd (cc)
 
 -- a slot that a peer has left has the next generation, or none is left
-pub past-freed : (new : Host) (name : PeerRef) (s t : SlotState) (q : Peering) (n : ℕ) → new.config.generations ≤ greatest → name.generation ≤ s.generation → q.state ≡ state.Free → t ≡ with_emitted (with_peer s q) n → IsSpentIn new name t
+pub past-freed : (new : Host) (name : PeerRef) (s t : SlotState) (q : Peering) (n : ℕ) → new.config.generations ≤ greatest → name.generation ≤ s.generation → q.state ≡ state.Free → t ≡ having_emitted (with_peer s q) n → IsSpentIn new name t
 past-freed new name s t q n low reached free e = by (nat_lt s.generation greatest) refl
   where
-    same : t ≡ with_emitted (vacated s q) n
-    same = e ∙ ap (λ (x : SlotState). with_emitted x n) (freed-in s q free)
+    same : t ≡ having_emitted (vacated s q) n
+    same = e ∙ ap (λ (x : SlotState). having_emitted x n) (freed-in s q free)
 
     generation : t.generation ≡ min (s.generation + 1) greatest
     generation = ap (λ (x : SlotState). x.generation) same
@@ -111,7 +111,7 @@ spent-in c old new name s t same low (goes_on p q ds has fell alone e) (inl past
 
     by : (q.state ≡ state.Free) ⊎ (q.state ≢ state.Free) → IsSpentIn new name t
     by (inl free) = past-freed new name s t q n (let a : new.config.generations ≡ old.config.generations = same in let b : old.config.generations ≤ greatest = low in omega arith) (let a : name.generation < s.generation = past in omega arith) free e
-    by (inr live) = inl (let g : t.generation ≡ s.generation = ap (λ (x : SlotState). x.generation) (e ∙ ap (λ (x : SlotState). with_emitted x n) (held s q live)) in let a : name.generation < s.generation = past in omega arith)
+    by (inr live) = inl (let g : t.generation ≡ s.generation = ap (λ (x : SlotState). x.generation) (e ∙ ap (λ (x : SlotState). having_emitted x n) (held s q live)) in let a : name.generation < s.generation = past in omega arith)
 spent-in c old new name s t same low (goes_on p q ds has fell alone e) (inr over) = absurd (none-some s.peer p over.1 has)
 spent-in c old new name s t same low (begins none left b) (inl past) = inl (let g : t.generation ≡ s.generation = begun-generation c old name.slot s t b in omega arith)
 spent-in c old new name s t same low (begins none left b) (inr over) = absurd (let least : old.config.generations ≤ s.generation = over.0 in let a : s.generation < old.config.generations = left in omega arith)

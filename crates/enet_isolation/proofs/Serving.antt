@@ -22,7 +22,7 @@ use Rattle.enet_isolation.specs.Calls.{Call}
 use Rattle.enet_isolation.specs.Calls as call
 use Rattle.enet_isolation.specs.Deeds.{Alone, bytes_of, Emit, Take}
 use Rattle.enet_isolation.specs.Falling.{asked_for, counted, deeds_if, taken_from}
-use Rattle.enet_isolation.specs.Law.{Fares, untouched, goes_on, with_emitted}
+use Rattle.enet_isolation.specs.Law.{Fares, untouched, goes_on, having_emitted}
 use Rattle.enet_isolation.proofs.Lists.{get-within, same-or}
 use Rattle.enet_isolation.proofs.Slots.{counted-same, emitted-apart}
 use Rattle.enet_isolation.proofs.Single.{Each, begins-not, each-set}
@@ -46,7 +46,7 @@ passed h i s t answer buf asked quiet x = by s.peer refl x
     by : (o : Option Peering) → s.peer ≡ o → passes_by h.clock s t o → Fares (call.Service answer buf) h i s t
     by None g same =
         untouched (λ p k. absurd (let y : ◌≡◌ {A = Option Peering} None (Some p) = sym g ∙ k in cc)) (begins-not (call.Service answer buf) h i refl s)
-        (same ∙ ap (λ (n : ℕ). with_emitted s n) (sym quiet))
+        (same ∙ ap (λ (n : ℕ). having_emitted s n) (sym quiet))
     by (Some p) g nothing =
         goes_on p nothing.after (Emit h.clock None ∷ []) g (sym asked) (nothing.after, alone-none h.clock p nothing.after nothing.buf nothing.puts, refl)
         (nothing.left ∙ counted-same s nothing.after (counted (call.Service answer buf) h i s) quiet)
@@ -113,10 +113,10 @@ each-given h name address len buf after x i s e = (there.0, there.1, by (order (
         goes_on g.peer g.after (Emit h.clock (Some (take len buf)) ∷ []) g.held
         (sym (ap (λ (b : Bool). cond b (Emit h.clock (Some (take len buf)) ∷ []) (deeds_if (nat_lt (turn i) (turn name.slot)) (Emit h.clock None))) y))
         (g.after, alone-some h.clock len g.peer g.after buf g.puts, refl)
-        (g.left ∙ emitted-apart s g.after (min (s.emitted + len) greatest) ∙ ap (λ (b : Bool). with_emitted (with_peer s g.after) (cond b (min (s.emitted + len) greatest) s.emitted)) (sym y))
+        (g.left ∙ emitted-apart s g.after (min (s.emitted + len) greatest) ∙ ap (λ (b : Bool). having_emitted (with_peer s g.after) (cond b (min (s.emitted + len) greatest) s.emitted)) (sym y))
     by (inr (inr later)) =
         let n : (name.slot == i) ≡ false = apart (λ e. let t : turn name.slot ≡ turn i = ap turn e in omega arith) in
-        untouched (λ p k. sym (other false n (grind (arith, nat_tests)))) (begins-not c h i refl s) (turned.after later ∙ ap (λ (n : ℕ). with_emitted s n) (sym (quiet n)))
+        untouched (λ p k. sym (other false n (grind (arith, nat_tests)))) (begins-not c h i refl s) (turned.after later ∙ ap (λ (n : ℕ). having_emitted s n) (sym (quiet n)))
 
 -- the event of a slot as its peer's
 taken-event : (i : ℕ) (name : PeerRef) (e : PeerEvent) → taken_from i (Some (event_of name e)) ≡ deeds_if (name.slot == i) (Take e)

@@ -14,7 +14,7 @@ use Rattle.enet_isolation.specs.Calls.{Call}
 use Rattle.enet_isolation.specs.Calls as call
 use Rattle.enet_isolation.specs.Deeds.{Deed, Alone}
 use Rattle.enet_isolation.specs.Falling.{Fell, Begins, asks, answers, counted, deeds_if}
-use Rattle.enet_isolation.specs.Law.{Fares, untouched, goes_on, with_emitted}
+use Rattle.enet_isolation.specs.Law.{Fares, untouched, goes_on, having_emitted}
 use Rattle.enet_isolation.proofs.Slots.{counted-same}
 use Rattle.enet_isolation.proofs.Lists.{get-set, get-set_other, same-or}
 
@@ -47,7 +47,7 @@ begins-at c h i s u (answers from bytes commands header o is read stranger offer
 -- a call that changes no slot
 pub each-none : (c : Call) (h : Host) (after : List SlotState) → ((i : ℕ) (s : SlotState) → counted c h i s ≡ s.emitted) → after ≡ h.slots → FellNone c h → ((i : ℕ) → BeginsNot c h i) → Each c h after
 each-none c h after quiet same none not' i s e =
-    (s, ap (λ (xs : List SlotState). slice_get xs i) same ∙ e, untouched (λ p g. none i s p) (not' i s) (ap (λ (n : ℕ). with_emitted s n) (sym (quiet i s))))
+    (s, ap (λ (xs : List SlotState). slice_get xs i) same ∙ e, untouched (λ p g. none i s p) (not' i s) (ap (λ (n : ℕ). having_emitted s n) (sym (quiet i s))))
 
 -- a call that changed the slot j alone
 pub each-set : (c : Call) (h : Host) (j : ℕ) (old new : SlotState) → slice_get h.slots j ≡ Some old → Fares c h j old new → ((i : ℕ) (s : SlotState) → counted c h i s ≡ s.emitted)
@@ -62,7 +62,7 @@ each-set c h j old new there fares quiet none not' i s e = by (same-or j i)
           subst (λ (k : ℕ). Fares c h k s new) here (subst (λ (x : SlotState). Fares c h j x new) same fares),
         )
     by (inr other) =
-        (s, get-set_other h.slots j i new other ∙ e, untouched (λ p g. none i s p other) (not' i other s) (ap (λ (n : ℕ). with_emitted s n) (sym (quiet i s))))
+        (s, get-set_other h.slots j i new other ∙ e, untouched (λ p g. none i s p other) (not' i other s) (ap (λ (n : ℕ). having_emitted s n) (sym (quiet i s))))
 
 -- what a call on a name that isn't refused did
 pub record Does (slots : List SlotState) (name : PeerRef) (call : Peering → Result Peering Refusal) (after : List SlotState) : Type 0 where

@@ -4,14 +4,14 @@ use Rattle.enet_peer.specs.declared.parts.PeerState.{PeerState}
 use Rattle.enet_peer.specs.declared.parts.PeerState.TheVariants as state
 use Rattle.enet_peer.specs.Peering.{Peering}
 use Rattle.enet_slot.specs.Slot.{SlotState, with_peer, with_peer_in, vacated}
-use Rattle.enet_isolation.specs.Law.{with_emitted}
+use Rattle.enet_isolation.specs.Law.{having_emitted}
 
-emitted-in : (st : PeerState) (s : SlotState) (q : Peering) (n : ℕ) → with_peer_in st (with_emitted s n) q ≡ with_emitted (with_peer_in st s q) n
+emitted-in : (st : PeerState) (s : SlotState) (q : Peering) (n : ℕ) → with_peer_in st (having_emitted s n) q ≡ having_emitted (with_peer_in st s q) n
 emitted-in state.Free s q n = refl
 emitted-in st s q n = refl
 
 -- bytes that were put out make no other difference
-pub emitted-apart : (s : SlotState) (q : Peering) (n : ℕ) → with_peer (with_emitted s n) q ≡ with_emitted (with_peer s q) n
+pub emitted-apart : (s : SlotState) (q : Peering) (n : ℕ) → with_peer (having_emitted s n) q ≡ having_emitted (with_peer s q) n
 emitted-apart s q n = emitted-in q.state s q n
 
 -- a peer that isn't free stays in its slot
@@ -26,9 +26,9 @@ pub freed-in : (s : SlotState) (q : Peering) → q.state ≡ state.Free → with
 freed-in s q e = ap (λ (st : PeerState). with_peer_in st s q) e
 
 -- a slot whose count stays
-emitted-kept-in : (st : PeerState) (s : SlotState) (q : Peering) → with_peer_in st s q ≡ with_emitted (with_peer_in st s q) s.emitted
+emitted-kept-in : (st : PeerState) (s : SlotState) (q : Peering) → with_peer_in st s q ≡ having_emitted (with_peer_in st s q) s.emitted
 emitted-kept-in state.Free s q = refl
 emitted-kept-in st s q = refl
 
-pub counted-same : (s : SlotState) (q : Peering) (n : ℕ) → n ≡ s.emitted → with_peer s q ≡ with_emitted (with_peer s q) n
-counted-same s q n e = emitted-kept-in q.state s q ∙ ap (λ (k : ℕ). with_emitted (with_peer s q) k) (sym e)
+pub counted-same : (s : SlotState) (q : Peering) (n : ℕ) → n ≡ s.emitted → with_peer s q ≡ having_emitted (with_peer s q) n
+counted-same s q n e = emitted-kept-in q.state s q ∙ ap (λ (k : ℕ). having_emitted (with_peer s q) k) (sym e)

@@ -15,7 +15,7 @@ use Rattle.enet_isolation.specs.Calls.{Call}
 use Rattle.enet_isolation.specs.Calls as call
 use Rattle.enet_isolation.specs.Deeds.{Deed, Alone, AllAlone, Tick, Set}
 use Rattle.enet_isolation.specs.Falling.{Fell, counted, deeds_if, share_of}
-use Rattle.enet_isolation.specs.Law.{Fares, untouched, goes_on, with_emitted}
+use Rattle.enet_isolation.specs.Law.{Fares, untouched, goes_on, having_emitted}
 use Rattle.enet_isolation.proofs.Lists.{get-map}
 use Rattle.enet_isolation.proofs.Slots.{held, freed-in, counted-same}
 use Rattle.enet_isolation.proofs.Single.{Each, may_begin, begins-not}
@@ -28,7 +28,7 @@ each-changed c h f d alone fell quiet later i s e = (changed f s, get-map (chang
     by : (o : Option Peering) → s.peer ≡ o → Fares c h i s (changed f s)
     by None g =
         untouched (λ p k. absurd (let x : ◌≡◌ {A = Option Peering} None (Some p) = sym g ∙ k in cc)) (begins-not c h i later s)
-        (ap (λ (o : Option Peering). with_changed f s o) g ∙ ap (λ (n : ℕ). with_emitted s n) (sym (quiet i s)))
+        (ap (λ (o : Option Peering). with_changed f s o) g ∙ ap (λ (n : ℕ). having_emitted s n) (sym (quiet i s)))
     by (Some p) g =
         goes_on p (f p) (d ∷ []) g (fell i s p) (f p, alone p, refl)
         (ap (λ (o : Option Peering). with_changed f s o) g ∙ counted-same s (f p) (counted c h i s) (quiet i s))
@@ -37,7 +37,7 @@ each-changed c h f d alone fell quiet later i s e = (changed f s, get-map (chang
 pub record Shares (outgoing standing : ℕ) (due : Bool) (s : SlotState) (p : Peering) : Type 0 where
   pub after : Peering
   pub alone : AllAlone (deeds_if (due && is_connected p.state) (Set (setting.ThrottleLimit (limit_for outgoing standing s.emitted p)))) p after
-  pub left : cond due (shared outgoing standing (with_peer s p)) (with_peer s p) ≡ with_emitted (with_peer s after) (cond due 0 s.emitted)
+  pub left : cond due (shared outgoing standing (with_peer s p)) (with_peer s p) ≡ having_emitted (with_peer s after) (cond due 0 s.emitted)
 
 -- its deeds, where the peer is or isn't connected
 alone-if : (b : Bool) (d : Deed) (p q : Peering) → (b ≡ false → p ≡ q) → (b ≡ true → Alone d p q) → AllAlone (deeds_if b d) p q
@@ -53,7 +53,7 @@ shares-live outgoing standing s p true e n =
       left =
           ap (λ (x : SlotState). shared outgoing standing x) (held s p n)
           ∙ ap (λ (b : Bool). record s { emitted = 0; peer = Some (cond b q p) }) e
-          ∙ ap (λ (x : SlotState). with_emitted x 0) (sym (held s q n));
+          ∙ ap (λ (x : SlotState). having_emitted x 0) (sym (held s q n));
     }
 shares-live outgoing standing s p false e n =
     record {
@@ -62,7 +62,7 @@ shares-live outgoing standing s p false e n =
       left =
           ap (λ (x : SlotState). shared outgoing standing x) (held s p n)
           ∙ ap (λ (b : Bool). record s { emitted = 0; peer = Some (cond b (with_throttle_limit p (limit_for outgoing standing s.emitted p)) p) }) e
-          ∙ ap (λ (x : SlotState). with_emitted x 0) (sym (held s p n));
+          ∙ ap (λ (x : SlotState). having_emitted x 0) (sym (held s p n));
     }
 
 shares-free : (outgoing standing : ℕ) (s : SlotState) (p : Peering) → p.state ≡ state.Free → Shares outgoing standing true s p
@@ -71,7 +71,7 @@ shares-free outgoing standing s p e =
       after = p;
       alone = alone-if (true && is_connected p.state) (Set (setting.ThrottleLimit (limit_for outgoing standing s.emitted p))) p p (λ f. refl)
           (λ t. absurd (let x : false ≡ true = sym (ap is_connected e) ∙ t in cc));
-      left = ap (λ (x : SlotState). shared outgoing standing x) (freed-in s p e) ∙ ap (λ (x : SlotState). with_emitted x 0) (sym (freed-in s p e));
+      left = ap (λ (x : SlotState). shared outgoing standing x) (freed-in s p e) ∙ ap (λ (x : SlotState). having_emitted x 0) (sym (freed-in s p e));
     }
 
 shares-in : (outgoing standing : ℕ) (s : SlotState) (p : Peering) (st : PeerState) → p.state ≡ st → Shares outgoing standing true s p
@@ -108,7 +108,7 @@ each-ticked h ms i s e = (t s, slots-if (is_due timed) (shared outgoing standing
     t : SlotState → SlotState
     t x = cond (is_due timed) (shared outgoing standing (changed tick x)) (changed tick x)
 
-    none-if : (due : Bool) → s.peer ≡ None → cond due (shared outgoing standing s) s ≡ with_emitted s (cond due 0 s.emitted)
+    none-if : (due : Bool) → s.peer ≡ None → cond due (shared outgoing standing s) s ≡ having_emitted s (cond due 0 s.emitted)
     none-if true g = ap (λ (o : Option Peering). record s { emitted = 0; peer = with_limit outgoing standing s.emitted o }) g ∙ sym (ap (λ (o : Option Peering). record s { emitted = 0; peer = o }) g)
     none-if false g = refl
 

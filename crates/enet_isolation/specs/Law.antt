@@ -15,15 +15,15 @@ use Rattle.enet_isolation.specs.Deeds.{Deed, AllAlone}
 use Rattle.enet_isolation.specs.Falling.{Fell, FellAll, Begins, counted}
 
 -- with this count of what its peer put out since the bandwidth was last shared out
-abbrev pub with_emitted : SlotState → ℕ → SlotState
-with_emitted s n = record s { emitted = n }
+abbrev pub having_emitted : SlotState → ℕ → SlotState
+having_emitted s n = record s { emitted = n }
 
 -- what one call made of slot i
 pub data Fares (c : Call) (h : Host) (i : ℕ) (s t : SlotState) : Type 0 where
   -- nothing fell to its peer, or it was free and stays so
-  untouched : ((p : Peering) → s.peer ≡ Some p → Fell h i s p c []) → ((u : SlotState) → Begins c h i s u → ⊥) → t ≡ with_emitted s (counted c h i s) → Fares c h i s t
+  untouched : ((p : Peering) → s.peer ≡ Some p → Fell h i s p c []) → ((u : SlotState) → Begins c h i s u → ⊥) → t ≡ having_emitted s (counted c h i s) → Fares c h i s t
   -- its peer did alone what fell to it; where that leaves it free, so is the slot
-  goes_on : (p q : Peering) (ds : List Deed) → s.peer ≡ Some p → Fell h i s p c ds → AllAlone ds p q → t ≡ with_emitted (with_peer s q) (counted c h i s) → Fares c h i s t
+  goes_on : (p q : Peering) (ds : List Deed) → s.peer ≡ Some p → Fell h i s p c ds → AllAlone ds p q → t ≡ having_emitted (with_peer s q) (counted c h i s) → Fares c h i s t
   -- it was free, and a connection begins in it
   begins : s.peer ≡ None → s.generation < h.config.generations → Begins c h i s t → Fares c h i s t
 

@@ -13,7 +13,7 @@ use Rattle.enet_host.specs.Calls.{on_slot, on_named}
 use Rattle.enet_isolation.specs.Calls.{Call, Acts}
 use Rattle.enet_isolation.specs.Deeds.{Deed, AllAlone}
 use Rattle.enet_isolation.specs.Falling.{Fell, counted}
-use Rattle.enet_isolation.specs.Law.{Fares, untouched, goes_on, begins, with_emitted, held_if}
+use Rattle.enet_isolation.specs.Law.{Fares, untouched, goes_on, begins, having_emitted, held_if}
 use Rattle.enet_isolation.proofs.Names.{free-or, IsThere, named-there, there-named, IsSpent, same-generations, past-freed, spent-step, spent-nobody}
 use Rattle.enet_isolation.proofs.OneCall.{one-call}
 use Rattle.enet_isolation.proofs.Slots.{held}
@@ -46,7 +46,7 @@ there-or h name p k = by (free-or p.state)
 
 -- a peer that went on in its slot, or left it free
 pub shows-after : (c : Call) (old new : Host) (name : PeerRef) (p q : Peering) (x : IsThere old.slots name p) (t : SlotState) (n : ℕ) → old.config.generations ≤ greatest → new.config.generations ≡ old.config.generations
-    → slice_get new.slots name.slot ≡ Some t → t ≡ with_emitted (Rattle.enet_slot.specs.Slot.with_peer x.slot q) n → ShowsPeer new name q
+    → slice_get new.slots name.slot ≡ Some t → t ≡ having_emitted (Rattle.enet_slot.specs.Slot.with_peer x.slot q) n → ShowsPeer new name q
 shows-after c old new name p q x t n low same there e = by (free-or q.state)
   where
     by : (q.state ≡ state.Free) ⊎ (q.state ≢ state.Free) → ShowsPeer new name q
@@ -56,7 +56,7 @@ shows-after c old new name p q x t n low same there e = by (free-or q.state)
       past = past-freed new name x.slot t q n (let g : new.config.generations ≡ old.config.generations = same in let l : old.config.generations ≤ greatest = low in omega arith) (let g : x.slot.generation ≡ name.generation = x.same in omega arith) free e;
     })
     by (inr live) =
-        let f : t ≡ with_emitted (record x.slot { peer = Some q }) n = e ∙ ap (λ (s : SlotState). with_emitted s n) (held x.slot q live) in
+        let f : t ≡ having_emitted (record x.slot { peer = Some q }) n = e ∙ ap (λ (s : SlotState). having_emitted s n) (held x.slot q live) in
         shows-held new name q live (record { slot = t; there = there; same = ap (λ (s : SlotState). s.generation) f ∙ x.same; peer = ap (λ (s : SlotState). s.peer) f })
 
 -- one call: the peer is gone, or does alone what falls to it

@@ -26,7 +26,7 @@ use Rattle.enet_isolation.specs.Falling.{deeds_if, taken_from}
 use Rattle.enet_isolation.proofs.Lists.{same-or}
 use Rattle.enet_isolation.proofs.Names.{IsThere, there-named}
 use Rattle.enet_isolation.proofs.Single.{Does, does-named}
-use Rattle.enet_network.specs.Log.{ChannelPackets, packets_at, with_submission as kept_submission, with_taken}
+use Rattle.enet_network.specs.Log.{ChannelPackets, packets_at, with_submitted_packet, with_taken}
 use Rattle.enet_network.specs.Network.{HostEnd, Site, is_same_name}
 use Rattle.enet_network.specs.Shown.{ShowsPeer, Shows, RunsAt, Went, on_channel}
 use Rattle.enet_network.specs.Steps.{with_packet, packets_by, with_event}
@@ -123,13 +123,13 @@ goes-submitted name channel mtu q done old new e own far low acts same k goes-by
                 peer = r;
                 has = ap (λ (y : Peering). Some y) (sym a.1.1 ∙ a.2);
                 shows = shows;
-                long = with-long e.channels channel (kept_submission packet) k.long;
+                long = with-long e.channels channel (with_submitted_packet packet) k.long;
                 numbers = k.numbers;
                 log = λ n d h of. k.log n d (same n d h of) of;
                 greatest = k.greatest;
                 mtu = mtu-submitted mtu k.peer r channel q (own.submitted ++ packet ∷ []) a.1.0 (sym (goes-by ∙ ap mtu_in held)) (sym a.1.1 ∙ a.2);
-                submitted = λ j few. part-grows (λ (y : ChannelPackets). y.submitted) (kept_submission packet) packet (λ y. refl) e.channels j own.submitted k.long few (k.submitted j few);
-                taken = λ j few. part-stays (λ (y : ChannelPackets). y.taken) (kept_submission packet) (λ y. refl) e.channels channel j k.long few ∙ k.taken j few;
+                submitted = λ j few. part-grows (λ (y : ChannelPackets). y.submitted) (with_submitted_packet packet) packet (λ y. refl) e.channels j own.submitted k.long few (k.submitted j few);
+                taken = λ j few. part-stays (λ (y : ChannelPackets). y.taken) (with_submitted_packet packet) (λ y. refl) e.channels channel j k.long few ∙ k.taken j few;
                 events = k.events;
               };
             })

@@ -47,8 +47,8 @@ greatest_at greatest channel = slice_index_or greatest channel 0
 abbrev pub with_packets : List ChannelPackets → ℕ → (ChannelPackets → ChannelPackets) → List ChannelPackets
 with_packets channels channel f = slice_set channels channel (f (packets_at channels channel))
 
-abbrev pub with_submission : Packet → ChannelPackets → ChannelPackets
-with_submission p k = record k { submitted = k.submitted ++ p ∷ [] }
+abbrev pub with_submitted_packet : Packet → ChannelPackets → ChannelPackets
+with_submitted_packet p k = record k { submitted = k.submitted ++ p ∷ [] }
 
 abbrev pub with_taken : Packet → ChannelPackets → ChannelPackets
 with_taken p k = record k { taken = k.taken ++ p ∷ [] }

@@ -17,7 +17,7 @@ use Rattle.enet_host.specs.Opening.{available}
 use Rattle.enet_isolation.specs.Calls.{Call, Acts}
 use Rattle.enet_isolation.specs.Calls as call
 use Rattle.enet_network.specs.declared.mark.Mark.{Mark}
-use Rattle.enet_network.specs.Log.{Logged, ChannelPackets, with_packets, with_submission, with_taken}
+use Rattle.enet_network.specs.Log.{Logged, ChannelPackets, with_packets, with_submitted_packet, with_taken}
 use Rattle.enet_network.specs.Marks.{Counts}
 use Rattle.enet_network.specs.Network.{HostEnd, Site, fresh_end, with_end, numbers_of, delivery_refusal}
 
@@ -27,7 +27,7 @@ pub data Happening : Type 0 where
 
 -- the user of an end submitted a packet, which goes by this mtu
 abbrev pub with_packet : ℕ → Packet → HostEnd → HostEnd
-with_packet mtu q e = record e { mtu = mtu; channels = with_packets e.channels q.channel (with_submission q) }
+with_packet mtu q e = record e { mtu = mtu; channels = with_packets e.channels q.channel (with_submitted_packet q) }
 
 -- the user of an end took an event, which may be a packet
 abbrev pub packets_by : Event → List ChannelPackets → List ChannelPackets

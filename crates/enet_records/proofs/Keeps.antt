@@ -9,7 +9,7 @@ use Rattle.enet_types.specs.declared.packet.Packet.{Packet}
 use Rattle.enet_link.specs.Steps.{Has}
 use Rattle.enet_link.proofs.Lists.{Has-push_cases, Has-slice_get}
 use Rattle.enet_connection.proofs.Emits.{Has-from_map}
-use Rattle.enet_network.specs.Log.{Logged, packets_at, with_submission, with_taken}
+use Rattle.enet_network.specs.Log.{Logged, packets_at, with_submitted_packet, with_taken}
 use Rattle.enet_network.specs.Network.{HostEnd, is_same_name, with_end}
 use Rattle.enet_network.specs.Steps.{with_packet, with_event}
 use Rattle.enet_network.proofs.Counting.{counted-long}
@@ -112,7 +112,7 @@ kept-set log ends i e f k there same own = record {
 -- by what is kept of a packet or an event
 
 pub packet-kept : (n mtu : ℕ) (q : Packet) (e : HostEnd) → IsKept n e → IsKept n (with_packet mtu q e)
-packet-kept n mtu q e k = record { channels = length-set e.channels q.channel (with_submission q (packets_at e.channels q.channel)) ∙ k.channels; numbers = k.numbers; below = k.below }
+packet-kept n mtu q e k = record { channels = length-set e.channels q.channel (with_submitted_packet q (packets_at e.channels q.channel)) ∙ k.channels; numbers = k.numbers; below = k.below }
 
 pub event-kept : (n : ℕ) (event : Event) (e : HostEnd) → IsKept n e → IsKept n (with_event event e)
 event-kept n (events.Receive name q) e k = record { channels = length-set e.channels q.channel (with_taken q (packets_at e.channels q.channel)) ∙ k.channels; numbers = k.numbers; below = k.below }

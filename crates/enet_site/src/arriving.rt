@@ -15,7 +15,7 @@ ghost use Rattle.enet_network.specs.Steps.{BringsOne, Brought, begun};
 ghost use Rattle.enet_network.specs.World.{IsRefusedFor};
 ghost use Rattle.enet_site.specs.Sites.{site, IsWhole, begun_if};
 
-use crate::delivery::{NO_PEER, refusal_of};
+use crate::delivery::{NO_PEER, refused_delivery};
 use enet_datagram::read_heading;
 use enet_host::HostCore;
 use enet_records::{Datagram, Records, fresh_end};
@@ -101,7 +101,7 @@ pub(crate) fn deliver(
     ensures unchanged { OnErr result (own.new ≡ own.old) }
     ensures delivers { IfOk result (λ answer. (address : Addr) (g : Host) → BringsOne (site from g far.now) (slice_get far.now.log k) answer (site address host.old own.old) (site address host.new own.new)) }
 {
-    if let Some(why) = refusal_of(host, own, from, far, k) {
+    if let Some(why) = refused_delivery(host, own, from, far, k) {
         return Err(why);
     }
     let Some(datagram) = far.logged(k) else {

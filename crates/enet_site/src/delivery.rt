@@ -73,7 +73,7 @@ fn is_earlier(host: &HostCore, ends: &[End], from: Addr, peer: u16, connection: 
 }
 
 /// The first refusal but want of memory that datagram `k` of the host at an address meets at this one.
-pub(crate) fn refusal_of(
+pub(crate) fn refused_delivery(
     host: &HostCore,
     own: &Records,
     from: Addr,

@@ -14,7 +14,7 @@ ghost use Rattle.enet_site.specs.Turning.{TurnsAt};
 
 use crate::arriving::deliver;
 use crate::connecting::{Question, connect};
-use crate::delivery::refusal_of;
+use crate::delivery::refused_delivery;
 use crate::leaving::disconnect;
 use crate::submitting::submit;
 use crate::taking::take;
@@ -194,7 +194,7 @@ impl Site {
     pub fn delivery_refusal(&self, from: &Site, k: u64) -> Option<Refusal>
         ensures { result ≡ delivery_refusal from.now self.now (slice_get from.now.log k) }
     {
-        refusal_of(&self.host, &self.records, from.address, &from.records, k)
+        refused_delivery(&self.host, &self.records, from.address, &from.records, k)
     }
 
     /// How many connections have an end here: fewer than 2^63.

@@ -9,31 +9,31 @@ use Rattle.enet_submit.specs.declared.order.Order.{Order}
 use Rattle.enet_submit.specs.declared.order.Submission.{Submission}
 use Rattle.enet_wire.specs.declared.told.Told.{Told}
 use Rattle.enet_wire.specs.declared.told.Told.TheVariants.{Came, Went}
-use Rattle.enet_turn.specs.Phases.{Chain, Hears, Sends, Orders, CarriesOut, Tells, left_over}
+use Rattle.enet_turn.specs.Phases.{Chain, HearsAll, SendsAll, Orders, CarriesOut, TellsAll, left_over}
 
 one_less : (turn : ℕ) → 256 - (turn + 1) ≡ 256 - turn - 1
 one_less turn = omega arith
 
 -- what still comes makes the rest of the phase
 abbrev pub HearsOn : {H : Type 0} → (H → Addr × List ℕ → H → Type 0) → ℕ → H → List Told → H → Type 0
-HearsOn {H} hears turn initial told old = (more : List Told) (failed : Bool) (new : H) → Hears hears (256 - turn) old more failed new → Hears hears 256 initial (told ++ more) failed new
+HearsOn {H} hears turn initial told old = (more : List Told) (failed : Bool) (new : H) → HearsAll hears (256 - turn) old more failed new → HearsAll hears 256 initial (told ++ more) failed new
 
 pub hears_on : {H : Type 0} (hears : H → Addr × List ℕ → H → Type 0) (turn : ℕ) (initial old host : H) (told : List Told) (from : Addr) (bytes : List ℕ)
     → turn < 256 → HearsOn hears turn initial told old → hears old (from, bytes) host → HearsOn hears (turn + 1) initial (told ++ Came from bytes ∷ []) host
 hears_on hears turn initial old host told from bytes l k h more failed new rest =
-    let step : Hears hears (256 - turn) old (Came from bytes ∷ more) failed new =
-    (omega arith, host, h, subst (λ (n : ℕ). Hears hears n host more failed new) (one_less turn) rest) in
-    subst (λ (xs : List Told). Hears hears 256 initial xs failed new) (sym (append_assoc told (Came from bytes ∷ []) more)) (k (Came from bytes ∷ more) failed new step)
+    let step : HearsAll hears (256 - turn) old (Came from bytes ∷ more) failed new =
+    (omega arith, host, h, subst (λ (n : ℕ). HearsAll hears n host more failed new) (one_less turn) rest) in
+    subst (λ (xs : List Told). HearsAll hears 256 initial xs failed new) (sym (append_assoc told (Came from bytes ∷ []) more)) (k (Came from bytes ∷ more) failed new step)
 
 abbrev pub SendsOn : {H : Type 0} → (H → Option (Addr × List ℕ) → H → Type 0) → ℕ → H → List Told → H → Type 0
-SendsOn {H} gives turn initial told old = (more : List Told) (failed : Bool) (new : H) → Sends gives (256 - turn) old more failed new → Sends gives 256 initial (told ++ more) failed new
+SendsOn {H} gives turn initial told old = (more : List Told) (failed : Bool) (new : H) → SendsAll gives (256 - turn) old more failed new → SendsAll gives 256 initial (told ++ more) failed new
 
 pub sends_on : {H : Type 0} (gives : H → Option (Addr × List ℕ) → H → Type 0) (turn : ℕ) (initial old host : H) (told : List Told) (to : Addr) (bytes : List ℕ)
     → turn < 256 → SendsOn gives turn initial told old → gives old (Some (to, bytes)) host → SendsOn gives (turn + 1) initial (told ++ Went to bytes ∷ []) host
 sends_on gives turn initial old host told to bytes l k h more failed new rest =
-    let step : Sends gives (256 - turn) old (Went to bytes ∷ more) failed new =
-    (omega arith, host, h, subst (λ (n : ℕ). Sends gives n host more failed new) (one_less turn) rest) in
-    subst (λ (xs : List Told). Sends gives 256 initial xs failed new) (sym (append_assoc told (Went to bytes ∷ []) more)) (k (Went to bytes ∷ more) failed new step)
+    let step : SendsAll gives (256 - turn) old (Went to bytes ∷ more) failed new =
+    (omega arith, host, h, subst (λ (n : ℕ). SendsAll gives n host more failed new) (one_less turn) rest) in
+    subst (λ (xs : List Told). SendsAll gives 256 initial xs failed new) (sym (append_assoc told (Went to bytes ∷ []) more)) (k (Went to bytes ∷ more) failed new step)
 
 abbrev pub OrdersOn : {H : Type 0} → (H → Order → Option Refusal → H → Type 0) → ℕ → H → Option Event → List (Option Submission) → List (Event × Bool) → H → Option Event → Type 0
 OrdersOn {H} obeys turn initial first gave puts old waiting =
@@ -54,16 +54,16 @@ orders_on obeys turn initial old host first waiting waits gave puts mine x l non
 
 abbrev pub TellsOn : {H : Type 0} → (H → Option Event → H → Type 0) → H → Option Event → List (Event × Bool) → H → Option Event → Type 0
 TellsOn {H} tells initial first puts old waiting =
-    (more : List (Event × Bool)) (new : H) (after : Option Event) → Tells tells old waiting more new after → Tells tells initial first (puts ++ more) new after
+    (more : List (Event × Bool)) (new : H) (after : Option Event) → TellsAll tells old waiting more new after → TellsAll tells initial first (puts ++ more) new after
 
 pub tells_on : {H : Type 0} (tells : H → Option Event → H → Type 0) (initial old host : H) (first waiting waits : Option Event) (puts : List (Event × Bool)) (event : Event) (taken : Bool)
     → waiting ≡ None → waits ≡ left_over event taken → TellsOn tells initial first puts old waiting → tells old (Some event) host
     → TellsOn tells initial first (puts ++ (event, taken) ∷ []) host waits
 tells_on {H} tells initial old host first waiting waits puts event taken none left k told more new after rest =
-    let rest_2 : Tells tells host (left_over event taken) more new after = subst (λ (w : Option Event). Tells tells host w more new after) left rest in
-    let step : Tells tells old None ((event, taken) ∷ more) new after = (host, told, rest_2) in
-    let step_2 : Tells tells old waiting ((event, taken) ∷ more) new after = subst (λ (w : Option Event). Tells tells old w ((event, taken) ∷ more) new after) (sym none) step in
-    subst (λ (xs : List (Event × Bool)). Tells tells initial first xs new after) (sym (append_assoc puts ((event, taken) ∷ []) more)) (k ((event, taken) ∷ more) new after step_2)
+    let rest_2 : TellsAll tells host (left_over event taken) more new after = subst (λ (w : Option Event). TellsAll tells host w more new after) left rest in
+    let step : TellsAll tells old None ((event, taken) ∷ more) new after = (host, told, rest_2) in
+    let step_2 : TellsAll tells old waiting ((event, taken) ∷ more) new after = subst (λ (w : Option Event). TellsAll tells old w ((event, taken) ∷ more) new after) (sym none) step in
+    subst (λ (xs : List (Event × Bool)). TellsAll tells initial first xs new after) (sym (append_assoc puts ((event, taken) ∷ []) more)) (k ((event, taken) ∷ more) new after step_2)
 
 -- a chain goes on by a step, or by a chain
 pub chain_more : {S A : Type 0} (step : S → A → S → Type 0) (s : S) (xs : List A) (t : S) (ys : List A) (u : S) → Chain step s xs t → Chain step t ys u → Chain step s (xs ++ ys) u
@@ -93,15 +93,15 @@ orders_none obeys turn initial old first waiting gave puts l none k =
 
 -- the events end, for one that waits
 pub tells_end : {H : Type 0} (tells : H → Option Event → H → Type 0) (initial old : H) (first waiting : Option Event) (puts : List (Event × Bool))
-    → TellsOn tells initial first puts old waiting → IsSome waiting → Tells tells initial first puts old waiting
+    → TellsOn tells initial first puts old waiting → IsSome waiting → TellsAll tells initial first puts old waiting
 tells_end tells initial old first None puts k e = cc
 tells_end tells initial old first (Some event) puts k e =
-    subst (λ (xs : List (Event × Bool)). Tells tells initial first xs old (Some event)) (append-nil puts) (k [] old (Some event) (refl, refl, refl))
+    subst (λ (xs : List (Event × Bool)). TellsAll tells initial first xs old (Some event)) (append-nil puts) (k [] old (Some event) (refl, refl, refl))
 
 -- the events end where the host has none
 pub tells_none : {H : Type 0} (tells : H → Option Event → H → Type 0) (initial old new : H) (first waiting : Option Event) (puts : List (Event × Bool))
-    → waiting ≡ None → TellsOn tells initial first puts old waiting → tells old None new → Tells tells initial first puts new waiting
+    → waiting ≡ None → TellsOn tells initial first puts old waiting → tells old None new → TellsAll tells initial first puts new waiting
 tells_none tells initial old new first waiting puts none k told =
-    let step : Tells tells old None [] new waiting = (told, none) in
-    let step_2 : Tells tells old waiting [] new waiting = subst (λ (w : Option Event). Tells tells old w [] new waiting) (sym none) step in
-    subst (λ (xs : List (Event × Bool)). Tells tells initial first xs new waiting) (append-nil puts) (k [] new waiting step_2)
+    let step : TellsAll tells old None [] new waiting = (told, none) in
+    let step_2 : TellsAll tells old waiting [] new waiting = subst (λ (w : Option Event). TellsAll tells old w [] new waiting) (sym none) step in
+    subst (λ (xs : List (Event × Bool)). TellsAll tells initial first xs new waiting) (append-nil puts) (k [] new waiting step_2)

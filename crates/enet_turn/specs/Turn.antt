@@ -9,18 +9,18 @@ use Rattle.enet_submit.specs.declared.order.Submission.{Submission}
 use Rattle.enet_wire.specs.declared.told.Told.{Told}
 use Rattle.enet_turn.specs.declared.report.Report.{Report}
 use Rattle.enet_turn.specs.declared.report.Fault.{Fault}
-use Rattle.enet_turn.specs.Phases.{Offers, Orders, Hears, Sends, Tells}
+use Rattle.enet_turn.specs.Phases.{Offers, Orders, HearsAll, SendsAll, TellsAll}
 use Rattle.enet_turn.specs.Counts.{given_in, came_in, went_in, blocked_in, taken_in, count_of, stopped}
 
 -- events come last; a wire that failed while datagrams were sent ends the turn before them
 abbrev pub AfterSending : {H : Type 0} → (H → Option Event → H → Type 0) → Bool → H → Option Event → List (Event × Bool) → H → Option Event → Type 0
-AfterSending tells false sent waiting puts new after = Tells tells sent waiting puts new after
+AfterSending tells false sent waiting puts new after = TellsAll tells sent waiting puts new after
 AfterSending tells true sent waiting puts new after = (puts ≡ []) × (new ≡ sent) × (after ≡ waiting)
 
 -- a wire that failed while datagrams came ends the turn before any is sent
 abbrev pub AfterHearing : {H : Type 0} → (H → Option (Addr × List ℕ) → H → Type 0) → (H → Option Event → H → Type 0) → Bool → H → Option Event → List Told → List (Event × Bool) → Bool → H → Option Event → Type 0
 AfterHearing {H} gives tells false heard waiting told puts failed new after =
-    (sent : H) × Sends gives 256 heard told failed sent × AfterSending tells failed sent waiting puts new after
+    (sent : H) × SendsAll gives 256 heard told failed sent × AfterSending tells failed sent waiting puts new after
 AfterHearing gives tells true heard waiting told puts failed new after = (told ≡ []) × (puts ≡ []) × (failed ≡ true) × (new ≡ heard) × (after ≡ waiting)
 
 -- In order: the tick; the event that waits; orders; datagrams in; datagrams out; events. `gave` is what the source answered,
@@ -40,7 +40,7 @@ pub record Turn {H : Type 0} (ticks : H → ℕ → H → Type 0) (obeys : H →
   pub came : List Told
   pub hearing_failed : Bool
   pub heard : H
-  pub hearing : Hears hears 256 ordered came hearing_failed heard
+  pub hearing : HearsAll hears 256 ordered came hearing_failed heard
   pub went : List Told
   pub of_events : List (Event × Bool)
   pub rest : AfterHearing gives tells hearing_failed heard waits went of_events failed new after

@@ -2,7 +2,7 @@
 ghost use Rattle.std.specs.Prelude.{◌≡◌, ◌+◌, List};
 ghost use Rattle.enet_wire.specs.declared.told.Told.{Told as Call};
 ghost use Rattle.enet_wire.specs.Wires.{also, unless_spent};
-ghost use Rattle.enet_turn.specs.Phases.{Hears};
+ghost use Rattle.enet_turn.specs.Phases.{HearsAll};
 ghost use Rattle.enet_turn.specs.Counts.{came_in, count_of};
 
 use crate::MOST;
@@ -19,7 +19,7 @@ pub struct Heard {
 /// Receives until the wire gives none or fails, at most 256 datagrams.
 pub fn hear_all<H: Core, W: Wire>(host: &mut H, wire: &mut W) -> Heard
     ensures { (told : List Call) × (W.told wire.new ≡ also (W.told wire.old) (unless_spent (W.faults wire.old) told))
-        × Hears H.hears 256 host.old told result.failed host.new × (result.received ≡ came_in told)
+        × HearsAll H.hears 256 host.old told result.failed host.new × (result.received ≡ came_in told)
         × (W.faults wire.new ≡ W.faults wire.old + count_of result.failed) }
 {
     let mut buf = [0u8; 4096];

@@ -9,7 +9,7 @@
 //! leaves fewer ([`Core`]). [`HostCore`](enet_host::HostCore) is such a host: each call of a turn is the call of the host with
 //! that meaning, by the host's own definitions. Between the two queues the orders of a run are each seat's next ones, once and
 //! in its order, and what was taken begins a history of the queue ([`run_between_queues`]).
-//! Only tested, by `check_queues`: turns and runs over memory and a socket, one by one. Neither: that a wait or a call of a
+//! Only tested, by `check_service`: turns and runs over memory and a socket, one by one. Neither: that a wait or a call of a
 //! queue returns, and that two threads ran.
 #![tactic(auto)]
 

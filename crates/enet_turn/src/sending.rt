@@ -2,7 +2,7 @@
 ghost use Rattle.std.specs.Prelude.{◌≡◌, ◌+◌, List};
 ghost use Rattle.enet_wire.specs.declared.told.Told.{Told as Call};
 ghost use Rattle.enet_wire.specs.Wires.{also, unless_spent};
-ghost use Rattle.enet_turn.specs.Phases.{Sends};
+ghost use Rattle.enet_turn.specs.Phases.{SendsAll};
 ghost use Rattle.enet_turn.specs.Counts.{went_in, blocked_in, count_of};
 
 use crate::MOST;
@@ -17,10 +17,10 @@ pub struct Sent {
     pub failed: bool,
 }
 
-/// Sends until the host has no datagram, a send would block or the wire fails, at most 256 datagrams.
+/// SendsAll until the host has no datagram, a send would block or the wire fails, at most 256 datagrams.
 pub fn send_all<H: Core, W: Wire>(host: &mut H, wire: &mut W) -> Sent
     ensures { (told : List Call) × (W.told wire.new ≡ also (W.told wire.old) (unless_spent (W.faults wire.old) told))
-        × Sends H.gives 256 host.old told result.failed host.new × (result.sent ≡ went_in told)
+        × SendsAll H.gives 256 host.old told result.failed host.new × (result.sent ≡ went_in told)
         × (result.lost ≡ blocked_in told + count_of result.failed)
         × (W.faults wire.new ≡ W.faults wire.old + count_of result.failed) }
 {

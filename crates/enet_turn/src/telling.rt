@@ -1,7 +1,7 @@
 //! Events that are offered to the sink.
 ghost use Rattle.std.specs.Prelude.{◌≡◌, List, Bool};
 ghost use Rattle.enet_types.specs.declared.event.Event.{Event as Told};
-ghost use Rattle.enet_turn.specs.Phases.{Chain, Offers, left_over, Tells};
+ghost use Rattle.enet_turn.specs.Phases.{Chain, Offers, left_over, TellsAll};
 ghost use Rattle.enet_turn.specs.Counts.{count_of, taken_in, stopped};
 
 use crate::host::Core;
@@ -48,7 +48,7 @@ pub fn tell_all<H: Core, K: Sink, R: Wait>(
     waiting: &mut Option<Event>,
     sink: &mut K,
 ) -> u32
-    ensures { (puts : List (Told × Bool)) × Chain (λ s x t. K.puts s x.0 x.1 t) sink.old puts sink.new × Tells H.tells host.old waiting.old puts host.new waiting.new × (result ≡ stopped (taken_in puts)) }
+    ensures { (puts : List (Told × Bool)) × Chain (λ s x t. K.puts s x.0 x.1 t) sink.old puts sink.new × TellsAll H.tells host.old waiting.old puts host.new waiting.new × (result ≡ stopped (taken_in puts)) }
 {
     let mut events = 0u32;
     while waiting.is_none() {

@@ -4,7 +4,7 @@ use Rattle.enet_types.specs.declared.address.Addr.{Addr}
 use Rattle.enet_wire.specs.declared.told.Told.{Told}
 use Rattle.enet_wire.specs.declared.told.Told.TheVariants.{Came, NothingCame}
 use Rattle.enet_wire.specs.Wires.{also, unless_spent, came}
-use Rattle.enet_turn.specs.Phases.{Hears}
+use Rattle.enet_turn.specs.Phases.{HearsAll}
 use Rattle.enet_turn.proofs.PhaseSteps.{hears_on}
 use Rattle.enet_turn.proofs.Tellings.{told_on, told_no_more, came_more}
 use Rattle.enet_turn.proofs.hearing.hear_all.Goals as goal
@@ -31,7 +31,7 @@ returns-in-Err g c =
     let faults : g.W.Wire.faults c.recv.new.self ≡ g.W.Wire.faults c.args.wire.now + 1 = c.in-Err.ensures.faults ∙ ap (λ (n : ℕ). n + 1) inv.2 in (
       told,
       told_no_more _ _ _ _ _ told inv.1 inv.2 c.in-Err.ensures.told,
-      subst (λ (xs : List Told). Hears g.H.Core.hears 256 c.args.host.now xs true c.loop-turn.host) (append-nil told)
+      subst (λ (xs : List Told). HearsAll g.H.Core.hears 256 c.args.host.now xs true c.loop-turn.host) (append-nil told)
           (inv.5 [] true c.loop-turn.host (inr (omega arith, refl), refl)),
       inv.3,
       faults,
@@ -60,7 +60,7 @@ returns g c =
     let faults : g.W.Wire.faults c.loop-turn.wire ≡ g.W.Wire.faults c.args.wire.now = inv.2 in (
       told,
       inv.1,
-      subst (λ (xs : List Told). Hears g.H.Core.hears 256 c.args.host.now xs false c.loop-turn.host) (append-nil told)
+      subst (λ (xs : List Told). HearsAll g.H.Core.hears 256 c.args.host.now xs false c.loop-turn.host) (append-nil told)
           (inv.5 [] false c.loop-turn.host (inl (omega arith, refl), refl)),
       inv.3,
       omega (arith, faults),

@@ -3,7 +3,7 @@ use Rattle.std.proofs.lemmas.List.{append-nil}
 use Rattle.enet_wire.specs.declared.told.Told.{Told}
 use Rattle.enet_wire.specs.declared.told.Told.TheVariants.{Went, Blocked}
 use Rattle.enet_wire.specs.Wires.{also, unless_spent, went}
-use Rattle.enet_turn.specs.Phases.{Sends}
+use Rattle.enet_turn.specs.Phases.{SendsAll}
 use Rattle.enet_turn.proofs.PhaseSteps.{sends_on}
 use Rattle.enet_turn.proofs.Tellings.{told_on, told_no_more, went_more, blocked_more}
 use Rattle.enet_turn.proofs.sending.send_all.Goals as goal
@@ -32,7 +32,7 @@ returns-in-Err g c =
     let faults : g.W.Wire.faults c.send.new.self ≡ g.W.Wire.faults c.args.wire.now + 1 = c.in-Err.ensures.faults ∙ ap (λ (n : ℕ). n + 1) inv.2 in (
       told,
       told_no_more _ _ _ _ _ told inv.1 inv.2 c.in-Err.ensures.told,
-      subst (λ (xs : List Told). Sends g.H.Core.gives 256 c.args.host.now xs true c.give.new.self) (append-nil told)
+      subst (λ (xs : List Told). SendsAll g.H.Core.gives 256 c.args.host.now xs true c.give.new.self) (append-nil told)
           (inv.6 [] true c.give.new.self (omega arith, c.in-Some.to, bytes, c.in-Some.ensures.given)),
       inv.3,
       omega (arith, inv.4),
@@ -46,7 +46,7 @@ returns-in-None g c =
     let faults : g.W.Wire.faults c.loop-turn.wire ≡ g.W.Wire.faults c.args.wire.now = inv.2 in (
       told,
       inv.1,
-      subst (λ (xs : List Told). Sends g.H.Core.gives 256 c.args.host.now xs false c.give.new.self) (append-nil told)
+      subst (λ (xs : List Told). SendsAll g.H.Core.gives 256 c.args.host.now xs false c.give.new.self) (append-nil told)
           (inv.6 [] false c.give.new.self (inr (omega arith, c.in-None.ensures.given))),
       inv.3,
       omega (arith, inv.4),
@@ -77,7 +77,7 @@ returns g c =
     let faults : g.W.Wire.faults c.loop-turn.wire ≡ g.W.Wire.faults c.args.wire.now = inv.2 in (
       told,
       inv.1,
-      subst (λ (xs : List Told). Sends g.H.Core.gives 256 c.args.host.now xs false c.loop-turn.host) (append-nil told)
+      subst (λ (xs : List Told). SendsAll g.H.Core.gives 256 c.args.host.now xs false c.loop-turn.host) (append-nil told)
           (inv.6 [] false c.loop-turn.host (inl (omega arith, refl))),
       inv.3,
       omega (arith, inv.4),

@@ -3,7 +3,7 @@ use Rattle.std.proofs.lemmas.List.{append-nil}
 use Rattle.enet_types.specs.declared.event.Event.{Event}
 use Rattle.enet_submit.specs.declared.order.Submission.{Submission}
 use Rattle.enet_wire.specs.declared.told.Told.{Told}
-use Rattle.enet_turn.specs.Phases.{Hears, Sends}
+use Rattle.enet_turn.specs.Phases.{HearsAll, SendsAll}
 use Rattle.enet_turn.specs.Counts.{count_of, stopped, taken_in, blocked_in}
 use Rattle.enet_turn.proofs.PhaseSteps.{chain_more}
 use Rattle.enet_turn.proofs.Tellings.{told_on}
@@ -19,8 +19,8 @@ returns-then-heard-clause-turn g c =
     let of_orders : List (Event × Bool) = taken.2 in
     let gave : List (Option Submission) = taken.0 in
     let came : List Told = heard.0 in
-    let hearing : Hears g.H.Core.hears 256 c.take_orders-orders.new.host came true c.hear_all-heard.new.host =
-    subst (λ (b : Bool). Hears g.H.Core.hears 256 c.take_orders-orders.new.host came b c.hear_all-heard.new.host) c.if-heard.true heard.2 in (
+    let hearing : HearsAll g.H.Core.hears 256 c.take_orders-orders.new.host came true c.hear_all-heard.new.host =
+    subst (λ (b : Bool). HearsAll g.H.Core.hears 256 c.take_orders-orders.new.host came b c.hear_all-heard.new.host) c.if-heard.true heard.2 in (
       gave,
       taken.1,
       came,
@@ -64,10 +64,10 @@ returns-then-sent-clause-turn g c =
     let gave : List (Option Submission) = taken.0 in
     let came : List Told = heard.0 in
     let went : List Told = sent.0 in
-    let hearing : Hears g.H.Core.hears 256 c.take_orders-orders.new.host came false c.hear_all-heard.new.host =
-    subst (λ (b : Bool). Hears g.H.Core.hears 256 c.take_orders-orders.new.host came b c.hear_all-heard.new.host) c.if-heard.false heard.2 in
-    let sending : Sends g.H.Core.gives 256 c.hear_all-heard.new.host went true c.send_all-sent.new.host =
-    subst (λ (b : Bool). Sends g.H.Core.gives 256 c.hear_all-heard.new.host went b c.send_all-sent.new.host) c.if-sent.true sent.2 in
+    let hearing : HearsAll g.H.Core.hears 256 c.take_orders-orders.new.host came false c.hear_all-heard.new.host =
+    subst (λ (b : Bool). HearsAll g.H.Core.hears 256 c.take_orders-orders.new.host came b c.hear_all-heard.new.host) c.if-heard.false heard.2 in
+    let sending : SendsAll g.H.Core.gives 256 c.hear_all-heard.new.host went true c.send_all-sent.new.host =
+    subst (λ (b : Bool). SendsAll g.H.Core.gives 256 c.hear_all-heard.new.host went b c.send_all-sent.new.host) c.if-sent.true sent.2 in
     let none_yet : g.W.Wire.faults c.hear_all-heard.new.wire ≡ g.W.Wire.faults c.args.wire.now + 0 =
     heard.4 ∙ ap (λ (b : Bool). g.W.Wire.faults c.args.wire.now + count_of b) c.if-heard.false in
     let sound : g.W.Wire.faults c.hear_all-heard.new.wire ≡ g.W.Wire.faults c.args.wire.now = omega (arith, none_yet) in
@@ -117,10 +117,10 @@ returns-clause-turn g c =
     let gave : List (Option Submission) = taken.0 in
     let came : List Told = heard.0 in
     let went : List Told = sent.0 in
-    let hearing : Hears g.H.Core.hears 256 c.take_orders-orders.new.host came false c.hear_all-heard.new.host =
-    subst (λ (b : Bool). Hears g.H.Core.hears 256 c.take_orders-orders.new.host came b c.hear_all-heard.new.host) c.if-heard.false heard.2 in
-    let sending : Sends g.H.Core.gives 256 c.hear_all-heard.new.host went false c.send_all-sent.new.host =
-    subst (λ (b : Bool). Sends g.H.Core.gives 256 c.hear_all-heard.new.host went b c.send_all-sent.new.host) c.if-sent.false sent.2 in
+    let hearing : HearsAll g.H.Core.hears 256 c.take_orders-orders.new.host came false c.hear_all-heard.new.host =
+    subst (λ (b : Bool). HearsAll g.H.Core.hears 256 c.take_orders-orders.new.host came b c.hear_all-heard.new.host) c.if-heard.false heard.2 in
+    let sending : SendsAll g.H.Core.gives 256 c.hear_all-heard.new.host went false c.send_all-sent.new.host =
+    subst (λ (b : Bool). SendsAll g.H.Core.gives 256 c.hear_all-heard.new.host went b c.send_all-sent.new.host) c.if-sent.false sent.2 in
     let none_yet : g.W.Wire.faults c.hear_all-heard.new.wire ≡ g.W.Wire.faults c.args.wire.now + 0 =
     heard.4 ∙ ap (λ (b : Bool). g.W.Wire.faults c.args.wire.now + count_of b) c.if-heard.false in
     let sound : g.W.Wire.faults c.hear_all-heard.new.wire ≡ g.W.Wire.faults c.args.wire.now = omega (arith, none_yet) in

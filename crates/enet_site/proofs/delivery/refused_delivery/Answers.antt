@@ -5,7 +5,7 @@ use Rattle.enet_network.specs.Network.{is_earlier, numbers_in, end_of}
 use Rattle.enet_records.specs.Records.{Records}
 use Rattle.enet_site.specs.Sites.{site, with_ends, unread}
 use Rattle.enet_site.proofs.Refusing.{earlier-at, late-at}
-use Rattle.enet_site.proofs.delivery.refusal_of.Goals as goal
+use Rattle.enet_site.proofs.delivery.refused_delivery.Goals as goal
 
 pub returns-then-is_earlier : goal.returns-then-is_earlier
 returns-then-is_earlier c =
