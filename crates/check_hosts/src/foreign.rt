@@ -9,7 +9,6 @@
 //! `next_event` that gives nothing and a reception leave all peers connected.
 
 mod call;
-pub(crate) mod client;
 mod crowd;
 mod drawing;
 mod fault;

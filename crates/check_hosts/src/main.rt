@@ -5,8 +5,8 @@
 //! were worked out by hand from the rules. Those of the captured scripts, which are whole captured files, come from the captured datagrams,
 //! from what the reference library's users saw, and from a model of the rules that shares no code with this program.
 //!
-//! A line is `COMMAND = ANSWER`, or begins with `#`, or is blank. The commands are those of `Field::run`. For each script the
-//! program prints how many steps went as wanted, or the first line that differs, and ends there with status 1.
+//! The scripts' language is that of `check_scripts`. For each script the program prints how many steps went as wanted, or the first
+//! line that differs, and ends there with status 1.
 //!
 //! `check_hosts DRAWN` has hosts take in foreign datagrams alone, of which so many are drawn in place of 1,000,000.
 //! `check_hosts crowd [CHANNELS [measure]]` looks at the host of 4,095 slots alone, whose peers have so many channels (1 where no number
@@ -16,25 +16,17 @@
 //!
 //! Standard input may have a decimal number: then only the five scripts run, and so many growths are
 //! made before the first. A run that refuses the growth of one number so refuses any of the scripts', by the input alone.
-//! Where a step is refused for want of memory, nothing that the host tells may have changed, and the step is repeated once.
 //! Status 2: a growth of the program's own was refused. Status 3: input or output failed. Status 4: the growth behind the last
 //! script's was refused, so that the scripts have no more.
 #![tactic(auto)]
 
-mod bytes_text;
 mod fault;
-mod field;
 mod foreign;
 mod scarce;
-mod script;
-mod seen;
-mod setting;
-mod telling;
-mod words;
 
+use check_scripts::{Account, LONGEST_ANSWER, run_script};
 use fault::Fault;
 use scarce::SCARCE;
-use script::{Account, run_script};
 use std::alloc::Global;
 use std::io::Read;
 use std::process::ExitCode;
@@ -169,7 +161,7 @@ fn run_file<R: Files + Print + AllocGlobal>(rt: &R, name: &str) -> Result<(), Fa
 /// Runs a script, and prints how it ended.
 fn run_text<R: Print + AllocGlobal>(rt: &R, name: &str, text: &str) -> Result<(), Fault> {
     let alloc = rt.alloc();
-    let mut seen = String::with_capacity(alloc, script::LONGEST_ANSWER)?;
+    let mut seen = String::with_capacity(alloc, LONGEST_ANSWER)?;
     let outcome = run_script(alloc, text, &mut seen);
     tell(rt, name, outcome, seen.as_str())
 }
@@ -178,19 +170,26 @@ fn run_text<R: Print + AllocGlobal>(rt: &R, name: &str, text: &str) -> Result<()
 fn tell<R: Print>(
     rt: &R,
     name: &str,
-    outcome: Result<Account, Fault>,
+    outcome: Result<Account, check_scripts::Fault>,
     seen: &str,
 ) -> Result<(), Fault> {
     let told = match outcome {
         Ok(account) => tell_account(rt, name, account),
-        Err(Fault::Differs(line)) => println!(rt; "{name}: line {line}: {seen} differs"),
-        Err(Fault::Unreadable(line)) => println!(rt; "{name}: line {line} can't be read"),
+        Err(check_scripts::Fault::Differs(line)) => println!(rt;
+            "{name}: line {line}: {seen} differs"
+        ),
+        Err(check_scripts::Fault::Unreadable(line)) => println!(rt;
+            "{name}: line {line} can't be read"
+        ),
         Err(_) => Ok(()),
     };
     if told.is_err() {
         return Err(Fault::Io);
     }
-    outcome.map(|_| ())
+    match outcome {
+        Ok(_) => Ok(()),
+        Err(fault) => Err(Fault::from(fault)),
+    }
 }
 
 fn tell_account<R: Print>(rt: &R, name: &str, account: Account) -> io::Result<()> {

@@ -109,12 +109,9 @@ fn foresee(receiver: &Incoming, command: &Command<'_>) -> Foresight {
     receiver.foresee(command, false)
 }
 
-// Each call of a receiver, with ample memory, and each outcome.
-#[test]
-fn receiver_by_hand(rt: HostRuntime) {
-    let mut receiver = Incoming::open(rt.alloc(), 0, 1000).ok().expect(&rt, "open");
-    let first = piece(1, place(1, 1, 0, 1, 0), b"r");
-    let rows = [
+/// Commands that wait for the reliable packet number 1, and others, `first` among them, that don't come in.
+fn all_that_wait(first: Command<'_>) -> [(Command<'_>, bool, Took); 8] {
+    [
         (reliable(0, 2, b"s"), false, Took::Held),
         (reliable(0, 2, b"s"), false, Took::Again),
         (unreliable(0, 1, 1, b"u"), false, Took::Held),
@@ -131,8 +128,15 @@ fn receiver_by_hand(rt: HostRuntime) {
         (first, true, Took::Waiting),
         (reliable(0, 40_000, b"s"), false, Took::Outside),
         (piece(2, place(1, 2, 0, 2, 0), b"x"), false, Took::Bad),
-    ];
-    assert!(rt; receives(&mut receiver, &rows));
+    ]
+}
+
+// Each call of a receiver, with ample memory, and each outcome.
+#[test]
+fn receiver_by_hand(rt: HostRuntime) {
+    let mut receiver = Incoming::open(rt.alloc(), 0, 1000).ok().expect(&rt, "open");
+    let first = piece(1, place(1, 1, 0, 1, 0), b"r");
+    assert!(rt; receives(&mut receiver, &all_that_wait(first)));
     assert!(rt; receiver.held() == 2);
     let all = Foresight {
         took: Took::Held,

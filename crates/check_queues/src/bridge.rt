@@ -1,16 +1,14 @@
 //! A desk whose queue has one place, by hand.
 
-ghost use Rattle.std.specs.Prelude.{IfSome};
-ghost use Rattle.enet_submit.specs.Words.{IsSeatOf, IsDrainOf};
-
+use crate::opening::{bell, one_seat};
 use bytes::Bytes;
 use enet_bridge::{Desk, Pumped, QueueSource, Source};
-use enet_submit::{Drain, Order, Seat, SubmitQueue};
-use enet_types::{Addr, PeerRef, Refusal};
-use enet_wire::{Bell, MioWire};
+use enet_submit::Order;
+use enet_types::{PeerRef, Refusal};
+use enet_wire::Bell;
 use std::alloc::Global;
 use std::net::Net;
-use std::sync::{Arc, Wait};
+use std::sync::Wait;
 
 const PEER: PeerRef = PeerRef {
     slot: 0,
@@ -32,15 +30,6 @@ fn next<R: Wait>(rt: &R, source: &mut QueueSource<'_>) -> Option<u32> {
         Some(submission) => Some(submission.number),
         None => None,
     }
-}
-
-// A queue of so many places and one seat.
-pub(crate) fn one_seat(alloc: Global, places: u32) -> Option<(SubmitQueue, Seat, Drain)>
-    ensures { IfSome result (λ r. IsSeatOf r.0 r.1 × IsDrainOf r.0 r.2) }
-{
-    let (queue, mut seats, drain) = SubmitQueue::open(alloc, places, 1, 9).ok()?;
-    let seat = seats.pop()?;
-    Some((queue, seat, drain))
 }
 
 // What a desk answers to `submit`, how many orders it keeps, and which number the source gives then.
@@ -73,15 +62,6 @@ fn through_one_place<R: Wait>(
     let mut desk = Desk::new(alloc, &queue, seat, bell);
     let pumpings = two_orders(rt, &mut desk, &mut source).ok()?;
     Some((pumpings, next(rt, &mut source)))
-}
-
-// A bell of a socket on 127.0.0.1.
-pub(crate) fn bell<R: Net + AllocGlobal>(rt: &R) -> Result<Arc<Bell, Global>, Refusal> {
-    let here = Addr {
-        ip: 0x7f00_0001,
-        port: 0,
-    };
-    MioWire::bind(rt, here)?.bell()
 }
 
 fn beside_a_bell<R: Wait + Net + AllocGlobal>(rt: &R) -> Option<([Pumping; 2], Option<u32>)> {

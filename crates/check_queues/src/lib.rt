@@ -1,7 +1,6 @@
 //! Tests of what stands between threads: both queues by hand and from several threads, a wire through sockets of 127.0.0.1, a
-//! desk that waits for room, the relay's rule, and the service with a real host: turns and runs over memory, with each call of the
-//! wire failing and each send blocking in its turn, beside a game thread, and through a socket. No code but the tests; they stand
-//! here so that these crates are proved once, and what they share is proved once for all tests.
+//! desk that waits for room, and the relay's rule. They stand here so that these crates are proved once, and what they share is
+//! proved once for all tests. The service with a real host is tested by `check_service`.
 #![tactic(auto)]
 
 #[cfg(test)]
@@ -10,9 +9,10 @@ mod bridge;
 mod chat;
 #[cfg(test)]
 mod events;
-#[cfg(test)]
-mod service;
+mod opening;
 #[cfg(test)]
 mod submit;
 #[cfg(test)]
 mod wire;
+
+pub use opening::{bell, one_seat};

@@ -2,7 +2,7 @@
 //!
 //! Its parts stand in crates below it: wires (`enet_wire`), where orders come from and events go (`enet_bridge`), turns and
 //! runs of them over any host, and what they do with a [`HostCore`] (`enet_turn`). What is proved of them is said there; no
-//! function stands here. Only tested, by `check_queues`: turns and runs of a real host over memory, with each call of the wire failing and
+//! function stands here. Only tested, by `check_service`: turns and runs of a real host over memory, with each call of the wire failing and
 //! each send blocking in its turn; that a game thread submits and takes while the service is inside its wire; a connection's
 //! opening through a socket of 127.0.0.1. Neither: what a network gives, and when.
 #![tactic(auto)]

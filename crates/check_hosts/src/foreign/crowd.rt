@@ -1,8 +1,8 @@
 //! A host with as many connected peers as a host can have.
 
 use super::call::Call;
-use super::client::{connect, next_event, put_out, receive};
 use super::fault::Fault;
+use check_scripts::{connect, next_event, put_out, receive};
 use enet_host::HostCore;
 use enet_peer::PeerState;
 use enet_types::{Addr, Config, PeerRef, Refusal};

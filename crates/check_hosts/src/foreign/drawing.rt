@@ -83,9 +83,13 @@ impl Draw {
         for byte in self.bytes.iter_mut().take(64) {
             *byte = (self.generator.next_u32() % 256) as u8;
         }
-        if self.below(8) == 0 {
-            return;
+        if self.below(8) != 0 {
+            self.lead();
         }
+    }
+
+    /// Puts a header that the peer of slot 0 takes before all, and a command's byte behind it.
+    fn lead(&mut self) {
         let header: [u8; 5] = [0x80, 0, 0, 0, 0x80 | (self.below(16) as u8)];
         for (to, from) in self.bytes.iter_mut().zip(header.iter()) {
             *to = *from;

@@ -1,8 +1,8 @@
 //! A host with three connected peers.
 
-use super::client::{connect, next_event, put_out, receive};
 use super::fault::Fault;
 use super::told::Told;
+use check_scripts::{connect, next_event, put_out, receive};
 use enet_host::{HostCore, Totals};
 use enet_types::{Addr, Config, Event};
 use std::alloc::Global;

@@ -1,8 +1,8 @@
 //! The hosts of a script.
 
 use crate::bytes_text::{push_bytes, read_bytes};
+use crate::client::{next_event, put_out, receive};
 use crate::fault::{Fault, UNREADABLE};
-use crate::foreign::client::{next_event, put_out, receive};
 use crate::seen::{HOSTS, SeenHost};
 use crate::setting::read_config;
 use crate::telling::{

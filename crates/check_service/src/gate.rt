@@ -1,9 +1,9 @@
 //! A game thread gets on while the service is inside its wire: no lock stands round host and queues.
 ghost use Rattle.std.specs.Prelude.{◌≡◌, IfSome};
 
-use super::{FAR, PEER, done, joined, packet};
-use crate::bridge::{bell, one_seat};
+use crate::stand::{FAR, PEER, done, joined, packet};
 use bytes::Bytes;
+use check_queues::{bell, one_seat};
 use enet_events::{EventQueue, Poster, Taker};
 use enet_service::{
     Bell, Desk, HostCore, Inbox, QueueSink, QueueSource, Report, Service, TakerBell, Wire,

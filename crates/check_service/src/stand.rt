@@ -1,8 +1,4 @@
-//! Turns and runs of a real host, over wires in memory and a socket.
-mod by_hand;
-mod failing;
-mod gate;
-mod loopback;
+//! What the tests' turns stand on.
 
 use bytes::Bytes;
 use enet_service::{Fault, HostCore, MemorySink, MemorySource, Report, Service, Wire};
@@ -13,23 +9,23 @@ use std::collections::VecDeque;
 use std::sync::Wait;
 
 // The other end of a joined host.
-const FAR: Addr = Addr {
+pub(crate) const FAR: Addr = Addr {
     ip: 0x0a00_0001,
     port: 7001,
 };
 
-const PEER: PeerRef = PeerRef {
+pub(crate) const PEER: PeerRef = PeerRef {
     slot: 0,
     generation: 0,
 };
 
-fn joined(alloc: Global) -> Result<Service<HostCore>, Refusal> {
+pub(crate) fn joined(alloc: Global) -> Result<Service<HostCore>, Refusal> {
     let host = HostCore::joined(alloc, Config::standard(1, 2), FAR)?;
     Ok(Service::new(host))
 }
 
 // To send a reliable packet on channel 0.
-fn packet(peer: PeerRef, body: Bytes) -> Order {
+pub(crate) fn packet(peer: PeerRef, body: Bytes) -> Order {
     Order::Submit {
         peer,
         channel: 0,
@@ -39,7 +35,7 @@ fn packet(peer: PeerRef, body: Bytes) -> Order {
 }
 
 // These orders of seat 3, numbered from 0.
-fn source(alloc: Global, orders: Vec<Order>) -> Result<MemorySource, AllocError> {
+pub(crate) fn source(alloc: Global, orders: Vec<Order>) -> Result<MemorySource, AllocError> {
     let mut left = VecDeque::new(alloc);
     let mut number = 0u32;
     for order in orders {
@@ -55,14 +51,14 @@ fn source(alloc: Global, orders: Vec<Order>) -> Result<MemorySource, AllocError>
 
 // A joined host's service between its orders and its events.
 #[derive(Drop)]
-struct Stand {
-    source: MemorySource,
-    sink: MemorySink,
-    service: Service<HostCore>,
+pub(crate) struct Stand {
+    pub(crate) source: MemorySource,
+    pub(crate) sink: MemorySink,
+    pub(crate) service: Service<HostCore>,
 }
 
 // A host with these orders, and room for so many events.
-fn stand_of(alloc: Global, orders: Vec<Order>, room: usize) -> Option<Stand> {
+pub(crate) fn stand_of(alloc: Global, orders: Vec<Order>, room: usize) -> Option<Stand> {
     let source = source(alloc, orders).ok()?;
     Some(Stand {
         source,
@@ -72,7 +68,7 @@ fn stand_of(alloc: Global, orders: Vec<Order>, room: usize) -> Option<Stand> {
 }
 
 // A turn of so many milliseconds. No clause says what it does: the tests would carry it along.
-fn turn<R: Wait, W: Wire>(
+pub(crate) fn turn<R: Wait, W: Wire>(
     rt: &R,
     wire: &mut W,
     stand: &mut Stand,
@@ -86,14 +82,14 @@ fn turn<R: Wait, W: Wire>(
     service.turn(rt, wire, source, sink, ms)
 }
 
-fn wire_fault(report: Report) -> Result<Report, Fault> {
+pub(crate) fn wire_fault(report: Report) -> Result<Report, Fault> {
     Err(Fault {
         why: Refusal::WireFault,
         report,
     })
 }
 
-fn done(orders: u32, received: u32, sent: u32, lost: u32, events: u32) -> Report {
+pub(crate) fn done(orders: u32, received: u32, sent: u32, lost: u32, events: u32) -> Report {
     Report {
         orders,
         received,

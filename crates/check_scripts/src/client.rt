@@ -14,19 +14,18 @@ const CHANNELS: usize = 23;
 /// The acknowledgement of a server's VERIFY_CONNECT, behind its header.
 const ACKNOWLEDGEMENT: [u8; 8] = [0x01, 0xff, 0, 1, 0, 1, 0, 0];
 
-pub(crate) fn receive(host: &mut HostCore, from: Addr, datagram: &[u8]) -> Received {
+/// A datagram comes to a host from an address.
+pub fn receive(host: &mut HostCore, from: Addr, datagram: &[u8]) -> Received {
     host.receive(from, datagram)
 }
 
-pub(crate) fn next_event(host: &mut HostCore) -> Option<Event> {
+/// Takes a host's next event, if it has one.
+pub fn next_event(host: &mut HostCore) -> Option<Event> {
     host.next_event()
 }
 
-/// A datagram that a host puts out: of which peer and to which address, and how long it is.
-pub(crate) fn put_out(
-    host: &mut HostCore,
-    buf: &mut [u8; 4_096],
-) -> Option<(PeerRef, Addr, usize)> {
+/// A datagram that a host puts out, at the front of `buf`: of which peer and to which address, and how many bytes it has.
+pub fn put_out(host: &mut HostCore, buf: &mut [u8; 4_096]) -> Option<(PeerRef, Addr, usize)> {
     host.service(buf)
 }
 
@@ -51,8 +50,8 @@ fn acknowledgement(slot: u16) -> [u8; 10] {
     datagram
 }
 
-/// A client connects for so many channels, and its event is taken. Whether its offer was handled.
-pub(crate) fn connect(host: &mut HostCore, from: Addr, slot: u16, channels: u8) -> bool {
+/// The client of a slot connects for so many channels, 1 to 255, and its event is taken. Whether its offer was handled.
+pub fn connect(host: &mut HostCore, from: Addr, slot: u16, channels: u8) -> bool {
     let received = receive(host, from, &offer(channels));
     let mut buf = [0; 4_096];
     let _ = put_out(host, &mut buf);

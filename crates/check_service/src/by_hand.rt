@@ -1,6 +1,6 @@
 //! Turns and runs over memory, by hand.
 
-use super::{FAR, PEER, Stand, done, packet, stand_of, turn, wire_fault};
+use crate::stand::{FAR, PEER, Stand, done, packet, stand_of, turn, wire_fault};
 use bytes::Bytes;
 use enet_service::{Fault, MemorySink, MemoryWire, Report, Sink, Step, Told, Wire, run};
 use enet_submit::Order;

@@ -1,6 +1,6 @@
 //! A turn with three datagrams in and three out, in which each call of the wire fails in its turn, and each send blocks.
 
-use super::{FAR, PEER, Stand, done, packet, stand_of, turn, wire_fault};
+use crate::stand::{FAR, PEER, Stand, done, packet, stand_of, turn, wire_fault};
 use bytes::Bytes;
 use enet_service::{Fault, Report, Wire};
 use enet_submit::Order;

@@ -6,18 +6,19 @@ use crate::seen::is_for_want_of_memory;
 use std::alloc::Global;
 
 /// No answer is longer, in bytes, save of a packet or a datagram of many different bytes.
-pub(crate) const LONGEST_ANSWER: usize = 16_384;
+pub const LONGEST_ANSWER: usize = 16_384;
 
 /// What came of a script.
 #[derive(Clone, Copy)]
-pub(crate) struct Account {
+pub struct Account {
+    /// Steps that were taken.
     pub steps: u32,
     /// Steps that were refused for want of memory and repeated.
     pub repeated: u32,
 }
 
-/// Runs a script. Where it ends early, `seen` is the last answer.
-pub(crate) fn run_script(alloc: Global, text: &str, seen: &mut String) -> Result<Account, Fault> {
+/// Runs a script over hosts of its own. Where it ends early, `seen` is the last answer.
+pub fn run_script(alloc: Global, text: &str, seen: &mut String) -> Result<Account, Fault> {
     let mut field = Field::new(alloc)?;
     run_lines(&mut field, text, seen)
 }

@@ -1,6 +1,6 @@
 //! A host on a socket of 127.0.0.1, to which a UDP socket of std speaks.
 
-use super::source;
+use crate::stand::source;
 use enet_service::{HostCore, MemorySink, MioWire, Service, run};
 use enet_types::{Addr, Config, Refusal};
 use std::alloc::Global;
