@@ -1,4 +1,4 @@
-use Rattle.std.proofs.Common.{ℕ, ◌<◌, refl, sym, subst, below_more, arith}
+use Rattle.std.proofs.Common.{rules, ℕ, ◌<◌, refl, sym, subst, below_more, arith}
 use Rattle.std.proofs.lemmas.Bool.{false≢true}
 use Rattle.enet_submit.specs.Words.{HasSent}
 use Rattle.enet_submit.proofs.settling.all_back.Goals as goal
@@ -16,3 +16,6 @@ loop-seat-preserved c =
     let few = c.args.drain.now.few in
     let here : s < 16 = omega arith in
     below_more _ _ c.loop-seat.invariant (subst (λ n. HasSent s n c.args.finished.now) (c.args.drain.now.counted s here) (c.if-not-has_sent.ensures.0 refl))
+
+pub returns : goal.returns
+returns c = search rules
