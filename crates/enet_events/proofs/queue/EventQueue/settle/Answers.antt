@@ -19,3 +19,6 @@ returns-clause-shared c =
     let all : IsAllTaken c.args.poster c.args.takers.items = search rules in
     subst (λ p. IsSharedOut p c.args.takers.items) c.poster.view_is
     (settled (poster_state c.poster.inside.pass) c.args.takers.items (known_of (view c.take_in-pass.result)) held knows.0 knows.1 (subst (λ p. IsAllTaken p c.args.takers.items) (sym c.poster.view_is) all) c.take_in-pass.ensures.known)
+
+pub returns-in_default-clause-held : goal.returns-in_default-clause-held
+returns-in_default-clause-held c = search rules

@@ -1,0 +1,8 @@
+use Rattle.std.proofs.Common.{rules}
+use Rattle.enet_bridge.proofs.desk.Desk.into_parts.Goals as goal
+
+pub returns-clause-all : goal.returns-clause-all
+returns-clause-all c = search rules
+
+pub returns-clause-waits : goal.returns-clause-waits
+returns-clause-waits c = search rules
