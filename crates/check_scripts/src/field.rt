@@ -130,7 +130,7 @@ impl Field {
     /// `slot.generation`.
     ///
     /// - `open A PEERS CHANNELS ..` and `joined A B PEERS CHANNELS ..`, with further settings by name: `ok`
-    /// - `connect A B CHANNELS INFO ID`, the id in hex: `peer P`
+    /// - `connect A B CHANNELS INFO ID`, the id in eight hex digits: `peer P`
     /// - `submit A P CHANNEL FLAGS BYTES`: `ok`
     /// - `turn A`: `P B BYTES`, or `none`; `drain A` puts out all that waits: `ok`
     /// - `deliver A B K`: datagram K of B comes to A; `receive A B BYTES`: `handled N`, with a stop `handled N stop S3`
@@ -213,7 +213,7 @@ impl Field {
         let to = words.address()?;
         let channels = words.byte()?;
         let info = words.number()?;
-        let id = words.hex()?;
+        let id = words.id()?;
         let host = self.host(from)?;
         let foretold = host.next_peer();
         let made = host.connect(to, channels, info, id);

@@ -1,6 +1,7 @@
 //! The words of a line.
 
 use crate::fault::{Fault, UNREADABLE};
+use enet_script::{id_of, peer_of, u8_of, u16_of, u32_of};
 use enet_types::{Addr, PeerRef};
 use std::str::SplitWhitespace;
 
@@ -32,27 +33,20 @@ impl<'a> Words<'a> {
     }
 
     pub(crate) fn byte(&mut self) -> Result<u8, Fault> {
-        u8::try_from(self.number()?).map_err(|_| UNREADABLE)
+        u8_of(self.word()?.as_bytes()).ok_or(UNREADABLE)
     }
 
     pub(crate) fn short(&mut self) -> Result<u16, Fault> {
-        short_of(self.number()?)
+        u16_of(self.word()?.as_bytes()).ok_or(UNREADABLE)
     }
 
     pub(crate) fn number(&mut self) -> Result<u32, Fault> {
         number_of(self.word()?)
     }
 
-    /// A number in hex.
-    pub(crate) fn hex(&mut self) -> Result<u32, Fault> {
-        let mut number = 0u32;
-        for byte in self.word()?.as_bytes() {
-            let Some(digit) = char::from(*byte).to_digit(16) else {
-                return Err(UNREADABLE);
-            };
-            number = number.wrapping_mul(16).wrapping_add(digit);
-        }
-        Ok(number)
+    /// A connect id, of eight hex digits.
+    pub(crate) fn id(&mut self) -> Result<u32, Fault> {
+        id_of(self.word()?.as_bytes()).ok_or(UNREADABLE)
     }
 
     /// The place of a letter among the capital letters, from 0.
@@ -70,23 +64,13 @@ impl<'a> Words<'a> {
 
     /// A peer as `slot.generation`.
     pub(crate) fn peer(&mut self) -> Result<PeerRef, Fault> {
-        let Some((slot, generation)) = self.word()?.split_once('.') else {
-            return Err(UNREADABLE);
-        };
-        Ok(PeerRef {
-            slot: short_of(number_of(slot)?)?,
-            generation: number_of(generation)?,
-        })
+        peer_of(self.word()?.as_bytes()).ok_or(UNREADABLE)
     }
 }
 
 /// The number that a word spells.
 pub(crate) fn number_of(word: &str) -> Result<u32, Fault> {
-    word.parse::<u32>().map_err(|_| UNREADABLE)
-}
-
-fn short_of(number: u32) -> Result<u16, Fault> {
-    u16::try_from(number).map_err(|_| UNREADABLE)
+    u32_of(word.as_bytes()).ok_or(UNREADABLE)
 }
 
 /// The address of the letter at this place.
