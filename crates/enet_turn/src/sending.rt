@@ -17,7 +17,7 @@ pub struct Sent {
     pub failed: bool,
 }
 
-/// SendsAll until the host has no datagram, a send would block or the wire fails, at most 256 datagrams.
+/// Sends until the host has no datagram, a send would block or the wire fails, at most 256 datagrams.
 pub fn send_all<H: Core, W: Wire>(host: &mut H, wire: &mut W) -> Sent
     ensures { (told : List Call) × (W.told wire.new ≡ also (W.told wire.old) (unless_spent (W.faults wire.old) told))
         × SendsAll H.gives 256 host.old told result.failed host.new × (result.sent ≡ went_in told)
