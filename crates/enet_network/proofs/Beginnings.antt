@@ -38,7 +38,7 @@ use Rattle.enet_network.specs.Law.{HasNothingOf, Asked, Begins, Answered}
 use Rattle.enet_network.specs.Log.{Logged, ChannelPackets, no_packets, fresh_channels, fresh_greatest, packets_at, greatest_at}
 use Rattle.enet_network.specs.Network.{HostEnd, Site, fresh_end}
 use Rattle.enet_network.specs.Shown.{IsLogged, Shows, ShowsFar}
-use Rattle.enet_network.specs.Steps.{BringsOne, Brought, end_in, end_in_slot, begun_in}
+use Rattle.enet_network.specs.Steps.{Brought, end_in, end_in_slot, begun_in}
 use Rattle.enet_network.proofs.Marked.{behind}
 use Rattle.enet_network.proofs.Peers.{shows-held}
 use Rattle.enet_network.proofs.Submitting.{same-some}
@@ -96,15 +96,15 @@ asked-in h address channels info word name answer slots after (asks i s some fre
     })
 
 pub asked : Asked
-asked next other old new address channels info word name x none =
+asked w from old new address channels info word name x none =
     let a : Asks old.host new.host.slots word name = asked-in old.host address channels info word name (Ok name) old.host.slots new.host.slots x.1.0.0 refl in
-    let ends : new.ends ≡ old.ends ++ fresh_end next name ∷ [] = ap (λ (s : Site). s.ends) x.1.1 in
+    let ends : new.ends ≡ old.ends ++ fresh_end w.count name ∷ [] = ap (λ (s : Site). s.ends) x.1.1 in
     let logs : new.log ≡ old.log = ap (λ (s : Site). s.log) x.1.1 in (
       a.offer,
       a.says,
-      subst (λ (l : List HostEnd). Has l (fresh_end next name)) (sym ends) (Has-push old.ends (fresh_end next name)),
-      shows-fresh new next name (connecting old.host.clock a.offer (limits_of old.host.config)) (λ e. absurd (let y : state.Connecting ≡ state.Free = e in cc)) a.there
-          (subst (λ (l : List Logged). (d : Logged) → Has l d → d.connection ≢ next) (sym logs) none),
+      subst (λ (l : List HostEnd). Has l (fresh_end w.count name)) (sym ends) (Has-push old.ends (fresh_end w.count name)),
+      shows-fresh new w.count name (connecting old.host.clock a.offer (limits_of old.host.config)) (λ e. absurd (let y : state.Connecting ≡ state.Free = e in cc)) a.there
+          (subst (λ (l : List Logged). (d : Logged) → Has l d → d.connection ≢ w.count) (sym logs) none),
     )
 
 -- its host answers a CONNECT
@@ -208,16 +208,14 @@ brought from k d answer old new f far sent shown none slots after was is arrives
         let z : ◌≡◌ {A = Option Peering} None (Some hears.peer) = sym vacant ∙ ap (λ (v : SlotState). v.peer) (sym same) ∙ hears.held in absurd (cc)) ∙ ap (λ (ys : List SlotState). slice_get ys i) was)
 
 pub answered : Answered
-answered next k answer d other old new x sent none f h far shown = by (slice_get other.log k) refl x
+answered k answer d from old new x sent none f h far shown = at (available old.host.config old.host.slots) refl h
   where
-    by : (found : Option Logged) → slice_get other.log k ≡ found → BringsOne other found answer old new → Begins far new f
-    by None is y = absurd y
-    by (Some g) is y =
-        let same : g ≡ d = same-some g d (sym is ∙ sent) in
-        let b : Brought other.address d answer old new = subst (λ (z : Logged). Brought other.address z answer old new) same y.1 in
-        let nothing : HasNothingOf d.connection new = subst (λ (l : List Logged). (z : Logged) → Has l z → z.connection ≢ d.connection) (ap (λ (s : Site). s.log) (sym b.1)) none in
-        at b nothing (available old.host.config old.host.slots) refl h
-      where
-        at : Brought other.address d answer old new → HasNothingOf d.connection new → (o : Option ℕ) → available old.host.config old.host.slots ≡ o → Has (begun_in d.connection o new.host) f → Begins far new f
-        at b nothing None free e = absurd e
-        at b nothing (Some i) free e = brought other k d answer old new f far sent shown nothing old.host.slots new.host.slots refl refl b.0.arrives i free e
+    b : Brought from.address d answer old new
+    b = x.1
+
+    nothing : HasNothingOf d.connection new
+    nothing = subst (λ (l : List Logged). (z : Logged) → Has l z → z.connection ≢ d.connection) (ap (λ (s : Site). s.log) (sym b.1)) none
+
+    at : (o : Option ℕ) → available old.host.config old.host.slots ≡ o → Has (begun_in d.connection o new.host) f → Begins far new f
+    at None free e = absurd e
+    at (Some i) free e = brought from k d answer old new f far sent shown nothing old.host.slots new.host.slots refl refl b.0.arrives i free e

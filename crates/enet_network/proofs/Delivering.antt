@@ -24,13 +24,13 @@ use Rattle.enet_connection.specs.Connection.{Put, End, messages_of, sent_on}
 use Rattle.enet_connection.specs.Steps.{Event, Come, InTime, with_peer}
 use Rattle.enet_slot.specs.Hearing.{is_same_address, no_peer, is_deaf, fits_session, refused_by_peer, refused_by_slot, Hears}
 use Rattle.enet_slot.specs.Slot.{SlotState, greatest, with_peer as slot_with_peer}
-use Rattle.enet_host.specs.Calls.{address_in, address_of, address_named}
+use Rattle.enet_host.specs.Calls.{address_named}
 use Rattle.enet_host.specs.Receiving.{Offers, Arrives}
 use Rattle.enet_host.specs.Receiving as receiving
 use Rattle.enet_isolation.specs.Calls.{Call, Acts}
 use Rattle.enet_isolation.specs.Calls as call
 use Rattle.enet_isolation.proofs.Lists.{get-set, get-set_other, same-or}
-use Rattle.enet_isolation.proofs.Names.{IsThere, IsSpent, there-slot, same-generations, spent-step}
+use Rattle.enet_isolation.proofs.Names.{IsThere, IsSpent, same-generations, spent-step}
 use Rattle.enet_isolation.proofs.Receiving.{is_open}
 use Rattle.enet_network.specs.declared.mark.Mark.{Mark}
 use Rattle.enet_network.specs.declared.mark.MarkKind.TheVariants.{Data, Acknowledgement}
@@ -40,6 +40,7 @@ use Rattle.enet_network.specs.Log.{Logged, greatest_at}
 use Rattle.enet_network.specs.Marks.{mark_as, mark_by_body, mark_of}
 use Rattle.enet_network.specs.Network.{HostEnd, Site, end_of, numbers_in, numbers_of, is_at, holds_another, has_ended, is_earlier, is_late}
 use Rattle.enet_network.specs.Shown.{ShowsPeer, IsLogged, Shows, ShowsFar, RunsAt, Went, IsApart}
+use Rattle.enet_network.proofs.Addresses.{there-at}
 use Rattle.enet_network.proofs.Marked.{behind}
 use Rattle.enet_network.proofs.Peers.{there-or, shows-held, shows-gone, shows-after}
 use Rattle.enet_network.proofs.Quiet.{KeepsLog, same-peer, goes-still, shows-with}
@@ -169,7 +170,7 @@ same-connection s from d e p x has n here at earlier = equal-if e.connection d.c
     slot = grind (arith, nat_tests)
 
     there : is_at from (address_named s.host.slots e.name) ≡ true
-    there = ap (λ (o : Option SlotState). is_at from (address_in o)) (there-slot s.host.slots e.name p x) ∙ ap (λ (o : Option Peering). is_at from (address_of x.slot o)) x.peer ∙ at
+    there = there-at from s.host.slots e.name p x at
 
 -- the end of a connection among those of its host
 
@@ -226,13 +227,35 @@ heard-there from i d answer old new e own far k low acts same sent has apart sho
 
 -- a datagram comes
 
-pub goes-brought : (from : Site) (i : ℕ) (d : Logged) (answer : Received) (old new : Site) (e : HostEnd) (own far : End) → old.host.config.generations ≤ greatest
-    → Acts (call.Receive from.address d.text answer) old.host new.host → KeepsLog old new e.connection → slice_get from.log i ≡ Some d → Has old.ends e → IsApart old.ends e → ShowsFar from e.connection far
-    → ((h : Header) (commands : List ℕ) → IsRead d.text h commands → d.peer ≡ h.peer) → is_earlier old from.address d ≡ false → is_late from old d ≡ false → Shows old e own → Went own far new e
-goes-brought from i d answer old new e own far low acts same sent has apart shown names earlier late k = by old.host.slots answer new.host.slots refl refl refl acts.arrives
+-- the commands of a datagram that comes from an address are heard in the slot of an end
+pub record IsHeard (from : Addr) (text : List ℕ) (answer : Received) (old new : Site) (e : HostEnd) (p : Peering) : Type 0 where
+  pub header : Header
+  pub commands : List ℕ
+  pub slot : SlotState
+  pub after : SlotState
+  pub read : IsRead text header commands
+  pub some : header.peer ≢ no_peer
+  pub here : header.peer ≡ e.name.slot
+  pub taken : refused_by_slot from header.session (Some slot) ≡ None
+  pub was : slice_get old.host.slots e.name.slot ≡ Some slot
+  pub there : IsThere old.host.slots e.name p
+  pub hears : Hears old.host.clock header.sent commands slot answer after
+  pub is : slice_get new.host.slots e.name.slot ≡ Some after
+
+-- the slot in which a datagram is heard is at its sender's address
+heard-at-address : (from : Addr) (text : List ℕ) (answer : Received) (old new : Site) (e : HostEnd) (p : Peering) (h : IsHeard from text answer old new e p) → is_same_address h.there.slot.address from ≡ true
+heard-at-address from text answer old new e p h =
+    let slot : h.slot ≡ h.there.slot = same-some h.slot h.there.slot (sym h.was ∙ h.there.there) in
+    subst (λ (y : SlotState). is_same_address y.address from ≡ true) slot
+    (at-address h.slot from h.header.session h.hears.peer (ap (λ (o : Option Peering). refused_by_peer h.slot from h.header.session o) (sym h.hears.held) ∙ h.taken))
+
+-- so a datagram is heard in the slot of an end, or nothing happens to it
+pub goes-received : (from : Addr) (text : List ℕ) (answer : Received) (old new : Site) (e : HostEnd) (own far : End) → old.host.config.generations ≤ greatest
+    → Acts (call.Receive from text answer) old.host new.host → KeepsLog old new e.connection → (k : Shows old e own) → (IsHeard from text answer old new e k.peer → Went own far new e) → Went own far new e
+goes-received from text answer old new e own far low acts same k heard-here = by old.host.slots answer new.host.slots refl refl refl acts.arrives
   where
     c : Call
-    c = call.Receive from.address d.text answer
+    c = call.Receive from text answer
 
     apart-by : ((x : IsThere old.host.slots e.name k.peer) → slice_get new.host.slots e.name.slot ≡ Some x.slot) → Went own far new e
     apart-by still = goes-apart c old new e own far k low acts same still
@@ -244,7 +267,7 @@ goes-brought from i d answer old new e own far low acts same sent has apart show
     elsewhere : (slots after : List SlotState) (j : ℕ) (t : SlotState) → slots ≡ old.host.slots → after ≡ new.host.slots → after ≡ slice_set slots j t → j ≢ e.name.slot → Went own far new e
     elsewhere slots after j t was is set n = apart-by (λ x. ap (λ (xs : List SlotState). slice_get xs e.name.slot) (sym is ∙ set) ∙ get-set_other slots j e.name.slot t n ∙ ap (λ (xs : List SlotState). slice_get xs e.name.slot) was ∙ x.there)
 
-    offered : (slots : List SlotState) (reply : Received) (o : Offer) (after : List SlotState) → slots ≡ old.host.slots → after ≡ new.host.slots → Offers old.host.config old.host.clock slots from.address o reply after → Went own far new e
+    offered : (slots : List SlotState) (reply : Received) (o : Offer) (after : List SlotState) → slots ≡ old.host.slots → after ≡ new.host.slots → Offers old.host.config old.host.clock slots from o reply after → Went own far new e
     offered slots reply o after was is (receiving.refused why r) = unchanged slots after was is refl
     offered slots reply o after was is (receiving.repeated r known) = unchanged slots after was is refl
     offered slots reply o after was is (receiving.no_slot r known none) = unchanged slots after was is refl
@@ -252,26 +275,31 @@ goes-brought from i d answer old new e own far low acts same sent has apart show
     offered slots reply o after was is (receiving.answers j s r known free there) =
         let open' = is_open old.host.config slots j s free there in
         apart-by (λ x. ap (λ (xs : List SlotState). slice_get xs e.name.slot) (sym is)
-        ∙ get-set_other slots j e.name.slot (Rattle.enet_slot.specs.Giving.answering old.host.config old.host.clock j s from.address o)
+        ∙ get-set_other slots j e.name.slot (Rattle.enet_slot.specs.Giving.answering old.host.config old.host.clock j s from o)
         (λ z. let y : s ≡ x.slot = same-some s x.slot (sym there ∙ ap (λ (l : ℕ). slice_get slots l) z ∙ ap (λ (xs : List SlotState). slice_get xs e.name.slot) was ∙ x.there) in
         let none : ◌≡◌ {A = Option Peering} None (Some k.peer) = sym open'.0 ∙ ap (λ (v : SlotState). v.peer) y ∙ x.peer in absurd (cc))
         ∙ ap (λ (xs : List SlotState). slice_get xs e.name.slot) was ∙ x.there)
 
-    heard-at : (header : Header) (commands : List ℕ) (s t : SlotState) → IsRead d.text header commands → header.peer ≢ no_peer → refused_by_slot from.address header.session (Some s) ≡ None
+    heard-at : (header : Header) (commands : List ℕ) (s t : SlotState) → IsRead text header commands → header.peer ≢ no_peer → refused_by_slot from header.session (Some s) ≡ None
         → slice_get old.host.slots header.peer ≡ Some s → Hears old.host.clock header.sent commands s answer t → new.host.slots ≡ slice_set old.host.slots header.peer t → header.peer ≡ e.name.slot
         → ((k.peer.state ≢ state.Free) × IsThere old.host.slots e.name k.peer) ⊎ ((k.peer.state ≡ state.Free) × IsSpent old.host e.name) → Went own far new e
     heard-at header commands s t read n taken there hears set here (inr gone) = goes-still old new e own far k same (shows-gone new.host e.name k.peer gone.0 (spent-step c old.host new.host e.name low acts gone.1))
-    heard-at header commands s t read n taken there hears set here (inl live) =
-        let x : IsThere old.host.slots e.name k.peer = live.1 in
-        let slot : s ≡ x.slot = same-some s x.slot (sym there ∙ ap (λ (l : ℕ). slice_get old.host.slots l) here ∙ x.there) in
-        let named : d.peer ≡ header.peer = names header commands read in
-        let at : is_same_address x.slot.address from.address ≡ true =
-        subst (λ (y : SlotState). is_same_address y.address from.address ≡ true) slot (at-address s from.address header.session hears.peer (ap (λ (o : Option Peering). refused_by_peer s from.address header.session o) (sym hears.held) ∙ taken)) in
-        let of : e.connection ≡ d.connection = same-connection old from.address d e k.peer x has (λ z. n (sym named ∙ z)) (named ∙ here) at earlier in
-        heard-there from i d answer old new e own far k low acts same sent has apart shown earlier late header commands s t read n here taken (ap (λ (l : ℕ). slice_get old.host.slots l) (sym here) ∙ there) x hears
-        (ap (λ (xs : List SlotState). slice_get xs e.name.slot) set ∙ ap (λ (l : ℕ). slice_get (slice_set old.host.slots header.peer t) l) (sym here) ∙ get-set old.host.slots header.peer s t there) (sym of)
+    heard-at header commands s t read n taken there hears set here (inl live) = heard-here (record {
+      header = header;
+      commands = commands;
+      slot = s;
+      after = t;
+      read = read;
+      some = n;
+      here = here;
+      taken = taken;
+      was = ap (λ (l : ℕ). slice_get old.host.slots l) (sym here) ∙ there;
+      there = live.1;
+      hears = hears;
+      is = ap (λ (xs : List SlotState). slice_get xs e.name.slot) set ∙ ap (λ (l : ℕ). slice_get (slice_set old.host.slots header.peer t) l) (sym here) ∙ get-set old.host.slots header.peer s t there;
+    })
 
-    by : (slots : List SlotState) (said : Received) (after : List SlotState) → slots ≡ old.host.slots → after ≡ new.host.slots → said ≡ answer → Arrives old.host.config old.host.clock slots from.address d.text said after → Went own far new e
+    by : (slots : List SlotState) (said : Received) (after : List SlotState) → slots ≡ old.host.slots → after ≡ new.host.slots → said ≡ answer → Arrives old.host.config old.host.clock slots from text said after → Went own far new e
     by slots said after was is as-said (receiving.unreadable why u) = unchanged slots after was is refl
     by slots said after was is as-said (receiving.no_offer header commands read none never) = unchanged slots after was is refl
     by slots said after was is as-said (receiving.offered header commands o reply left read none offer comes') = offered slots reply o left was is comes'
@@ -282,5 +310,27 @@ goes-brought from i d answer old new e own far low acts same sent has apart show
         at (inr other) = elsewhere slots after header.peer t was is refl other
         at (inl here) =
             let old-there : slice_get old.host.slots header.peer ≡ Some s = ap (λ (xs : List SlotState). slice_get xs header.peer) (sym was) ∙ there in
-            let taken : refused_by_slot from.address header.session (Some s) ≡ None = ap (λ (o : Option SlotState). refused_by_slot from.address header.session o) (sym there) ∙ open' in
+            let taken : refused_by_slot from header.session (Some s) ≡ None = ap (λ (o : Option SlotState). refused_by_slot from header.session o) (sym there) ∙ open' in
             heard-at header commands s t read n taken old-there (subst (λ (r : Received). Hears old.host.clock header.sent commands s r t) as-said hears) (sym is ∙ ap (λ (xs : List SlotState). slice_set xs header.peer t) was) here (there-or old.host e.name k.peer k.shows)
+
+-- a datagram of the host that has the other end
+pub goes-brought : (from : Site) (i : ℕ) (d : Logged) (answer : Received) (old new : Site) (e : HostEnd) (own far : End) → old.host.config.generations ≤ greatest
+    → Acts (call.Receive from.address d.text answer) old.host new.host → KeepsLog old new e.connection → slice_get from.log i ≡ Some d → Has old.ends e → IsApart old.ends e → ShowsFar from e.connection far
+    → ((h : Header) (commands : List ℕ) → IsRead d.text h commands → d.peer ≡ h.peer) → is_earlier old from.address d ≡ false → is_late from old d ≡ false → Shows old e own → Went own far new e
+goes-brought from i d answer old new e own far low acts same sent has apart shown names earlier late k = goes-received from.address d.text answer old new e own far low acts same k by
+  where
+    by : IsHeard from.address d.text answer old new e k.peer → Went own far new e
+    by h =
+        let named : d.peer ≡ h.header.peer = names h.header h.commands h.read in
+        let of : e.connection ≡ d.connection =
+        same-connection old from.address d e k.peer h.there has (λ z. h.some (sym named ∙ z)) (named ∙ h.here) (heard-at-address from.address d.text answer old new e k.peer h) earlier in
+        heard-there from i d answer old new e own far k low acts same sent has apart shown earlier late h.header h.commands h.slot h.after h.read h.some h.here h.taken h.was h.there h.hears h.is (sym of)
+
+-- a datagram from an address at which the end's peer isn't is refused by S4, if it comes to its slot at all
+pub goes-elsewhere : (from : Addr) (text : List ℕ) (answer : Received) (old new : Site) (e : HostEnd) (own far : End) → old.host.config.generations ≤ greatest
+    → Acts (call.Receive from text answer) old.host new.host → KeepsLog old new e.connection → is_at from (address_named old.host.slots e.name) ≡ false → Shows old e own → Went own far new e
+goes-elsewhere from text answer old new e own far low acts same away k = goes-received from text answer old new e own far low acts same k by
+  where
+    by : IsHeard from text answer old new e k.peer → Went own far new e
+    by h =
+        let z : true ≡ false = sym (there-at from old.host.slots e.name k.peer h.there (heard-at-address from text answer old new e k.peer h)) ∙ away in absurd (cc)

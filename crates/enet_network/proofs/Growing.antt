@@ -1,5 +1,6 @@
 -- Which ends a host has after something happened.
 use Rattle.std.proofs.Common.{◌≡◌, ℕ, ◌⊎◌, inl, inr, Bool, true, false, cond, List, [], ◌∷◌, ◌++◌, map, refl, sym, ap, subst, ◌∙◌, append-nil, Option, Some, None, Ok, Err, slice_get}
+use Rattle.enet_types.specs.declared.address.Addr.{Addr}
 use Rattle.enet_types.specs.declared.event.Event.{Event as Told}
 use Rattle.enet_types.specs.declared.event.PeerRef.{PeerRef}
 use Rattle.enet_types.specs.declared.event.Received.{Received}
@@ -14,8 +15,8 @@ use Rattle.enet_host.specs.Opening.{available}
 use Rattle.enet_isolation.specs.Calls.{Call}
 use Rattle.enet_isolation.specs.Calls as call
 use Rattle.enet_network.specs.Log.{Logged}
-use Rattle.enet_network.specs.Network.{HostEnd, Site, fresh_end, is_same_name, with_end, numbers_of}
-use Rattle.enet_network.specs.Steps.{Happening, Calls, Hears, Happens, Called, Logs, BringsOne, ends_after, after_event, with_packet, with_event, end_in, end_in_slot, begun_in, begun}
+use Rattle.enet_network.specs.Network.{HostEnd, Site, fresh_end, is_same_name, with_end}
+use Rattle.enet_network.specs.Steps.{Around, Happening, Calls, Hears, HappensAmong, Called, Logs, LogsIf, BringsOne, ends_after, after_event, with_packet, with_event, end_in, end_in_slot, begun_in, begun}
 use Rattle.enet_network.proofs.OneThing.{Has-append_left, event-ends}
 
 -- the ends that begin
@@ -60,25 +61,29 @@ grows-one old new change name n c e = record {
 called : (next : ℕ) (c : Call) (old new : Site) → Called next c old new → ends_after next old c ≡ old.ends → Grows old new []
 called next c old new x same = grows-none old new (ap (λ (s : Site). s.ends) x.1 ∙ same)
 
-calls-grow : (next : ℕ) (other old new : Site) (c : Call) → Happens next other (Calls c) old new → Grows old new (more_of next other old new (Calls c))
-calls-grow next other old new (call.Connect address channels info word (Ok name)) x = grows-same old new (fresh_end next name ∷ []) (ap (λ (s : Site). s.ends) x.1.1)
-calls-grow next other old new (call.Connect address channels info word (Err why)) x = called next (call.Connect address channels info word (Err why)) old new x.1 refl
-calls-grow next other old new (call.Submit name channel q (Ok done)) x =
+served : (b : Bool) (far : ℕ → List ℕ) (gave : PeerRef × Addr × ℕ) (buf : List ℕ) (old new : Site) → LogsIf b far gave buf old new → Grows old new []
+served true far gave buf old new l =
+    let logs : Logs far gave buf old new = l in
+    grows-one old new (λ (y : HostEnd). record y { greatest = logs.greatest }) gave.0 (λ e. refl) (λ e. refl) (ap (λ (s : Site). s.ends) logs.rest)
+served false far gave buf old new l = grows-none old new (let rest : new ≡ record old { host = new.host } = l in ap (λ (s : Site). s.ends) rest)
+
+calls-grow : (w : Around) (from old new : Site) (c : Call) → HappensAmong w from (Calls c) old new → Grows old new (more_of w.count from old new (Calls c))
+calls-grow w from old new (call.Connect address channels info word (Ok name)) x = grows-same old new (fresh_end w.count name ∷ []) (ap (λ (s : Site). s.ends) x.1.1)
+calls-grow w from old new (call.Connect address channels info word (Err why)) x = called w.count (call.Connect address channels info word (Err why)) old new x.1 refl
+calls-grow w from old new (call.Submit name channel q (Ok done)) x =
     grows-one old new (with_packet (mtu_in (named old.host.slots name)) (record { channel = channel; flags = q.flags; body = q.body })) name (λ e. refl) (λ e. refl) (ap (λ (s : Site). s.ends) x.1)
-calls-grow next other old new (call.Submit name channel q (Err why)) x = called next (call.Submit name channel q (Err why)) old new x refl
-calls-grow next other old new (call.Receive from bytes answer) x = absurd x
-calls-grow next other old new (call.Service None buf) x = called next (call.Service None buf) old new x refl
-calls-grow next other old new (call.Service (Some gave) buf) x =
-    let l : Logs (numbers_of other) gave buf old new = x.1 in
-    grows-one old new (λ (y : HostEnd). record y { greatest = l.greatest }) gave.0 (λ e. refl) (λ e. refl) (ap (λ (s : Site). s.ends) l.rest)
-calls-grow next other old new (call.Tick ms) x = called next (call.Tick ms) old new x refl
-calls-grow next other old new (call.Disconnect mode name info answer) x = called next (call.Disconnect mode name info answer) old new x refl
-calls-grow next other old new (call.SetBandwidth incoming outgoing answer) x = called next (call.SetBandwidth incoming outgoing answer) old new x refl
-calls-grow next other old new (call.ConfigureThrottle name interval acceleration deceleration answer) x = called next (call.ConfigureThrottle name interval acceleration deceleration answer) old new x refl
-calls-grow next other old new (call.SetPingInterval name ms answer) x = called next (call.SetPingInterval name ms answer) old new x refl
-calls-grow next other old new (call.SetTimeout name limit minimum maximum answer) x = called next (call.SetTimeout name limit minimum maximum answer) old new x refl
-calls-grow next other old new (call.NextEvent None) x = called next (call.NextEvent None) old new x refl
-calls-grow next other old new (call.NextEvent (Some event)) x =
+calls-grow w from old new (call.Submit name channel q (Err why)) x = called w.count (call.Submit name channel q (Err why)) old new x refl
+calls-grow w from old new (call.Receive address bytes answer) x = called w.count (call.Receive address bytes answer) old new x.1 refl
+calls-grow w from old new (call.Service None buf) x = called w.count (call.Service None buf) old new x refl
+calls-grow w from old new (call.Service (Some gave) buf) x = served (w.is_host gave.1) w.numbers gave buf old new x.1
+calls-grow w from old new (call.Tick ms) x = called w.count (call.Tick ms) old new x refl
+calls-grow w from old new (call.Disconnect mode name info answer) x = called w.count (call.Disconnect mode name info answer) old new x refl
+calls-grow w from old new (call.SetBandwidth incoming outgoing answer) x = called w.count (call.SetBandwidth incoming outgoing answer) old new x refl
+calls-grow w from old new (call.ConfigureThrottle name interval acceleration deceleration answer) x = called w.count (call.ConfigureThrottle name interval acceleration deceleration answer) old new x refl
+calls-grow w from old new (call.SetPingInterval name ms answer) x = called w.count (call.SetPingInterval name ms answer) old new x refl
+calls-grow w from old new (call.SetTimeout name limit minimum maximum answer) x = called w.count (call.SetTimeout name limit minimum maximum answer) old new x refl
+calls-grow w from old new (call.NextEvent None) x = called w.count (call.NextEvent None) old new x refl
+calls-grow w from old new (call.NextEvent (Some event)) x =
     let a : TakesOne old.host event new.host = x.0 in
     let name : PeerRef = name_of a.from a.first.slot in
     let ends : after_event event old.ends ≡ with_end (with_event event) name old.ends =
@@ -89,9 +94,9 @@ brings-grow : (next : ℕ) (other old new : Site) (answer : Received) (found : O
 brings-grow next other old new answer None x = absurd x
 brings-grow next other old new answer (Some d) x = grows-same old new (begun d.connection old.host new.host) (ap (λ (s : Site). s.ends) x.1.1)
 
-pub grows : (next : ℕ) (other old new : Site) (what : Happening) → Happens next other what old new → Grows old new (more_of next other old new what)
-grows next other old new (Calls c) x = calls-grow next other old new c x
-grows next other old new (Hears k answer) x = brings-grow next other old new answer (slice_get other.log k) x
+pub grows : (w : Around) (from old new : Site) (what : Happening) → HappensAmong w from what old new → Grows old new (more_of w.count from old new what)
+grows w from old new (Calls c) x = calls-grow w from old new c x
+grows w from old new (Hears k answer) x = brings-grow w.count from old new answer (slice_get from.log k) x
 
 -- each end is one of before, or begins
 

@@ -1,6 +1,7 @@
 -- The headline of both hosts of a world, from the law of each connection.
 use Rattle.std.proofs.Common.{◌≡◌, ◌<◌, ◌≤◌, ℕ, zero, suc, ◌⊎◌, inl, inr, ◌&&◌, ◌==◌, not, Bool, true, false, cond, List, [], ◌∷◌, length, map, refl, sym, ap, subst, ◌∙◌, arith, Option, Some, None}
 use Rattle.std.proofs.lemmas.Bool.Decides.{nat_tests}
+use Rattle.enet_types.specs.declared.address.Addr.{Addr}
 use Rattle.enet_types.specs.declared.event.PeerRef.{PeerRef}
 use Rattle.enet_types.specs.declared.packet.Packet.{Packet}
 use Rattle.enet_peer.specs.declared.parts.PeerEvent.{PeerEvent}
@@ -16,15 +17,15 @@ use Rattle.enet_connection.specs.Steps.{no_end}
 use Rattle.enet_slot.specs.Calls.{event_of}
 use Rattle.enet_network.specs.declared.event.Side.{Side}
 use Rattle.enet_network.specs.declared.event.Side.TheVariants.{A, B}
-use Rattle.enet_network.specs.Headline.{end_at, submitted_at, taken_at, events_at, received, mtu_at, AreEnds, AreOn, IsInOrder, IsLife, HasHeadline}
+use Rattle.enet_network.specs.Headline.{submitted_at, taken_at, events_at, received, mtu_at, AreOn, IsInOrder, HasHeadlineAt, HasHeadlineBetween, HasHeadline}
 use Rattle.enet_network.specs.Law.{ShowsAt, LawfulEither, IsPaired, OfEachRun, OfEachJoinedRun, OfEachList, OfEachJoinedList}
 use Rattle.enet_network.specs.Log.{ChannelPackets, no_packets, packets_at}
 use Rattle.enet_network.specs.Network.{HostEnd, Site, end_of}
 use Rattle.enet_network.specs.Shown.{on_channel, Shows}
-use Rattle.enet_network.specs.World.{World, site_of, other}
+use Rattle.enet_network.specs.World.{World, site_of}
 use Rattle.enet_network.proofs.Delivering.{end-there}
 use Rattle.enet_network.proofs.Worlds.{IsHost, end-none}
-use Rattle.enet_network.proofs.Owned.{are-ends}
+use Rattle.enet_network.proofs.Owned.{AreOwned, are-ends}
 use Rattle.enet_network.proofs.Runs.{Sound, less-or-not, are-lawful, sound-run, sound-joined-run, sound-list, sound-joined-list}
 
 -- the lists of a channel
@@ -159,11 +160,50 @@ life-of j a b (inr l) = l.life_two
 told-of : (o : Option HostEnd) (own : End) → Hands o own → (channel : ℕ) → channel < 256 → taken_at channel o ≡ on_channel channel (received (events_at o))
 told-of o own k channel low = k.taken channel low ∙ ap (on_channel channel) (sym k.received)
 
-abbrev Outcome : Option HostEnd → Option HostEnd → Type 0
-Outcome o u = ((channel : ℕ) → IsInOrder o u channel) × ((channel : ℕ) → channel < 256 → taken_at channel o ≡ on_channel channel (received (events_at o)))
+pub headline-between : (j : Bool) (a b : Site) (count x : ℕ) → IsHost a count → IsHost b count → IsPaired j a b x → HasHeadlineBetween (end_of x a.ends) (end_of x b.ends)
+headline-between j a b count x k ko p = record {
+  forth = between (end_of x a.ends) (end_of x b.ends) p.one p.two one two (order-of j p.one p.two p.lawful);
+  back = between (end_of x b.ends) (end_of x a.ends) p.two p.one two one (order-of j p.two p.one (swapped-law j p.one p.two p.lawful));
+}
+  where
+    one : Hands (end_of x a.ends) p.one
+    one = hands-at a count x p.one k p.here
 
-at-end : (j : Bool) (o u : Option HostEnd) (one two : End) → Hands o one → Hands u two → LawfulEither j one two → Outcome o u
-at-end j o u one two k ko l = (between o u one two k ko (order-of j one two l), told-of o one k)
+    two : Hands (end_of x b.ends) p.two
+    two = hands-at b count x p.two ko p.there
+
+-- of a connection that has no end
+pub headline-none : HasHeadlineBetween None None
+headline-none = record {
+  forth = between None None no_end no_end hands-none hands-none (λ channel. tt);
+  back = between None None no_end no_end hands-none hands-none (λ channel. tt);
+}
+
+-- one host
+
+shown-as : (s : Site) (count : ℕ) (e : HostEnd) (own : End) → IsHost s count → Has s.ends e → ShowsAt s e.connection own → Shows s e own
+shown-as s count e own k h (inl shown) = subst (λ (z : HostEnd). Shows s z own) (k.apart e h shown.0 shown.1 (inr shown.2)) shown.3
+shown-as s count e own k h (inr none) = absurd (none.0 e h refl)
+
+-- an end with the other host of its connection
+abbrev pub ArePaired : Bool → Site → Type 0
+ArePaired joined s = (e : HostEnd) → Has s.ends e → (other : Site) × IsPaired (joined && e.connection == 0) s other e.connection
+
+pub headline-at : (joined : Bool) (is_host : Addr → Bool) (s : Site) (count : ℕ) → IsHost s count → AreOwned is_host s → ArePaired joined s → HasHeadlineAt joined is_host s
+headline-at joined is_host s count k owned paired = record {
+  all = are-ends is_host s owned;
+  only = λ e h. end-there s.ends e h (k.apart e h);
+  named = λ e f h i same. k.apart f i e h (inl same);
+  told = λ e h channel low. (let p = (paired e h).1 in told-of (Some e) p.one (hands-some s e p.one (shown-as s count e p.one k h p.here)) channel low);
+  one_life = λ e h. (let p = (paired e h).1 in
+      let own = shown-as s count e p.one k h p.here in
+      record { events = p.one.events; told = own.events; life = life-of (joined && e.connection == 0) p.one p.two p.lawful });
+}
+
+-- both hosts
+
+pub swapped-pair : (j : Bool) (a b : Site) (x : ℕ) → IsPaired j a b x → IsPaired j b a x
+swapped-pair j a b x p = record { one = p.two; two = p.one; here = p.there; there = p.here; lawful = swapped-law j p.one p.two p.lawful }
 
 life-none : (j : Bool) → IsOneLife j []
 life-none true = tt
@@ -185,51 +225,14 @@ paired joined w s x = elim (less-or-not x w.count) [
     none : (site : Site) → IsHost site w.count → w.count ≤ x → (e : HostEnd) → Has site.ends e → e.connection ≡ x → ⊥
     none site k far e h of = let low : e.connection < w.count = k.below e h in omega arith
 
-at-side : (joined : Bool) (w : World) → Sound (λ x. joined && x == 0) w → (x : ℕ) (side : Side) → Outcome (end_at w x side) (end_at w x (other side))
-at-side joined w s x A =
-    let p = paired joined w s x in
-    at-end (joined && x == 0) (end_of x w.a.ends) (end_of x w.b.ends) p.one p.two (hands-at w.a w.count x p.one s.a p.here) (hands-at w.b w.count x p.two s.b p.there) p.lawful
-at-side joined w s x B =
-    let p = paired joined w s x in
-    at-end (joined && x == 0) (end_of x w.b.ends) (end_of x w.a.ends) p.two p.one (hands-at w.b w.count x p.two s.b p.there) (hands-at w.a w.count x p.one s.a p.here) (swapped-law (joined && x == 0) p.one p.two p.lawful)
-
--- one end
-
-shown-as : (s : Site) (count : ℕ) (e : HostEnd) (own : End) → IsHost s count → Has s.ends e → ShowsAt s e.connection own → Shows s e own
-shown-as s count e own k h (inl shown) = subst (λ (z : HostEnd). Shows s z own) (k.apart e h shown.0 shown.1 (inr shown.2)) shown.3
-shown-as s count e own k h (inr none) = absurd (none.0 e h refl)
-
-life-by : (j : Bool) (s : Site) (e : HostEnd) (own far : End) → Shows s e own → LawfulEither j own far → IsLife j e.name e.events
-life-by j s e own far k l = record { events = own.events; told = k.events; life = life-of j own far l }
-
-one-life : (joined : Bool) (w : World) → Sound (λ x. joined && x == 0) w → (side : Side) (e : HostEnd) → Has (site_of w side).ends e → IsLife (joined && e.connection == 0) e.name e.events
-one-life joined w s A e h =
-    let p = paired joined w s e.connection in
-    life-by (joined && e.connection == 0) w.a e p.one p.two (shown-as w.a w.count e p.one s.a h p.here) p.lawful
-one-life joined w s B e h =
-    let p = paired joined w s e.connection in
-    life-by (joined && e.connection == 0) w.b e p.two p.one (shown-as w.b w.count e p.two s.b h p.there) (swapped-law (joined && e.connection == 0) p.one p.two p.lawful)
-
-only-one : (joined : Bool) (w : World) → Sound (λ x. joined && x == 0) w → (side : Side) (e : HostEnd) → Has (site_of w side).ends e → end_at w e.connection side ≡ Some e
-only-one joined w s A e h = (let k = s.a in end-there w.a.ends e h (k.apart e h))
-only-one joined w s B e h = (let k = s.b in end-there w.b.ends e h (k.apart e h))
-
-one-name : (joined : Bool) (w : World) → Sound (λ x. joined && x == 0) w → (side : Side) (e f : HostEnd) → Has (site_of w side).ends e → Has (site_of w side).ends f → e.name ≡ f.name → e ≡ f
-one-name joined w s A e f h i same = (let k = s.a in k.apart f i e h (inl same))
-one-name joined w s B e f h i same = (let k = s.b in k.apart f i e h (inl same))
-
-all-ends : (joined : Bool) (w : World) → Sound (λ x. joined && x == 0) w → (side : Side) → AreEnds (site_of w side)
-all-ends joined w s A = are-ends w.a s.owned_a
-all-ends joined w s B = are-ends w.b s.owned_b
+headline-side : (joined : Bool) (w : World) → Sound (λ x. joined && x == 0) w → (side : Side) → HasHeadlineAt joined (λ address. true) (site_of w side)
+headline-side joined w s A = headline-at joined (λ address. true) w.a w.count s.a s.owned_a (λ e h. (w.b, paired joined w s e.connection))
+headline-side joined w s B = headline-at joined (λ address. true) w.b w.count s.b s.owned_b (λ e h. (w.a, swapped-pair (joined && e.connection == 0) w.a w.b e.connection (paired joined w s e.connection)))
 
 has-headline : (joined : Bool) (w : World) → Sound (λ x. joined && x == 0) w → HasHeadline joined w
 has-headline joined w s = record {
-  all = all-ends joined w s;
-  only = only-one joined w s;
-  named = one-name joined w s;
-  in_order = λ x side. (at-side joined w s x side).0;
-  told = λ x side. (at-side joined w s x side).1;
-  one_life = one-life joined w s;
+  hosts = headline-side joined w s;
+  ends = λ x. headline-between (joined && x == 0) w.a w.b w.count x s.a s.b (paired joined w s x);
 }
 
 pub headline-run : OfEachRun (HasHeadline false)

@@ -1,3 +1,4 @@
+pub mod Addresses
 pub mod Marked
 pub mod Counting
 pub mod PutOut
@@ -13,6 +14,7 @@ pub mod Beginnings
 pub mod Growing
 pub mod Worlds
 pub mod Once
+pub mod Sent
 pub mod Owned
 pub mod Runs
 pub mod Headlines

@@ -1,6 +1,6 @@
 -- No connection begins twice at a host: a CONNECT of one that the host has ended is of an earlier connection, and any other is repeated, since the
 -- end's peer has the connection's one connect id and stands at the other host's address.
-use Rattle.std.proofs.Common.{◌≡◌, ◌≢◌, ◌<◌, ℕ, ◌==◌, ◌&&◌, ◌⊎◌, inl, inr, not, Bool, true, false, cond, List, [], refl, sym, ap, subst, ◌∙◌, arith, Option, Some, None, slice_get}
+use Rattle.std.proofs.Common.{◌≡◌, ◌≢◌, ℕ, ◌==◌, ◌&&◌, ◌⊎◌, inl, inr, not, Bool, true, false, cond, List, [], refl, sym, ap, subst, ◌∙◌, arith, Option, Some, None, slice_get}
 use Rattle.std.proofs.lemmas.Bool.Decides.{nat_tests}
 use Rattle.enet_types.specs.declared.address.Addr.{Addr}
 use Rattle.enet_types.specs.declared.event.PeerRef.{PeerRef}
@@ -29,7 +29,8 @@ use Rattle.enet_isolation.proofs.Receiving.{is_open}
 use Rattle.enet_network.specs.Log.{Logged}
 use Rattle.enet_network.specs.Network.{HostEnd, Site, is_over, has_ended, holds_another, is_earlier, is_late}
 use Rattle.enet_network.specs.Shown.{IsLogged, Shows}
-use Rattle.enet_network.specs.Steps.{Happening, Calls, Hears, Happens, BringsOne, begun_in, begun}
+use Rattle.enet_network.specs.Steps.{Around, Happening, Calls, Hears, HappensAmong, BringsOne, begun_in, begun}
+use Rattle.enet_network.proofs.Addresses.{same-address}
 use Rattle.enet_network.proofs.Beginnings.{the-offer, none-in, free-there}
 use Rattle.enet_network.proofs.Delivering.{none-of}
 use Rattle.enet_network.proofs.Growing.{more_of, Grows, grows, from-before, begun-is}
@@ -37,12 +38,12 @@ use Rattle.enet_network.proofs.Marked.{behind}
 use Rattle.enet_network.proofs.OneThing.{in-none}
 use Rattle.enet_network.proofs.Peers.{there-or}
 use Rattle.enet_network.proofs.Submitting.{same-some}
-use Rattle.enet_network.proofs.Worlds.{IsHost, Pair, BeginsOnce, IsFresh, far-shown, acts-of, shown-end, fresh-more}
+use Rattle.enet_network.proofs.Worlds.{IsHost, Pair, BeginsOnce, AreShown, IsFresh, far-shown, acts-of, shown-end, fresh-more}
 
--- the peers of a host's ends are at this address
+-- the peers of a host's ends are where their connections' other hosts are
 
-abbrev pub AreAt : Addr → Site → Type 0
-AreAt from s = (e : HostEnd) → Has s.ends e → (p : Peering) (x : IsThere s.host.slots e.name p) → x.slot.address ≡ from
+abbrev pub AreAt : (ℕ → Addr) → Site → Type 0
+AreAt place s = (e : HostEnd) → Has s.ends e → (p : Peering) (x : IsThere s.host.slots e.name p) → x.slot.address ≡ place e.connection
 
 -- the address of which a call speaks by which a connection may begin
 abbrev IsFrom : Addr → Call → Type 0
@@ -50,24 +51,24 @@ IsFrom from (call.Connect address channels info word answer) = address ≡ from
 IsFrom from (call.Receive address bytes answer) = address ≡ from
 IsFrom from c = Unit {0}
 
--- the call that a thing is, with the other host's address
-record IsCall (from : Addr) (old new : Site) : Type 0 where
+-- the call that a thing is, with the other host's address where an end begins
+record IsCall (w : Around) (from old new : Site) (what : Happening) : Type 0 where
   made : Call
   acts : Acts made old.host new.host
-  speaks : IsFrom from made
+  speaks : (f : HostEnd) → Has (more_of w.count from old new what) f → IsFrom from.address made
 
-speaks-of : (next : ℕ) (other old new : Site) (c : Call) → Happens next other (Calls c) old new → IsFrom other.address c
-speaks-of next other old new (call.Connect address channels info word answer) x = x.0
-speaks-of next other old new (call.Receive from bytes answer) x = absurd x
-speaks-of next other old new c x = tt
+speaks-of : (w : Around) (from old new : Site) (c : Call) → HappensAmong w from (Calls c) old new → (f : HostEnd) → Has (more_of w.count from old new (Calls c)) f → IsFrom from.address c
+speaks-of w from old new (call.Connect address channels info word answer) x f h = x.0
+speaks-of w from old new (call.Receive address bytes answer) x f h = absurd h
+speaks-of w from old new c x f h = tt
 
-brings-from : (other old new : Site) (answer : Received) (found : Option Logged) → BringsOne other found answer old new → IsCall other.address old new
-brings-from other old new answer None x = absurd x
-brings-from other old new answer (Some d) x = record { made = call.Receive other.address d.text answer; acts = x.1.0; speaks = refl }
+brings-from : (from old new : Site) (answer : Received) (found : Option Logged) → BringsOne from found answer old new → (made : Call) × Acts made old.host new.host × IsFrom from.address made
+brings-from from old new answer None x = absurd x
+brings-from from old new answer (Some d) x = (call.Receive from.address d.text answer, x.1.0, refl)
 
-call-from : (next : ℕ) (other old new : Site) (what : Happening) → Happens next other what old new → IsCall other.address old new
-call-from next other old new (Calls c) x = record { made = c; acts = acts-of next other old new c x; speaks = speaks-of next other old new c x }
-call-from next other old new (Hears k answer) x = brings-from other old new answer (slice_get other.log k) x
+call-from : (w : Around) (from old new : Site) (what : Happening) → HappensAmong w from what old new → IsCall w from old new what
+call-from w from old new (Calls c) x = record { made = c; acts = acts-of w from old new c x; speaks = speaks-of w from old new c x }
+call-from w from old new (Hears k answer) x = (let b = brings-from from old new answer (slice_get from.log k) x in record { made = b.0; acts = b.1; speaks = λ f h. b.2 })
 
 -- a peer stays where it is
 stays-in : (st : PeerState) (s : SlotState) (q : Peering) → (with_peer_in st s q).address ≡ s.address
@@ -92,31 +93,33 @@ given-at from c h i s t p k vacant has (untouched fell not' e) = none-some t.pee
 given-at from c h i s t p k vacant has (goes_on r q ds was fell alone e) = none-some s.peer r vacant was
 given-at from c h i s t p k vacant has (begins none left b) = begins-at from c h i s t k b
 
-pub at-goes : (j : ℕ → Bool) (next : ℕ) (other old new : Site) (what : Happening) → Happens next other what old new → IsHost old next → ((x : ℕ) → x < next → Pair (j x) old other x) → AreAt other.address old → AreAt other.address new
-at-goes j next other old new what happens k pairs at f h p x = by (from-before old new more g f h)
+pub at-goes : (place : ℕ → Addr) (w : Around) (from old new : Site) (what : Happening) → HappensAmong w from what old new → IsHost old w.count → AreShown old
+    → ((f : HostEnd) → Has (more_of w.count from old new what) f → place f.connection ≡ from.address) → AreAt place old → AreAt place new
+at-goes place w from old new what happens k shown begin at f h p x = by (from-before old new more g f h)
   where
     more : List HostEnd
-    more = more_of next other old new what
+    more = more_of w.count from old new what
 
     g : Grows old new more
-    g = grows next other old new what happens
+    g = grows w from old new what happens
 
-    c : IsCall other.address old new
-    c = call-from next other old new what happens
+    c : IsCall w from old new what
+    c = call-from w from old new what happens
 
     fares : (s : SlotState) → slice_get old.host.slots f.name.slot ≡ Some s → Fares c.made old.host f.name.slot s x.slot
     fares s there = let t = one-call c.made old.host new.host c.acts f.name.slot s there in subst (λ (y : SlotState). Fares c.made old.host f.name.slot s y) (same-some t.0 x.slot (sym t.1 ∙ x.there)) t.2
 
-    before : (b : HostEnd) → Has old.ends b → b.name ≡ f.name → x.slot.address ≡ other.address
-    before b there name = by (there-or old.host b.name own.peer own.shows)
+    before : (b : HostEnd) → Has old.ends b → b.name ≡ f.name → b.connection ≡ f.connection → x.slot.address ≡ place f.connection
+    before b there name of = by (there-or old.host b.name own.peer own.shows)
       where
-        own : Shows old b (pairs b.connection (k.below b there)).one
-        own = shown-end (j b.connection) old other next b k there (pairs b.connection (k.below b there))
+        own : Shows old b (shown b there).0
+        own = (shown b there).1
 
-        was : (q : Peering) (y : IsThere old.host.slots f.name q) → y.slot.address ≡ other.address
-        was = subst (λ (n : PeerRef). (q : Peering) (y : IsThere old.host.slots n q) → y.slot.address ≡ other.address) name (at b there)
+        was : (q : Peering) (y : IsThere old.host.slots f.name q) → y.slot.address ≡ place f.connection
+        was = subst (λ (n : ℕ). (q : Peering) (y : IsThere old.host.slots f.name q) → y.slot.address ≡ place n) of
+            (subst (λ (n : PeerRef). (q : Peering) (y : IsThere old.host.slots n q) → y.slot.address ≡ place b.connection) name (at b there))
 
-        by : ((own.peer.state ≢ state.Free) × IsThere old.host.slots b.name own.peer) ⊎ ((own.peer.state ≡ state.Free) × IsSpent old.host b.name) → x.slot.address ≡ other.address
+        by : ((own.peer.state ≢ state.Free) × IsThere old.host.slots b.name own.peer) ⊎ ((own.peer.state ≡ state.Free) × IsSpent old.host b.name) → x.slot.address ≡ place f.connection
         by (inl live) =
             let y : IsThere old.host.slots f.name own.peer = subst (λ (n : PeerRef). IsThere old.host.slots n own.peer) name live.1 in
             stays-at c.made old.host f.name.slot y.slot x.slot own.peer y.peer (fares y.slot y.there) ∙ was own.peer y
@@ -124,11 +127,11 @@ at-goes j next other old new what happens k pairs at f h p x = by (from-before o
             let spent : IsSpent new.host f.name = subst (IsSpent new.host) name (spent-step c.made old.host new.host b.name k.few c.acts gone.1) in
             none-some (named new.host.slots f.name) p (spent-nobody new.host f.name spent) (there-named new.host.slots f.name p x)
 
-    by : ((b : HostEnd) × Has old.ends b × (g.change b ≡ f)) ⊎ Has more f → x.slot.address ≡ other.address
-    by (inl b) = before b.0 b.1 (sym (g.name b.0) ∙ ap (λ (z : HostEnd). z.name) b.2)
+    by : ((b : HostEnd) × Has old.ends b × (g.change b ≡ f)) ⊎ Has more f → x.slot.address ≡ place f.connection
+    by (inl b) = before b.0 b.1 (sym (g.name b.0) ∙ ap (λ (z : HostEnd). z.name) b.2) (sym (g.connection b.0) ∙ ap (λ (z : HostEnd). z.connection) b.2)
     by (inr m) =
-        let fresh : IsFresh old.host f.name = fresh-more next other old new what happens f m in
-        given-at other.address c.made old.host f.name.slot fresh.slot x.slot p c.speaks fresh.vacant x.peer (fares fresh.slot fresh.there)
+        let fresh : IsFresh old.host f.name = fresh-more w from old new what happens f m in
+        given-at from.address c.made old.host f.name.slot fresh.slot x.slot p (c.speaks f m) fresh.vacant x.peer (fares fresh.slot fresh.there) ∙ sym (begin f m)
 
 -- where an end begins by a datagram, this is a CONNECT whose connection wasn't there
 
@@ -179,9 +182,6 @@ both-false : (a b : Bool) → (a && b) ≡ false → a ≡ true → b ≡ false
 both-false true b e f = e
 both-false false b e f = absurd (cc)
 
-same-address : (a b : Addr) → a ≡ b → is_same_address a b ≡ true
-same-address a b e = subst (λ (z : Addr). is_same_address a z ≡ true) e (let ip : (a.ip == a.ip) ≡ true = grind (arith, nat_tests) in let port : (a.port == a.port) ≡ true = grind (arith, nat_tests) in ap (λ (t : Bool). t && (a.port == a.port)) ip ∙ port)
-
 is-there : (s : SlotState) (from : Addr) (word : ℕ) (p : Peering) → s.peer ≡ Some p → is_deaf p.state ≡ false → s.address ≡ from → p.terms.connect_id ≡ word → is_connection from word s ≡ true
 is-there s from word p has hears at of =
     ap (is_connection_in s from word) has
@@ -201,27 +201,22 @@ hears-still s from d e nobody earlier h of =
     both-false (e.connection == d.connection) (is_over (named s.host.slots e.name))
     (none-of (λ (f : HostEnd). f.connection == d.connection && is_over (named s.host.slots f.name)) s.ends e not-ended h) (let t : (e.connection == d.connection) ≡ true = grind (arith, nat_tests) in t)
 
-twice : (j : ℕ → Bool) (next i : ℕ) (answer : Received) (d : Logged) (other old new : Site) → Happens next other (Hears i answer) old new → IsHost old next → IsHost other next → ((x : ℕ) → x < next → Pair (j x) old other x)
-    → AreAt other.address old → slice_get other.log i ≡ Some d → (e : HostEnd) → Has old.ends e → e.connection ≡ d.connection → (f : HostEnd) → Has (begun d.connection old.host new.host) f → ⊥
-twice j next i answer d other old new happens k ko pairs at sent e h of f m = by (there-or old.host e.name own.peer own.shows)
+twice : (j : Bool) (count i : ℕ) (answer : Received) (d : Logged) (from old new : Site) → BringsOne from (Some d) answer old new → IsHost old count → IsHost from count → slice_get from.log i ≡ Some d
+    → (e : HostEnd) → Has old.ends e → e.connection ≡ d.connection → Pair j old from e.connection → ((p : Peering) (x : IsThere old.host.slots e.name p) → x.slot.address ≡ from.address)
+    → (f : HostEnd) → Has (begun d.connection old.host new.host) f → ⊥
+twice j count i answer d from old new brought k ko sent e h of pair at f m = by (there-or old.host e.name own.peer own.shows)
   where
-    brought : BringsOne other (Some d) answer old new
-    brought = subst (λ (found : Option Logged). BringsOne other found answer old new) sent happens
-
-    n : IsNew old.host other.address d.text
-    n = new-begun other.address d.text answer d.connection old.host new.host f brought.1.0 m
+    n : IsNew old.host from.address d.text
+    n = new-begun from.address d.text answer d.connection old.host new.host f brought.1.0 m
 
     over : is_over (named old.host.slots e.name) ≡ false
-    over = hears-still old other.address d e (ko.named d (Has-slice_get other.log i d sent) n.header n.commands n.read ∙ n.nobody) (in-none (is_earlier old other.address d) (is_late other old d) brought.0).0 h of
-
-    pair : Pair (j e.connection) old other e.connection
-    pair = pairs e.connection (k.below e h)
+    over = hears-still old from.address d e (ko.named d (Has-slice_get from.log i d sent) n.header n.commands n.read ∙ n.nobody) (in-none (is_earlier old from.address d) (is_late from old d) brought.0).0 h of
 
     own : Shows old e pair.one
-    own = shown-end (j e.connection) old other next e k h pair
+    own = shown-end j old from count e k h pair
 
     l : IsLogged pair.two.log d
-    l = (far-shown other next e.connection pair.two ko pair.there).log i d sent (sym of)
+    l = (far-shown from count e.connection pair.two ko pair.there).log i d sent (sym of)
 
     put : (x : Put) × Has l.puts x × (x.message.body ≡ connect n.offer)
     put = the-offer l.puts n.commands n.offer n.is (behind d.text l.header n.header n.read.front n.commands (messages_of l.puts) n.read.split n.read.spelled l.spelled)
@@ -232,10 +227,18 @@ twice j next i answer d other old new happens k ko pairs at sent e h of f m = by
     by : ((own.peer.state ≢ state.Free) × IsThere old.host.slots e.name own.peer) ⊎ ((own.peer.state ≡ state.Free) × IsSpent old.host e.name) → ⊥
     by (inl live) =
         let x : IsThere old.host.slots e.name own.peer = live.1 in
-        repeated old.host.slots other.address n.offer e.name own.peer x (ap is_over (sym (there-named old.host.slots e.name own.peer x)) ∙ over) (at e h own.peer x) word n.unknown
+        repeated old.host.slots from.address n.offer e.name own.peer x (ap is_over (sym (there-named old.host.slots e.name own.peer x)) ∙ over) (at own.peer x) word n.unknown
     by (inr gone) = let t : true ≡ false = ap is_over (sym (spent-nobody old.host e.name gone.1)) ∙ over in absurd (cc)
 
-pub begins-once : (j : ℕ → Bool) (next : ℕ) (other old new : Site) (what : Happening) → Happens next other what old new → IsHost old next → IsHost other next → ((x : ℕ) → x < next → Pair (j x) old other x) → AreAt other.address old
-    → BeginsOnce other old new what
-begins-once j next other old new (Calls c) happens k ko pairs at = tt
-begins-once j next other old new (Hears i answer) happens k ko pairs at = λ d sent e h of f m. twice j next i answer d other old new happens k ko pairs at sent e h of f m
+-- a connection of a host is one with the host whose datagram comes, and its two ends are a pair
+abbrev pub IsOfSender : (ℕ → Bool) → (ℕ → Addr) → Site → Site → Happening → Type 0
+IsOfSender j place from s (Calls c) = Unit {0}
+IsOfSender j place from s (Hears k answer) =
+    (d : Logged) → slice_get from.log k ≡ Some d → (e : HostEnd) → Has s.ends e → e.connection ≡ d.connection → Pair (j e.connection) s from e.connection × (place e.connection ≡ from.address)
+
+pub begins-once : (j : ℕ → Bool) (place : ℕ → Addr) (w : Around) (from old new : Site) (what : Happening) → HappensAmong w from what old new → IsHost old w.count → IsHost from w.count → IsOfSender j place from old what → AreAt place old
+    → BeginsOnce from old new what
+begins-once j place w from old new (Calls c) happens k ko of at = tt
+begins-once j place w from old new (Hears i answer) happens k ko of at = λ d sent e h same f m.
+    let p = of d sent e h same in
+    twice (j e.connection) w.count i answer d from old new (subst (λ (found : Option Logged). BringsOne from found answer old new) sent happens) k ko sent e h same p.0 (λ q x. at e h q x ∙ p.1) f m

@@ -25,13 +25,13 @@ use Rattle.enet_network.specs.Law.{LawfulEither, AreLawful, OfEachRun, OfEachJoi
 use Rattle.enet_network.specs.Log.{Logged, ChannelPackets as KeptOf, no_packets, fresh_channels, joined_greatest, packets_at, greatest_at}
 use Rattle.enet_network.specs.Network.{HostEnd, Site, fresh_end}
 use Rattle.enet_network.specs.Shown.{Shows}
-use Rattle.enet_network.specs.Steps.{Happening, Calls, Hears, Happens, BringsOne, count_after}
+use Rattle.enet_network.specs.Steps.{Around, Happening, Calls, Hears, Logs, LogsIf, BringsOne, HappensAmong, beside, Happens, count_after}
 use Rattle.enet_network.specs.World.{World, other, address_of, HappensAt, AllHappen, side_of, Runs, open_world, joined_config, joined_end, joined_site, joined_world}
 use Rattle.enet_network.proofs.Beginnings.{asked}
 use Rattle.enet_network.proofs.Peers.{shows-held}
 use Rattle.enet_network.proofs.Submitting.{same-some}
-use Rattle.enet_network.proofs.Worlds.{KeptEither, Pair, BeginsOnce, IsHost, swapped, pair-goes, host-goes, nothing-of, count-grows}
-use Rattle.enet_network.proofs.Once.{AreAt, at-goes, begins-once}
+use Rattle.enet_network.proofs.Worlds.{KeptEither, Pair, IsHost, AreShown, ComesOf, IsJoined, swapped, pair-goes, shown-end, host-goes, nothing-of, count-grows}
+use Rattle.enet_network.proofs.Once.{AreAt, IsOfSender, at-goes, begins-once}
 use Rattle.enet_network.proofs.Owned.{AreOwned, owned-goes, none-held, one-held}
 
 -- which connections stand from the start is told by j
@@ -40,91 +40,131 @@ pub record Sound (j : ℕ → Bool) (w : World) : Type 0 where
   pub b : IsHost w.b w.count
   pub at_a : w.a.address ≡ address_of A
   pub at_b : w.b.address ≡ address_of B
-  pub far_a : AreAt (address_of B) w.a
-  pub far_b : AreAt (address_of A) w.b
-  pub owned_a : AreOwned w.a
-  pub owned_b : AreOwned w.b
+  pub far_a : AreAt (λ x. address_of B) w.a
+  pub far_b : AreAt (λ x. address_of A) w.b
+  pub owned_a : AreOwned (λ x. true) w.a
+  pub owned_b : AreOwned (λ x. true) w.b
   pub pairs : (x : ℕ) → x < w.count → Pair (j x) w.a w.b x
   pub later : (x : ℕ) → w.count ≤ x → j x ≡ false
 
-wider : (s : Site) (n m : ℕ) → n ≤ m → IsHost s n → IsHost s m
+pub wider : (s : Site) (n m : ℕ) → n ≤ m → IsHost s n → IsHost s m
 wider s n m low k = record { few = k.few; apart = k.apart; below = λ e h. (let b : e.connection < n = k.below e h in omega arith); logged = k.logged; named = k.named }
 
 -- a connection that a user asks for
-new-pair : (next : ℕ) (other old new : Site) (what : Happening) (x : ℕ) → Happens next other what old new → IsHost old next → IsHost other next → next ≤ x → x < count_after next what → Pair false new other x
-new-pair next other old new (Calls (call.Connect address channels info word (Ok name))) x happens k ko least most =
-    let y = asked next other old new address channels info word name happens (nothing-of old next next k (λ e h of. let low : e.connection < next = k.below e h in let same : e.connection ≡ next = of in omega arith)) in
-    subst (Pair false new other) (let few : x < next + 1 = most in let same : next ≡ x = omega arith in same) (record {
+pub new-pair : (w : Around) (from old new : Site) (what : Happening) (x : ℕ) → HappensAmong w from what old new → IsHost old w.count → IsHost from w.count → w.count ≤ x → x < count_after w.count what → Pair false new from x
+new-pair w from old new (Calls (call.Connect address channels info word (Ok name))) x happens k ko least most =
+    let y = asked w from old new address channels info word name happens (nothing-of old w.count w.count k (λ e h of. let low : e.connection < w.count = k.below e h in let same : e.connection ≡ w.count = of in omega arith)) in
+    subst (Pair false new from) (let few : x < w.count + 1 = most in let same : w.count ≡ x = omega arith in same) (record {
       one = (asking_pair old.host.clock y.0 (limits_of old.host.config)).one;
       two = no_end;
-      here = inl (fresh_end next name, y.2, refl, y.3);
-      there = inr ((λ e h of. let low : e.connection < next = ko.below e h in let same : e.connection ≡ next = of in omega arith), refl);
+      here = inl (fresh_end w.count name, y.2, refl, y.3);
+      there = inr ((λ e h of. let low : e.connection < w.count = ko.below e h in let same : e.connection ≡ w.count = of in omega arith), refl);
       kept = inl (asking-kept old.host.clock y.0 (limits_of old.host.config));
       word = y.0.connect_id;
       one_word = word-asking old.host.clock y.0 (limits_of old.host.config);
       two_word = word-none y.0.connect_id;
     })
-new-pair next other old new (Calls c) x happens k ko least most = absurd (let few : x < next = most in omega arith)
-new-pair next other old new (Hears i answer) x happens k ko least most = absurd (let few : x < next = most in omega arith)
+new-pair w from old new (Calls c) x happens k ko least most = absurd (let few : x < w.count = most in omega arith)
+new-pair w from old new (Hears i answer) x happens k ko least most = absurd (let few : x < w.count = most in omega arith)
 
 -- no host moves
-stays-put : (next : ℕ) (other old new : Site) (what : Happening) → Happens next other what old new → new.address ≡ old.address
-stays-put next other old new (Calls (call.Connect address channels info word answer)) x = ap (λ (s : Site). s.address) x.1.1
-stays-put next other old new (Calls (call.Receive from bytes answer)) x = absurd x
-stays-put next other old new (Calls (call.Service None buf)) x = ap (λ (s : Site). s.address) x.1
-stays-put next other old new (Calls (call.Service (Some gave) buf)) x = ap (λ (s : Site). s.address) x.1.rest
-stays-put next other old new (Calls c) x = ap (λ (s : Site). s.address) x.1
-stays-put next other old new (Hears k answer) x = by (slice_get other.log k) x
+pub stays-put : (w : Around) (from old new : Site) (what : Happening) → HappensAmong w from what old new → new.address ≡ old.address
+stays-put w from old new (Calls (call.Connect address channels info word answer)) x = ap (λ (s : Site). s.address) x.1.1
+stays-put w from old new (Calls (call.Receive address bytes answer)) x = ap (λ (s : Site). s.address) x.1.1
+stays-put w from old new (Calls (call.Service None buf)) x = ap (λ (s : Site). s.address) x.1
+stays-put w from old new (Calls (call.Service (Some gave) buf)) x = served (w.is_host gave.1) x.1
   where
-    by : (found : Option Logged) → BringsOne other found answer old new → new.address ≡ old.address
+    served : (b : Bool) → LogsIf b w.numbers gave buf old new → new.address ≡ old.address
+    served true y = (let l : Logs w.numbers gave buf old new = y in ap (λ (s : Site). s.address) l.rest)
+    served false y = (let rest : new ≡ record old { host = new.host } = y in ap (λ (s : Site). s.address) rest)
+stays-put w from old new (Calls c) x = ap (λ (s : Site). s.address) x.1
+stays-put w from old new (Hears k answer) x = by (slice_get from.log k) x
+  where
+    by : (found : Option Logged) → BringsOne from found answer old new → new.address ≡ old.address
     by None y = absurd y
     by (Some d) y = ap (λ (s : Site). s.address) y.1.1
 
 pub less-or-not : (a b : ℕ) → (a < b) ⊎ (b ≤ a)
 less-or-not a b = grind arith
 
--- one side goes on
+-- one side of two goes on
+
+comes-same : (s : Site) (what : Happening) (x : ℕ) → ComesOf s what s x
+comes-same s (Hears k answer) x = λ d is of. refl
+comes-same s (Calls c) x = tt
+
+joins : (next : ℕ) (other : Site) (what : Happening) (s : Site) (x : ℕ) → IsJoined (beside next other) other what s other x
+joins next other what s x = record {
+  numbers = refl;
+  strangers = λ e h of address never. absurd (let z : true ≡ false = never in cc);
+  sender = inl refl;
+  comes = comes-same other what x;
+}
+
 goes : (j : ℕ → Bool) (next : ℕ) (other old new : Site) (what : Happening) → Happens next other what old new → IsHost old next → IsHost other next → ((x : ℕ) → x < next → Pair (j x) old other x) → ((x : ℕ) → next ≤ x → j x ≡ false)
     → (x : ℕ) → x < count_after next what → Pair (j x) new other x
 goes j next other old new what happens k ko pairs later x low = elim (less-or-not x next) [
-  | inl before ↦ pair-goes (j x) next other old new what x happens k ko before (pairs x before)
-  | inr after ↦ subst (λ (t : Bool). Pair t new other x) (sym (later x after)) (new-pair next other old new what x happens k ko after low)
+  | inl before ↦ pair-goes (j x) (beside next other) other old new what other x happens k ko ko.named (joins next other what old x) before (pairs x before)
+  | inr after ↦ subst (λ (t : Bool). Pair t new other x) (sym (later x after)) (new-pair (beside next other) other old new what x happens k ko after low)
 ]
+
+shown-all : (j : ℕ → Bool) (next : ℕ) (other s : Site) → IsHost s next → ((x : ℕ) → x < next → Pair (j x) s other x) → AreShown s
+shown-all j next other s k pairs e h = (let p = pairs e.connection (k.below e h) in (p.one, shown-end (j e.connection) s other next e k h p))
+
+of-sender : (j : ℕ → Bool) (next : ℕ) (place : Addr) (other s : Site) (what : Happening) → IsHost s next → other.address ≡ place → ((x : ℕ) → x < next → Pair (j x) s other x) → IsOfSender j (λ x. place) other s what
+of-sender j next place other s (Calls c) k at pairs = tt
+of-sender j next place other s (Hears i answer) k at pairs = λ d sent e h same. (pairs e.connection (k.below e h), sym at)
+
+-- all that holds of the side where something happens
+record Gone (j : ℕ → Bool) (place : Addr) (next : ℕ) (other new : Site) (what : Happening) : Type 0 where
+  host : IsHost new (count_after next what)
+  far : AreAt (λ x. place) new
+  owned : AreOwned (λ x. true) new
+  pairs : (x : ℕ) → x < count_after next what → Pair (j x) new other x
+
+side-goes : (j : ℕ → Bool) (place : Addr) (next : ℕ) (other old new : Site) (what : Happening) → Happens next other what old new → IsHost old next → IsHost other next → other.address ≡ place → AreAt (λ x. place) old → AreOwned (λ x. true) old
+    → ((x : ℕ) → x < next → Pair (j x) old other x) → ((x : ℕ) → next ≤ x → j x ≡ false) → Gone j place next other new what
+side-goes j place next other old new what happens k ko at far owned pairs later =
+    let shown : AreShown old = shown-all j next other old k pairs in
+    record {
+      host = host-goes (beside next other) other old new what happens k ko (begins-once j (λ x. place) (beside next other) other old new what happens k ko (of-sender j next place other old what k at pairs) far) shown;
+      far = at-goes (λ x. place) (beside next other) other old new what happens k shown (λ f h. sym at) far;
+      owned = owned-goes (beside next other) other old new what happens owned;
+      pairs = goes j next other old new what happens k ko pairs later;
+    }
 
 sound-goes : (j : ℕ → Bool) (side : Side) (what : Happening) (w v : World) → HappensAt side what w v → Sound j w → Sound j v
 sound-goes j A what w v h k =
-    let at : AreAt w.b.address w.a = subst (λ (x : Addr). AreAt x w.a) (sym k.at_b) k.far_a in
-    let once : BeginsOnce w.b w.a v.a what = begins-once j w.count w.b w.a v.a what h.here k.a k.b k.pairs at in
+    let gone : Gone j (address_of B) w.count w.b v.a what = side-goes j (address_of B) w.count w.b w.a v.a what h.here k.a k.b k.at_b k.far_a k.owned_a k.pairs k.later in
     let count : count_after w.count what ≡ v.count = sym h.count in
     let up : w.count ≤ v.count = (let g : w.count ≤ count_after w.count what = count-grows w.count what in let c : v.count ≡ count_after w.count what = h.count in omega arith) in
     record {
-      a = subst (IsHost v.a) count (host-goes j w.count w.b w.a v.a what h.here k.a k.b once k.pairs);
+      a = subst (IsHost v.a) count gone.host;
       b = subst (λ (s : Site). IsHost s v.count) (sym h.there) (wider w.b w.count v.count up k.b);
-      at_a = stays-put w.count w.b w.a v.a what h.here ∙ k.at_a;
+      at_a = stays-put (beside w.count w.b) w.b w.a v.a what h.here ∙ k.at_a;
       at_b = ap (λ (s : Site). s.address) h.there ∙ k.at_b;
-      far_a = subst (λ (x : Addr). AreAt x v.a) k.at_b (at-goes j w.count w.b w.a v.a what h.here k.a k.pairs at);
-      far_b = subst (AreAt (address_of A)) (sym h.there) k.far_b;
-      owned_a = owned-goes w.count w.b w.a v.a what h.here k.owned_a;
-      owned_b = subst AreOwned (sym h.there) k.owned_b;
-      pairs = λ x low. subst (λ (s : Site). Pair (j x) v.a s x) (sym h.there) (goes j w.count w.b w.a v.a what h.here k.a k.b k.pairs k.later x (let c : v.count ≡ count_after w.count what = h.count in omega arith));
+      far_a = gone.far;
+      far_b = subst (AreAt (λ x. address_of A)) (sym h.there) k.far_b;
+      owned_a = gone.owned;
+      owned_b = subst (AreOwned (λ x. true)) (sym h.there) k.owned_b;
+      pairs = λ x low. subst (λ (s : Site). Pair (j x) v.a s x) (sym h.there) (gone.pairs x (let c : v.count ≡ count_after w.count what = h.count in omega arith));
       later = λ x least. k.later x (let u : w.count ≤ v.count = up in omega arith);
     }
 sound-goes j B what w v h k =
-    let count : count_after w.count what ≡ v.count = sym h.count in
     let back : (x : ℕ) → x < w.count → Pair (j x) w.b w.a x = (λ x low. swapped (j x) w.a w.b x (k.pairs x low)) in
-    let at : AreAt w.a.address w.b = subst (λ (x : Addr). AreAt x w.b) (sym k.at_a) k.far_b in
-    let once : BeginsOnce w.a w.b v.b what = begins-once j w.count w.a w.b v.b what h.here k.b k.a back at in
+    let gone : Gone j (address_of A) w.count w.a v.b what = side-goes j (address_of A) w.count w.a w.b v.b what h.here k.b k.a k.at_a k.far_b k.owned_b back k.later in
+    let count : count_after w.count what ≡ v.count = sym h.count in
     let up : w.count ≤ v.count = (let g : w.count ≤ count_after w.count what = count-grows w.count what in let c : v.count ≡ count_after w.count what = h.count in omega arith) in
     record {
       a = subst (λ (s : Site). IsHost s v.count) (sym h.there) (wider w.a w.count v.count up k.a);
-      b = subst (IsHost v.b) count (host-goes j w.count w.a w.b v.b what h.here k.b k.a once back);
+      b = subst (IsHost v.b) count gone.host;
       at_a = ap (λ (s : Site). s.address) h.there ∙ k.at_a;
-      at_b = stays-put w.count w.a w.b v.b what h.here ∙ k.at_b;
-      far_a = subst (AreAt (address_of B)) (sym h.there) k.far_a;
-      far_b = subst (λ (x : Addr). AreAt x v.b) k.at_a (at-goes j w.count w.a w.b v.b what h.here k.b back at);
-      owned_a = subst AreOwned (sym h.there) k.owned_a;
-      owned_b = owned-goes w.count w.a w.b v.b what h.here k.owned_b;
-      pairs = λ x low. subst (λ (s : Site). Pair (j x) s v.b x) (sym h.there) (swapped (j x) v.b w.a x (goes j w.count w.a w.b v.b what h.here k.b k.a back k.later x (let c : v.count ≡ count_after w.count what = h.count in omega arith)));
+      at_b = stays-put (beside w.count w.a) w.a w.b v.b what h.here ∙ k.at_b;
+      far_a = subst (AreAt (λ x. address_of B)) (sym h.there) k.far_a;
+      far_b = gone.far;
+      owned_a = subst (AreOwned (λ x. true)) (sym h.there) k.owned_a;
+      owned_b = gone.owned;
+      pairs = λ x low. subst (λ (s : Site). Pair (j x) s v.b x) (sym h.there) (swapped (j x) v.b w.a x (gone.pairs x (let c : v.count ≡ count_after w.count what = h.count in omega arith)));
       later = λ x least. k.later x (let u : w.count ≤ v.count = up in omega arith);
     }
 
@@ -141,7 +181,7 @@ sound-runs j (e ∷ es) (Err why ∷ as') w v r k = sound-runs j es as' r.0 v r.
 
 -- at first
 
-few-of : (c : Config) → is_in_range c ≡ true → c.generations ≤ greatest
+pub few-of : (c : Config) → is_in_range c ≡ true → c.generations ≤ greatest
 few-of c h = grind (arith, nat_tests)
 
 both : (a b : Bool) → (a && b) ≡ true → (a ≡ true) × (b ≡ true)
@@ -149,8 +189,8 @@ both true true h = (refl, refl)
 both true false h = absurd (cc)
 both false b h = absurd (cc)
 
-none-at : (from : Addr) (s : Site) → s.ends ≡ [] → AreAt from s
-none-at from s none e h p x = absurd (subst (λ (l : List HostEnd). Has l e) none h)
+pub none-at : (place : ℕ → Addr) (s : Site) → s.ends ≡ [] → AreAt place s
+none-at place s none e h p x = absurd (subst (λ (l : List HostEnd). Has l e) none h)
 
 open-sound : (a b : Config) → (is_in_range a && is_in_range b) ≡ true → Sound (λ x. false) (open_world a b)
 open-sound a b h =
@@ -160,10 +200,10 @@ open-sound a b h =
       b = record { few = few-of b r.1; apart = λ e i. absurd i; below = λ e i. absurd i; logged = λ d i. absurd i; named = λ d i. absurd i };
       at_a = refl;
       at_b = refl;
-      far_a = none-at (address_of B) (open_world a b).a refl;
-      far_b = none-at (address_of A) (open_world a b).b refl;
-      owned_a = λ i t p there has. absurd (none-held a.peers i t p there has);
-      owned_b = λ i t p there has. absurd (none-held b.peers i t p there has);
+      far_a = none-at (λ x. address_of B) (open_world a b).a refl;
+      far_b = none-at (λ x. address_of A) (open_world a b).b refl;
+      owned_a = λ i t p there has at. absurd (none-held a.peers i t p there has);
+      owned_b = λ i t p there has at. absurd (none-held b.peers i t p there has);
       pairs = λ x low. absurd (let z : x < 0 = low in omega arith);
       later = λ x least. refl;
     }
@@ -223,7 +263,7 @@ joined-host side c few = record {
     first e (inl a) = (let z : e.connection ≡ 0 = ap (λ (x : HostEnd). x.connection) (sym a) in omega arith)
     first e (inr a) = absurd a
 
-joined-at : (side : Side) (c : Config) → 0 < c.peers → AreAt (address_of (other side)) (joined_site side c)
+joined-at : (side : Side) (c : Config) → 0 < c.peers → AreAt (λ x. address_of (other side)) (joined_site side c)
 joined-at side c some e (inl is) p x =
     let s : SlotState = given unused_slot (address_of (other side)) (joined c.clock (joined_terms c) (limits_of c)) in
     let there : slice_get (joined_site side c).host.slots e.name.slot ≡ Some s =
@@ -231,8 +271,8 @@ joined-at side c some e (inl is) p x =
     ap (λ (y : SlotState). y.address) (same-some x.slot s (sym x.there ∙ there))
 joined-at side c some e (inr is) p x = absurd is
 
-joined-owned : (side : Side) (c : Config) → AreOwned (joined_site side c)
-joined-owned side c i t p there has = (joined_end, inl refl, one-held c.peers i (given unused_slot (address_of (other side)) (joined c.clock (joined_terms c) (limits_of c))) t p there has)
+joined-owned : (side : Side) (c : Config) → AreOwned (λ x. true) (joined_site side c)
+joined-owned side c i t p there has at = (joined_end, inl refl, one-held c.peers i (given unused_slot (address_of (other side)) (joined c.clock (joined_terms c) (limits_of c))) t p there has)
 
 in-range : (c : Config) → is_in_range c ≡ true → (576 ≤ c.mtu) × (c.channels ≤ 255) × (0 < c.peers)
 in-range c h = (grind (arith, nat_tests), grind (arith, nat_tests), grind (arith, nat_tests))
@@ -290,7 +330,7 @@ joined-sound a b h = record {
         let t : true ≡ (x == 0) = sym (let z : 0 ≡ x = e in let t : (x == 0) ≡ true = grind (arith, nat_tests) in t) in
         subst (λ (b' : Bool). Pair b' (joined_world a b).a (joined_world a b).b x) t (subst (λ (n : ℕ). Pair true (joined_world a b).a (joined_world a b).b n) e first)
 
-lawful-either : (j : Bool) (one two : End) → KeptEither j one two → LawfulEither j one two
+pub lawful-either : (j : Bool) (one two : End) → KeptEither j one two → LawfulEither j one two
 lawful-either j one two (inl k) = inl (lawful j (record { one = one; two = two }) k)
 lawful-either j one two (inr k) = inr (lawful j (record { one = two; two = one }) k)
 

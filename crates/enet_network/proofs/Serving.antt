@@ -1,5 +1,5 @@
 -- A call of service: each end that is asked puts a datagram out or has none.
-use Rattle.std.proofs.Common.{◌≡◌, ◌≢◌, ◌≤◌, ◌<◌, ℕ, zero, suc, ◌⊎◌, inl, inr, true, false, cond, List, [], ◌∷◌, ◌++◌, length, map, take, refl, sym, ap, subst, ◌∙◌, arith, Option, Some, None, slice_get}
+use Rattle.std.proofs.Common.{◌≡◌, ◌≢◌, ◌≤◌, ◌<◌, ℕ, zero, suc, ◌⊎◌, inl, inr, Bool, true, false, cond, List, [], ◌∷◌, ◌++◌, length, map, take, refl, sym, ap, subst, ◌∙◌, arith, Option, Some, None, slice_get}
 use Rattle.std.proofs.lemmas.List.{map-append}
 use Rattle.std.proofs.lemmas.Bool.Decides.{nat_tests}
 use Rattle.std.proofs.lemmas.Option.{slice_get_within}
@@ -27,7 +27,8 @@ use Rattle.enet_connection.proofs.Runs.{reached-append, reached-none}
 use Rattle.enet_slot.specs.Slot.{SlotState, with_peer, greatest}
 use Rattle.enet_host.specs.Turns.{turn_of}
 use Rattle.enet_slot.specs.Serving.{Gives, HasNothing, passes_by, Passes}
-use Rattle.enet_host.specs.Serving.{InTurn, AllPass}
+use Rattle.enet_host.specs.Calls.{address_named}
+use Rattle.enet_host.specs.Serving.{InTurn, GivesInTurn, AllPass}
 use Rattle.enet_isolation.specs.Calls.{Call, Acts}
 use Rattle.enet_isolation.specs.Calls as call
 use Rattle.enet_isolation.proofs.Lists.{get-within}
@@ -38,10 +39,11 @@ use Rattle.enet_network.specs.declared.mark.MarkKind.{MarkKind}
 use Rattle.enet_network.specs.declared.mark.MarkKind.TheVariants.{Data, Acknowledgement, Control}
 use Rattle.enet_network.specs.Log.{Logged, greatest_at, counted_all, numbers_for, reached}
 use Rattle.enet_network.specs.Marks.{mark_as, mark_by_body, mark_of, Counts}
-use Rattle.enet_network.specs.Network.{HostEnd, Site, is_same_name}
+use Rattle.enet_network.specs.Network.{HostEnd, Site, is_same_name, is_at}
 use Rattle.enet_network.specs.Shown.{ShowsPeer, IsLogged, Shows, RunsAt, Went, IsApart}
 use Rattle.enet_network.specs.Steps.{Logs}
 use Rattle.enet_network.proofs.Marked.{marks_of, marked-datagram, Has-marks}
+use Rattle.enet_network.proofs.Addresses.{same-address, there-at}
 use Rattle.enet_network.proofs.Counting.{counted-long, counts-all}
 use Rattle.enet_network.proofs.PutOut.{plain-filled}
 use Rattle.enet_network.proofs.Peers.{there-or, shows-held, shows-gone, shows-after}
@@ -284,35 +286,29 @@ order (suc a) (suc b) = by (order a b)
     by (equal h) = equal (ap (λ (n : ℕ). suc n) h)
     by (after h) = after (omega arith)
 
-pub goes-served : (fars : ℕ → List ℕ) (gave : PeerRef × Addr × ℕ) (buf : List ℕ) (old new : Site) (e : HostEnd) (own far : End) → old.host.config.generations ≤ greatest
-    → Acts (call.Service (Some gave) buf) old.host new.host → (l : Logs fars gave buf old new) → IsApart old.ends e
-    → ((channel : ℕ) → channel < 255 → greatest_at (fars e.connection) channel ≡ sent_on channel far) → Shows old e own
-    → Went own far new (cond (is_same_name e.name gave.0) (record e { greatest = l.greatest }) e)
-goes-served fars gave buf old new e own far low acts l apart theirs k = by (there-or old.host e.name k.peer k.shows)
+pub there-now : (gave : PeerRef × Addr × ℕ) (buf : List ℕ) (old new : Site) → GivesInTurn old.host.clock old.host.service_from old.host.slots gave.0 gave.1 gave.2 buf new.host.slots
+    → (i : ℕ) (s : SlotState) → slice_get old.host.slots i ≡ Some s → (t : SlotState) × (slice_get new.host.slots i ≡ Some t)
+there-now gave buf old new given i s e = get-within new.host.slots i (let few : i < length old.host.slots = slice_get_within old.host.slots i s e in let as' : length new.host.slots ≡ length old.host.slots = given.count in omega arith)
+
+-- it is the slot of an end, or the end puts nothing out
+record IsServed (gave : PeerRef × Addr × ℕ) (buf : List ℕ) (old new : Site) (e : HostEnd) (p : Peering) : Type 0 where
+  there : IsThere old.host.slots e.name p
+  after : SlotState
+  is : slice_get new.host.slots e.name.slot ≡ Some after
+  gives : Gives old.host.clock gave.2 buf there.slot after
+  slot : e.name.slot ≡ gave.0.slot
+  generation : e.name.generation ≡ gave.0.generation
+
+goes-turned : (gave : PeerRef × Addr × ℕ) (buf : List ℕ) (old new : Site) (e : HostEnd) (own far : End) (f : HostEnd) → old.host.config.generations ≤ greatest → Acts (call.Service (Some gave) buf) old.host new.host
+    → (is_same_name e.name gave.0 ≡ false → KeepsLog old new e.connection) → (k : Shows old e own) → (IsServed gave buf old new e k.peer → Went own far new f)
+    → Went own far new (cond (is_same_name e.name gave.0) f e)
+goes-turned gave buf old new e own far f low acts others k served = by (there-or old.host e.name k.peer k.shows)
   where
     c : Call
     c = call.Service (Some gave) buf
 
-    given : Rattle.enet_host.specs.Serving.GivesInTurn old.host.clock old.host.service_from old.host.slots gave.0 gave.1 gave.2 buf new.host.slots
+    given : GivesInTurn old.host.clock old.host.service_from old.host.slots gave.0 gave.1 gave.2 buf new.host.slots
     given = acts.0
-
-    f : HostEnd
-    f = record e { greatest = l.greatest }
-
-    d : Logged
-    d = record { connection = l.own.connection; to = gave.1; peer = l.header.peer; text = take gave.2 buf; marks = l.marks }
-
-    logs : new.log ≡ old.log ++ d ∷ []
-    logs = ap (λ (s : Site). s.log) l.rest
-
-    -- the datagram is of another connection
-    others : is_same_name e.name gave.0 ≡ false → KeepsLog old new e.connection
-    others never n y there of = elim (get-push old.log d n y (subst (λ (m : List Logged). slice_get m n ≡ Some y) logs there)) [
-      | inl h ↦ h
-      | inr is ↦ (let same : l.own ≡ e = apart l.own l.there (inr (ap (λ (z : Logged). z.connection) is ∙ of)) in
-          let named : e.name ≡ gave.0 = ap (λ (z : HostEnd). z.name) (sym same) ∙ l.name in
-          absurd (let sure : is_same_name e.name gave.0 ≡ true = same-name e.name gave.0 (ap (λ (z : PeerRef). z.slot) named) (ap (λ (z : PeerRef). z.generation) named) in let z : true ≡ false = sym sure ∙ never in cc))
-    ]
 
     others-slot : e.name.slot ≢ gave.0.slot → KeepsLog old new e.connection
     others-slot n = others (other-slot e.name gave.0 n)
@@ -320,12 +316,9 @@ goes-served fars gave buf old new e own far low acts l apart theirs k = by (ther
     turn : ℕ → ℕ
     turn j = turn_of (length old.host.slots) old.host.service_from j
 
-    there-new : (i : ℕ) (s : SlotState) → slice_get old.host.slots i ≡ Some s → (t : SlotState) × (slice_get new.host.slots i ≡ Some t)
-    there-new i s e = get-within new.host.slots i (let few : i < length old.host.slots = slice_get_within old.host.slots i s e in let as' : length new.host.slots ≡ length old.host.slots = given.count in omega arith)
-
     by : ((k.peer.state ≢ state.Free) × IsThere old.host.slots e.name k.peer) ⊎ ((k.peer.state ≡ state.Free) × IsSpent old.host e.name) → Went own far new (cond (is_same_name e.name gave.0) f e)
     by (inr gone) =
-        let t = there-new gave.0.slot given.slot given.there in
+        let t = there-now gave buf old new given gave.0.slot given.slot given.there in
         let g : Gives old.host.clock gave.2 buf given.slot t.0 = (given.slots gave.0.slot given.slot t.0 given.there t.1).here refl in
         let never : is_same_name e.name gave.0 ≡ false =
         not-there old.host.slots e.name gave.0 given.slot g.peer given.there (ap (λ (z : PeerRef). z.generation) (sym given.named)) g.held
@@ -337,7 +330,7 @@ goes-served fars gave buf old new e own far low acts l apart theirs k = by (ther
         x = live.1
 
         t : (t : SlotState) × (slice_get new.host.slots e.name.slot ≡ Some t)
-        t = there-new e.name.slot x.slot x.there
+        t = there-now gave buf old new given e.name.slot x.slot x.there
 
         turned : InTurn old.host.clock old.host.service_from (length old.host.slots) gave.0.slot gave.2 buf e.name.slot x.slot t.0
         turned = given.slots e.name.slot x.slot t.0 x.there t.1
@@ -359,15 +352,64 @@ goes-served fars gave buf old new e own far low acts l apart theirs k = by (ther
         at (equal h) =
             let here : e.name.slot ≡ gave.0.slot = turns-apart (length old.host.slots) old.host.service_from e.name.slot gave.0.slot
             (slice_get_within old.host.slots e.name.slot x.slot x.there) (slice_get_within old.host.slots gave.0.slot given.slot given.there) h in
-            let g : Gives old.host.clock gave.2 buf x.slot t.0 = turned.here here in
-            let p : g.peer ≡ k.peer = same-some g.peer k.peer (sym g.held ∙ x.peer) in
             let slot : given.slot ≡ x.slot = same-some given.slot x.slot (sym given.there ∙ ap (λ (i : ℕ). slice_get old.host.slots i) (sym here) ∙ x.there) in
             let generation : e.name.generation ≡ gave.0.generation = sym x.same ∙ ap (λ (s : SlotState). s.generation) (sym slot) ∙ ap (λ (z : PeerRef). z.generation) (sym given.named) in
-            let named : gave.0 ≡ e.name = (λ i. record { slot = sym here i; generation = sym generation i }) in
-            let same : l.own ≡ e = apart l.own l.there (inl (l.name ∙ named)) in
-            let counts : Counts (take gave.2 buf) e.greatest l.greatest (fars e.connection) l.marks = subst (λ (z : HostEnd). Counts (take gave.2 buf) z.greatest l.greatest (fars z.connection) l.marks) same l.counts in
-            let shows : ShowsPeer new.host e.name g.after =
-            shows-after c old.host new.host e.name k.peer g.after x t.0 (Rattle.enet_slot.specs.Serving.with_emitted x.slot gave.2).emitted low (same-generations c old.host new.host acts) t.1
-            (g.left ∙ emitted-apart x.slot g.after (Rattle.enet_slot.specs.Serving.with_emitted x.slot gave.2).emitted) in
             changes-as own far new (is_same_name e.name gave.0) f e (same-name e.name gave.0 here generation)
-            (goes-logged old new e own far old.host.clock gave.2 g.after buf k (subst (λ (y : Peering). PutsOut old.host.clock (Some gave.2) y g.after buf) p g.puts) shows l.greatest (fars e.connection) l.marks d counts theirs l.header l.commands l.read refl refl refl logs)
+            (served (record { there = x; after = t.0; is = t.1; gives = turned.here here; slot = here; generation = generation }))
+
+-- an end whose host gave a datagram that is logged
+pub goes-served : (fars : ℕ → List ℕ) (gave : PeerRef × Addr × ℕ) (buf : List ℕ) (old new : Site) (e : HostEnd) (own far : End) → old.host.config.generations ≤ greatest
+    → Acts (call.Service (Some gave) buf) old.host new.host → (l : Logs fars gave buf old new) → IsApart old.ends e
+    → ((channel : ℕ) → channel < 255 → greatest_at (fars e.connection) channel ≡ sent_on channel far) → Shows old e own
+    → Went own far new (cond (is_same_name e.name gave.0) (record e { greatest = l.greatest }) e)
+goes-served fars gave buf old new e own far low acts l apart theirs k = goes-turned gave buf old new e own far (record e { greatest = l.greatest }) low acts others k served
+  where
+    c : Call
+    c = call.Service (Some gave) buf
+
+    d : Logged
+    d = record { connection = l.own.connection; to = gave.1; peer = l.header.peer; text = take gave.2 buf; marks = l.marks }
+
+    logs : new.log ≡ old.log ++ d ∷ []
+    logs = ap (λ (s : Site). s.log) l.rest
+
+    -- the datagram is of another connection
+    others : is_same_name e.name gave.0 ≡ false → KeepsLog old new e.connection
+    others never n y there of = elim (get-push old.log d n y (subst (λ (m : List Logged). slice_get m n ≡ Some y) logs there)) [
+      | inl h ↦ h
+      | inr is ↦ (let same : l.own ≡ e = apart l.own l.there (inr (ap (λ (z : Logged). z.connection) is ∙ of)) in
+          let named : e.name ≡ gave.0 = ap (λ (z : HostEnd). z.name) (sym same) ∙ l.name in
+          absurd (let sure : is_same_name e.name gave.0 ≡ true = same-name e.name gave.0 (ap (λ (z : PeerRef). z.slot) named) (ap (λ (z : PeerRef). z.generation) named) in let z : true ≡ false = sym sure ∙ never in cc))
+    ]
+
+    served : IsServed gave buf old new e k.peer → Went own far new (record e { greatest = l.greatest })
+    served h =
+        let x : IsThere old.host.slots e.name k.peer = h.there in
+        let g : Gives old.host.clock gave.2 buf x.slot h.after = h.gives in
+        let p : g.peer ≡ k.peer = same-some g.peer k.peer (sym g.held ∙ x.peer) in
+        let named : gave.0 ≡ e.name = (λ i. record { slot = sym h.slot i; generation = sym h.generation i }) in
+        let same : l.own ≡ e = apart l.own l.there (inl (l.name ∙ named)) in
+        let counts : Counts (take gave.2 buf) e.greatest l.greatest (fars e.connection) l.marks = subst (λ (z : HostEnd). Counts (take gave.2 buf) z.greatest l.greatest (fars z.connection) l.marks) same l.counts in
+        let shows : ShowsPeer new.host e.name g.after =
+        shows-after c old.host new.host e.name k.peer g.after x h.after (Rattle.enet_slot.specs.Serving.with_emitted x.slot gave.2).emitted low (same-generations c old.host new.host acts) h.is
+        (g.left ∙ emitted-apart x.slot g.after (Rattle.enet_slot.specs.Serving.with_emitted x.slot gave.2).emitted) in
+        goes-logged old new e own far old.host.clock gave.2 g.after buf k (subst (λ (y : Peering). PutsOut old.host.clock (Some gave.2) y g.after buf) p g.puts) shows l.greatest (fars e.connection) l.marks d counts theirs l.header l.commands l.read refl refl refl logs
+
+-- where a datagram was given to an address at which the end's peer isn't, the end puts nothing out
+pub goes-unserved : (gave : PeerRef × Addr × ℕ) (buf : List ℕ) (old new : Site) (e : HostEnd) (own far : End) → old.host.config.generations ≤ greatest
+    → Acts (call.Service (Some gave) buf) old.host new.host → KeepsLog old new e.connection → is_at gave.1 (address_named old.host.slots e.name) ≡ false → Shows old e own → Went own far new e
+goes-unserved gave buf old new e own far low acts same away k = subst (Went own far new) (same-either (is_same_name e.name gave.0) e) (goes-turned gave buf old new e own far e low acts (λ never. same) k served)
+  where
+    same-either : (b : Bool) (f : HostEnd) → cond b f f ≡ f
+    same-either true f = refl
+    same-either false f = refl
+
+    given : GivesInTurn old.host.clock old.host.service_from old.host.slots gave.0 gave.1 gave.2 buf new.host.slots
+    given = acts.0
+
+    served : IsServed gave buf old new e k.peer → Went own far new e
+    served h =
+        let x : IsThere old.host.slots e.name k.peer = h.there in
+        let slot : given.slot ≡ x.slot = same-some given.slot x.slot (sym given.there ∙ ap (λ (i : ℕ). slice_get old.host.slots i) (sym h.slot) ∙ x.there) in
+        let at : x.slot.address ≡ gave.1 = ap (λ (s : SlotState). s.address) (sym slot) ∙ sym given.addressed in
+        let z : true ≡ false = sym (there-at gave.1 old.host.slots e.name k.peer x (same-address x.slot.address gave.1 at)) ∙ away in absurd (cc)

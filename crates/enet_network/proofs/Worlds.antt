@@ -1,5 +1,5 @@
--- What holds of both hosts of a world, whatever happens.
-use Rattle.std.proofs.Common.{◌≡◌, ◌≢◌, ◌<◌, ◌≤◌, ℕ, ◌+◌, ◌⊎◌, inl, inr, Bool, false, cond, ◌==◌, List, [], ◌∷◌, ◌++◌, take, refl, sym, ap, subst, ◌∙◌, arith, Option, Some, None, Result, Ok, slice_get}
+-- What holds of hosts and of the two ends of a connection, whatever happens at one of them.
+use Rattle.std.proofs.Common.{◌≡◌, ◌≢◌, ◌<◌, ◌≤◌, ℕ, ◌+◌, ◌⊎◌, inl, inr, Bool, true, false, cond, ◌==◌, List, [], ◌∷◌, ◌++◌, take, refl, sym, ap, subst, ◌∙◌, arith, Option, Some, None, Result, Ok, slice_get}
 use Rattle.std.proofs.lemmas.Bool.Decides.{nat_tests}
 use Rattle.enet_types.specs.declared.event.PeerRef.{PeerRef}
 use Rattle.enet_types.specs.declared.event.Received.{Received}
@@ -29,11 +29,11 @@ use Rattle.enet_isolation.proofs.OneCall.{one-call}
 use Rattle.enet_isolation.proofs.Receiving.{is_open}
 use Rattle.enet_isolation.specs.Falling as falling
 use Rattle.enet_isolation.specs.Law as isolation
-use Rattle.enet_network.specs.Law.{AreNamed, HasNothingOf, GoesOn, Begins, ShowsAt}
+use Rattle.enet_network.specs.Law.{AreNamed, HasNothingOf, GoesOn, IsElsewhere, IsBetween, Faces, Begins, ShowsAt}
 use Rattle.enet_network.specs.Log.{Logged, greatest_at}
 use Rattle.enet_network.specs.Network.{HostEnd, Site, fresh_end, end_of, numbers_in, numbers_of}
 use Rattle.enet_network.specs.Shown.{ShowsPeer, Shows, ShowsFar, RunsAt, IsApart}
-use Rattle.enet_network.specs.Steps.{Happening, Calls, Hears, Happens, Logs, BringsOne, begun, count_after}
+use Rattle.enet_network.specs.Steps.{Around, Happening, Calls, Hears, HappensAmong, Logs, LogsIf, BringsOne, begun, count_after}
 use Rattle.enet_network.proofs.Beginnings.{answered, free-there}
 use Rattle.enet_network.proofs.Delivering.{end-there}
 use Rattle.enet_network.proofs.Growing.{more_of, more_in, Grows, grows, from-before, stays-there, begins-there, begun-is}
@@ -58,9 +58,9 @@ pub record Pair (joined : Bool) (a b : Site) (x : ℕ) : Type 0 where
 
 -- no connection begins at a host that has an end of it
 abbrev pub BeginsOnce : Site → Site → Site → Happening → Type 0
-BeginsOnce other old new (Calls c) = Unit {0}
-BeginsOnce other old new (Hears k answer) =
-    (d : Logged) → slice_get other.log k ≡ Some d → (e : HostEnd) → Has old.ends e → e.connection ≡ d.connection → (f : HostEnd) → Has (begun d.connection old.host new.host) f → ⊥
+BeginsOnce from old new (Calls c) = Unit {0}
+BeginsOnce from old new (Hears k answer) =
+    (d : Logged) → slice_get from.log k ≡ Some d → (e : HostEnd) → Has old.ends e → e.connection ≡ d.connection → (f : HostEnd) → Has (begun d.connection old.host new.host) f → ⊥
 
 -- what holds of a host where there were so many connections
 pub record IsHost (s : Site) (count : ℕ) : Type 0 where
@@ -69,6 +69,27 @@ pub record IsHost (s : Site) (count : ℕ) : Type 0 where
   pub below : (e : HostEnd) → Has s.ends e → e.connection < count
   pub logged : (d : Logged) → Has s.log d → (e : HostEnd) × Has s.ends e × (e.connection ≡ d.connection)
   pub named : AreNamed s.log
+
+-- each end of a host is shown
+abbrev pub AreShown : Site → Type 0
+AreShown s = (e : HostEnd) → Has s.ends e → (own : End) × Shows s e own
+
+-- the ends of connection x at a host
+abbrev pub AreAllOf : Site → ℕ → (HostEnd → Type 0) → Type 0
+AreAllOf s x P = (e : HostEnd) → Has s.ends e → e.connection ≡ x → P e
+
+-- a datagram of connection x comes of the host that has its other end
+abbrev pub ComesOf : Site → Happening → Site → ℕ → Type 0
+ComesOf from (Hears k answer) other x = (d : Logged) → slice_get from.log k ≡ Some d → d.connection ≡ x → from ≡ other
+ComesOf from (Calls c) other x = Unit {0}
+
+-- something happens at a host, of whose connection x this is the other one: how far its numbers have come is known, no stranger is at its
+-- address, and what comes is of it, or of a host at another address
+pub record IsJoined (w : Around) (from : Site) (what : Happening) (s other : Site) (x : ℕ) : Type 0 where
+  pub numbers : w.numbers x ≡ numbers_of other x
+  pub strangers : AreAllOf s x (λ e. (address : Addr) → w.is_host address ≡ false → IsElsewhere s e address)
+  pub sender : (from ≡ other) ⊎ AreAllOf s x (λ e. IsElsewhere s e from.address)
+  pub comes : ComesOf from what other x
 
 kept-swapped : (j : Bool) (a b : End) → KeptEither j a b → KeptEither j b a
 kept-swapped j a b (inl k) = inr k
@@ -134,38 +155,52 @@ begins-or (y ∷ xs) x = by (same-or y.connection x) (begins-or xs x)
     by (inr n) (inr z) = inr (neither n z)
 
 -- of connections so far only that of a datagram that is brought begins
-begins-by : (next : ℕ) (other old new : Site) (what : Happening) (x : ℕ) (two : End) → Happens next other what old new → IsHost old next → IsHost other next → ((e : HostEnd) → Has old.ends e → e.connection ≢ x) → x < next
-    → ShowsAt other x two → (f : HostEnd) → Has (more_of next other old new what) f → f.connection ≡ x → Begins two new f
-begins-by next other old new (Calls (call.Connect address channels info word (Ok name))) x two happens k ko none low there f (inl e) of =
-    absurd (let same : next ≡ x = ap (λ (z : HostEnd). z.connection) e ∙ of in omega arith)
-begins-by next other old new (Calls (call.Connect address channels info word (Ok name))) x two happens k ko none low there f (inr h) of = absurd h
-begins-by next other old new (Calls c) x two happens k ko none low there f h of = absurd h
-begins-by next other old new (Hears i answer) x two happens k ko none low there f h of = by (slice_get other.log i) refl h
+begins-by : (w : Around) (from old new : Site) (what : Happening) (x : ℕ) (other : Site) (two : End) → HappensAmong w from what old new → IsHost old w.count → IsHost other w.count → ComesOf from what other x
+    → ((e : HostEnd) → Has old.ends e → e.connection ≢ x) → x < w.count → ShowsAt other x two → (f : HostEnd) → Has (more_of w.count from old new what) f → f.connection ≡ x → Begins two new f
+begins-by w from old new (Calls (call.Connect address channels info word (Ok name))) x other two happens k ko comes none low there f (inl e) of =
+    absurd (let same : w.count ≡ x = ap (λ (z : HostEnd). z.connection) e ∙ of in omega arith)
+begins-by w from old new (Calls (call.Connect address channels info word (Ok name))) x other two happens k ko comes none low there f (inr h) of = absurd h
+begins-by w from old new (Calls c) x other two happens k ko comes none low there f h of = absurd h
+begins-by w from old new (Hears i answer) x other two happens k ko comes none low there f h of = by (slice_get from.log i) refl happens h
   where
-    by : (found : Option Logged) → slice_get other.log i ≡ found → Has (more_in next old new found) f → Begins two new f
-    by None is y = absurd y
-    by (Some d) is y =
+    by : (found : Option Logged) → slice_get from.log i ≡ found → BringsOne from found answer old new → Has (more_in w.count old new found) f → Begins two new f
+    by None is brings y = absurd y
+    by (Some d) is brings y =
         let b = begun-is d.connection old.host new.host f y in
         let same : d.connection ≡ x = ap (λ (z : HostEnd). z.connection) (sym b.4) ∙ of in
-        answered next i answer d other old new happens is (subst (λ (n : ℕ). HasNothingOf n old) (sym same) (nothing-of old next x k none)) f y two (subst (λ (n : ℕ). ShowsFar other n two) (sym same) (far-shown other next x two ko there))
+        let shown : ShowsFar other d.connection two = subst (λ (n : ℕ). ShowsFar other n two) (sym same) (far-shown other w.count x two ko there) in
+        answered i answer d from old new brings is (subst (λ (n : ℕ). HasNothingOf n old) (sym same) (nothing-of old w.count x k none)) f y two (subst (λ (s : Site). ShowsFar s d.connection two) (sym (comes d is same)) shown)
 
-pub pair-goes : (j : Bool) (next : ℕ) (other old new : Site) (what : Happening) (x : ℕ) → Happens next other what old new → IsHost old next → IsHost other next → x < next → Pair j old other x → Pair j new other x
-pair-goes j next other old new what x happens k ko low p = by p.here
+-- what is around an end whose other end this host shows
+faces : (w : Around) (from : Site) (what : Happening) (s other : Site) (e : HostEnd) (far : End) → IsJoined w from what s other e.connection → Has s.ends e → ShowsFar other e.connection far → Faces w from what s e far
+faces w from what s other e far joins h shown = record {
+  numbers = λ channel low. ap (λ (l : List ℕ). greatest_at l channel) joins.numbers ∙ shown.greatest channel low;
+  strangers = joins.strangers e h refl;
+  sender = by what;
+}
   where
-    g : Grows old new (more_of next other old new what)
-    g = grows next other old new what happens
+    by : (what : Happening) → IsBetween from what s e far
+    by (Hears k answer) = elim joins.sender [ inl same ↦ inl (subst (λ (z : Site). ShowsFar z e.connection far) (sym same) shown) | inr away ↦ inr (away e h refl) ]
+    by (Calls c) = tt
 
-    none-after : ((e : HostEnd) → Has old.ends e → e.connection ≢ x) → ((f : HostEnd) → Has (more_of next other old new what) f → f.connection ≢ x) → (f : HostEnd) → Has new.ends f → f.connection ≢ x
-    none-after none more f h of = elim (from-before old new (more_of next other old new what) g f h) [
+pub pair-goes : (j : Bool) (w : Around) (from old new : Site) (what : Happening) (other : Site) (x : ℕ) → HappensAmong w from what old new → IsHost old w.count → IsHost other w.count → AreNamed from.log → IsJoined w from what old other x → x < w.count
+    → Pair j old other x → Pair j new other x
+pair-goes j w from old new what other x happens k ko named joins low p = by p.here
+  where
+    g : Grows old new (more_of w.count from old new what)
+    g = grows w from old new what happens
+
+    none-after : ((e : HostEnd) → Has old.ends e → e.connection ≢ x) → ((f : HostEnd) → Has (more_of w.count from old new what) f → f.connection ≢ x) → (f : HostEnd) → Has new.ends f → f.connection ≢ x
+    none-after none more f h of = elim (from-before old new (more_of w.count from old new what) g f h) [
       | inl e ↦ none e.0 e.1 (sym (g.connection e.0) ∙ ap (λ (z : HostEnd). z.connection) e.2 ∙ of)
       | inr m ↦ more f m of
     ]
 
-    begin : (own : End) → own ≡ no_end → KeptEither j own p.two → IsWord p.word own → (f : HostEnd) → Has (more_of next other old new what) f → f.connection ≡ x → Begins p.two new f → Pair j new other x
+    begin : (own : End) → own ≡ no_end → KeptEither j own p.two → IsWord p.word own → (f : HostEnd) → Has (more_of w.count from old new what) f → f.connection ≡ x → Begins p.two new f → Pair j new other x
     begin own is kept word f h of b = record {
       one = b.own;
       two = p.two;
-      here = inl (f, begins-there old new (more_of next other old new what) g f h, of, b.shows);
+      here = inl (f, begins-there old new (more_of w.count from old new what) g f h, of, b.shows);
       there = p.there;
       kept = kept-ran j (b.event ∷ []) no_end p.two b.own (b.own, b.answers, refl) (subst (λ (e : End). KeptEither j e p.two) is kept);
       word = p.word;
@@ -175,8 +210,8 @@ pair-goes j next other old new what x happens k ko low p = by p.here
 
     by : ShowsAt old x p.one → Pair j new other x
     by (inl shown) =
-        let far : ShowsFar other shown.0.connection p.two = subst (λ (n : ℕ). ShowsFar other n p.two) (sym shown.2) (far-shown other next x p.two ko p.there) in
-        let goes : GoesOn p.one p.two new shown.0 = one-thing old k.few next other new what happens ko.named shown.0 shown.1 (k.apart shown.0 shown.1) p.one p.two shown.3 far in
+        let far : ShowsFar other shown.0.connection p.two = subst (λ (n : ℕ). ShowsFar other n p.two) (sym shown.2) (far-shown other w.count x p.two ko p.there) in
+        let goes : GoesOn p.one p.two new shown.0 = one-thing old k.few w from new what happens named shown.0 shown.1 (k.apart shown.0 shown.1) p.one p.two shown.3 (faces w from what old other shown.0 p.two (subst (IsJoined w from what old other) (sym shown.2) joins) shown.1 far) in
         record {
           one = goes.went.new;
           two = p.two;
@@ -187,35 +222,35 @@ pair-goes j next other old new what x happens k ko low p = by p.here
           one_word = word-ran p.word goes.went.events p.one p.two goes.went.new p.two_word goes.went.runs p.one_word;
           two_word = p.two_word;
         }
-    by (inr none) = elim (begins-or (more_of next other old new what) x) [
-      | inl f ↦ begin p.one none.1 p.kept p.one_word f.0 f.1 f.2 (begins-by next other old new what x p.two happens k ko none.0 low p.there f.0 f.1 f.2)
+    by (inr none) = elim (begins-or (more_of w.count from old new what) x) [
+      | inl f ↦ begin p.one none.1 p.kept p.one_word f.0 f.1 f.2 (begins-by w from old new what x other p.two happens k ko joins.comes none.0 low p.there f.0 f.1 f.2)
       | inr more ↦ record { one = p.one; two = p.two; here = inr (none-after none.0 more, none.1); there = p.there; kept = p.kept; word = p.word; one_word = p.one_word; two_word = p.two_word }
     ]
 
 -- a host goes on
 
 -- the call that a thing is
-pub acts-of : (next : ℕ) (other old new : Site) (c : Call) → Happens next other (Calls c) old new → Acts c old.host new.host
-acts-of next other old new (call.Connect address channels info word answer) x = x.1.0
-acts-of next other old new (call.Submit name channel q answer) x = x.0
-acts-of next other old new (call.Receive from bytes answer) x = absurd x
-acts-of next other old new (call.Service None buf) x = x.0
-acts-of next other old new (call.Service (Some gave) buf) x = x.0
-acts-of next other old new (call.Tick ms) x = x.0
-acts-of next other old new (call.Disconnect mode name info answer) x = x.0
-acts-of next other old new (call.SetBandwidth incoming outgoing answer) x = x.0
-acts-of next other old new (call.ConfigureThrottle name interval acceleration deceleration answer) x = x.0
-acts-of next other old new (call.SetPingInterval name ms answer) x = x.0
-acts-of next other old new (call.SetTimeout name limit minimum maximum answer) x = x.0
-acts-of next other old new (call.NextEvent answer) x = x.0
+pub acts-of : (w : Around) (from old new : Site) (c : Call) → HappensAmong w from (Calls c) old new → Acts c old.host new.host
+acts-of w from old new (call.Connect address channels info word answer) x = x.1.0
+acts-of w from old new (call.Submit name channel q answer) x = x.0
+acts-of w from old new (call.Receive address bytes answer) x = x.1.0
+acts-of w from old new (call.Service None buf) x = x.0
+acts-of w from old new (call.Service (Some gave) buf) x = x.0
+acts-of w from old new (call.Tick ms) x = x.0
+acts-of w from old new (call.Disconnect mode name info answer) x = x.0
+acts-of w from old new (call.SetBandwidth incoming outgoing answer) x = x.0
+acts-of w from old new (call.ConfigureThrottle name interval acceleration deceleration answer) x = x.0
+acts-of w from old new (call.SetPingInterval name ms answer) x = x.0
+acts-of w from old new (call.SetTimeout name limit minimum maximum answer) x = x.0
+acts-of w from old new (call.NextEvent answer) x = x.0
 
-brought-acts : (other old new : Site) (answer : Received) (found : Option Logged) → BringsOne other found answer old new → (c : Call) × Acts c old.host new.host
-brought-acts other old new answer None x = absurd x
-brought-acts other old new answer (Some d) x = (call.Receive other.address d.text answer, x.1.0)
+brought-acts : (from old new : Site) (answer : Received) (found : Option Logged) → BringsOne from found answer old new → (c : Call) × Acts c old.host new.host
+brought-acts from old new answer None x = absurd x
+brought-acts from old new answer (Some d) x = (call.Receive from.address d.text answer, x.1.0)
 
-pub some-acts : (next : ℕ) (other old new : Site) (what : Happening) → Happens next other what old new → (c : Call) × Acts c old.host new.host
-some-acts next other old new (Calls c) x = (c, acts-of next other old new c x)
-some-acts next other old new (Hears k answer) x = brought-acts other old new answer (slice_get other.log k) x
+pub some-acts : (w : Around) (from old new : Site) (what : Happening) → HappensAmong w from what old new → (c : Call) × Acts c old.host new.host
+some-acts w from old new (Calls c) x = (c, acts-of w from old new c x)
+some-acts w from old new (Hears k answer) x = brought-acts from old new answer (slice_get from.log k) x
 
 -- its log grows by a datagram of one of its ends, or not
 record LogsOne (old new : Site) : Type 0 where
@@ -229,13 +264,9 @@ record LogsOne (old new : Site) : Type 0 where
 same-read : (text : List ℕ) (g h : Header) (c d : List ℕ) → IsRead text g c → IsRead text h d → g ≡ h
 same-read text g h c d r s = let one = one_header r.front s.front c d g h r.spelled s.spelled (sym r.split ∙ s.split) in one.1
 
-calls-log : (next : ℕ) (other old new : Site) (c : Call) → Happens next other (Calls c) old new → (new.log ≡ old.log) ⊎ LogsOne old new
-calls-log next other old new (call.Connect address channels info word answer) x = inl (ap (λ (s : Site). s.log) x.1.1)
-calls-log next other old new (call.Submit name channel q answer) x = inl (ap (λ (s : Site). s.log) x.1)
-calls-log next other old new (call.Receive from bytes answer) x = absurd x
-calls-log next other old new (call.Service None buf) x = inl (ap (λ (s : Site). s.log) x.1)
-calls-log next other old new (call.Service (Some gave) buf) x =
-    let l : Logs (numbers_of other) gave buf old new = x.1 in
+served-log : (b : Bool) (far : ℕ → List ℕ) (gave : PeerRef × Addr × ℕ) (buf : List ℕ) (old new : Site) → LogsIf b far gave buf old new → (new.log ≡ old.log) ⊎ LogsOne old new
+served-log true far gave buf old new x =
+    let l : Logs far gave buf old new = x in
     inr (record {
       d = record { connection = l.own.connection; to = gave.1; peer = l.header.peer; text = take gave.2 buf; marks = l.marks };
       logs = ap (λ (s : Site). s.log) l.rest;
@@ -244,21 +275,29 @@ calls-log next other old new (call.Service (Some gave) buf) x =
       of = refl;
       named = λ h commands r. ap (λ (z : Header). z.peer) (same-read (take gave.2 buf) l.header h l.commands commands l.read r);
     })
-calls-log next other old new (call.Tick ms) x = inl (ap (λ (s : Site). s.log) x.1)
-calls-log next other old new (call.Disconnect mode name info answer) x = inl (ap (λ (s : Site). s.log) x.1)
-calls-log next other old new (call.SetBandwidth incoming outgoing answer) x = inl (ap (λ (s : Site). s.log) x.1)
-calls-log next other old new (call.ConfigureThrottle name interval acceleration deceleration answer) x = inl (ap (λ (s : Site). s.log) x.1)
-calls-log next other old new (call.SetPingInterval name ms answer) x = inl (ap (λ (s : Site). s.log) x.1)
-calls-log next other old new (call.SetTimeout name limit minimum maximum answer) x = inl (ap (λ (s : Site). s.log) x.1)
-calls-log next other old new (call.NextEvent answer) x = inl (ap (λ (s : Site). s.log) x.1)
+served-log false far gave buf old new x = inl (let rest : new ≡ record old { host = new.host } = x in ap (λ (s : Site). s.log) rest)
 
-brought-log : (other old new : Site) (answer : Received) (found : Option Logged) → BringsOne other found answer old new → new.log ≡ old.log
-brought-log other old new answer None x = absurd x
-brought-log other old new answer (Some d) x = ap (λ (s : Site). s.log) x.1.1
+calls-log : (w : Around) (from old new : Site) (c : Call) → HappensAmong w from (Calls c) old new → (new.log ≡ old.log) ⊎ LogsOne old new
+calls-log w from old new (call.Connect address channels info word answer) x = inl (ap (λ (s : Site). s.log) x.1.1)
+calls-log w from old new (call.Submit name channel q answer) x = inl (ap (λ (s : Site). s.log) x.1)
+calls-log w from old new (call.Receive address bytes answer) x = inl (ap (λ (s : Site). s.log) x.1.1)
+calls-log w from old new (call.Service None buf) x = inl (ap (λ (s : Site). s.log) x.1)
+calls-log w from old new (call.Service (Some gave) buf) x = served-log (w.is_host gave.1) w.numbers gave buf old new x.1
+calls-log w from old new (call.Tick ms) x = inl (ap (λ (s : Site). s.log) x.1)
+calls-log w from old new (call.Disconnect mode name info answer) x = inl (ap (λ (s : Site). s.log) x.1)
+calls-log w from old new (call.SetBandwidth incoming outgoing answer) x = inl (ap (λ (s : Site). s.log) x.1)
+calls-log w from old new (call.ConfigureThrottle name interval acceleration deceleration answer) x = inl (ap (λ (s : Site). s.log) x.1)
+calls-log w from old new (call.SetPingInterval name ms answer) x = inl (ap (λ (s : Site). s.log) x.1)
+calls-log w from old new (call.SetTimeout name limit minimum maximum answer) x = inl (ap (λ (s : Site). s.log) x.1)
+calls-log w from old new (call.NextEvent answer) x = inl (ap (λ (s : Site). s.log) x.1)
 
-log-grows : (next : ℕ) (other old new : Site) (what : Happening) → Happens next other what old new → (new.log ≡ old.log) ⊎ LogsOne old new
-log-grows next other old new (Calls c) x = calls-log next other old new c x
-log-grows next other old new (Hears k answer) x = inl (brought-log other old new answer (slice_get other.log k) x)
+brought-log : (from old new : Site) (answer : Received) (found : Option Logged) → BringsOne from found answer old new → new.log ≡ old.log
+brought-log from old new answer None x = absurd x
+brought-log from old new answer (Some d) x = ap (λ (s : Site). s.log) x.1.1
+
+log-grows : (w : Around) (from old new : Site) (what : Happening) → HappensAmong w from what old new → (new.log ≡ old.log) ⊎ LogsOne old new
+log-grows w from old new (Calls c) x = calls-log w from old new c x
+log-grows w from old new (Hears k answer) x = inl (brought-log from old new answer (slice_get from.log k) x)
 
 -- an end that begins has a name that no other has
 
@@ -299,16 +338,16 @@ fresh-begun c x old new f acts h =
     let generation : b.1.generation ≡ s.0.generation = ap (λ (z : SlotState). z.generation) (sym same) ∙ kept-generation c old b.0 s.0 t.0 open'.0 t.2 in
     subst (λ (z : HostEnd). IsFresh old z.name) (sym b.4) (record { slot = s.0; there = s.1; vacant = open'.0; left = open'.1; generation = generation })
 
-pub fresh-more : (next : ℕ) (other old new : Site) (what : Happening) → Happens next other what old new → (f : HostEnd) → Has (more_of next other old new what) f → IsFresh old.host f.name
-fresh-more next other old new (Calls (call.Connect address channels info word (Ok name))) x f (inl e) =
+pub fresh-more : (w : Around) (from old new : Site) (what : Happening) → HappensAmong w from what old new → (f : HostEnd) → Has (more_of w.count from old new what) f → IsFresh old.host f.name
+fresh-more w from old new (Calls (call.Connect address channels info word (Ok name))) x f (inl e) =
     subst (λ (z : HostEnd). IsFresh old.host z.name) e (fresh-connected old.host address channels info word name (Ok name) old.host.slots new.host.slots refl x.1.0.0 refl)
-fresh-more next other old new (Calls (call.Connect address channels info word (Ok name))) x f (inr h) = absurd h
-fresh-more next other old new (Calls c) x f h = absurd h
-fresh-more next other old new (Hears k answer) x f h = by (slice_get other.log k) x h
+fresh-more w from old new (Calls (call.Connect address channels info word (Ok name))) x f (inr h) = absurd h
+fresh-more w from old new (Calls c) x f h = absurd h
+fresh-more w from old new (Hears k answer) x f h = by (slice_get from.log k) x h
   where
-    by : (found : Option Logged) → BringsOne other found answer old new → Has (more_in next old new found) f → IsFresh old.host f.name
+    by : (found : Option Logged) → BringsOne from found answer old new → Has (more_in w.count old new found) f → IsFresh old.host f.name
     by None y m = absurd y
-    by (Some d) y m = fresh-begun (call.Receive other.address d.text answer) d.connection old.host new.host f y.1.0 m
+    by (Some d) y m = fresh-begun (call.Receive from.address d.text answer) d.connection old.host new.host f y.1.0 m
 
 pub not-fresh : (h : Host) (e : HostEnd) (name : PeerRef) (p : Peering) → ShowsPeer h e.name p → IsFresh h name → name ≡ e.name → ⊥
 not-fresh h e name p k f same = by (there-or h e.name p k)
@@ -348,42 +387,42 @@ one-begun x old new f g h k =
     let s : a.1 ≡ b.1 = same-some a.1 b.1 (sym a.3 ∙ ap (λ (n : ℕ). slice_get new.slots n) i ∙ b.3) in
     a.4 ∙ (λ j. fresh_end x (name_of (i j) (s j))) ∙ sym b.4
 
-one-more : (next : ℕ) (other old new : Site) (what : Happening) (f g : HostEnd) → Has (more_of next other old new what) f → Has (more_of next other old new what) g → f ≡ g
-one-more next other old new (Calls (call.Connect address channels info word (Ok name))) f g (inl e) (inl h) = sym e ∙ h
-one-more next other old new (Calls (call.Connect address channels info word (Ok name))) f g (inr e) h = absurd e
-one-more next other old new (Calls (call.Connect address channels info word (Ok name))) f g (inl e) (inr h) = absurd h
-one-more next other old new (Calls c) f g h k = absurd h
-one-more next other old new (Hears i answer) f g h k = by (slice_get other.log i) h k
+one-more : (next : ℕ) (from old new : Site) (what : Happening) (f g : HostEnd) → Has (more_of next from old new what) f → Has (more_of next from old new what) g → f ≡ g
+one-more next from old new (Calls (call.Connect address channels info word (Ok name))) f g (inl e) (inl h) = sym e ∙ h
+one-more next from old new (Calls (call.Connect address channels info word (Ok name))) f g (inr e) h = absurd e
+one-more next from old new (Calls (call.Connect address channels info word (Ok name))) f g (inl e) (inr h) = absurd h
+one-more next from old new (Calls c) f g h k = absurd h
+one-more next from old new (Hears i answer) f g h k = by (slice_get from.log i) h k
   where
     by : (found : Option Logged) → Has (more_in next old new found) f → Has (more_in next old new found) g → f ≡ g
     by None a b = absurd a
     by (Some d) a b = one-begun d.connection old.host new.host f g a b
 
 -- what begins is of a connection of which the host had no end
-new-connection : (next : ℕ) (other old new : Site) (what : Happening) → IsHost old next → BeginsOnce other old new what → (f : HostEnd) → Has (more_of next other old new what) f → (e : HostEnd) → Has old.ends e → e.connection ≡ f.connection → ⊥
-new-connection next other old new (Calls (call.Connect address channels info word (Ok name))) k once f (inl is) e h same =
+new-connection : (next : ℕ) (from old new : Site) (what : Happening) → IsHost old next → BeginsOnce from old new what → (f : HostEnd) → Has (more_of next from old new what) f → (e : HostEnd) → Has old.ends e → e.connection ≡ f.connection → ⊥
+new-connection next from old new (Calls (call.Connect address channels info word (Ok name))) k once f (inl is) e h same =
     let a : f.connection ≡ next = ap (λ (z : HostEnd). z.connection) (sym is) in let b : e.connection < next = k.below e h in absurd (let c : e.connection ≡ f.connection = same in omega arith)
-new-connection next other old new (Calls (call.Connect address channels info word (Ok name))) k once f (inr is) e h same = absurd is
-new-connection next other old new (Calls c) k once f is e h same = absurd is
-new-connection next other old new (Hears i answer) k once f is e h same = by (slice_get other.log i) refl is
+new-connection next from old new (Calls (call.Connect address channels info word (Ok name))) k once f (inr is) e h same = absurd is
+new-connection next from old new (Calls c) k once f is e h same = absurd is
+new-connection next from old new (Hears i answer) k once f is e h same = by (slice_get from.log i) refl is
   where
-    by : (found : Option Logged) → slice_get other.log i ≡ found → Has (more_in next old new found) f → ⊥
+    by : (found : Option Logged) → slice_get from.log i ≡ found → Has (more_in next old new found) f → ⊥
     by None there m = absurd m
     by (Some d) there m =
         let b = begun-is d.connection old.host new.host f m in
         once d there e h (same ∙ ap (λ (z : HostEnd). z.connection) b.4) f m
 
-more-count : (next : ℕ) (other old new : Site) (what : Happening) → IsHost other next → Happens next other what old new → (f : HostEnd) → Has (more_of next other old new what) f → f.connection < count_after next what
-more-count next other old new (Calls (call.Connect address channels info word (Ok name))) ko x f (inl is) = (let a : f.connection ≡ next = ap (λ (z : HostEnd). z.connection) (sym is) in let r : f.connection < next + 1 = omega arith in r)
-more-count next other old new (Calls (call.Connect address channels info word (Ok name))) ko x f (inr is) = absurd is
-more-count next other old new (Calls c) ko x f is = absurd is
-more-count next other old new (Hears i answer) ko x f is = by (slice_get other.log i) refl is
+more-count : (next : ℕ) (from old new : Site) (what : Happening) → IsHost from next → (f : HostEnd) → Has (more_of next from old new what) f → f.connection < count_after next what
+more-count next from old new (Calls (call.Connect address channels info word (Ok name))) ko f (inl is) = (let a : f.connection ≡ next = ap (λ (z : HostEnd). z.connection) (sym is) in let r : f.connection < next + 1 = omega arith in r)
+more-count next from old new (Calls (call.Connect address channels info word (Ok name))) ko f (inr is) = absurd is
+more-count next from old new (Calls c) ko f is = absurd is
+more-count next from old new (Hears i answer) ko f is = by (slice_get from.log i) refl is
   where
-    by : (found : Option Logged) → slice_get other.log i ≡ found → Has (more_in next old new found) f → f.connection < next
+    by : (found : Option Logged) → slice_get from.log i ≡ found → Has (more_in next old new found) f → f.connection < next
     by None there m = absurd m
     by (Some d) there m =
         let b = begun-is d.connection old.host new.host f m in
-        let l = ko.logged d (Has-slice_get other.log i d there) in
+        let l = ko.logged d (Has-slice_get from.log i d there) in
         let a : f.connection ≡ d.connection = ap (λ (z : HostEnd). z.connection) b.4 in
         let c : l.0.connection ≡ d.connection = l.2 in
         let low : l.0.connection < next = ko.below l.0 l.1 in
@@ -394,30 +433,30 @@ count-grows next (Calls (call.Connect address channels info word (Ok name))) = l
 count-grows next (Calls c) = let r : next ≤ next = omega arith in r
 count-grows next (Hears k answer) = let r : next ≤ next = omega arith in r
 
-pub host-goes : (j : ℕ → Bool) (next : ℕ) (other old new : Site) (what : Happening) → Happens next other what old new → IsHost old next → IsHost other next → BeginsOnce other old new what → ((x : ℕ) → x < next → Pair (j x) old other x) → IsHost new (count_after next what)
-host-goes j next other old new what x k ko once pairs = record {
-  few = (let a = some-acts next other old new what x in let same : new.host.config.generations ≡ old.host.config.generations = same-generations a.0 old.host new.host a.1 in let low : old.host.config.generations ≤ greatest = k.few in omega arith);
+pub host-goes : (w : Around) (from old new : Site) (what : Happening) → HappensAmong w from what old new → IsHost old w.count → IsHost from w.count → BeginsOnce from old new what → AreShown old → IsHost new (count_after w.count what)
+host-goes w from old new what x k ko once shown = record {
+  few = (let a = some-acts w from old new what x in let same : new.host.config.generations ≡ old.host.config.generations = same-generations a.0 old.host new.host a.1 in let low : old.host.config.generations ≤ greatest = k.few in omega arith);
   apart = λ e h f i same. apart-by e f (from-before old new more g e h) (from-before old new more g f i) same;
   below = λ e h. elim (from-before old new more g e h) [
-    | inl b ↦ (let a : e.connection ≡ b.0.connection = ap (λ (z : HostEnd). z.connection) (sym b.2) ∙ g.connection b.0 in let low : b.0.connection < next = k.below b.0 b.1 in let up : next ≤ count_after next what = count-grows next what in omega arith)
-    | inr m ↦ more-count next other old new what ko x e m
+    | inl b ↦ (let a : e.connection ≡ b.0.connection = ap (λ (z : HostEnd). z.connection) (sym b.2) ∙ g.connection b.0 in let low : b.0.connection < w.count = k.below b.0 b.1 in let up : w.count ≤ count_after w.count what = count-grows w.count what in omega arith)
+    | inr m ↦ more-count w.count from old new what ko e m
   ];
-  logged = λ d h. logged (log-grows next other old new what x) d h;
-  named = λ d h. named (log-grows next other old new what x) d h;
+  logged = λ d h. logged (log-grows w from old new what x) d h;
+  named = λ d h. named (log-grows w from old new what x) d h;
 }
   where
     more : List HostEnd
-    more = more_of next other old new what
+    more = more_of w.count from old new what
 
     g : Grows old new more
-    g = grows next other old new what x
+    g = grows w from old new what x
 
     -- an end of before and one that begins
     mixed : (b e : HostEnd) → Has old.ends b → Has more e → ((g.change b).name ≡ e.name) ⊎ ((g.change b).connection ≡ e.connection) → ⊥
     mixed b e h m (inl same) =
-        let own = shown-end (j b.connection) old other next b k h (pairs b.connection (k.below b h)) in
-        not-fresh old.host b e.name own.peer own.shows (fresh-more next other old new what x e m) (sym same ∙ g.name b)
-    mixed b e h m (inr same) = new-connection next other old new what k once e m b h (sym (g.connection b) ∙ same)
+        let own = (shown b h).1 in
+        not-fresh old.host b e.name own.peer own.shows (fresh-more w from old new what x e m) (sym same ∙ g.name b)
+    mixed b e h m (inr same) = new-connection w.count from old new what k once e m b h (sym (g.connection b) ∙ same)
 
     apart-by : (e f : HostEnd) → ((b : HostEnd) × Has old.ends b × (g.change b ≡ e)) ⊎ Has more e → ((c : HostEnd) × Has old.ends c × (g.change c ≡ f)) ⊎ Has more f → (f.name ≡ e.name) ⊎ (f.connection ≡ e.connection) → f ≡ e
     apart-by e f (inl b) (inl c) (inl same) =
@@ -428,7 +467,7 @@ host-goes j next other old new what x k ko once pairs = record {
     apart-by e f (inl b) (inr m) (inr same) = absurd (mixed b.0 f b.1 m (inr (ap (λ (z : HostEnd). z.connection) b.2 ∙ sym same)))
     apart-by e f (inr m) (inl c) (inl same) = absurd (mixed c.0 e c.1 m (inl (ap (λ (z : HostEnd). z.name) c.2 ∙ same)))
     apart-by e f (inr m) (inl c) (inr same) = absurd (mixed c.0 e c.1 m (inr (ap (λ (z : HostEnd). z.connection) c.2 ∙ same)))
-    apart-by e f (inr m) (inr n) same = one-more next other old new what f e n m
+    apart-by e f (inr m) (inr n) same = one-more w.count from old new what f e n m
 
     logged-old : (d : Logged) → Has old.log d → (e : HostEnd) × Has new.ends e × (e.connection ≡ d.connection)
     logged-old d h = let l = k.logged d h in (g.change l.0, stays-there old new more g l.0 l.1, g.connection l.0 ∙ l.2)

@@ -1,22 +1,23 @@
 -- The headline, of the lists that are kept in a world of two hosts: what was submitted and taken on each channel of an end, and its events.
-use Rattle.std.specs.Prelude.{◌≡◌, ◌<◌, ℕ, ◌&&◌, ◌==◌, Bool, List, [], ◌∷◌, map, Option, Some, None}
+use Rattle.std.specs.Prelude.{◌≡◌, ◌<◌, ℕ, ◌&&◌, ◌==◌, Bool, true, List, [], ◌∷◌, map, Option, Some, None}
+use Rattle.enet_types.specs.declared.address.Addr.{Addr}
 use Rattle.enet_types.specs.declared.event.Event.{Event}
 use Rattle.enet_types.specs.declared.event.Event.TheVariants as events
 use Rattle.enet_types.specs.declared.event.PeerRef.{PeerRef}
 use Rattle.enet_types.specs.declared.packet.Packet.{Packet}
 use Rattle.enet_peer.specs.declared.parts.PeerEvent.{PeerEvent}
-use Rattle.enet_peer.specs.Peering.{Peering}
 use Rattle.enet_link.specs.Follows.{Follows}
 use Rattle.enet_link.specs.Steps.{Has, bodies_of}
 use Rattle.enet_connection.specs.Connection.{of_channel, in_sequence}
 use Rattle.enet_connection.specs.Law.{IsOneLife}
-use Rattle.enet_host.specs.Host.{named}
+use Rattle.enet_host.specs.Calls.{address_named}
 use Rattle.enet_slot.specs.Calls.{event_of}
 use Rattle.enet_network.specs.declared.event.Side.{Side}
+use Rattle.enet_network.specs.declared.event.Side.TheVariants.{A, B}
 use Rattle.enet_network.specs.Log.{packets_at}
 use Rattle.enet_network.specs.Network.{HostEnd, Site, end_of}
 use Rattle.enet_network.specs.Shown.{on_channel}
-use Rattle.enet_network.specs.World.{World, site_of, other}
+use Rattle.enet_network.specs.World.{World, site_of}
 
 -- the end of connection x at a side, if its host has one
 abbrev pub end_at : World → ℕ → Side → Option HostEnd
@@ -65,18 +66,28 @@ pub record IsLife (joined : Bool) (name : PeerRef) (taken : List Event) : Type 0
   pub told : taken ≡ map (event_of name) events
   pub life : IsOneLife joined events
 
--- each peer of a host is that of an end, which keeps what is submitted to it and taken from it
-abbrev pub AreEnds : Site → Type 0
-AreEnds s = (name : PeerRef) (p : Peering) → named s.host.slots name ≡ Some p → (e : HostEnd) × Has s.ends e × (e.name ≡ name)
+-- each peer of a host that is at a host's address is that of an end, which keeps what is submitted to it and taken from it
+abbrev pub AreEnds : (Addr → Bool) → Site → Type 0
+AreEnds is_host s = (name : PeerRef) (address : Addr) → address_named s.host.slots name ≡ Some address → is_host address ≡ true
+    → (e : HostEnd) × Has s.ends e × (e.name ≡ name)
 
--- the headline of each connection, end and channel; `joined` says that connection 0 stands from the start
-pub record HasHeadline (joined : Bool) (w : World) : Type 0 where
-  pub all : (side : Side) → AreEnds (site_of w side)
-  -- no two ends of a host share a connection
-  pub only : (side : Side) (e : HostEnd) → Has (site_of w side).ends e → end_at w e.connection side ≡ Some e
+-- the headline at a host; all that isn't at a host's address is strangers', and `joined` says that connection 0 stands from the start
+pub record HasHeadlineAt (joined : Bool) (is_host : Addr → Bool) (s : Site) : Type 0 where
+  pub all : AreEnds is_host s
+  -- no two of its ends share a connection
+  pub only : (e : HostEnd) → Has s.ends e → end_of e.connection s.ends ≡ Some e
   -- nor a name
-  pub named : (side : Side) (e f : HostEnd) → Has (site_of w side).ends e → Has (site_of w side).ends f → e.name ≡ f.name → e ≡ f
-  pub in_order : (x : ℕ) (side : Side) (channel : ℕ) → IsInOrder (end_at w x side) (end_at w x (other side)) channel
+  pub named : (e f : HostEnd) → Has s.ends e → Has s.ends f → e.name ≡ f.name → e ≡ f
   -- the packets that are kept of a channel are those of the events
-  pub told : (x : ℕ) (side : Side) (channel : ℕ) → channel < 256 → taken_at channel (end_at w x side) ≡ on_channel channel (received (events_at (end_at w x side)))
-  pub one_life : (side : Side) (e : HostEnd) → Has (site_of w side).ends e → IsLife (joined && e.connection == 0) e.name e.events
+  pub told : (e : HostEnd) → Has s.ends e → (channel : ℕ) → channel < 256 → (packets_at e.channels channel).taken ≡ on_channel channel (received e.events)
+  pub one_life : (e : HostEnd) → Has s.ends e → IsLife (joined && e.connection == 0) e.name e.events
+
+-- and between the two ends of a connection
+pub record HasHeadlineBetween (one two : Option HostEnd) : Type 0 where
+  pub forth : (channel : ℕ) → IsInOrder one two channel
+  pub back : (channel : ℕ) → IsInOrder two one channel
+
+-- the headline of each connection, end and channel of a world
+pub record HasHeadline (joined : Bool) (w : World) : Type 0 where
+  pub hosts : (side : Side) → HasHeadlineAt joined (λ address. true) (site_of w side)
+  pub ends : (x : ℕ) → HasHeadlineBetween (end_at w x A) (end_at w x B)

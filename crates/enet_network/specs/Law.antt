@@ -1,5 +1,5 @@
 -- What happens at a host is, for each of its connections, a number of events of the law of one connection.
-use Rattle.std.specs.Prelude.{◌≡◌, ◌≢◌, ◌<◌, ◌≤◌, ◌⊎◌, ◌&&◌, ◌==◌, Bool, true, ℕ, List, Some, Result, Ok, slice_get}
+use Rattle.std.specs.Prelude.{◌≡◌, ◌≢◌, ◌<◌, ◌≤◌, ◌⊎◌, ◌&&◌, ◌==◌, Bool, true, false, ℕ, List, Some, Result, Ok, slice_get}
 use Rattle.enet_types.specs.declared.address.Addr.{Addr}
 use Rattle.enet_types.specs.declared.config.Config.{Config}
 use Rattle.enet_types.specs.Config.{is_in_range}
@@ -10,20 +10,21 @@ use Rattle.enet_codec.specs.declared.command.Offer.{Offer}
 use Rattle.enet_codec.specs.declared.header.Header.{Header}
 use Rattle.enet_datagram.specs.Heading.{IsRead}
 use Rattle.enet_link.specs.Steps.{Has}
-use Rattle.enet_connection.specs.Connection.{End}
+use Rattle.enet_connection.specs.Connection.{End, sent_on}
 use Rattle.enet_connection.specs.Law.{IsLawful}
 use Rattle.enet_connection.specs.Steps.{Event, Happens as HappensLaw, no_end, asking_pair}
 use Rattle.enet_slot.specs.Giving.{limits_of}
 use Rattle.enet_slot.specs.Slot.{greatest}
 use Rattle.enet_host.specs.Host.{Host}
+use Rattle.enet_host.specs.Calls.{address_named}
 use Rattle.enet_isolation.specs.Calls as call
 use Rattle.enet_network.specs.declared.event.Answer.{Answer}
 use Rattle.enet_network.specs.declared.event.Side.{Side}
 use Rattle.enet_network.specs.declared.event.WorldEvent.{WorldEvent}
-use Rattle.enet_network.specs.Log.{Logged}
-use Rattle.enet_network.specs.Network.{HostEnd, Site, fresh_end}
+use Rattle.enet_network.specs.Log.{Logged, greatest_at}
+use Rattle.enet_network.specs.Network.{HostEnd, Site, fresh_end, is_at}
 use Rattle.enet_network.specs.Shown.{Shows, ShowsFar, Went, IsApart}
-use Rattle.enet_network.specs.Steps.{Happening, Calls, Hears, Happens, begun}
+use Rattle.enet_network.specs.Steps.{Around, Happening, Calls, Hears, HappensAmong, BringsOne, begun}
 use Rattle.enet_network.specs.World.{World, AllHappen, Runs, open_world, joined_world}
 
 -- of each datagram of a log it is kept which peer id its header names
@@ -38,10 +39,26 @@ pub record GoesOn (own far : End) (new : Site) (e : HostEnd) : Type 0 where
   pub name : after.name ≡ e.name
   pub went : Went own far new after
 
--- by one thing that happens at a host each end of a connection there that is shown goes on, where the other host shows the connection's other end
+-- no peer of an end stands at this address
+abbrev pub IsElsewhere : Site → HostEnd → Addr → Type 0
+IsElsewhere s e address = is_at address (address_named s.host.slots e.name) ≡ false
+
+-- the host whose datagram is brought has the other end of a connection, or the end's peer is elsewhere
+abbrev pub IsBetween : Site → Happening → Site → HostEnd → End → Type 0
+IsBetween from (Hears k answer) s e far = ShowsFar from e.connection far ⊎ IsElsewhere s e from.address
+IsBetween from (Calls c) s e far = Unit {0}
+
+-- what is around an end of a host, whose other end is `far`, where something happens: how far the other's numbers have come; no stranger is at the
+-- address of its peer; and a datagram that is brought is of the host that has the other end, or of one at another address
+pub record Faces (w : Around) (from : Site) (what : Happening) (s : Site) (e : HostEnd) (far : End) : Type 0 where
+  pub numbers : (channel : ℕ) → channel < 255 → greatest_at (w.numbers e.connection) channel ≡ sent_on channel far
+  pub strangers : (address : Addr) → w.is_host address ≡ false → IsElsewhere s e address
+  pub sender : IsBetween from what s e far
+
+-- by one thing that happens at a host each end of a connection there that is shown goes on
 abbrev pub GoOn : Site → Type 0
-GoOn old = (next : ℕ) (other new : Site) (what : Happening) → Happens next other what old new → AreNamed other.log
-    → (e : HostEnd) → Has old.ends e → IsApart old.ends e → (own far : End) → Shows old e own → ShowsFar other e.connection far → GoesOn own far new e
+GoOn old = (w : Around) (from new : Site) (what : Happening) → HappensAmong w from what old new → AreNamed from.log
+    → (e : HostEnd) → Has old.ends e → IsApart old.ends e → (own far : End) → Shows old e own → Faces w from what old e far → GoesOn own far new e
 
 -- so it is at each host that has no more than 2 ^ 32 - 1 generations
 abbrev pub OneThing : Type 0
@@ -57,8 +74,10 @@ HasNothingOf x s = (d : Logged) → Has s.log d → d.connection ≢ x
 
 -- a client asks: its end begins as the first of a pair of the law
 abbrev pub Asked : Type 0
-Asked = (next : ℕ) (other old new : Site) (address : Addr) (channels info word : ℕ) (name : PeerRef) → Happens next other (Calls (call.Connect address channels info word (Ok name))) old new → HasNothingOf next old
-    → (offer : Offer) × (offer.connect_id ≡ word) × Has new.ends (fresh_end next name) × Shows new (fresh_end next name) (asking_pair old.host.clock offer (limits_of old.host.config)).one
+Asked = (w : Around) (from old new : Site) (address : Addr) (channels info word : ℕ) (name : PeerRef)
+    → HappensAmong w from (Calls (call.Connect address channels info word (Ok name))) old new → HasNothingOf w.count old
+    → (offer : Offer) × (offer.connect_id ≡ word) × Has new.ends (fresh_end w.count name)
+    × Shows new (fresh_end w.count name) (asking_pair old.host.clock offer (limits_of old.host.config)).one
 
 -- a datagram that is brought to a host where an end begins is a CONNECT that the other end put out: the end is one that answers it
 pub record Begins (far : End) (new : Site) (f : HostEnd) : Type 0 where
@@ -68,8 +87,8 @@ pub record Begins (far : End) (new : Site) (f : HostEnd) : Type 0 where
   pub shows : Shows new f own
 
 abbrev pub Answered : Type 0
-Answered = (next k : ℕ) (answer : Received) (d : Logged) (other old new : Site) → Happens next other (Hears k answer) old new → slice_get other.log k ≡ Some d → HasNothingOf d.connection old
-    → (f : HostEnd) → Has (begun d.connection old.host new.host) f → (far : End) → ShowsFar other d.connection far → Begins far new f
+Answered = (k : ℕ) (answer : Received) (d : Logged) (from old new : Site) → BringsOne from (Some d) answer old new → slice_get from.log k ≡ Some d
+    → HasNothingOf d.connection old → (f : HostEnd) → Has (begun d.connection old.host new.host) f → (far : End) → ShowsFar from d.connection far → Begins far new f
 
 -- a host shows an end of connection x, or has none of it
 abbrev pub ShowsAt : Site → ℕ → End → Type 0

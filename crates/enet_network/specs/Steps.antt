@@ -1,5 +1,5 @@
 -- What happens at a host of a network: one host call, with what it adds to what is kept. The other hosts are as they were.
-use Rattle.std.specs.Prelude.{◌≡◌, ℕ, ◌+◌, List, [], ◌∷◌, ◌++◌, take, Option, Some, None, Ok, slice_get}
+use Rattle.std.specs.Prelude.{◌≡◌, ℕ, ◌+◌, Bool, true, false, List, [], ◌∷◌, ◌++◌, take, Option, Some, None, Ok, slice_get}
 use Rattle.enet_types.specs.declared.address.Addr.{Addr}
 use Rattle.enet_types.specs.declared.event.Event.{Event}
 use Rattle.enet_types.specs.declared.event.Event.TheVariants as events
@@ -101,17 +101,39 @@ abbrev pub BringsOne : Site → Option Logged → Received → Site → Site →
 BringsOne from None answer old new = ⊥
 BringsOne from (Some d) answer old new = (delivery_refusal from old (Some d) ≡ None) × Brought from.address d answer old new
 
--- one thing at a host with one other, `next` being the number of connections so far
-abbrev pub Calling : ℕ → Site → Call → Site → Site → Type 0
-Calling next other (call.Connect address channels info word answer) old new =
-    (address ≡ other.address) × Called next (call.Connect address channels info word answer) old new
-Calling next other (call.Receive from bytes answer) old new = ⊥
-Calling next other (call.Service (Some gave) buf) old new = Acts (call.Service (Some gave) buf) old.host new.host × Logs (numbers_of other) gave buf old new
-Calling next other c old new = Called next c old new
+-- what is around a host
+pub record Around : Type 0 where
+  pub count : ℕ  -- how many connections there have been
+  pub is_host : Addr → Bool  -- at which addresses there are hosts; at all others there are strangers
+  pub numbers : ℕ → List ℕ  -- the greatest numbers that the other end of a connection sent
 
+-- a call of service that gave a datagram to an address: to a host it is logged, to a stranger it is of no connection
+abbrev pub LogsIf : Bool → (ℕ → List ℕ) → PeerRef × Addr × ℕ → List ℕ → Site → Site → Type 0
+LogsIf true far gave buf old new = Logs far gave buf old new
+LogsIf false far gave buf old new = new ≡ record old { host = new.host }
+
+-- one call of a host; its user asks the host `from` alone for a connection, and what comes otherwise than through the network's log
+-- comes of a stranger
+abbrev pub CallsAmong : Around → Site → Call → Site → Site → Type 0
+CallsAmong w from (call.Connect address channels info word answer) old new =
+    (address ≡ from.address) × Called w.count (call.Connect address channels info word answer) old new
+CallsAmong w from (call.Receive address bytes answer) old new = (w.is_host address ≡ false) × Called w.count (call.Receive address bytes answer) old new
+CallsAmong w from (call.Service (Some gave) buf) old new =
+    Acts (call.Service (Some gave) buf) old.host new.host × LogsIf (w.is_host gave.1) w.numbers gave buf old new
+CallsAmong w from c old new = Called w.count c old new
+
+-- one thing at a host among others: a call, or the network brings it a datagram of the host `from`
+abbrev pub HappensAmong : Around → Site → Happening → Site → Site → Type 0
+HappensAmong w from (Calls c) old new = CallsAmong w from c old new
+HappensAmong w from (Hears k answer) old new = BringsOne from (slice_get from.log k) answer old new
+
+-- around a host that has one other there is no stranger
+abbrev pub beside : ℕ → Site → Around
+beside next other = record { count = next; is_host = λ a. true; numbers = numbers_of other }
+
+-- one thing at a host with one other, `next` being the number of connections so far
 abbrev pub Happens : ℕ → Site → Happening → Site → Site → Type 0
-Happens next other (Calls c) old new = Calling next other c old new
-Happens next other (Hears k answer) old new = BringsOne other (slice_get other.log k) answer old new
+Happens next other what old new = HappensAmong (beside next other) other what old new
 
 -- the number of connections after it
 abbrev pub count_after : ℕ → Happening → ℕ

@@ -3,10 +3,10 @@
 //! specs/Network has what is kept of a host: all that it put out, each datagram with its connection and with the marks of its
 //! commands, and its ends of connections, each with the name of its peer, how far its numbers have come, what its user
 //! submitted and took. It has when a datagram is of an earlier connection or late. specs/Steps has what one host call adds to
-//! all that where it has one other, specs/World the events of a world of two hosts with the refusals that each meets. The
-//! definitions of specs/Network would serve any number of hosts.
+//! all that where a host is among others and strangers (`HappensAmong`), specs/World the events of a world of two hosts with the
+//! refusals that each meets; there is no stranger there.
 //!
-//! specs/Headline has the headline, of the lists that are kept of each connection, end and channel.
+//! specs/Headline has the headline at a host and between the two ends of a connection, of the lists that are kept.
 //!
 //! Proved, of these definitions, which the calls of `enet_site` and `enet_world` meet: what happens at a host is events of each of its
 //! connections (`each_thing_is_events`, `each_thing_at`); over every run of two hosts the law of one connection holds of each
@@ -27,12 +27,13 @@ pub use mark::{Mark, MarkKind};
 
 /// What happens at a host is, for each of its connections, a number of events of the law of one connection.
 ///
-/// `goes_on`: each call of a host, and each datagram that the network brings it and that is neither of an earlier connection
-/// nor late. An end that the host shows (its peer, its datagrams with their marks, how far its numbers have come, what its
-/// user submitted and took, its events) is there afterwards, and is where the law's events at that end lead, while the
-/// other host shows the other end. So nothing but these events happens to a connection, whatever other connections the
-/// host has; slots that are given out again included, since a datagram of another connection than that of the slot which it
-/// addresses is refused.
+/// `goes_on`: each call of a host, each datagram that the network brings it of another host and that is neither of an earlier
+/// connection nor late, and each that a stranger sends. An end that the host shows (its peer, its datagrams with their marks, how
+/// far its numbers have come, what its user submitted and took, its events) is there afterwards, and is where the law's events
+/// at that end lead, while the host from which a datagram comes shows the other end, or isn't at the address of the end's peer, and
+/// no stranger is. So nothing but these events happens to a connection, whatever other connections the host has, and whatever
+/// other hosts and strangers send it; slots that are given out again included, since a datagram of another connection
+/// than that of the slot which it addresses is refused.
 ///
 /// `asked`: where a Connect is accepted, an end begins that is the first of the law's asking pair, with this connect id.
 ///

@@ -106,9 +106,15 @@ place-found : (ends : List HostEnd) (name : PeerRef) (o : Option ℕ) (i : ℕ) 
 place-found ends name None i found h is = absurd (is-found ends name h.0 h.1 h.2 (sym found))
 place-found ends name (Some j) i found h is = sym found ∙ ap (λ (n : ℕ). Some n) (sym is)
 
-pub placed : (ends : List HostEnd) (name : PeerRef) (o : Option ℕ) (i : ℕ) (e : HostEnd) → o ≡ position (λ (f : HostEnd). is_same_name f.name name) ends → HasEnd ends name → i ≡ unwrap_or o 0 → e ≡ get_or ends i e → Placed ends name i e
-placed ends name o i e found h is at =
-    let p = place-found ends name o i found h is in
+pub placed-some : (ends : List HostEnd) (name : PeerRef) (i : ℕ) (e : HostEnd) → position (λ (f : HostEnd). is_same_name f.name name) ends ≡ Some i → e ≡ get_or ends i e → Placed ends name i e
+placed-some ends name i e p at =
     let inside : i < length ends = (position-Some (λ (f : HostEnd). is_same_name f.name name) ends i e p).0 in
     let got : slice_get ends i ≡ Some e = slice_get-get_or ends i e inside ∙ ap (λ (f : HostEnd). Some f) (sym at) in
     record { there = Has-slice_get ends i e got; at = got; named = is-named ends name i e p at }
+
+pub placed : (ends : List HostEnd) (name : PeerRef) (o : Option ℕ) (i : ℕ) (e : HostEnd) → o ≡ position (λ (f : HostEnd). is_same_name f.name name) ends → HasEnd ends name → i ≡ unwrap_or o 0 → e ≡ get_or ends i e → Placed ends name i e
+placed ends name o i e found h is at = placed-some ends name i e (place-found ends name o i found h is) at
+
+-- where no end has a name, nothing is changed of those that have
+pub with-none : (change : HostEnd → HostEnd) (name : PeerRef) (ends : List HostEnd) → position (λ (f : HostEnd). is_same_name f.name name) ends ≡ None → with_end change name ends ≡ ends
+with-none change name ends none = others-stay change name ends (λ j f there same. is-found ends name f (Has-slice_get ends j f there) same none)

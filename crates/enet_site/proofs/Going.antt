@@ -15,10 +15,10 @@ use Rattle.enet_isolation.proofs.Names.{IsThere, there-named}
 use Rattle.enet_network.specs.Log.{Logged}
 use Rattle.enet_network.specs.Network.{HostEnd, Site}
 use Rattle.enet_network.specs.Shown.{ShowsPeer}
-use Rattle.enet_network.specs.Steps.{Happening, Calls, Hears, Happens, end_in, end_in_slot, begun_in}
+use Rattle.enet_network.specs.Steps.{Happening, Calls, Hears, beside, Happens, end_in, end_in_slot, begun_in}
 use Rattle.enet_network.proofs.Beginnings.{asked-in}
 use Rattle.enet_network.proofs.Growing.{more_of, more_in, Grows, grows, from-before}
-use Rattle.enet_network.proofs.Owned.{owned-goes, are-ends}
+use Rattle.enet_network.proofs.Owned.{owned-goes, named-ends}
 use Rattle.enet_network.proofs.Peers.{shows-held, is_gone, goes, Moved, moved}
 use Rattle.enet_network.proofs.Worlds.{some-acts}
 use Rattle.enet_records.specs.Records.{Records}
@@ -71,22 +71,22 @@ shown-goes next far old new what x low keeps k f there = elim (from-before old n
 ]
   where
     g : Grows old new (more_of next far old new what)
-    g = grows next far old new what x
+    g = grows (beside next far) far old new what x
 
     a : (c : Call) × Acts c old.host new.host
-    a = some-acts next far old new what x
+    a = some-acts (beside next far) far old new what x
 
 pub whole-goes : (next : ℕ) (far old new : Site) (what : Happening) → Happens next far what old new → IsWhole old.host old.ends → IsWhole new.host new.ends
 whole-goes next far old new what x k = record { keeps = keeps; owned = owned; shown = shown-goes next far old new what x k.keeps keeps k.shown }
   where
     keeps : Keeps new.host
-    keeps = (let a = some-acts next far old new what x in each-keeps.call a.0 old.host new.host a.1 k.keeps)
+    keeps = (let a = some-acts (beside next far) far old new what x in each-keeps.call a.0 old.host new.host a.1 k.keeps)
 
     owned : AreOwned new.host new.ends
     owned =
-        are-ends new
-        (owned-goes next far old new what x
-        (λ i s p there has. k.owned (record { slot = i; generation = s.generation }) p
+        named-ends new
+        (owned-goes (beside next far) far old new what x
+        (λ i s p there has at. k.owned (record { slot = i; generation = s.generation }) p
         (there-named old.host.slots (record { slot = i; generation = s.generation }) p (record { slot = s; there = there; same = refl; peer = has }))))
 
 -- some thing happened at a host of which this is kept

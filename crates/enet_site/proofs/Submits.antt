@@ -16,30 +16,20 @@ use Rattle.enet_isolation.specs.Calls as call
 use Rattle.enet_network.specs.Log.{Logged}
 use Rattle.enet_network.specs.Network.{HostEnd, is_same_name, with_end}
 use Rattle.enet_network.specs.Steps.{with_packet}
-use Rattle.enet_records.specs.Records.{Records, IsKept, AreApart, AreKept, HasEnd}
-use Rattle.enet_records.proofs.Ends.{Placed, placed, is-found, with-one}
+use Rattle.enet_records.specs.Records.{Records, IsKept, AreApart, AreKept}
+use Rattle.enet_records.proofs.Ends.{Placed, placed-some, with-one, with-none}
 use Rattle.enet_records.proofs.Keeps.{kept-set, packet-kept}
-use Rattle.enet_site.specs.Sites.{IsWhole, CallsOn}
+use Rattle.enet_site.specs.Sites.{CallsOn}
 
--- what isn't refused is submitted to a peer, which an end has
+-- where the end stands that has a name
+pub place-of : (ends xs : List HostEnd) (name : PeerRef) (i : ℕ) (e : HostEnd) → xs ≡ ends → Some i ≡ position (λ (f : HostEnd). is_same_name f.name name) xs → e ≡ slice_index_or ends i e → Placed ends name i e
+place-of ends xs name i e same found at = placed-some ends name i e (ap (position (λ (f : HostEnd). is_same_name f.name name)) (sym same) ∙ sym found) at
 
-peer-at : (channel len : ℕ) (o : Option Peering) → None ≡ refused_in channel len o → (p : Peering) × (o ≡ Some p)
-peer-at channel len None is = absurd (let y : ◌≡◌ {A = Option Refusal} None (Some NoSuchPeer) = is in cc)
-peer-at channel len (Some p) is = (p, refl)
-
-pub has-end : (h : Host) (was : Records) (log : List Logged) (ends : List HostEnd) (name : PeerRef) (channel len : ℕ) → record { log = log; ends = ends } ≡ was → IsWhole h was.ends → None ≡ submission_refusal h.slots name channel len → HasEnd ends name
-has-end h was log ends name channel len view k is =
-    let p = peer-at channel len (named h.slots name) is in
-    subst (λ (r : Records). HasEnd r.ends name) (sym view) (k.owned name p.0 p.1)
-
--- where that end stands
-
-pub at-place : (ends xs : List HostEnd) (name : PeerRef) (o : Option ℕ) (i : ℕ) (e : HostEnd) → xs ≡ ends → o ≡ position (λ (f : HostEnd). is_same_name f.name name) xs → HasEnd ends name → i ≡ unwrap_or o 0 → e ≡ slice_index_or ends i e → Placed ends name i e
-at-place ends xs name o i e same found has is at = placed ends name o i e (found ∙ ap (position (λ (f : HostEnd). is_same_name f.name name)) same) has is at
-
-pub in-place : (ends xs : List HostEnd) (name : PeerRef) (o : Option ℕ) (i n : ℕ) → xs ≡ ends → o ≡ position (λ (f : HostEnd). is_same_name f.name name) xs → IfSome o (λ j. j < length xs) → length xs ≡ n → HasEnd ends name → i ≡ unwrap_or o 0 → i < n
-in-place ends xs name None i n same found within long has is = absurd (is-found ends name has.0 has.1 has.2 (sym (found ∙ ap (position (λ (f : HostEnd). is_same_name f.name name)) same)))
-in-place ends xs name (Some j) i n same found within long has is = (let a : i ≡ j = is in let b : j < length xs = within in let c : length xs ≡ n = long in omega arith)
+-- and where none has it
+pub none-of : (was : Records) (log : List Logged) (ends xs : List HostEnd) (name : PeerRef) → record { log = log; ends = ends } ≡ was → xs ≡ ends → None ≡ position (λ (f : HostEnd). is_same_name f.name name) xs
+    → position (λ (f : HostEnd). is_same_name f.name name) was.ends ≡ None
+none-of was log ends xs name view same found =
+    ap (λ (w : Records). position (λ (f : HostEnd). is_same_name f.name name) w.ends) (sym view) ∙ ap (position (λ (f : HostEnd). is_same_name f.name name)) (sym same) ∙ sym found
 
 ok-of : {S : Type 0} (r : Result S Refusal) → None ≡ refusal_of r → is_ok r ≡ true
 ok-of (Ok s) is = refl
@@ -93,3 +83,18 @@ kept-submitted (Err why) log ends place e f peer mtu q k at same keeps =
 
 pub channel-inside : (log : List Logged) (ends : List HostEnd) (place : ℕ) (e : HostEnd) (peer : PeerRef) (channel : ℕ) → AreKept log ends → Placed ends peer place e → channel < 256 → channel < length e.channels
 channel-inside log ends place e peer channel k at low = (let own = k.each e at.there in let long = own.channels in omega arith)
+
+-- a packet that is submitted to a peer which no end has is kept nowhere
+pub submitted-off : (r : Done) (old new : Host) (was : Records) (log : List Logged) (ends xs : List HostEnd) (peer : PeerRef) (channel flags : ℕ) (body copy : List ℕ) → record { log = log; ends = ends } ≡ was → xs ≡ ends
+    → None ≡ position (λ (f : HostEnd). is_same_name f.name peer) xs → copy ≡ body → IfOk r (λ done. Acts (call.Submit peer channel (record { flags = flags; body = copy }) (Ok tt)) old new)
+    → IfOk r (λ done. CallsOn 0 (call.Submit peer channel (record { flags = flags; body = body }) (Ok tt)) old was new was)
+submitted-off (Err why) old new was log ends xs peer channel flags body copy view same found content does = tt
+submitted-off (Ok done) old new was log ends xs peer channel flags body copy view same found content does = λ address. (
+  subst (λ (b : List ℕ). Acts (call.Submit peer channel (record { flags = flags; body = b }) (Ok tt)) old new) content does,
+  (λ i. record {
+    address = address;
+    host = new;
+    log = was.log;
+    ends = sym (with-none (with_packet (mtu_in (named old.slots peer)) (record { channel = channel; flags = flags; body = body })) peer was.ends (none-of was log ends xs peer view same found)) i;
+  }),
+)

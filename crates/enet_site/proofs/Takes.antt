@@ -1,37 +1,23 @@
 -- An event is taken, at its site.
 use Rattle.std.proofs.Common.{◌≡◌, ℕ, true, List, [], ◌∷◌, ◌++◌, length, refl, sym, ap, subst, ◌∙◌, Option, Some, None, Result, Ok, Err, IfOk, OnErr, slice_set}
+use Rattle.std.specs.List.{position}
 use Rattle.enet_types.specs.declared.event.Event.{Event}
 use Rattle.enet_types.specs.declared.event.Event.TheVariants as events
 use Rattle.enet_types.specs.declared.event.PeerRef.{PeerRef}
 use Rattle.enet_types.specs.declared.packet.Packet.{Packet}
 use Rattle.enet_types.specs.declared.refusal.Refusal.{Refusal}
-use Rattle.enet_peer.specs.Peering.{Peering}
 use Rattle.enet_host.specs.Host.{Host}
-use Rattle.enet_slot.specs.Calls.{peer_tells}
 use Rattle.enet_host.specs.Calls.{Takes}
-use Rattle.enet_host.specs.Foretelling.{teller_of, packet_of, Foretells, IsTeller}
+use Rattle.enet_host.specs.Foretelling.{teller_of, packet_of, Foretells}
 use Rattle.enet_isolation.specs.Calls as call
-use Rattle.enet_isolation.proofs.Names.{there-named}
 use Rattle.enet_network.specs.Log.{Logged}
-use Rattle.enet_network.specs.Network.{HostEnd, with_end}
+use Rattle.enet_network.specs.Network.{HostEnd, is_same_name, with_end}
 use Rattle.enet_network.specs.Steps.{with_event, after_event}
-use Rattle.enet_records.specs.Records.{Records, IsKept, AreApart, AreKept, HasEnd}
-use Rattle.enet_records.proofs.Ends.{Placed, with-one}
+use Rattle.enet_records.specs.Records.{Records, IsKept, AreApart, AreKept}
+use Rattle.enet_records.proofs.Ends.{Placed, with-one, with-none}
 use Rattle.enet_records.proofs.Keeps.{kept-set, event-kept}
-use Rattle.enet_site.specs.Sites.{IsWhole, CallsOn, told}
-
--- whoever tells is a peer, which an end has
-
-telling : (o : Option Peering) → peer_tells o ≡ true → (p : Peering) × (o ≡ Some p)
-telling None is = absurd (cc)
-telling (Some p) is = (p, refl)
-
-pub teller-end : (h : Host) (was : Records) (log : List Logged) (ends : List HostEnd) (name : PeerRef) → record { log = log; ends = ends } ≡ was → IsWhole h was.ends → IsTeller h name → HasEnd ends name
-teller-end h was log ends name view k t =
-    let f = t.first in
-    let p = telling f.slot.peer f.here in
-    subst (λ (r : Records). HasEnd r.ends name) (sym view)
-    (k.owned name p.0 (there-named h.slots name p.0 (record { slot = f.slot; there = f.there; same = sym (ap (λ (n : PeerRef). n.generation) t.named); peer = p.1 })))
+use Rattle.enet_site.specs.Sites.{CallsOn, told}
+use Rattle.enet_site.proofs.Submits.{none-of}
 
 -- a word is kept among the events alone
 pub word-keeps : (event : Event) (e : HostEnd) (all : List Event) → None ≡ packet_of event → all ≡ e.events ++ event ∷ [] → record e { events = all } ≡ with_event event e
@@ -67,3 +53,12 @@ taken-on (Ok (Some event)) old new was log ends place e f name view apart at tel
 
 pub told-by : (h : Host) (own name : PeerRef) → own ≡ name → Foretells teller_of h (Some name) → Foretells teller_of h (Some own)
 told-by h own name same tells = subst (λ (n : PeerRef). Foretells teller_of h (Some n)) (sym same) tells
+
+-- a peer that no end has tells, and nothing is kept
+pub taken-off : (r : Option Event) (old new : Host) (was : Records) (log : List Logged) (ends xs : List HostEnd) (name : PeerRef) → record { log = log; ends = ends } ≡ was → xs ≡ ends → None ≡ position (λ (f : HostEnd). is_same_name f.name name) xs
+    → Foretells teller_of old (Some name) → Takes r old new → CallsOn 0 (call.NextEvent r) old was new was
+taken-off None old new was log ends xs name view same found tells takes = absurd (let y : ◌≡◌ {A = Option PeerRef} (Some name) None = tells None new takes in cc)
+taken-off (Some event) old new was log ends xs name view same found tells takes = λ address. (takes, (λ i. record { address = address; host = new; log = was.log; ends = stays i }))
+  where
+    stays : was.ends ≡ after_event event was.ends
+    stays = sym (named-one event name was.ends (tells (Some event) new takes) ∙ with-none (with_event event) name was.ends (none-of was log ends xs name view same found))

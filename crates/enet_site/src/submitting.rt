@@ -51,7 +51,25 @@ fn submit_to(host: &mut HostCore, end: &mut End, packet: Packet, mtu: u32) -> Re
     Ok(())
 }
 
-/// Submits a packet to the peer of this name, and keeps it at its end. E2, E3, E4, E5 and E1 as by the host, with nothing
+/// Submits a packet to the peer of this name, which no end has: nothing is kept of it.
+fn submit_apart(
+    host: &mut HostCore,
+    peer: PeerRef,
+    channel: u8,
+    flags: u8,
+    body: Bytes,
+) -> Result<(), Refusal>
+    ensures refused { IfErr result (λ why. Acts (call.Submit peer channel (record { flags = flags; body = body }) (Err (why, body))) host.old host.old) }
+    ensures host { OnErr result (host.new ≡ host.old) }
+    ensures submits { IfOk result (λ done. Acts (call.Submit peer channel (record { flags = flags; body = body }) (Ok tt)) host.old host.new) }
+{
+    match host.submit(peer, channel, flags, body) {
+        Ok(()) => Ok(()),
+        Err((why, _body)) => Err(why),
+    }
+}
+
+/// Submits a packet to the peer of this name, and keeps it at its end, if there is one. E2, E3, E4, E5 and E1 as by the host, with nothing
 /// changed.
 pub(crate) fn submit(
     host: &mut HostCore,
@@ -74,12 +92,14 @@ pub(crate) fn submit(
     let Ok(body) = body.clone() else {
         return Err(Refusal::Memory);
     };
+    let Some(place) = position_of(&own.ends, peer) else {
+        return submit_apart(host, peer, channel, flags, body);
+    };
     let packet = Packet {
         channel,
         flags,
         body,
     };
-    let place = position_of(&own.ends, peer).unwrap_or(0);
     let end = &mut own.ends[place];
     submit_to(host, end, packet, mtu)
 }

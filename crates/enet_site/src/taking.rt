@@ -78,7 +78,7 @@ fn take_of(host: &mut HostCore, end: &mut End) -> Result<Option<Event>, Refusal>
     Ok(host.next_event())
 }
 
-/// Takes the next event, and keeps it at its end. E1 where memory is refused, with nothing changed.
+/// Takes the next event, and keeps it at its end, if there is one of its peer. E1 where memory is refused, with nothing changed.
 pub(crate) fn take(host: &mut HostCore, own: &mut Records) -> Result<Option<Event>, Refusal>
     requires { IsWhole host.old own.old.ends }
     ensures memory { IfErr result (λ why. why ≡ Refusal.Memory) }
@@ -89,7 +89,9 @@ pub(crate) fn take(host: &mut HostCore, own: &mut Records) -> Result<Option<Even
     let Some(name) = host.next_event_of() else {
         return Ok(None);
     };
-    let place = position_of(&own.ends, name).unwrap_or(0);
+    let Some(place) = position_of(&own.ends, name) else {
+        return Ok(host.next_event());
+    };
     let end = &mut own.ends[place];
     take_of(host, end)
 }

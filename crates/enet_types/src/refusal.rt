@@ -38,13 +38,13 @@ pub enum Refusal {
     /// The seat or poster has used up its count.
     #[error("E10 SeatSpent")]
     SeatSpent,
-    /// A world's: a command of the datagram is more than 32,768 numbers late.
+    /// A world's or a fleet's: a command of the datagram is more than 32,768 numbers late.
     #[error("E11 Late")]
     Late,
-    /// A world's: the datagram is of an earlier connection.
+    /// A world's or a fleet's: the datagram is of an earlier connection.
     #[error("E12 Earlier")]
     Earlier,
-    /// A world's: no datagram has that number.
+    /// A world's or a fleet's: no datagram has that number; in a fleet, none that went to that host.
     #[error("E13 NoSuchDatagram")]
     NoSuchDatagram,
     /// The wire failed during the call.
@@ -56,7 +56,7 @@ pub enum Refusal {
     /// The queue was settled before it was empty, or before each token came back.
     #[error("E16 StillHeld")]
     StillHeld,
-    /// A number that no call answers: no host of a network has that place.
+    /// A fleet's: a host isn't there, or a stranger's address is a host's. It comes first in every order of tests.
     #[error("E17 NoSuchHost")]
     NoSuchHost,
 }
