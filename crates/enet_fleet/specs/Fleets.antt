@@ -1,0 +1,223 @@
+-- A server and its clients, with strangers around them, and the events of such a fleet one by one.
+use Rattle.std.specs.Prelude.{◌≡◌, ℕ, ◌+◌, ◌==◌, ◌&&◌, ◌||◌, nat_le, nat_lt, Bool, true, false, if◌then◌else◌, List, [], ◌∷◌, ◌++◌, length, take, Option, Some, None, is_none, Result, Ok, Err, slice_get, slice_set}
+use Rattle.std.specs.Option.{option_map, option_flatten}
+use Rattle.enet_types.specs.declared.address.Addr.{Addr}
+use Rattle.enet_types.specs.declared.config.Config.{Config}
+use Rattle.enet_types.specs.declared.event.PeerRef.{PeerRef}
+use Rattle.enet_types.specs.declared.refusal.Refusal.{Refusal}
+use Rattle.enet_types.specs.declared.refusal.Refusal.TheVariants.{Memory, NoSuchDatagram, NoSuchHost}
+use Rattle.enet_slot.specs.Hearing.{is_same_address}
+use Rattle.enet_host.specs.Opening as host
+use Rattle.enet_isolation.specs.Calls.{Call}
+use Rattle.enet_isolation.specs.Calls as call
+use Rattle.enet_network.specs.declared.event.Answer.{Answer}
+use Rattle.enet_network.specs.declared.event.Answer.TheVariants as answers
+use Rattle.enet_network.specs.Log.{Logged}
+use Rattle.enet_network.specs.Network.{Site, numbers_of, delivery_refusal}
+use Rattle.enet_network.specs.Steps.{Around, Happening, Calls, Hears, HappensAmong}
+use Rattle.enet_network.specs.World.{IsRefusedFor, RefusesCall}
+use Rattle.enet_fleet.specs.declared.event.Node.{Node}
+use Rattle.enet_fleet.specs.declared.event.Node.TheVariants.{Server, Client}
+use Rattle.enet_fleet.specs.declared.event.FleetEvent.{FleetEvent}
+use Rattle.enet_fleet.specs.declared.event.FleetEvent.TheVariants as happen
+
+-- a datagram that a host put out
+pub data Sent : Type 0 where
+  Of : (n : ℕ) → Sent  -- of a connection: this one of the host's log
+  Away : (to : Addr) (text : List ℕ) → Sent  -- to a stranger
+
+-- a host with all that it put out
+pub record Place : Type 0 where
+  pub site : Site
+  pub sent : List Sent
+
+-- all hosts, and the client of each connection so far
+pub record Fleet : Type 0 where
+  pub server : Place
+  pub clients : List Place
+  pub asked : List ℕ
+
+abbrev pub place_of : Fleet → Node → Option Place
+place_of f Server = Some f.server
+place_of f (Client i) = slice_get f.clients i
+
+abbrev pub with_place : Fleet → Node → Place → Fleet
+with_place f Server p = record f { server = p }
+with_place f (Client i) p = record f { clients = slice_set f.clients i p }
+
+abbrev pub address_of : Node → Addr
+address_of Server = record { ip = 0x0A000001; port = 7001 }
+address_of (Client i) = record { ip = 0x0A000002; port = 7002 + i }
+
+-- whether a host is at an address where there are so many clients
+abbrev pub is_host : ℕ → Addr → Bool
+is_host clients a = is_same_address a (address_of Server) || (a.ip == 0x0A000002 && (nat_le 7002 a.port && nat_lt a.port (7002 + clients)))
+
+-- the greatest numbers that a host sent of connection x
+abbrev pub numbers_at : ℕ → Option Place → List ℕ
+numbers_at x None = []
+numbers_at x (Some p) = numbers_of p.site x
+
+-- the client that asked for a connection
+abbrev pub client_in : Fleet → Option ℕ → Option Place
+client_in f None = None
+client_in f (Some i) = slice_get f.clients i
+
+abbrev pub client_of : Fleet → ℕ → Option Place
+client_of f x = client_in f (slice_get f.asked x)
+
+-- the greatest numbers that the other end of a connection of a host sent
+abbrev pub numbers_far : Fleet → Node → ℕ → List ℕ
+numbers_far f Server x = numbers_at x (client_of f x)
+numbers_far f (Client i) x = numbers_of f.server.site x
+
+abbrev pub around : Fleet → Node → Around
+around f n = record { count = length f.asked; is_host = is_host (length f.clients); numbers = numbers_far f n }
+
+-- what a host has put out after a call of service that gave a datagram
+abbrev pub sent_if : Bool → PeerRef × Addr × ℕ → List ℕ → Place → List Sent
+sent_if true gave buf p = p.sent ++ Of (length p.site.log) ∷ []
+sent_if false gave buf p = p.sent ++ Away gave.1 (take gave.2 buf) ∷ []
+
+abbrev pub sent_after : (Addr → Bool) → Happening → Place → List Sent
+sent_after hosts (Calls (call.Service (Some gave) buf)) p = sent_if (hosts gave.1) gave buf p
+sent_after hosts _ p = p.sent
+
+-- an accepted Connect is its client's
+abbrev pub asked_after : Node → Happening → List ℕ → List ℕ
+asked_after (Client i) (Calls (call.Connect address channels info word (Ok name))) asked = asked ++ i ∷ []
+asked_after _ _ asked = asked
+
+-- what was put out, and where to it went
+abbrev pub text_of : Place → Sent → Option (Addr × List ℕ)
+text_of p (Of n) = option_map (λ d. (d.to, d.text)) (slice_get p.site.log n)
+text_of p (Away to text) = Some (to, text)
+
+abbrev pub sent_by : Option Place → ℕ → Option (Addr × List ℕ)
+sent_by None k = None
+sent_by (Some p) k = option_flatten (option_map (text_of p) (slice_get p.sent k))
+
+-- one thing happens at a host, the others staying as they were; it speaks to the host `from`, or hears it
+pub record HappensAt (n from : Node) (what : Happening) (old new : Fleet) : Type 0 where
+  pub was : Place
+  pub there : place_of old n ≡ Some was
+  pub sender : Place
+  pub sends : place_of old from ≡ Some sender
+  pub is : Place
+  pub here : HappensAmong (around old n) sender.site what was.site is.site
+  pub sent : is.sent ≡ sent_after (is_host (length old.clients)) what was
+  pub rest : new ≡ record (with_place old n is) { asked = asked_after n what old.asked }
+
+-- the datagram of a host's log that its number k is, where it went to this address
+abbrev pub gone_to : Addr → ℕ → Option Logged → Option ℕ
+gone_to to n None = None
+gone_to to n (Some d) = if is_same_address d.to to then Some n else None
+
+abbrev pub logged_in : Addr → Place → Option Sent → Option ℕ
+logged_in to p (Some (Of n)) = gone_to to n (slice_get p.site.log n)
+logged_in to p _ = None
+
+abbrev pub logged_to : Addr → Place → ℕ → Option ℕ
+logged_to to p k = logged_in to p (slice_get p.sent k)
+
+-- the host of an event
+abbrev pub node_of : FleetEvent → Node
+node_of (happen.Connect client channels info word) = Client client
+node_of (happen.Submit node peer channel flags body) = node
+node_of (happen.Deliver to from k) = to
+node_of (happen.Stranger to addr bytes) = to
+node_of (happen.Turn node) = node
+node_of (happen.Tick node ms) = node
+node_of (happen.Take node) = node
+node_of (happen.Disconnect node peer how info) = node
+
+-- the host that it hears; any other event speaks to the server at most
+abbrev pub from_of : FleetEvent → Node
+from_of (happen.Deliver to from k) = from
+from_of _ = Server
+
+-- the number that its next datagram gets
+abbrev pub next_number : Option Place → ℕ
+next_number None = 0
+next_number (Some p) = length p.sent
+
+-- which datagram of the sender's log is brought
+abbrev pub brings : Node → Option Place → ℕ → Option ℕ
+brings to None k = None
+brings to (Some p) k = logged_to (address_of to) p k
+
+-- the one host call of an event that was not refused, by what was answered
+abbrev pub Makes : Fleet → FleetEvent → Answer → Happening → Type 0
+Makes f (happen.Connect client channels info word) (answers.Peer name) e = e ≡ Calls (call.Connect (address_of Server) channels info word (Ok name))
+Makes f (happen.Submit node peer channel flags body) answers.Done e = e ≡ Calls (call.Submit peer channel (record { flags = flags; body = body }) (Ok tt))
+Makes f (happen.Deliver to from k) (answers.Received answer) e = (n : ℕ) × (brings to (place_of f from) k ≡ Some n) × (e ≡ Hears n answer)
+Makes f (happen.Stranger to addr bytes) (answers.Received answer) e = e ≡ Calls (call.Receive addr bytes answer)
+Makes f (happen.Turn node) (answers.Sent None) e = (buf : List ℕ) × (e ≡ Calls (call.Service None buf))
+Makes f (happen.Turn node) (answers.Sent (Some k)) e =
+    (gave : PeerRef × Addr × ℕ) × (buf : List ℕ) × (e ≡ Calls (call.Service (Some gave) buf)) × (k ≡ next_number (place_of f node))
+Makes f (happen.Tick node ms) answers.Done e = e ≡ Calls (call.Tick ms)
+Makes f (happen.Take node) (answers.Taken event) e = e ≡ Calls (call.NextEvent event)
+Makes f (happen.Disconnect node peer how info) answers.Done e = e ≡ Calls (call.Disconnect how peer info (Ok tt))
+Makes f _ _ e = ⊥
+
+-- whether a host of an event isn't there, or its stranger's address is a host's
+abbrev pub lacks : Fleet → FleetEvent → Bool
+lacks f (happen.Stranger to addr bytes) = is_none (place_of f to) || is_host (length f.clients) addr
+lacks f (happen.Deliver to from k) = is_none (place_of f to) || is_none (place_of f from)
+lacks f event = is_none (place_of f (node_of event))
+
+-- a host of a fleet refuses a call
+abbrev pub RefusesAt : Option Place → Call → Type 0
+RefusesAt None c = ⊥
+RefusesAt (Some p) c = RefusesCall c p.site
+
+-- a delivery: E13 where the datagram went to no such host
+abbrev pub refused_there : Place → Place → Option ℕ → Option Refusal
+refused_there from to None = Some NoSuchDatagram
+refused_there from to (Some n) = delivery_refusal from.site to.site (slice_get from.site.log n)
+
+abbrev pub refused_delivery : Node → Option Place → Option Place → ℕ → Option Refusal
+refused_delivery to (Some from) (Some at) k = refused_there from at (logged_to (address_of to) from k)
+refused_delivery to _ _ k = Some NoSuchDatagram
+
+-- why an event is refused whose hosts are there
+abbrev pub RefusesThere : Fleet → FleetEvent → Refusal → Type 0
+RefusesThere f (happen.Connect client channels info word) why = RefusesAt (place_of f (Client client)) (call.Connect (address_of Server) channels info word (Err why))
+RefusesThere f (happen.Submit node peer channel flags body) why =
+    RefusesAt (place_of f node) (call.Submit peer channel (record { flags = flags; body = body }) (Err (why, body)))
+RefusesThere f (happen.Deliver to from k) why = IsRefusedFor why (refused_delivery to (place_of f from) (place_of f to) k)
+RefusesThere f (happen.Stranger to addr bytes) why = ⊥
+RefusesThere f (happen.Turn node) why = why ≡ Memory
+RefusesThere f (happen.Tick node ms) why = ⊥
+RefusesThere f (happen.Take node) why = why ≡ Memory
+RefusesThere f (happen.Disconnect node peer how info) why = RefusesAt (place_of f node) (call.Disconnect how peer info (Err why))
+
+-- why an event is refused: E17 comes first
+abbrev pub RefusesIf : Bool → Fleet → FleetEvent → Refusal → Type 0
+RefusesIf true f event why = why ≡ NoSuchHost
+RefusesIf false f event why = RefusesThere f event why
+
+abbrev pub Refuses : Fleet → FleetEvent → Refusal → Type 0
+Refuses f event why = RefusesIf (lacks f event) f event why
+
+-- a step: an event that is refused changes nothing, any other makes its one call at its host
+abbrev pub Steps : Fleet → FleetEvent → Result Answer Refusal → Fleet → Type 0
+Steps old event (Ok answer) new = (e : Happening) × Makes old event answer e × HappensAt (node_of event) (from_of event) e old new
+Steps old event (Err why) new = Refuses old event why × (new ≡ old)
+
+-- the steps of a list of events with what was answered to each, in order
+abbrev pub Runs : Fleet → List FleetEvent → List (Result Answer Refusal) → Fleet → Type 0
+Runs old [] [] new = new ≡ old
+Runs old (e ∷ es) (a ∷ as') new = (between : Fleet) × Steps old e a between × Runs between es as' new
+Runs old _ _ new = ⊥
+
+-- a fleet to which nothing has happened
+abbrev pub open_place : Node → Config → Place
+open_place n c = record { site = record { address = address_of n; host = host.opened c; log = []; ends = [] }; sent = [] }
+
+abbrev pub open_clients : ℕ → List Config → List Place
+open_clients i [] = []
+open_clients i (c ∷ cs) = open_place (Client i) c ∷ open_clients (i + 1) cs
+
+abbrev pub open_fleet : Config → List Config → Fleet
+open_fleet server clients = record { server = open_place Server server; clients = open_clients 0 clients; asked = [] }
