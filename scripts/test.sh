@@ -1,7 +1,7 @@
 #!/usr/bin/env bash
-# All tests: the gate (every proof from nothing, the must-fail edits, the tests, the programs), then the worked scripts
-# through the built program, and clients of the reference library that talk through it. Each of the two last ends with a line
-# 'N passed, M failed'; the status is other than 0 where anything failed.
+# All tests: the gate (every proof from nothing, the must-fail edits, the tests, the programs), then whether the edits that the gate
+# leaves alone still fit the text, the worked scripts through the built program, and clients of the reference library that talk through
+# it. Each of the three last ends with a line 'N passed, M failed'; the status is other than 0 where anything failed.
 set -u
 cd "$(dirname "$0")/.." || exit 1
 begun=$SECONDS
@@ -10,6 +10,8 @@ RT_JOBS=${RT_JOBS:-$(nproc)} rt ci
 gate=$?
 echo "rt ci ended with status $gate after $((SECONDS - begun)) seconds"
 [ "$gate" = 0 ] || exit 1
+bash scripts/check-edits.sh --read
+edits=$?
 bash scripts/check-rows.sh
 rows=$?
-bash scripts/check-clients.sh && [ "$rows" = 0 ]
+bash scripts/check-clients.sh && [ "$edits" = 0 ] && [ "$rows" = 0 ]
