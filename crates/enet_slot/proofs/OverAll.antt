@@ -1,14 +1,16 @@
 -- What goes over all slots.
-use Rattle.std.proofs.Common.{◌≡◌, ℕ, ◌<◌, Bool, true, false, if◌then◌else◌, List, length, map, slice_set, get_or, refl, sym, ap, ap₂, subst, ◌∙◌, ◌+◌, ◌≤◌, nat_lt, [], ◌∷◌, ◌++◌, take, drop, arith, All, zero-add}
+use Rattle.std.proofs.Common.{◌≡◌, ℕ, ◌<◌, Bool, true, false, if◌then◌else◌, Result, Ok, Err, OnErr, List, length, map, slice_set, get_or, refl, sym, ap, ap₂, subst, ◌∙◌, ◌+◌, ◌≤◌, nat_lt, [], ◌∷◌, ◌++◌, take, drop, arith, All, zero-add}
 use Rattle.std.proofs.lemmas.Grind.{get_or-set_at}
 use Rattle.std.proofs.lemmas.Bool.Decides.{nat_tests}
 use Rattle.std.proofs.lemmas.List.{get_or-set_other, get_or_default, get_or-map, take_all, drop_all, append-nil, take_more, map-append}
 use Rattle.std.proofs.lemmas.List.Edits.{map_over_more}
 use Rattle.std.proofs.lemmas.List.Sums.{sum_by-append}
-use Rattle.std.specs.List.{count_by}
+use Rattle.std.proofs.lemmas.List.Folds.{list_any_at}
+use Rattle.std.specs.List.{count_by, list_any}
 use Rattle.std.specs.Int.{from_bool}
 use Rattle.enet_slot.specs.declared.slot.Slot.{Slot}
 use Rattle.enet_slot.specs.Slot.{SlotState}
+use Rattle.enet_slot.specs.Sharing.{is_standing}
 use Rattle.enet_slot.specs.Slotted.{HasRoom, shown, all_shown}
 use Rattle.enet_slot.proofs.Shown.{set-shown, length-shown}
 
@@ -63,6 +65,16 @@ still-room all xs i x rooms inside read same = subst HasRoom (sym (read ∙ same
 pub later-more : (all xs : List Slot) (i : ℕ) (y : Slot) → ((k : ℕ) (x : Slot) → i ≤ k → get_or xs k x ≡ get_or all k x)
     → (k : ℕ) (x : Slot) → i + 1 ≤ k → get_or (slice_set xs i y) k x ≡ get_or all k x
 later-more all xs i y later k x past = get_or-set_other xs i k y x (omega arith) ∙ later k x (omega arith)
+
+-- a slot that stands is one of those that do
+pub stands-among : {T E : Type 0} (r : Result T E) (all xs : List Slot) (i : ℕ) (x : Slot) → i < length xs → x ≡ get_or xs i x → all_shown xs ≡ all_shown all
+    → is_standing (shown x) ≡ true → OnErr r (list_any is_standing (all_shown all) ≡ true)
+stands-among (Ok done) all xs i x inside read same stands = tt
+stands-among (Err why) all xs i x inside read same stands =
+    let count = length-shown xs in
+    let there : get_or (all_shown xs) i (shown x) ≡ shown x = get_or-map shown xs i x (shown x) inside ∙ sym (ap shown read) in
+    ap (λ (ss : List SlotState). list_any is_standing ss) (sym same)
+    ∙ list_any_at is_standing (all_shown xs) i (shown x) (omega arith) (ap is_standing there ∙ stands)
 
 -- a count goes on by one slot
 pub one-if : (b : Bool) → from_bool b ≡ (if b then 1 else 0)

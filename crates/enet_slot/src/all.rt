@@ -114,12 +114,14 @@ pub fn share_out(slots: &mut Vec<Slot>, outgoing: u32)
     share_all(slots, outgoing, standing);
 }
 
-/// Makes room for one command of channel 0xFF of each peer. E1 where memory is refused.
+/// Makes room for one command of channel 0xFF of each connected peer. E1 where memory is refused, so never where none is
+/// connected.
 fn reserve_all(slots: &mut Vec<Slot>) -> Result<(), Refusal>
     ensures unchanged { all_shown slots.new.items ≡ all_shown slots.old.items }
     ensures count { length slots.new.items ≡ length slots.old.items }
     ensures room { OnOk result (All HasRoom slots.new.items) }
     ensures memory { IfErr result (λ why. why ≡ Refusal.Memory) }
+    ensures standing { OnErr result (list_any is_standing (all_shown slots.old.items) ≡ true) }
 {
     for place in 0..slots.len() {
         slots[place].reserve()?;
@@ -138,13 +140,14 @@ fn set_all(slots: &mut Vec<Slot>, incoming: u32, outgoing: u32)
     }
 }
 
-/// Sets the bandwidths of each peer, in bytes per second, of which the connected ones are told. E1 where memory is refused, with
-/// nothing changed.
+/// Sets the bandwidths of each peer, in bytes per second, of which the connected ones are told. E1 where memory for that is
+/// refused, with nothing changed; never where none is connected.
 pub fn set_bandwidth(slots: &mut Vec<Slot>, incoming: u32, outgoing: u32) -> Result<(), Refusal>
     ensures set { OnOk result (all_shown slots.new.items ≡ map (changed (λ (p : Peering). peers.with_bandwidth p incoming outgoing)) (all_shown slots.old.items)) }
     ensures count { length slots.new.items ≡ length slots.old.items }
     ensures unchanged { OnErr result (all_shown slots.new.items ≡ all_shown slots.old.items) }
     ensures memory { IfErr result (λ why. why ≡ Refusal.Memory) }
+    ensures standing { OnErr result (list_any is_standing (all_shown slots.old.items) ≡ true) }
 {
     reserve_all(slots)?;
     set_all(slots, incoming, outgoing);

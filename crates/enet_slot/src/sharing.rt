@@ -1,6 +1,6 @@
 //! What a moment brings to a slot, and what its host's bandwidths do to it.
 
-ghost use Rattle.std.specs.Prelude.{◌≡◌, OnOk, IfErr};
+ghost use Rattle.std.specs.Prelude.{◌≡◌, true, OnOk, OnErr, IfErr};
 ghost use Rattle.enet_peer.specs.Peering.{Peering};
 ghost use Rattle.enet_peer.specs.Calls as peers;
 ghost use Rattle.enet_slot.specs.Slot.{changed};
@@ -47,15 +47,17 @@ impl Slot {
         self.emitted = 0;
     }
 
-    /// Makes room for one command of channel 0xFF of a connected peer. E1 where memory is refused.
+    /// Makes room for one command of channel 0xFF of a connected peer; a slot without one takes no memory. E1 where memory is
+    /// refused.
     pub(crate) fn reserve(&mut self) -> Result<(), Refusal>
         ensures unchanged { self.new.slot ≡ self.old.slot }
         ensures room { OnOk result (HasRoom self.new) }
         ensures memory { IfErr result (λ why. why ≡ Refusal.Memory) }
+        ensures standing { OnErr result (is_standing self.old.slot ≡ true) }
     {
         match &mut self.peer {
-            Some(peer) => peer.reserve(),
-            None => Ok(()),
+            Some(peer) if peer.state() == PeerState::Connected => peer.reserve(),
+            _ => Ok(()),
         }
     }
 
