@@ -1,13 +1,12 @@
 -- The headline of both hosts of a world, from the law of each connection.
-use Rattle.std.proofs.Common.{◌≡◌, ◌<◌, ◌≤◌, ℕ, zero, suc, ◌⊎◌, inl, inr, ◌&&◌, ◌==◌, not, Bool, true, false, cond, List, [], ◌∷◌, length, map, refl, sym, ap, subst, ◌∙◌, arith, Option, Some, None}
-use Rattle.std.proofs.lemmas.Bool.Decides.{nat_tests}
+use Rattle.std.proofs.Common.{◌≡◌, ◌≢◌, ◌<◌, ◌≤◌, ℕ, ◌⊎◌, inl, inr, ◌&&◌, ◌==◌, Bool, true, false, List, [], ◌∷◌, map, refl, sym, ap, subst, ◌∙◌, arith, Option, Some, None}
 use Rattle.enet_types.specs.declared.address.Addr.{Addr}
 use Rattle.enet_types.specs.declared.event.PeerRef.{PeerRef}
 use Rattle.enet_types.specs.declared.packet.Packet.{Packet}
 use Rattle.enet_peer.specs.declared.parts.PeerEvent.{PeerEvent}
 use Rattle.enet_peer.specs.declared.parts.PeerEvent.TheVariants as told
+use Rattle.enet_peer.specs.Peering.{Peering}
 use Rattle.enet_sender.specs.CommandChoice as command_choice
-use Rattle.enet_outbox.specs.Outbox.{is_unsequenced}
 use Rattle.enet_packets.specs.declared.incoming_packet.Dispatched.{Dispatched}
 use Rattle.enet_link.specs.Follows.{Follows}
 use Rattle.enet_link.specs.Steps.{Has, bodies_of}
@@ -15,61 +14,22 @@ use Rattle.enet_connection.specs.Connection.{End, of_channel, packets_of, in_seq
 use Rattle.enet_connection.specs.Law.{mtu_in, IsOneLife, IsInOrder as IsInOrderBetween}
 use Rattle.enet_connection.specs.Steps.{no_end}
 use Rattle.enet_slot.specs.Calls.{event_of}
+use Rattle.enet_host.specs.Host.{named}
 use Rattle.enet_network.specs.declared.event.Side.{Side}
 use Rattle.enet_network.specs.declared.event.Side.TheVariants.{A, B}
 use Rattle.enet_network.specs.Headline.{submitted_at, taken_at, events_at, received, mtu_at, AreOn, IsInOrder, HasHeadlineAt, HasHeadlineBetween, HasHeadline}
 use Rattle.enet_network.specs.Law.{ShowsAt, LawfulEither, IsPaired, OfEachRun, OfEachJoinedRun, OfEachList, OfEachJoinedList}
-use Rattle.enet_network.specs.Log.{ChannelPackets, no_packets, packets_at}
+use Rattle.enet_network.specs.Log.{ChannelPackets}
 use Rattle.enet_network.specs.Network.{HostEnd, Site, end_of}
+use Rattle.enet_network.specs.Numbers.{AgreeBetween}
 use Rattle.enet_network.specs.Shown.{on_channel, Shows}
 use Rattle.enet_network.specs.World.{World, site_of}
+use Rattle.enet_network.proofs.Agreed.{agree-between, agree-none, same-peer}
+use Rattle.enet_network.proofs.Channels.{on-them, same-going, same-come, kept-outside}
 use Rattle.enet_network.proofs.Delivering.{end-there}
 use Rattle.enet_network.proofs.Worlds.{IsHost, end-none}
 use Rattle.enet_network.proofs.Owned.{AreOwned, are-ends}
 use Rattle.enet_network.proofs.Runs.{Sound, less-or-not, are-lawful, sound-run, sound-joined-run, sound-list, sound-joined-list}
-
--- the lists of a channel
-
-on-them : (channel : ℕ) (qs : List Packet) → AreOn channel (on_channel channel qs)
-on-them channel [] x h = absurd h
-on-them channel (q ∷ qs) x h = by (q.channel == channel) refl (on-them channel qs x) h
-  where
-    by : (b : Bool) → (q.channel == channel) ≡ b → (Has (on_channel channel qs) x → x.channel ≡ channel) → Has (cond b (q ∷ on_channel channel qs) (on_channel channel qs)) x → x.channel ≡ channel
-    by true e rest (inl same) = ap (λ (y : Packet). y.channel) (sym same) ∙ (let y : q.channel ≡ channel = grind (arith, nat_tests) in y)
-    by true e rest (inr more) = rest more
-    by false e rest more = rest more
-
-same-going : (mtu channel : ℕ) (qs : List Packet) → of_channel mtu channel (on_channel channel qs) ≡ of_channel mtu channel qs
-same-going mtu channel [] = refl
-same-going mtu channel (q ∷ qs) = by (q.channel == channel) refl (same-going mtu channel qs)
-  where
-    content : command_choice.Packet
-    content = record { flags = q.flags; body = q.body }
-
-    in_turn : Bool
-    in_turn = not (is_unsequenced mtu content)
-
-    by : (b : Bool) → (q.channel == channel) ≡ b → of_channel mtu channel (on_channel channel qs) ≡ of_channel mtu channel qs
-        → of_channel mtu channel (cond b (q ∷ on_channel channel qs) (on_channel channel qs)) ≡ cond (b && in_turn) (content ∷ of_channel mtu channel qs) (of_channel mtu channel qs)
-    by true e rest = (λ i. cond (e i && in_turn) (content ∷ rest i) (rest i))
-    by false e rest = rest
-
-same-come : (channel : ℕ) (qs : List Packet) → in_sequence channel (on_channel channel qs) ≡ in_sequence channel qs
-same-come channel [] = refl
-same-come channel (q ∷ qs) = by (q.channel == channel) refl (same-come channel qs)
-  where
-    content : Dispatched
-    content = record { flags = q.flags; body = q.body }
-
-    by : (b : Bool) → (q.channel == channel) ≡ b → in_sequence channel (on_channel channel qs) ≡ in_sequence channel qs
-        → in_sequence channel (cond b (q ∷ on_channel channel qs) (on_channel channel qs)) ≡ cond (b && not (q.flags == 2)) (content ∷ in_sequence channel qs) (in_sequence channel qs)
-    by true e rest = (λ i. cond (e i && not (q.flags == 2)) (content ∷ rest i) (rest i))
-    by false e rest = rest
-
-kept-outside : (xs : List ChannelPackets) (i : ℕ) → length xs ≤ i → packets_at xs i ≡ no_packets
-kept-outside [] i h = refl
-kept-outside (x ∷ xs) zero h = absurd (omega arith)
-kept-outside (x ∷ xs) (suc i) h = kept-outside xs i (omega arith)
 
 -- the packets of a peer's events are those that are told
 same-received : (name : PeerRef) (es : List PeerEvent) → received (map (event_of name) es) ≡ packets_of es
@@ -185,6 +145,20 @@ shown-as : (s : Site) (count : ℕ) (e : HostEnd) (own : End) → IsHost s count
 shown-as s count e own k h (inl shown) = subst (λ (z : HostEnd). Shows s z own) (k.apart e h shown.0 shown.1 (inr shown.2)) shown.3
 shown-as s count e own k h (inr none) = absurd (none.0 e h refl)
 
+-- packets go by the mtu of the peer that stands
+mtu-of : (s : Site) (e : HostEnd) (own : End) (p : Peering) (channel : ℕ) → Shows s e own → named s.host.slots e.name ≡ Some p → submitted_at channel (Some e) ≢ [] → e.mtu ≡ p.terms.mtu
+mtu-of s e own p channel k stands some = elim k.mtu [
+  | inl none ↦ absurd (some (empty (less-or-not channel 256) none))
+  | inr goes ↦ sym goes.1 ∙ ap (λ (q : Peering). q.terms.mtu) (same-peer s.host e.name k.peer p k.shows stands)
+]
+  where
+    handed : Hands (Some e) own
+    handed = hands-some s e own k
+
+    empty : (channel < 256) ⊎ (256 ≤ channel) → own.submitted ≡ [] → submitted_at channel (Some e) ≡ []
+    empty (inl low) none = handed.submitted channel low ∙ ap (on_channel channel) none
+    empty (inr far) none = (handed.outside channel far).0
+
 -- an end with the other host of its connection
 abbrev pub ArePaired : Bool → Site → Type 0
 ArePaired joined s = (e : HostEnd) → Has s.ends e → (other : Site) × IsPaired (joined && e.connection == 0) s other e.connection
@@ -198,6 +172,7 @@ headline-at joined is_host s count k owned paired = record {
   one_life = λ e h. (let p = (paired e h).1 in
       let own = shown-as s count e p.one k h p.here in
       record { events = p.one.events; told = own.events; life = life-of (joined && e.connection == 0) p.one p.two p.lawful });
+  mtu = λ e p channel h stands some. (let pair = (paired e h).1 in mtu-of s e pair.one p channel (shown-as s count e pair.one k h pair.here) stands some);
 }
 
 -- both hosts
@@ -229,10 +204,18 @@ headline-side : (joined : Bool) (w : World) → Sound (λ x. joined && x == 0) w
 headline-side joined w s A = headline-at joined (λ address. true) w.a w.count s.a s.owned_a (λ e h. (w.b, paired joined w s e.connection))
 headline-side joined w s B = headline-at joined (λ address. true) w.b w.count s.b s.owned_b (λ e h. (w.a, swapped-pair (joined && e.connection == 0) w.a w.b e.connection (paired joined w s e.connection)))
 
+-- a connection that hasn't begun has no end that stands
+numbers : (joined : Bool) (w : World) → Sound (λ x. joined && x == 0) w → (x : ℕ) → AgreeBetween w.a w.b x
+numbers joined w s x = elim (less-or-not x w.count) [
+  | inl low ↦ agree-between (joined && x == 0) w.a w.b w.count x s.a s.b (s.pairs x low)
+  | inr far ↦ agree-none w.a w.b w.count x s.a far
+]
+
 has-headline : (joined : Bool) (w : World) → Sound (λ x. joined && x == 0) w → HasHeadline joined w
 has-headline joined w s = record {
   hosts = headline-side joined w s;
   ends = λ x. headline-between (joined && x == 0) w.a w.b w.count x s.a s.b (paired joined w s x);
+  numbers = numbers joined w s;
 }
 
 pub headline-run : OfEachRun (HasHeadline false)

@@ -17,4 +17,6 @@ pub mod Once
 pub mod Sent
 pub mod Owned
 pub mod Runs
+pub mod Channels
+pub mod Agreed
 pub mod Headlines

@@ -12,6 +12,8 @@ use Rattle.enet_codec.specs.Datagram.{SpellsDatagram}
 use Rattle.enet_codec.proofs.HeaderLaws.{one_header}
 use Rattle.enet_datagram.specs.Heading.{IsRead}
 use Rattle.enet_codec.specs.Message.{Message, Body, acknowledge, connect, verify_connect, disconnect, ping, send_reliable, send_unreliable, send_fragment, send_unsequenced, bandwidth_limit, throttle_configure, send_unreliable_fragment}
+use Rattle.enet_fragment.specs.declared.data.DataCommand.{DataCommand}
+use Rattle.enet_fragment.specs.DataCommand.{data_of}
 use Rattle.enet_outbox.specs.Outbox.{Outbox}
 use Rattle.enet_outbox.specs.Emission.{header_for, filled, HasDatagram}
 use Rattle.enet_outbox.proofs.Spelled.{datagram-spelled}
@@ -81,6 +83,7 @@ still-logged log more d k = record {
   spelled = k.spelled;
   logged = λ x h. Has-left log more x (k.logged x h);
   marked = k.marked;
+  alike = k.alike;
 }
 
 -- what goes into a log
@@ -118,6 +121,11 @@ noted-by h (send_unsequenced g p) mark own other xs os here there e = absurd (cc
 noted-by h (bandwidth_limit i o) mark own other xs os here there e = noted-as Control h.channel h.number mark (sent_on h.channel own) xs os e here
 noted-by h (throttle_configure i a d) mark own other xs os here there e = noted-as Control h.channel h.number mark (sent_on h.channel own) xs os e here
 noted-by h (send_unreliable_fragment f p) mark own other xs os here there e = noted-as Data h.channel h.number mark (sent_on h.channel own) xs os e here
+
+-- data commands have the mark of the end that puts them out
+data-put : (own other : End) (h : Head) (b : Body) (c : DataCommand) → data_of (record { head = h; body = b }) ≡ Some c → (put_by own other (record { head = h; body = b })).sent_then ≡ sent_on h.channel own
+data-put own other h (acknowledge number time) c e = absurd (cc)
+data-put own other h b c e = refl
 
 -- one text has one header
 pub same-header : (text : List ℕ) (g h : Header) (commands : List ℕ) (ms : List Message) → IsRead text g commands → SpellsDatagram text h ms → g ≡ h
@@ -232,6 +240,16 @@ goes-logged old new e own far now len q buf k out shows numbers others noted' d 
         subst (λ (l : List Mark). Has l (record mark { sent_then = (put m).sent_then })) (sym marks)
         (subst (Has (map (reached numbers others) (marks_of ms))) (noted m mark low is) (Has-map (reached numbers others) (marks_of ms) mark (Has-marks ms m mark there is)))
 
+    alike : (m : Message) (c : DataCommand) (mark : Mark) → m.head.channel < 255 → data_of m ≡ Some c → Has d.marks mark → mark.kind ≡ Data → mark.channel ≡ m.head.channel → mark.sent_then ≡ (put m).sent_then
+    alike m c mark low is there kind on =
+        let r = Has-from_map (reached numbers others) (marks_of ms) mark (subst (λ (l : List Mark). Has l mark) marks there) in
+        let kind-of : r.0.kind ≡ Data = ap (λ (x : Mark). x.kind) r.2 ∙ kind in
+        let on-it : r.0.channel ≡ m.head.channel = ap (λ (x : Mark). x.channel) r.2 ∙ on in
+        ap (λ (x : Mark). x.sent_then) (sym r.2)
+        ∙ (λ i. greatest_at (numbers_for (kind-of i) numbers others) (on-it i))
+        ∙ far-as m.head.channel low ∙ sym (sent-with m.head.channel own (λ (m : Message). record { message = m; sent_then = 0 }) ms (λ m. refl))
+        ∙ sym (data-put marking far m.head m.body c is)
+
     logged : IsLogged (own.log ++ map put ms) d
     logged = record {
       header = header;
@@ -241,6 +259,9 @@ goes-logged old new e own far now len q buf k out shows numbers others noted' d 
       logged = λ y there. Has-right own.log (map put ms) y there;
       marked = λ y mark there low is. (let r = Has-from_map put ms y there in
           subst (λ (z : Put). z.message.head.channel < 255 → mark_of z.message ≡ Some mark → Has d.marks (record mark { sent_then = z.sent_then })) r.2 (λ low' is'. marked r.0 mark r.1 low' is') low is);
+      alike = λ y c mark there low is here kind on. (let r = Has-from_map put ms y there in
+          subst (λ (z : Put). z.message.head.channel < 255 → data_of z.message ≡ Some c → mark.channel ≡ z.message.head.channel → mark.sent_then ≡ z.sent_then) r.2
+          (λ low' is' on'. alike r.0 c mark low' is' here kind on') low is on);
     }
 
 -- each slot is asked in vain

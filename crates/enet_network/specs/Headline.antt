@@ -1,21 +1,25 @@
--- The headline, of the lists that are kept in a world of two hosts: what was submitted and taken on each channel of an end, and its events.
-use Rattle.std.specs.Prelude.{◌≡◌, ◌<◌, ℕ, ◌&&◌, ◌==◌, Bool, true, List, [], ◌∷◌, map, Option, Some, None}
+-- The headline, of the lists that are kept in a world of two hosts: what was submitted and taken on each channel of an end, and its events; and what
+-- the peers of both ends of a connection agree on.
+use Rattle.std.specs.Prelude.{◌≡◌, ◌≢◌, ◌<◌, ℕ, ◌&&◌, ◌==◌, Bool, true, List, [], ◌∷◌, map, Option, Some, None}
 use Rattle.enet_types.specs.declared.address.Addr.{Addr}
 use Rattle.enet_types.specs.declared.event.Event.{Event}
 use Rattle.enet_types.specs.declared.event.Event.TheVariants as events
 use Rattle.enet_types.specs.declared.event.PeerRef.{PeerRef}
 use Rattle.enet_types.specs.declared.packet.Packet.{Packet}
 use Rattle.enet_peer.specs.declared.parts.PeerEvent.{PeerEvent}
+use Rattle.enet_peer.specs.Peering.{Peering}
 use Rattle.enet_link.specs.Follows.{Follows}
 use Rattle.enet_link.specs.Steps.{Has, bodies_of}
 use Rattle.enet_connection.specs.Connection.{of_channel, in_sequence}
 use Rattle.enet_connection.specs.Law.{IsOneLife}
+use Rattle.enet_host.specs.Host.{named}
 use Rattle.enet_host.specs.Calls.{address_named}
 use Rattle.enet_slot.specs.Calls.{event_of}
 use Rattle.enet_network.specs.declared.event.Side.{Side}
 use Rattle.enet_network.specs.declared.event.Side.TheVariants.{A, B}
 use Rattle.enet_network.specs.Log.{packets_at}
 use Rattle.enet_network.specs.Network.{HostEnd, Site, end_of}
+use Rattle.enet_network.specs.Numbers.{AgreeBetween}
 use Rattle.enet_network.specs.Shown.{on_channel}
 use Rattle.enet_network.specs.World.{World, site_of}
 
@@ -71,6 +75,10 @@ abbrev pub AreEnds : (Addr → Bool) → Site → Type 0
 AreEnds is_host s = (name : PeerRef) (address : Addr) → address_named s.host.slots name ≡ Some address → is_host address ≡ true
     → (e : HostEnd) × Has s.ends e × (e.name ≡ name)
 
+-- the mtu by which the packets of an end go, once one was submitted, is that of its peer, as long as that stands
+abbrev pub GoByPeers : Site → Type 0
+GoByPeers s = (e : HostEnd) (p : Peering) (channel : ℕ) → Has s.ends e → named s.host.slots e.name ≡ Some p → submitted_at channel (Some e) ≢ [] → e.mtu ≡ p.terms.mtu
+
 -- the headline at a host; all that isn't at a host's address is strangers', and `joined` says that connection 0 stands from the start
 pub record HasHeadlineAt (joined : Bool) (is_host : Addr → Bool) (s : Site) : Type 0 where
   pub all : AreEnds is_host s
@@ -81,6 +89,7 @@ pub record HasHeadlineAt (joined : Bool) (is_host : Addr → Bool) (s : Site) : 
   -- the packets that are kept of a channel are those of the events
   pub told : (e : HostEnd) → Has s.ends e → (channel : ℕ) → channel < 256 → (packets_at e.channels channel).taken ≡ on_channel channel (received e.events)
   pub one_life : (e : HostEnd) → Has s.ends e → IsLife (joined && e.connection == 0) e.name e.events
+  pub mtu : GoByPeers s
 
 -- and between the two ends of a connection
 pub record HasHeadlineBetween (one two : Option HostEnd) : Type 0 where
@@ -91,3 +100,4 @@ pub record HasHeadlineBetween (one two : Option HostEnd) : Type 0 where
 pub record HasHeadline (joined : Bool) (w : World) : Type 0 where
   pub hosts : (side : Side) → HasHeadlineAt joined (λ address. true) (site_of w side)
   pub ends : (x : ℕ) → HasHeadlineBetween (end_at w x A) (end_at w x B)
+  pub numbers : (x : ℕ) → AgreeBetween w.a w.b x

@@ -6,4 +6,5 @@ pub mod Steps
 pub mod World
 pub mod Shown
 pub mod Law
+pub mod Numbers
 pub mod Headline

@@ -4,6 +4,8 @@ use Rattle.enet_types.specs.declared.event.PeerRef.{PeerRef}
 use Rattle.enet_types.specs.declared.packet.Packet.{Packet}
 use Rattle.enet_codec.specs.declared.header.Header.{Header}
 use Rattle.enet_codec.specs.Datagram.{SpellsDatagram}
+use Rattle.enet_fragment.specs.declared.data.DataCommand.{DataCommand}
+use Rattle.enet_fragment.specs.DataCommand.{data_of}
 use Rattle.enet_peer.specs.declared.parts.PeerState.TheVariants as state
 use Rattle.enet_peer.specs.Peering.{Peering}
 use Rattle.enet_link.specs.Steps.{Has}
@@ -15,6 +17,7 @@ use Rattle.enet_host.specs.Host.{Host}
 use Rattle.enet_slot.specs.Calls.{event_of}
 use Rattle.enet_isolation.specs.Law.{IsAt}
 use Rattle.enet_network.specs.declared.mark.Mark.{Mark}
+use Rattle.enet_network.specs.declared.mark.MarkKind.TheVariants.{Data}
 use Rattle.enet_network.specs.Log.{Logged, packets_at, greatest_at}
 use Rattle.enet_network.specs.Marks.{mark_of}
 use Rattle.enet_network.specs.Network.{HostEnd, Site, numbers_of}
@@ -29,7 +32,7 @@ pub record ShowsPeer (h : Host) (name : PeerRef) (p : Peering) : Type 0 where
   pub gone : p.state ≡ state.Free → IsGone h name
 
 -- a datagram of a log: its bytes spell a header, which names this peer, and commands that the end put out, and its marks are theirs on the channels
--- below 255
+-- below 255, those of the data commands of a channel alike
 pub record IsLogged (log : List Put) (d : Logged) : Type 0 where
   pub header : Header
   pub peer : d.peer ≡ header.peer
@@ -37,6 +40,8 @@ pub record IsLogged (log : List Put) (d : Logged) : Type 0 where
   pub spelled : SpellsDatagram d.text header (messages_of puts)
   pub logged : (x : Put) → Has puts x → Has log x
   pub marked : (x : Put) (mark : Mark) → Has puts x → x.message.head.channel < 255 → mark_of x.message ≡ Some mark → Has d.marks (record mark { sent_then = x.sent_then })
+  pub alike : (x : Put) (c : DataCommand) (mark : Mark) → Has puts x → x.message.head.channel < 255 → data_of x.message ≡ Some c → Has d.marks mark → mark.kind ≡ Data → mark.channel ≡ x.message.head.channel
+      → mark.sent_then ≡ x.sent_then
 
 -- the packets of a channel
 abbrev pub on_channel : ℕ → List Packet → List Packet

@@ -6,7 +6,8 @@
 //! all that where a host is among others and strangers (`HappensAmong`), specs/World the events of a world of two hosts with the
 //! refusals that each meets; there is no stranger there.
 //!
-//! specs/Headline has the headline at a host and between the two ends of a connection, of the lists that are kept.
+//! specs/Headline has the headline at a host and between the two ends of a connection, of the lists that are kept, and specs/Numbers
+//! what the peers of the two ends agree on.
 //!
 //! Proved, of these definitions, which the calls of `enet_site` and `enet_world` meet: what happens at a host is events of each of its
 //! connections (`each_thing_is_events`, `each_thing_at`); over every run of two hosts the law of one connection holds of each
@@ -77,7 +78,12 @@ pub fn one_world()
 /// subsequence of what the user of the other submitted on it, each packet whole and once, that leaves out no reliable packet
 /// before its last; each user takes at most one Connect, before all else, and nothing after a Disconnect, all of the end's own
 /// peer, and the packets that are kept are those of these events. Each peer of a host is that of an end, so what is submitted or
-/// taken is kept; no two ends of a host share a connection or a name.
+/// taken is kept; no two ends of a host share a connection or a name; the mtu by which an end's packets go is its peer's.
+///
+/// As long as the peers of both ends of a connection stand, they agree on the numbers of each channel that has sequenced data:
+/// an acknowledgement removes a command only if the receiver holds or dispatched it, or no longer dispatches; the front is at
+/// most 16,384 numbers behind the oldest that wasn't acknowledged; and a wire number that comes in time is read as the number
+/// that was meant, or as nothing.
 ///
 /// The clauses are those of `one_world`, from which it comes.
 pub fn each_connection_in_order()

@@ -90,6 +90,11 @@ impl World {
     /// the other submitted on it, each packet whole and once, that leaves out no reliable packet before its last; each user takes at
     /// most one Connect, before all else, and nothing after a Disconnect, all of the end's own peer. Each peer of a host is that of
     /// an end, so what is submitted or taken is kept; no two ends of a host share a connection or a name.
+    ///
+    /// As long as the peers of both ends of a connection stand, they agree on the numbers of each channel that has sequenced data: an
+    /// acknowledgement removes a command only if the receiver holds or dispatched it, or no longer dispatches; the front is at most
+    /// 16,384 numbers behind the oldest that wasn't acknowledged; and a wire number that comes in time is read as the number that was
+    /// meant, or as nothing.
     pub fn headline(&self)
         ensures { HasHeadline self.now.joined self.now.world }
     {
