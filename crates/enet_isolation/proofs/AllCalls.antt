@@ -8,9 +8,10 @@ use Rattle.enet_peer.specs.Peering.{Peering}
 use Rattle.enet_slot.specs.Slot.{SlotState, greatest}
 use Rattle.enet_host.specs.Host.{Host, slot_named, named}
 use Rattle.enet_isolation.specs.Calls.{Call, Steps}
+use Rattle.enet_isolation.specs.Common.{common_of}
 use Rattle.enet_isolation.specs.Deeds.{Deed, AllAlone}
 use Rattle.enet_isolation.specs.Falling.{Fell, fell_in, fell_to, FellAll, counted}
-use Rattle.enet_isolation.specs.Law.{Fares, untouched, goes_on, begins, having_emitted, held_if, IsIsolated, Isolation}
+use Rattle.enet_isolation.specs.Law.{Stays, Fares, untouched, goes_on, begins, having_emitted, held_if, IsIsolated, Isolation}
 use Rattle.enet_isolation.proofs.Slots.{held}
 use Rattle.enet_isolation.proofs.OneCall.{one-call}
 use Rattle.enet_isolation.proofs.Names.{free-or, IsThere, named-there, there-slot, there-named, IsSpent, same-generations, past-freed, spent-step, spent-fell, spent-nobody}
@@ -33,27 +34,28 @@ live-in state.Free p n = absurd (n refl)
 live-in st p n = refl
 
 -- the deeds of one call of a name
-fell-there : (h : Host) (name : PeerRef) (p : Peering) (c : Call) (ds : List Deed) (x : IsThere h.slots name p) → Fell h name.slot x.slot p c ds → fell_to h name.slot (slot_named h.slots name) c ds
+fell-there : (h : Host) (name : PeerRef) (p : Peering) (c : Call) (ds : List Deed) (x : IsThere h.slots name p) → Fell (common_of h) name.slot x.slot p c ds → fell_to (common_of h) name.slot (slot_named h.slots name) c ds
 fell-there h name p c ds x f =
-    subst (λ (o : Option SlotState). fell_to h name.slot o c ds) (sym (there-slot h.slots name p x)) (subst (λ (o : Option Peering). fell_in h name.slot x.slot o c ds) (sym x.peer) f)
+    subst (λ (o : Option SlotState). fell_to (common_of h) name.slot o c ds) (sym (there-slot h.slots name p x)) (subst (λ (o : Option Peering). fell_in (common_of h) name.slot x.slot o c ds) (sym x.peer) f)
 
 -- one call and those after it
 isolated-step : (c : Call) (cs : List Call) (old new : Host) (steps : Steps (c ∷ cs) old new) (name : PeerRef) (p : Peering) → old.config.generations ≤ greatest → p.state ≢ state.Free → (x : IsThere old.slots name p)
-    → (t : SlotState) → slice_get steps.0.slots name.slot ≡ Some t → Fares c old name.slot x.slot t
+    → (t : SlotState) → slice_get steps.0.slots name.slot ≡ Some t → Fares c (common_of old) name.slot x.slot t
     → ((q : Peering) → q.state ≢ state.Free → IsThere steps.0.slots name q → IsIsolated cs steps.0 new steps.2 name q) → IsIsolated (c ∷ cs) old new steps name p
 isolated-step c cs old new steps name p low live x t there (untouched none not' e) later =
     let r : IsIsolated cs steps.0 new steps.2 name p = later p live (record { slot = t; there = there; same = ap (λ (s : SlotState). s.generation) e ∙ x.same; peer = ap (λ (s : SlotState). s.peer) e ∙ x.peer }) in
-    record { deeds = r.deeds; fell = ([], r.deeds, refl, fell-there old name p c [] x (none p x.peer), r.fell); after = r.after; alone = r.alone; is = r.is }
+    let k : Stays c (common_of old) name.slot x.slot p = none p x.peer in
+    record { deeds = k.deeds ++ r.deeds; fell = (k.deeds, r.deeds, refl, fell-there old name p c k.deeds x k.fell, r.fell); after = r.after; alone = alone-append k.deeds r.deeds p p r.after k.alone r.alone; is = r.is }
 isolated-step c cs old new steps name p low live x t there (goes_on p2 q ds has fell alone e) later = by (free-or q.state)
   where
     n : ℕ
-    n = counted c old name.slot x.slot
+    n = counted c (common_of old) name.slot x.slot
 
     same : p2 ≡ p
     same = let y : ◌≡◌ {A = Option Peering} (Some p2) (Some p) = sym has ∙ x.peer in cc
 
-    fell2 : fell_to old name.slot (slot_named old.slots name) c ds
-    fell2 = fell-there old name p c ds x (subst (λ (y : Peering). Fell old name.slot x.slot y c ds) same fell)
+    fell2 : fell_to (common_of old) name.slot (slot_named old.slots name) c ds
+    fell2 = fell-there old name p c ds x (subst (λ (y : Peering). Fell (common_of old) name.slot x.slot y c ds) same fell)
 
     alone2 : AllAlone ds p q
     alone2 = subst (λ (y : Peering). AllAlone ds y q) same alone
@@ -74,7 +76,7 @@ isolated : (cs : List Call) (old new : Host) (steps : Steps cs old new) (name : 
 isolated [] old new steps name p low live x =
     record { deeds = []; fell = refl; after = p; alone = refl; is = ap (λ (h : Host). named h.slots name) (sym steps) ∙ there-named old.slots name p x ∙ sym (live-in p.state p live) }
 isolated (c ∷ cs) old new steps name p low live x =
-    let y : (t : SlotState) × (slice_get steps.0.slots name.slot ≡ Some t) × Fares c old name.slot x.slot t = one-call c old steps.0 steps.1 name.slot x.slot x.there in
+    let y : (t : SlotState) × (slice_get steps.0.slots name.slot ≡ Some t) × Fares c (common_of old) name.slot x.slot t = one-call c old steps.0 steps.1 name.slot x.slot x.there in
     isolated-step c cs old new steps name p low live x y.0 y.1 y.2
     (λ q stays z. isolated cs steps.0 new steps.2 name q (let g : steps.0.config.generations ≡ old.config.generations = same-generations c old steps.0 steps.1 in omega arith) stays z)
 

@@ -1,5 +1,6 @@
 pub mod Lists
 pub mod Slots
+pub mod Stopping
 pub mod Coming
 pub mod Single
 pub mod Ticking

@@ -10,6 +10,7 @@ use Rattle.enet_slot.specs.Slot.{SlotState, with_peer, vacated, greatest}
 use Rattle.enet_host.specs.Host.{Host, with_generation, slot_named, peer_in, named}
 use Rattle.enet_isolation.specs.Calls.{Call, Acts}
 use Rattle.enet_isolation.specs.Calls as call
+use Rattle.enet_isolation.specs.Common.{common_of}
 use Rattle.enet_isolation.specs.Falling.{fell_in, fell_to, Begins, asks, answers, counted}
 use Rattle.enet_isolation.specs.Law.{Fares, untouched, goes_on, begins, having_emitted}
 use Rattle.enet_isolation.proofs.Slots.{held, freed-in}
@@ -93,12 +94,12 @@ past-freed new name s t q n low reached free e = by (nat_lt s.generation greates
         inr (omega arith, ap (λ (x : SlotState). x.peer) same)
 
 -- a slot that is given keeps its generation
-begun-generation : (c : Call) (h : Host) (i : ℕ) (s t : SlotState) → Begins c h i s t → t.generation ≡ s.generation
+begun-generation : (c : Call) (h : Host) (i : ℕ) (s t : SlotState) → Begins c (common_of h) i s t → t.generation ≡ s.generation
 begun-generation c h i s t (asks address channels info word is some at) = refl
 begun-generation c h i s t (answers from bytes commands header o is read stranger offer taken new at) = refl
 
 -- a spent name stays so
-spent-in : (c : Call) (old new : Host) (name : PeerRef) (s t : SlotState) → new.config.generations ≡ old.config.generations → old.config.generations ≤ greatest → Fares c old name.slot s t → IsSpentIn old name s → IsSpentIn new name t
+spent-in : (c : Call) (old new : Host) (name : PeerRef) (s t : SlotState) → new.config.generations ≡ old.config.generations → old.config.generations ≤ greatest → Fares c (common_of old) name.slot s t → IsSpentIn old name s → IsSpentIn new name t
 spent-in c old new name s t same low (untouched none not' e) (inl past) = inl (let g : t.generation ≡ s.generation = ap (λ (x : SlotState). x.generation) e in omega arith)
 spent-in c old new name s t same low (untouched none not' e) (inr over) =
     let g : t.generation ≡ s.generation = ap (λ (x : SlotState). x.generation) e in
@@ -107,7 +108,7 @@ spent-in c old new name s t same low (untouched none not' e) (inr over) =
 spent-in c old new name s t same low (goes_on p q ds has fell alone e) (inl past) = by (free-or q.state)
   where
     n : ℕ
-    n = counted c old name.slot s
+    n = counted c (common_of old) name.slot s
 
     by : (q.state ≡ state.Free) ⊎ (q.state ≢ state.Free) → IsSpentIn new name t
     by (inl free) = past-freed new name s t q n (let a : new.config.generations ≡ old.config.generations = same in let b : old.config.generations ≤ greatest = low in omega arith) (let a : name.generation < s.generation = past in omega arith) free e
@@ -118,7 +119,7 @@ spent-in c old new name s t same low (begins none left b) (inr over) = absurd (l
 
 pub spent-step : (c : Call) (old new : Host) (name : PeerRef) → old.config.generations ≤ greatest → Acts c old new → IsSpent old name → IsSpent new name
 spent-step c old new name low acts x =
-    let y : (t : SlotState) × (slice_get new.slots name.slot ≡ Some t) × Fares c old name.slot x.slot t = one-call c old new acts name.slot x.slot x.there in
+    let y : (t : SlotState) × (slice_get new.slots name.slot ≡ Some t) × Fares c (common_of old) name.slot x.slot t = one-call c old new acts name.slot x.slot x.there in
     record { slot = y.0; there = y.1; past = spent-in c old new name x.slot y.0 (same-generations c old new acts) low y.2 x.past }
 
 -- a spent name means nobody, and nothing falls to it
@@ -126,17 +127,17 @@ empty-if : (h : Host) (name : PeerRef) (s : SlotState) → IsSpentIn h name s �
 empty-if h name s (inl past) t = absurd (let e : s.generation ≡ name.generation = grind (arith, nat_tests) in omega arith)
 empty-if h name s (inr over) t = over.1
 
-fell-if : (h : Host) (i : ℕ) (s : SlotState) (c : Call) (b : Bool) → (b ≡ true → s.peer ≡ None) → fell_to h i (cond b (Some s) None) c []
-fell-if h i s c true none = subst (λ (o : Option Peering). fell_in h i s o c []) (sym (none refl)) refl
+fell-if : (h : Host) (i : ℕ) (s : SlotState) (c : Call) (b : Bool) → (b ≡ true → s.peer ≡ None) → fell_to (common_of h) i (cond b (Some s) None) c []
+fell-if h i s c true none = subst (λ (o : Option Peering). fell_in (common_of h) i s o c []) (sym (none refl)) refl
 fell-if h i s c false none = refl
 
 nobody-if : (s : SlotState) (b : Bool) → (b ≡ true → s.peer ≡ None) → peer_in (cond b (Some s) None) ≡ None
 nobody-if s true none = none refl
 nobody-if s false none = refl
 
-pub spent-fell : (h : Host) (name : PeerRef) (c : Call) → IsSpent h name → fell_to h name.slot (slot_named h.slots name) c []
+pub spent-fell : (h : Host) (name : PeerRef) (c : Call) → IsSpent h name → fell_to (common_of h) name.slot (slot_named h.slots name) c []
 spent-fell h name c x =
-    subst (λ (o : Option SlotState). fell_to h name.slot (with_generation name.generation o) c []) (sym x.there)
+    subst (λ (o : Option SlotState). fell_to (common_of h) name.slot (with_generation name.generation o) c []) (sym x.there)
     (fell-if h name.slot x.slot c (x.slot.generation == name.generation) (empty-if h name x.slot x.past))
 
 pub spent-nobody : (h : Host) (name : PeerRef) → IsSpent h name → named h.slots name ≡ None

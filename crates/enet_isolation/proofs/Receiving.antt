@@ -19,23 +19,24 @@ use Rattle.enet_codec.specs.Message.{Message, connect}
 use Rattle.enet_codec.proofs.HeaderLaws.{one_header}
 use Rattle.enet_codec.proofs.Laws.{one_spelling}
 use Rattle.enet_peer.specs.Peering.{Peering}
-use Rattle.enet_datagram.specs.Heading.{IsRead, IsOffer}
+use Rattle.enet_datagram.specs.Heading.{IsUnreadable, IsRead, IsOffer}
 use Rattle.enet_slot.specs.Slot.{SlotState, name_of}
 use Rattle.enet_host.specs.Host.{Host}
 use Rattle.enet_slot.specs.Giving.{is_vacant, is_available, asking, answering}
 use Rattle.enet_host.specs.Opening.{available, Connects}
 use Rattle.enet_host.specs.Opening as opening
-use Rattle.enet_slot.specs.Hearing.{no_peer, stopped}
-use Rattle.enet_host.specs.Receiving.{is_known, Offers, Arrives, handled_one}
+use Rattle.enet_slot.specs.Hearing.{no_peer, refused_by_slot, stopped}
+use Rattle.enet_host.specs.Receiving.{refused_by, is_known, Offers, Arrives, handled_one}
 use Rattle.enet_host.specs.Receiving as receiving
 use Rattle.enet_isolation.specs.Calls.{Call}
 use Rattle.enet_isolation.specs.Calls as call
-use Rattle.enet_isolation.specs.Falling.{Reaches, unreadable, elsewhere, here, comings, asks, answers}
+use Rattle.enet_isolation.specs.Common.{common_of}
+use Rattle.enet_isolation.specs.Falling.{Fell, unreadable, elsewhere, turned_away, here, asks, answers}
 use Rattle.enet_isolation.specs.Law.{goes_on, begins}
 use Rattle.enet_isolation.proofs.Lists.{same-or}
 use Rattle.enet_isolation.proofs.Coming.{Came, came}
 use Rattle.enet_isolation.proofs.Slots.{counted-same}
-use Rattle.enet_isolation.proofs.Single.{Each, FellNone, BeginsNot, begins-at, each-none, each-set}
+use Rattle.enet_isolation.proofs.Single.{Each, StaysAt, idle, BeginsNot, begins-at, each-none, each-set}
 
 -- the first place that passes passes
 position-passes : {X : Type 0} (p : X → Bool) (xs : List X) (j : ℕ) (x : X) → position p xs ≡ Some j → slice_get xs j ≡ Some x → p x ≡ true
@@ -74,15 +75,15 @@ refused-begins h address channels info word why i s u (answers from bytes comman
 
 pub each-connects : (h : Host) (address : Addr) (channels info word : ℕ) (answer : Result PeerRef Refusal) (slots after : List SlotState) → slots ≡ h.slots → Connects h.config h.clock slots address channels info word answer after
     → Each (call.Connect address channels info word answer) h after
-each-connects h address channels info word answer slots after same (opening.no_channel zero-channels) = each-none _ h slots (λ i s. refl) same (λ i s p. refl) (refused-begins h address channels info word refusal.BadConfig)
-each-connects h address channels info word answer slots after same (opening.no_slot some free) = each-none _ h slots (λ i s. refl) same (λ i s p. refl) (refused-begins h address channels info word refusal.NoSlot)
-each-connects h address channels info word answer slots after same (opening.no_memory j some free) = each-none _ h slots (λ i s. refl) same (λ i s p. refl) (refused-begins h address channels info word refusal.Memory)
+each-connects h address channels info word answer slots after same (opening.no_channel zero-channels) = each-none _ h slots (λ i s. refl) same (λ i s p there held. idle _ (common_of h) i s p refl) (refused-begins h address channels info word refusal.BadConfig)
+each-connects h address channels info word answer slots after same (opening.no_slot some free) = each-none _ h slots (λ i s. refl) same (λ i s p there held. idle _ (common_of h) i s p refl) (refused-begins h address channels info word refusal.NoSlot)
+each-connects h address channels info word answer slots after same (opening.no_memory j some free) = each-none _ h slots (λ i s. refl) same (λ i s p there held. idle _ (common_of h) i s p refl) (refused-begins h address channels info word refusal.Memory)
 each-connects h address channels info word answer slots after same (opening.asks j s some free there) =
     let open' : (s.peer ≡ None) × (s.generation < h.config.generations) = is_open h.config slots j s free there in
     let at : available h.config h.slots ≡ Some j = ap (λ (xs : List SlotState). available h.config xs) (sym same) ∙ free in
     subst (λ (xs : List SlotState). Each (call.Connect address channels info word (Ok (name_of j s))) h (slice_set xs j (asking h.config h.clock j s address channels info word))) (sym same)
     (each-set (call.Connect address channels info word (Ok (name_of j s))) h j s (asking h.config h.clock j s address channels info word) (ap (λ (xs : List SlotState). slice_get xs j) (sym same) ∙ there)
-    (begins open'.0 open'.1 (asks address channels info word refl some at)) (λ i x. refl) (λ i x p other. refl) (apart-begins (call.Connect address channels info word (Ok (name_of j s))) h j at))
+    (begins open'.0 open'.1 (asks address channels info word refl some at)) (λ i x. refl) (λ i other x p there held. idle _ (common_of h) i x p refl) (apart-begins (call.Connect address channels info word (Ok (name_of j s))) h j at))
 
 -- a datagram is read in one way
 append-same : (a b x y : List ℕ) → a ≡ b → a ++ x ≡ b ++ y → x ≡ y
@@ -130,45 +131,50 @@ heard-begins h from bytes commands header answer i read known s u (answers f2 b2
     absurd (known (ap (λ (x : Header). x.peer) same.0 ∙ stranger))
 
 -- a datagram that reaches no peer
-away : (h : Host) (from : Addr) (bytes : List ℕ) (answer : Received) (header : Header) (commands : List ℕ) → IsRead bytes header commands → header.peer ≡ no_peer → FellNone (call.Receive from bytes answer) h
-away h from bytes answer header commands read e i s p = elsewhere header commands read (inl e)
+unread : (h : Host) (from : Addr) (bytes : List ℕ) (answer : Received) (why : Stop) → IsUnreadable bytes why → (i : ℕ) → StaysAt (call.Receive from bytes answer) h i
+unread h from bytes answer why u i s p there held = idle (call.Receive from bytes answer) (common_of h) i s p (unreadable why u)
 
-each-stopped : (h : Host) (from : Addr) (bytes : List ℕ) (why : Stop) (slots : List SlotState) → slots ≡ h.slots → FellNone (call.Receive from bytes (stopped why)) h → Each (call.Receive from bytes (stopped why)) h slots
-each-stopped h from bytes why slots same none = each-none (call.Receive from bytes (stopped why)) h slots (λ i s. refl) same none (stopped-begins h from bytes why)
+away : (h : Host) (from : Addr) (bytes : List ℕ) (answer : Received) (header : Header) (commands : List ℕ) (i : ℕ) → IsRead bytes header commands → ((header.peer ≡ no_peer) ⊎ (header.peer ≢ i)) → StaysAt (call.Receive from bytes answer) h i
+away h from bytes answer header commands i read e s p there held = idle (call.Receive from bytes answer) (common_of h) i s p (elsewhere header commands read e)
+
+each-stopped : (h : Host) (from : Addr) (bytes : List ℕ) (why : Stop) (slots : List SlotState) → slots ≡ h.slots → ((i : ℕ) → StaysAt (call.Receive from bytes (stopped why)) h i) → Each (call.Receive from bytes (stopped why)) h slots
+each-stopped h from bytes why slots same stays = each-none (call.Receive from bytes (stopped why)) h slots (λ i s. refl) same stays (stopped-begins h from bytes why)
 
 each-offered : (h : Host) (from : Addr) (bytes commands : List ℕ) (header : Header) (o : Offer) (answer : Received) (slots after : List SlotState) → slots ≡ h.slots → IsRead bytes header commands → header.peer ≡ no_peer → IsOffer commands o
     → Offers h.config h.clock slots from o answer after → Each (call.Receive from bytes answer) h after
-each-offered h from bytes commands header o answer slots after same read e offer (receiving.refused why r) = each-stopped h from bytes why slots same (away h from bytes (stopped why) header commands read e)
+each-offered h from bytes commands header o answer slots after same read e offer (receiving.refused why r) = each-stopped h from bytes why slots same (λ i. away h from bytes (stopped why) header commands i read (inl e))
 each-offered h from bytes commands header o answer slots after same read e offer (receiving.repeated r k) =
-    each-none (call.Receive from bytes handled_one) h slots (λ i s. refl) same (away h from bytes handled_one header commands read e)
+    each-none (call.Receive from bytes handled_one) h slots (λ i s. refl) same (λ i. away h from bytes handled_one header commands i read (inl e))
     (λ i. known-begins h from bytes commands header o i read offer (ap (λ (xs : List SlotState). is_known xs from o) (sym same) ∙ k))
-each-offered h from bytes commands header o answer slots after same read e offer (receiving.no_slot r k n) = each-stopped h from bytes stop.NoSlot slots same (away h from bytes (stopped stop.NoSlot) header commands read e)
-each-offered h from bytes commands header o answer slots after same read e offer (receiving.no_memory j r k n) = each-stopped h from bytes stop.Memory slots same (away h from bytes (stopped stop.Memory) header commands read e)
+each-offered h from bytes commands header o answer slots after same read e offer (receiving.no_slot r k n) = each-stopped h from bytes stop.NoSlot slots same (λ i. away h from bytes (stopped stop.NoSlot) header commands i read (inl e))
+each-offered h from bytes commands header o answer slots after same read e offer (receiving.no_memory j r k n) = each-stopped h from bytes stop.Memory slots same (λ i. away h from bytes (stopped stop.Memory) header commands i read (inl e))
 each-offered h from bytes commands header o answer slots after same read e offer (receiving.answers j s r k free there) =
     let open' : (s.peer ≡ None) × (s.generation < h.config.generations) = is_open h.config slots j s free there in
     let at : available h.config h.slots ≡ Some j = ap (λ (xs : List SlotState). available h.config xs) (sym same) ∙ free in
     let new : is_known h.slots from o ≡ false = ap (λ (xs : List SlotState). is_known xs from o) (sym same) ∙ k in
     subst (λ (xs : List SlotState). Each (call.Receive from bytes handled_one) h (slice_set xs j (answering h.config h.clock j s from o))) (sym same)
     (each-set (call.Receive from bytes handled_one) h j s (answering h.config h.clock j s from o) (ap (λ (xs : List SlotState). slice_get xs j) (sym same) ∙ there)
-    (begins open'.0 open'.1 (answers from bytes commands header o refl read e offer r new at)) (λ i x. refl) (λ i x p other. away h from bytes handled_one header commands read e i x p)
+    (begins open'.0 open'.1 (answers from bytes commands header o refl read e offer r new at)) (λ i x. refl) (λ i other. away h from bytes handled_one header commands i read (inl e))
     (apart-begins (call.Receive from bytes handled_one) h j at))
 
-turned : (h : Host) (from : Addr) (bytes commands : List ℕ) (header : Header) (why : Stop) → IsRead bytes header commands → FellNone (call.Receive from bytes (stopped why)) h
-turned h from bytes commands header why read i s p = by (same-or header.peer i)
+-- a datagram that the slot turns away
+turned : (h : Host) (from : Addr) (bytes commands : List ℕ) (header : Header) (why : Stop) → IsRead bytes header commands → header.peer ≢ no_peer → refused_by h.slots from header ≡ Some why → (i : ℕ) → StaysAt (call.Receive from bytes (stopped why)) h i
+turned h from bytes commands header why read known refused i s p there held = idle (call.Receive from bytes (stopped why)) (common_of h) i s p (by (same-or header.peer i))
   where
-    by : (header.peer ≡ i) ⊎ (header.peer ≢ i) → Reaches i h.clock bytes (stopped why) []
-    by (inl e) = here header commands [] read e tt (omega arith)
+    by : (header.peer ≡ i) ⊎ (header.peer ≢ i) → Fell (common_of h) i s p (call.Receive from bytes (stopped why)) []
+    by (inl e) = turned_away header commands why read known e (ap (λ (o : Option SlotState). refused_by_slot from header.session o) (sym (ap (λ (k : ℕ). slice_get h.slots k) e ∙ there)) ∙ refused) refl
     by (inr n) = elsewhere header commands read (inr n)
 
 pub each-arrives : (h : Host) (from : Addr) (bytes : List ℕ) (answer : Received) (slots after : List SlotState) → slots ≡ h.slots → Arrives h.config h.clock slots from bytes answer after → Each (call.Receive from bytes answer) h after
-each-arrives h from bytes answer slots after same (receiving.unreadable why u) = each-stopped h from bytes why slots same (λ i s p. unreadable why u)
-each-arrives h from bytes answer slots after same (receiving.no_offer header commands read e none) = each-stopped h from bytes stop.UnknownPeer slots same (away h from bytes (stopped stop.UnknownPeer) header commands read e)
+each-arrives h from bytes answer slots after same (receiving.unreadable why u) = each-stopped h from bytes why slots same (unread h from bytes (stopped why) why u)
+each-arrives h from bytes answer slots after same (receiving.no_offer header commands read e none) = each-stopped h from bytes stop.UnknownPeer slots same (λ i. away h from bytes (stopped stop.UnknownPeer) header commands i read (inl e))
 each-arrives h from bytes answer slots after same (receiving.offered header commands o reply left read e offer comes) = each-offered h from bytes commands header o reply slots left same read e offer comes
-each-arrives h from bytes answer slots after same (receiving.turned_away header commands why read n refused) = each-stopped h from bytes why slots same (turned h from bytes commands header why read)
+each-arrives h from bytes answer slots after same (receiving.turned_away header commands why read n refused) =
+    each-stopped h from bytes why slots same (turned h from bytes commands header why read n (ap (λ (xs : List SlotState). refused_by xs from header) (sym same) ∙ refused))
 each-arrives h from bytes answer slots after same (receiving.heard header commands s t reply read n open' there hears) =
-    let x : Came h.clock header.sent 0 commands hears.peer reply hears.after = came h.clock header.sent 0 commands hears.peer reply hears.after (omega arith) hears.handled in
+    let x : Came h.clock header.sent 0 commands hears.peer reply hears.after = came h.clock header.sent 0 commands hears.peer reply hears.after hears.handled in
+    let taken : refused_by_slot from header.session (Some s) ≡ None = ap (λ (o : Option SlotState). refused_by_slot from header.session o) (sym there) ∙ open' in
     subst (λ (xs : List SlotState). Each (call.Receive from bytes reply) h (slice_set xs header.peer t)) (sym same)
     (each-set (call.Receive from bytes reply) h header.peer s t (ap (λ (xs : List SlotState). slice_get xs header.peer) (sym same) ∙ there)
-    (goes_on hears.peer hears.after (comings h.clock header.sent x.messages) hears.held
-    (here header commands x.messages read refl x.spelled (x.count ∙ (omega arith))) x.alone (hears.left ∙ counted-same s hears.after s.emitted refl))
-    (λ i y. refl) (λ i y p other. elsewhere header commands read (inr other)) (λ i other. heard-begins h from bytes commands header reply i read n))
+    (goes_on hears.peer hears.after x.deeds hears.held (here header commands x.deeds read n refl taken x.falls) x.alone (hears.left ∙ counted-same s hears.after s.emitted refl))
+    (λ i y. refl) (λ i other. away h from bytes reply header commands i read (inr other)) (λ i other. heard-begins h from bytes commands header reply i read n))

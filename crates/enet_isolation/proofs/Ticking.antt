@@ -1,5 +1,5 @@
 -- A tick and new bandwidths, which change each slot.
-use Rattle.std.proofs.Common.{◌≡◌, ◌≢◌, ℕ, Bool, true, false, cond, ◌&&◌, List, [], ◌∷◌, map, refl, sym, ap, ◌∙◌, Option, Some, None}
+use Rattle.std.proofs.Common.{◌≡◌, ◌≢◌, ℕ, Bool, true, false, cond, ◌&&◌, List, [], ◌∷◌, map, refl, sym, ap, ◌∙◌, Option, Some, None, Ok}
 use Rattle.std.specs.List.{slice_get, count_by}
 use Rattle.enet_peer.specs.declared.parts.PeerState.{PeerState}
 use Rattle.enet_peer.specs.declared.parts.PeerState.TheVariants as state
@@ -13,30 +13,31 @@ use Rattle.enet_host.specs.Ticking.{clock_after, with_time, is_due, ticked}
 use Rattle.enet_connection.specs.Steps as setting
 use Rattle.enet_isolation.specs.Calls.{Call}
 use Rattle.enet_isolation.specs.Calls as call
+use Rattle.enet_isolation.specs.Common.{common_of}
 use Rattle.enet_isolation.specs.Deeds.{Deed, Alone, AllAlone, Tick, Set}
 use Rattle.enet_isolation.specs.Falling.{Fell, counted, deeds_if, share_of}
 use Rattle.enet_isolation.specs.Law.{Fares, untouched, goes_on, having_emitted}
 use Rattle.enet_isolation.proofs.Lists.{get-map}
 use Rattle.enet_isolation.proofs.Slots.{held, freed-in, counted-same}
-use Rattle.enet_isolation.proofs.Single.{Each, may_begin, begins-not}
+use Rattle.enet_isolation.proofs.Single.{Each, IsQuiet, may_begin, begins-not}
 
 -- a change of every peer
-pub each-changed : (c : Call) (h : Host) (f : Peering → Peering) (d : Deed) → ((p : Peering) → Alone d p (f p)) → ((i : ℕ) (s : SlotState) (p : Peering) → Fell h i s p c (d ∷ [])) → ((i : ℕ) (s : SlotState) → counted c h i s ≡ s.emitted)
+pub each-changed : (c : Call) (h : Host) (f : Peering → Peering) (d : Deed) → ((p : Peering) → Alone d p (f p)) → ((i : ℕ) (s : SlotState) (p : Peering) → Fell (common_of h) i s p c (d ∷ [])) → IsQuiet c h
     → may_begin c ≡ false → Each c h (map (changed f) h.slots)
 each-changed c h f d alone fell quiet later i s e = (changed f s, get-map (changed f) h.slots i s e, by s.peer refl)
   where
-    by : (o : Option Peering) → s.peer ≡ o → Fares c h i s (changed f s)
+    by : (o : Option Peering) → s.peer ≡ o → Fares c (common_of h) i s (changed f s)
     by None g =
         untouched (λ p k. absurd (let x : ◌≡◌ {A = Option Peering} None (Some p) = sym g ∙ k in cc)) (begins-not c h i later s)
         (ap (λ (o : Option Peering). with_changed f s o) g ∙ ap (λ (n : ℕ). having_emitted s n) (sym (quiet i s)))
     by (Some p) g =
         goes_on p (f p) (d ∷ []) g (fell i s p) (f p, alone p, refl)
-        (ap (λ (o : Option Peering). with_changed f s o) g ∙ counted-same s (f p) (counted c h i s) (quiet i s))
+        (ap (λ (o : Option Peering). with_changed f s o) g ∙ counted-same s (f p) (counted c (common_of h) i s) (quiet i s))
 
 -- the sharing out of bandwidth at a slot whose peer a tick left so
 pub record Shares (outgoing standing : ℕ) (due : Bool) (s : SlotState) (p : Peering) : Type 0 where
   pub after : Peering
-  pub alone : AllAlone (deeds_if (due && is_connected p.state) (Set (setting.ThrottleLimit (limit_for outgoing standing s.emitted p)))) p after
+  pub alone : AllAlone (deeds_if (due && is_connected p.state) (Set (setting.ThrottleLimit (limit_for outgoing standing s.emitted p)) (Ok tt))) p after
   pub left : cond due (shared outgoing standing (with_peer s p)) (with_peer s p) ≡ having_emitted (with_peer s after) (cond due 0 s.emitted)
 
 -- its deeds, where the peer is or isn't connected
@@ -49,7 +50,7 @@ shares-live outgoing standing s p true e n =
     let q : Peering = with_throttle_limit p (limit_for outgoing standing s.emitted p) in
     record {
       after = q;
-      alone = alone-if (true && is_connected p.state) (Set (setting.ThrottleLimit (limit_for outgoing standing s.emitted p))) p q (λ f. absurd (let x : true ≡ false = sym e ∙ f in cc)) (λ t. (tt, refl));
+      alone = alone-if (true && is_connected p.state) (Set (setting.ThrottleLimit (limit_for outgoing standing s.emitted p)) (Ok tt)) p q (λ f. absurd (let x : true ≡ false = sym e ∙ f in cc)) (λ t. refl);
       left =
           ap (λ (x : SlotState). shared outgoing standing x) (held s p n)
           ∙ ap (λ (b : Bool). record s { emitted = 0; peer = Some (cond b q p) }) e
@@ -58,7 +59,7 @@ shares-live outgoing standing s p true e n =
 shares-live outgoing standing s p false e n =
     record {
       after = p;
-      alone = alone-if (true && is_connected p.state) (Set (setting.ThrottleLimit (limit_for outgoing standing s.emitted p))) p p (λ f. refl) (λ t. absurd (let x : false ≡ true = sym e ∙ t in cc));
+      alone = alone-if (true && is_connected p.state) (Set (setting.ThrottleLimit (limit_for outgoing standing s.emitted p)) (Ok tt)) p p (λ f. refl) (λ t. absurd (let x : false ≡ true = sym e ∙ t in cc));
       left =
           ap (λ (x : SlotState). shared outgoing standing x) (held s p n)
           ∙ ap (λ (b : Bool). record s { emitted = 0; peer = Some (cond b (with_throttle_limit p (limit_for outgoing standing s.emitted p)) p) }) e
@@ -69,7 +70,7 @@ shares-free : (outgoing standing : ℕ) (s : SlotState) (p : Peering) → p.stat
 shares-free outgoing standing s p e =
     record {
       after = p;
-      alone = alone-if (true && is_connected p.state) (Set (setting.ThrottleLimit (limit_for outgoing standing s.emitted p))) p p (λ f. refl)
+      alone = alone-if (true && is_connected p.state) (Set (setting.ThrottleLimit (limit_for outgoing standing s.emitted p)) (Ok tt)) p p (λ f. refl)
           (λ t. absurd (let x : false ≡ true = sym (ap is_connected e) ∙ t in cc));
       left = ap (λ (x : SlotState). shared outgoing standing x) (freed-in s p e) ∙ ap (λ (x : SlotState). having_emitted x 0) (sym (freed-in s p e));
     }
@@ -112,11 +113,11 @@ each-ticked h ms i s e = (t s, slots-if (is_due timed) (shared outgoing standing
     none-if true g = ap (λ (o : Option Peering). record s { emitted = 0; peer = with_limit outgoing standing s.emitted o }) g ∙ sym (ap (λ (o : Option Peering). record s { emitted = 0; peer = o }) g)
     none-if false g = refl
 
-    by : (o : Option Peering) → s.peer ≡ o → Fares (call.Tick ms) h i s (t s)
+    by : (o : Option Peering) → s.peer ≡ o → Fares (call.Tick ms) (common_of h) i s (t s)
     by None g =
         untouched (λ p k. absurd (let x : ◌≡◌ {A = Option Peering} None (Some p) = sym g ∙ k in cc)) (begins-not (call.Tick ms) h i refl s)
         (ap (λ (o : Option Peering). cond (is_due timed) (shared outgoing standing (with_changed tick s o)) (with_changed tick s o)) g ∙ none-if (is_due timed) g)
     by (Some p) g =
         let x : Shares outgoing standing (is_due timed) s (tick p) = shares outgoing standing (is_due timed) s (tick p) in
-        goes_on p x.after (Tick now ∷ share_of timed s.emitted (tick p)) g refl (tick p, refl, x.alone)
+        goes_on p x.after (Tick now ∷ share_of (common_of h) now s.emitted (tick p)) g refl (tick p, refl, x.alone)
         (ap (λ (o : Option Peering). cond (is_due timed) (shared outgoing standing (with_changed tick s o)) (with_changed tick s o)) g ∙ x.left)

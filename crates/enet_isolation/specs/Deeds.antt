@@ -1,27 +1,28 @@
--- What one peer alone does, call by call. These are the events of one end of a connection, each with what came of it.
-use Rattle.std.specs.Prelude.{◌≡◌, ◌⊎◌, ℕ, List, [], ◌∷◌, length, Option, Some, None}
+-- What one peer alone is asked, one thing after another, and what it answers.
+use Rattle.std.specs.Prelude.{◌≡◌, ℕ, List, [], ◌∷◌, Option, Some, None, Result, Ok}
 use Rattle.enet_types.specs.declared.packet.Packet.{Packet}
-use Rattle.enet_types.specs.declared.stop.Stop.TheVariants as stop
+use Rattle.enet_types.specs.declared.refusal.Refusal.{Refusal}
+use Rattle.enet_types.specs.declared.stop.Stop.{Stop}
 use Rattle.enet_codec.specs.Message.{Message}
 use Rattle.enet_outbox.specs.Emission.{filled, datagram}
 use Rattle.enet_peer.specs.declared.parts.PeerEvent.{PeerEvent}
 use Rattle.enet_peer.specs.Peering.{Peering}
-use Rattle.enet_peer.specs.CommandEffect.{Outcome, obeyed}
-use Rattle.enet_peer.specs.Calls.{submission_refusal, submitted, pace_of, destination_of, gone_on, left, ticked, next_event}
-use Rattle.enet_connection.specs.Steps.{Way, leave_by, Setting, with_setting, MaySet}
+use Rattle.enet_peer.specs.CommandEffect.{Obeys, wants_memory, obeyed}
+use Rattle.enet_peer.specs.Calls.{Submits, Leaves, Takes, pace_of, destination_of, gone_on, left, ticked, next_event, with_bandwidth, with_throttle_limit}
+use Rattle.enet_slot.specs.Calls.{Does, DoesWithMemory, throttling, pinging, waiting}
+use Rattle.enet_connection.specs.Steps.{Way, leave_by, Setting}
+use Rattle.enet_connection.specs.Steps as setting
+use Rattle.enet_isolation.specs.Calls.{Done}
 
+-- what a peer is asked, with what it answers, also where it refuses or where memory is wanting
 pub data Deed : Type 0 where
-  Submit : (packet : Packet) → Deed  -- a packet is submitted and taken in
+  Submit : (packet : Packet) (answer : Result (Unit {0}) (Refusal × List ℕ)) → Deed  -- a packet is submitted; a refusal hands its body back
   Emit : (now : ℕ) (given : Option (List ℕ)) → Deed  -- the peer is asked for a datagram and puts out these bytes, or nothing
-  Come : (now : ℕ) (sent : Option ℕ) (message : Message) → Deed  -- a command comes and takes effect, or is passed over
+  Come : (now : ℕ) (sent : Option ℕ) (message : Message) (answer : Result (Unit {0}) Stop) → Deed  -- a command comes, and may stop its datagram
   Tick : (now : ℕ) → Deed
-  Take : (event : PeerEvent) → Deed  -- the user takes this event
-  Disconnect : (way : Way) (info : ℕ) → Deed  -- the user ends the connection
-  Set : (setting : Setting) → Deed
-
--- a command that takes effect or is passed over, not one that stops its datagram; without a sent time it takes effect all the same
-abbrev pub IsHeeded : Outcome → Type 0
-IsHeeded o = (o.stop ≡ None) ⊎ (o.stop ≡ Some stop.NoSentTime)
+  Take : (given : Option PeerEvent) → Deed  -- the peer is asked for its next event
+  Disconnect : (way : Way) (info : ℕ) (answer : Done) → Deed  -- the user ends the connection
+  Set : (setting : Setting) (answer : Done) → Deed
 
 -- what is left of a peer that was asked for a datagram
 abbrev pub emitted : Peering → ℕ → Peering
@@ -35,16 +36,23 @@ bytes_of p now (m ∷ ms) = Some (datagram now (destination_of p) (m ∷ ms))
 abbrev pub put_out : Peering → ℕ → Option (List ℕ)
 put_out p now = bytes_of p now (filled (pace_of p now) p.outbox).messages
 
--- one peer alone does this
+-- something is set, or refused: by the peer's state the throttle's numbers alone, for want of memory what the other end is told
+abbrev pub Sets : Setting → Done → Peering → Peering → Type 0
+Sets (setting.Bandwidth incoming outgoing) answer old new = DoesWithMemory {S = Peering} answer (Ok (with_bandwidth old incoming outgoing)) old new
+Sets (setting.Throttle interval acceleration deceleration) answer old new = DoesWithMemory answer (throttling interval acceleration deceleration old) old new
+Sets (setting.ThrottleLimit limit) answer old new = Does {S = Peering} answer (Ok (with_throttle_limit old limit)) old new
+Sets (setting.PingInterval ms) answer old new = Does answer (pinging ms old) old new
+Sets (setting.Timeout limit minimum maximum) answer old new = Does answer (waiting limit minimum maximum old) old new
+
+-- one peer alone does this, by the relations that the contracts of its calls name
 abbrev pub Alone : Deed → Peering → Peering → Type 0
-Alone (Submit q) old new =
-    (submission_refusal old q.channel (length q.body) ≡ None) × (new ≡ submitted old q.channel (record { flags = q.flags; body = q.body }))
+Alone (Submit q answer) old new = Submits answer old new q.channel (record { flags = q.flags; body = q.body })
 Alone (Emit now given) old new = (given ≡ put_out old now) × (new ≡ emitted old now)
-Alone (Come now sent m) old new = IsHeeded (obeyed old now sent m) × (new ≡ (obeyed old now sent m).after)
+Alone (Come now sent m answer) old new = Obeys answer (wants_memory old now sent m) (obeyed old now sent m) old new
 Alone (Tick now) old new = new ≡ ticked old now
-Alone (Take e) old new = next_event old ≡ Some (record { event = e; after = new })
-Alone (Disconnect way info) old new = left (leave_by way old.state) old info ≡ Some new
-Alone (Set setting) old new = MaySet setting old × (new ≡ with_setting setting old)
+Alone (Take given) old new = Takes given (next_event old) old new
+Alone (Disconnect way info answer) old new = Leaves answer (left (leave_by way old.state) old info) old new
+Alone (Set setting answer) old new = Sets setting answer old new
 
 -- one peer alone does all these, in order
 abbrev pub AllAlone : List Deed → Peering → Peering → Type 0

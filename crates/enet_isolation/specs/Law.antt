@@ -1,5 +1,5 @@
 -- Isolation: the peer of a connection is where one peer alone would be.
-use Rattle.std.specs.Prelude.{◌≡◌, ◌<◌, ℕ, List, [], Option, Some, None, true, slice_get}
+use Rattle.std.specs.Prelude.{◌≡◌, ◌<◌, ℕ, List, Option, Some, None, true, slice_get}
 use Rattle.enet_types.specs.declared.address.Addr.{Addr}
 use Rattle.enet_types.specs.declared.config.Config.{Config}
 use Rattle.enet_types.specs.declared.event.PeerRef.{PeerRef}
@@ -11,6 +11,7 @@ use Rattle.enet_slot.specs.Slot.{SlotState, with_peer}
 use Rattle.enet_host.specs.Host.{Host, Keeps, named}
 use Rattle.enet_host.specs.Opening as opening
 use Rattle.enet_isolation.specs.Calls.{Call, Acts, Steps}
+use Rattle.enet_isolation.specs.Common.{Common, common_of}
 use Rattle.enet_isolation.specs.Deeds.{Deed, AllAlone}
 use Rattle.enet_isolation.specs.Falling.{Fell, FellAll, Begins, counted}
 
@@ -18,10 +19,16 @@ use Rattle.enet_isolation.specs.Falling.{Fell, FellAll, Begins, counted}
 abbrev pub having_emitted : SlotState → ℕ → SlotState
 having_emitted s n = record s { emitted = n }
 
--- what one call made of slot i
-pub data Fares (c : Call) (h : Host) (i : ℕ) (s t : SlotState) : Type 0 where
-  -- nothing fell to its peer, or it was free and stays so
-  untouched : ((p : Peering) → s.peer ≡ Some p → Fell h i s p c []) → ((u : SlotState) → Begins c h i s u → ⊥) → t ≡ having_emitted s (counted c h i s) → Fares c h i s t
+-- what fell to a peer left it as it was: nothing fell to it, or all was refused
+pub record Stays (c : Call) (h : Common) (i : ℕ) (s : SlotState) (p : Peering) : Type 0 where
+  pub deeds : List Deed
+  pub fell : Fell h i s p c deeds
+  pub alone : AllAlone deeds p p
+
+-- what one call made of slot i, which was s: of the host this sees only what its connections share
+pub data Fares (c : Call) (h : Common) (i : ℕ) (s t : SlotState) : Type 0 where
+  -- its peer stays as it was, or it was free and stays so
+  untouched : ((p : Peering) → s.peer ≡ Some p → Stays c h i s p) → ((u : SlotState) → Begins c h i s u → ⊥) → t ≡ having_emitted s (counted c h i s) → Fares c h i s t
   -- its peer did alone what fell to it; where that leaves it free, so is the slot
   goes_on : (p q : Peering) (ds : List Deed) → s.peer ≡ Some p → Fell h i s p c ds → AllAlone ds p q → t ≡ having_emitted (with_peer s q) (counted c h i s) → Fares c h i s t
   -- it was free, and a connection begins in it
@@ -30,7 +37,7 @@ pub data Fares (c : Call) (h : Host) (i : ℕ) (s t : SlotState) : Type 0 where
 -- one call: each slot is there before and after, and fares so
 abbrev pub OneCall : Type 0
 OneCall = (c : Call) (old new : Host) → Acts c old new
-    → (i : ℕ) (s : SlotState) → slice_get old.slots i ≡ Some s → (t : SlotState) × (slice_get new.slots i ≡ Some t) × Fares c old i s t
+    → (i : ℕ) (s : SlotState) → slice_get old.slots i ≡ Some s → (t : SlotState) × (slice_get new.slots i ≡ Some t) × Fares c (common_of old) i s t
 
 -- where a peer of this name is after all: there, or, once it is free, nobody is called so any more
 abbrev pub held_if : PeerState → Peering → Option Peering

@@ -1,4 +1,5 @@
 pub mod Calls
+pub mod Common
 pub mod Deeds
 pub mod Falling
 pub mod Law

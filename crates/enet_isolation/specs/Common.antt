@@ -1,0 +1,33 @@
+-- What the connections of one host share: this, the call, and nothing else.
+use Rattle.std.specs.Prelude.{ℕ, Bool, Option, length}
+use Rattle.std.specs.List.{count_by, list_any}
+use Rattle.enet_types.specs.declared.address.Addr.{Addr}
+use Rattle.enet_types.specs.declared.config.Config.{Config}
+use Rattle.enet_slot.specs.Hearing.{is_connection}
+use Rattle.enet_slot.specs.Sharing.{is_standing}
+use Rattle.enet_host.specs.Host.{Host}
+use Rattle.enet_host.specs.Opening as opening
+use Rattle.enet_host.specs.Ticking as ticking
+use Rattle.enet_host.specs.Turns.{turn_of}
+
+pub record Common : Type 0 where
+  pub config : Config
+  pub clock : ℕ
+  pub available : Option ℕ  -- the lowest slot that is free and has a generation left
+  pub knows : Addr → ℕ → Bool  -- whether a slot holds the connection of this address and connect id already
+  pub turn : ℕ → ℕ  -- how many slots are asked for a datagram before this one
+  pub event_turn : ℕ → ℕ  -- how many are asked for an event before this one
+  pub is_due : ℕ → Bool  -- whether the bandwidth is shared out anew once time has come to this moment
+  pub standing : ℕ → ℕ  -- and among how many connected peers
+
+abbrev pub common_of : Host → Common
+common_of h = record {
+  config = h.config;
+  clock = h.clock;
+  available = opening.available h.config h.slots;
+  knows = λ from connect_id. list_any (is_connection from connect_id) h.slots;
+  turn = turn_of (length h.slots) h.service_from;
+  event_turn = turn_of (length h.slots) h.event_from;
+  is_due = λ now. ticking.is_due (ticking.with_time h now);
+  standing = λ now. count_by is_standing (ticking.with_time h now).slots;
+}
