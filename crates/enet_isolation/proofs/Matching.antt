@@ -28,7 +28,7 @@ throttled : (interval acceleration deceleration : ℕ) (old new : Peering) (b : 
 throttled interval acceleration deceleration old new true e h = (e, ok-same (with_throttle old interval acceleration deceleration) new h)
 throttled interval acceleration deceleration old new false e h = absurd (cc)
 
-was-set : (s : Setting) (done : Unit {0}) (old new : Peering) → Sets s (Ok done) old new → MaySet s old × (new ≡ with_setting s old)
+pub was-set : (s : Setting) (done : Unit {0}) (old new : Peering) → Sets s (Ok done) old new → MaySet s old × (new ≡ with_setting s old)
 was-set (setting.Bandwidth incoming outgoing) done old new h = (tt, ok-same (with_setting (setting.Bandwidth incoming outgoing) old) new h)
 was-set (setting.Throttle interval acceleration deceleration) done old new h = throttled interval acceleration deceleration old new (is_connected old.state) refl h
 was-set (setting.ThrottleLimit limit) done old new h = (tt, ok-same (with_setting (setting.ThrottleLimit limit) old) new h)

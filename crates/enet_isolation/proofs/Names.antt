@@ -94,7 +94,7 @@ past-freed new name s t q n low reached free e = by (nat_lt s.generation greates
         inr (omega arith, ap (λ (x : SlotState). x.peer) same)
 
 -- a slot that is given keeps its generation
-begun-generation : (c : Call) (h : Host) (i : ℕ) (s t : SlotState) → Begins c (common_of h) i s t → t.generation ≡ s.generation
+pub begun-generation : (c : Call) (h : Host) (i : ℕ) (s t : SlotState) → Begins c (common_of h) i s t → t.generation ≡ s.generation
 begun-generation c h i s t (asks address channels info word is some at) = refl
 begun-generation c h i s t (answers from bytes commands header o is read stranger offer taken new at) = refl
 

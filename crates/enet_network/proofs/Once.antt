@@ -21,6 +21,7 @@ use Rattle.enet_host.specs.Host.{Host, named}
 use Rattle.enet_host.specs.Receiving.{is_known}
 use Rattle.enet_isolation.specs.Calls.{Call, Acts}
 use Rattle.enet_isolation.specs.Calls as call
+use Rattle.enet_isolation.specs.Common.{common_of}
 use Rattle.enet_isolation.specs.Falling as falling
 use Rattle.enet_isolation.specs.Law.{Fares, untouched, goes_on, begins}
 use Rattle.enet_isolation.proofs.Names.{IsThere, IsSpent, there-named, spent-step, spent-nobody}
@@ -78,17 +79,17 @@ stays-in st s q = refl
 none-some : {A X : Type 0} (o : Option X) (x : X) → o ≡ None → o ≡ Some x → A
 none-some o x e f = absurd (let y : ◌≡◌ {A = Option _} None (Some x) = sym e ∙ f in cc)
 
-stays-at : (c : Call) (h : Host) (i : ℕ) (s t : SlotState) (p : Peering) → s.peer ≡ Some p → Fares c h i s t → t.address ≡ s.address
+stays-at : (c : Call) (h : Host) (i : ℕ) (s t : SlotState) (p : Peering) → s.peer ≡ Some p → Fares c (common_of h) i s t → t.address ≡ s.address
 stays-at c h i s t p has (untouched fell not' e) = ap (λ (z : SlotState). z.address) e
 stays-at c h i s t p has (goes_on r q ds was fell alone e) = ap (λ (z : SlotState). z.address) e ∙ stays-in q.state s q
 stays-at c h i s t p has (begins none left b) = none-some s.peer p none has
 
 -- and one that begins is where the call says
-begins-at : (from : Addr) (c : Call) (h : Host) (i : ℕ) (s t : SlotState) → IsFrom from c → falling.Begins c h i s t → t.address ≡ from
+begins-at : (from : Addr) (c : Call) (h : Host) (i : ℕ) (s t : SlotState) → IsFrom from c → falling.Begins c (common_of h) i s t → t.address ≡ from
 begins-at from c h i s t k (falling.asks address channels info word is some at) = subst (IsFrom from) is k
 begins-at from c h i s t k (falling.answers address bytes commands header o is read stranger offer taken new at) = subst (IsFrom from) is k
 
-given-at : (from : Addr) (c : Call) (h : Host) (i : ℕ) (s t : SlotState) (p : Peering) → IsFrom from c → s.peer ≡ None → t.peer ≡ Some p → Fares c h i s t → t.address ≡ from
+given-at : (from : Addr) (c : Call) (h : Host) (i : ℕ) (s t : SlotState) (p : Peering) → IsFrom from c → s.peer ≡ None → t.peer ≡ Some p → Fares c (common_of h) i s t → t.address ≡ from
 given-at from c h i s t p k vacant has (untouched fell not' e) = none-some t.peer p (ap (λ (z : SlotState). z.peer) e ∙ vacant) has
 given-at from c h i s t p k vacant has (goes_on r q ds was fell alone e) = none-some s.peer r vacant was
 given-at from c h i s t p k vacant has (begins none left b) = begins-at from c h i s t k b
@@ -106,8 +107,8 @@ at-goes place w from old new what happens k shown begin at f h p x = by (from-be
     c : IsCall w from old new what
     c = call-from w from old new what happens
 
-    fares : (s : SlotState) → slice_get old.host.slots f.name.slot ≡ Some s → Fares c.made old.host f.name.slot s x.slot
-    fares s there = let t = one-call c.made old.host new.host c.acts f.name.slot s there in subst (λ (y : SlotState). Fares c.made old.host f.name.slot s y) (same-some t.0 x.slot (sym t.1 ∙ x.there)) t.2
+    fares : (s : SlotState) → slice_get old.host.slots f.name.slot ≡ Some s → Fares c.made (common_of old.host) f.name.slot s x.slot
+    fares s there = let t = one-call c.made old.host new.host c.acts f.name.slot s there in subst (λ (y : SlotState). Fares c.made (common_of old.host) f.name.slot s y) (same-some t.0 x.slot (sym t.1 ∙ x.there)) t.2
 
     before : (b : HostEnd) → Has old.ends b → b.name ≡ f.name → b.connection ≡ f.connection → x.slot.address ≡ place f.connection
     before b there name of = by (there-or old.host b.name own.peer own.shows)
@@ -152,7 +153,7 @@ address-of : Addr → Call → Addr
 address-of a (call.Receive from bytes answer) = from
 address-of a c = a
 
-new-in : (from : Addr) (text : List ℕ) (answer : Received) (h : Host) (i : ℕ) (s t : SlotState) → s.peer ≡ None → (t.peer ≡ None → ⊥) → Fares (call.Receive from text answer) h i s t → IsNew h from text
+new-in : (from : Addr) (text : List ℕ) (answer : Received) (h : Host) (i : ℕ) (s t : SlotState) → s.peer ≡ None → (t.peer ≡ None → ⊥) → Fares (call.Receive from text answer) (common_of h) i s t → IsNew h from text
 unfolding text-of address-of
 new-in from text answer h i s t vacant some (untouched fell not' e) = absurd (some (ap (λ (z : SlotState). z.peer) e ∙ vacant))
 new-in from text answer h i s t vacant some (goes_on r q ds was fell alone e) = none-some s.peer r vacant was

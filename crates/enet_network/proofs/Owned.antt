@@ -25,6 +25,7 @@ use Rattle.enet_host.specs.Ticking.{clock_after, with_time, is_due, ticked}
 use Rattle.std.specs.List.{count_by}
 use Rattle.enet_isolation.specs.Calls.{Call, Done, Acts}
 use Rattle.enet_isolation.specs.Calls as call
+use Rattle.enet_isolation.specs.Common.{common_of}
 use Rattle.enet_isolation.specs.Falling as falling
 use Rattle.enet_isolation.specs.Law.{Fares, untouched, goes_on, begins}
 use Rattle.enet_isolation.proofs.Lists.{get-within}
@@ -116,7 +117,7 @@ kept-place state.Free s q p has = absurd (let e : ◌≡◌ {A = Option Peering}
 kept-place st s q p has = refl
 
 fared : (is_host : Addr → Bool) (c : Call) (old new : Site) (more : List HostEnd) → Grows old new more → AreOwned is_host old → (i : ℕ) (s t : SlotState) (p : Peering) → slice_get old.host.slots i ≡ Some s → t.peer ≡ Some p → is_host t.address ≡ true
-    → Fares c old.host i s t → (falling.Begins c old.host i s t → IsOwned more i t) → IsOwned new.ends i t
+    → Fares c (common_of old.host) i s t → (falling.Begins c (common_of old.host) i s t → IsOwned more i t) → IsOwned new.ends i t
 fared is_host c old new more g k i s t p there has at (untouched fell not' e) new-end =
     let o = k i s p there (ap (λ (z : SlotState). z.peer) (sym e) ∙ has) (ap (λ (z : SlotState). is_host z.address) (sym e) ∙ at) in
     (g.change o.0, stays-there old new more g o.0 o.1, g.name o.0 ∙ o.2 ∙ ap (λ (n : ℕ). record { slot = i; generation = n }) (ap (λ (z : SlotState). z.generation) (sym e)))
@@ -129,14 +130,14 @@ fared is_host c old new more g k i s t p there has at (goes_on r q ds was fell a
 fared is_host c old new more g k i s t p there has at (begins none left b) new-end = (let f = new-end b in (f.0, begins-there old new more g f.0 f.1, f.2))
 
 -- a peer that answers a stranger is at no host's address
-called : (w : Around) (from old new : Site) (c : Call) → HappensAmong w from (Calls c) old new → (i : ℕ) (s t : SlotState) → w.is_host t.address ≡ true → falling.Begins c old.host i s t → IsOwned (more_of w.count from old new (Calls c)) i t
+called : (w : Around) (from old new : Site) (c : Call) → HappensAmong w from (Calls c) old new → (i : ℕ) (s t : SlotState) → w.is_host t.address ≡ true → falling.Begins c (common_of old.host) i s t → IsOwned (more_of w.count from old new (Calls c)) i t
 called w from old new c x i s t at (falling.asks address channels info word is some free) =
     (fresh_end w.count (name_of i s), subst (λ (d : Call). Has (more_of w.count from old new (Calls d)) (fresh_end w.count (name_of i s))) (sym is) (inl refl), refl)
 called w from old new c x i s t at (falling.answers address bytes commands header o is read stranger offer taken unknown free) =
     let y : (w.is_host address ≡ false) × Called w.count (call.Receive address bytes handled_one) old new = subst (λ (d : Call). HappensAmong w from (Calls d) old new) is x in
     absurd (let z : true ≡ false = sym at ∙ y.0 in cc)
 
-brought : (x : ℕ) (old new : Host) (c : Call) (i : ℕ) (s t : SlotState) (p : Peering) → slice_get new.slots i ≡ Some t → t.peer ≡ Some p → falling.Begins c old i s t → IsOwned (begun x old new) i t
+brought : (x : ℕ) (old new : Host) (c : Call) (i : ℕ) (s t : SlotState) (p : Peering) → slice_get new.slots i ≡ Some t → t.peer ≡ Some p → falling.Begins c (common_of old) i s t → IsOwned (begun x old new) i t
 brought x old new c i s t p there has b = (
   fresh_end x (name_of i t),
   subst (λ (o : Option ℕ). Has (begun_in x o new) (fresh_end x (name_of i t))) (sym (begins-at c old i s t b))
@@ -146,11 +147,11 @@ brought x old new c i s t p there has b = (
 
 -- a host by one call
 by-call : (is_host : Addr → Bool) (c : Call) (old new : Site) (more : List HostEnd) → Acts c old.host new.host → Grows old new more → AreOwned is_host old
-    → ((i : ℕ) (s t : SlotState) (p : Peering) → slice_get new.host.slots i ≡ Some t → t.peer ≡ Some p → is_host t.address ≡ true → falling.Begins c old.host i s t → IsOwned more i t) → AreOwned is_host new
+    → ((i : ℕ) (s t : SlotState) (p : Peering) → slice_get new.host.slots i ≡ Some t → t.peer ≡ Some p → is_host t.address ≡ true → falling.Begins c (common_of old.host) i s t → IsOwned more i t) → AreOwned is_host new
 by-call is_host c old new more acts g k new-end i t p there has at =
     let s = get-within old.host.slots i (let few : i < length new.host.slots = slice_get_within new.host.slots i t there in let same : length new.host.slots ≡ length old.host.slots = same-count c old.host new.host acts in omega arith) in
     let f = one-call c old.host new.host acts i s.0 s.1 in
-    let fares : Fares c old.host i s.0 t = subst (Fares c old.host i s.0) (same-some f.0 t (sym f.1 ∙ there)) f.2 in
+    let fares : Fares c (common_of old.host) i s.0 t = subst (Fares c (common_of old.host) i s.0) (same-some f.0 t (sym f.1 ∙ there)) f.2 in
     fared is_host c old new more g k i s.0 t p s.1 has at fares (new-end i s.0 t p there has at)
 
 pub owned-goes : (w : Around) (from old new : Site) (what : Happening) → HappensAmong w from what old new → AreOwned w.is_host old → AreOwned w.is_host new

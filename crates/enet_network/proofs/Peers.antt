@@ -1,19 +1,17 @@
 -- The peer of an end through one call of its host.
-use Rattle.std.proofs.Common.{◌≡◌, ◌≢◌, ◌≤◌, ℕ, ◌==◌, ◌⊎◌, inl, inr, Bool, true, false, cond, List, [], refl, sym, ap, subst, ◌∙◌, arith, Option, Some, None, Result, Ok}
-use Rattle.std.proofs.lemmas.Bool.Decides.{nat_tests}
+use Rattle.std.proofs.Common.{◌≡◌, ◌≢◌, ◌≤◌, ℕ, ◌⊎◌, inl, inr, List, refl, sym, ap, subst, ◌∙◌, arith, Option, Some, None}
 use Rattle.std.specs.List.{slice_get}
 use Rattle.enet_types.specs.declared.event.PeerRef.{PeerRef}
-use Rattle.enet_types.specs.declared.refusal.Refusal.{Refusal}
 use Rattle.enet_peer.specs.declared.parts.PeerState.{PeerState}
 use Rattle.enet_peer.specs.declared.parts.PeerState.TheVariants as state
 use Rattle.enet_peer.specs.Peering.{Peering}
 use Rattle.enet_slot.specs.Slot.{SlotState, greatest}
-use Rattle.enet_host.specs.Host.{Host, with_generation, named}
-use Rattle.enet_host.specs.Calls.{on_slot, on_named}
+use Rattle.enet_host.specs.Host.{Host, named}
 use Rattle.enet_isolation.specs.Calls.{Call, Acts}
+use Rattle.enet_isolation.specs.Common.{common_of}
 use Rattle.enet_isolation.specs.Deeds.{Deed, AllAlone}
 use Rattle.enet_isolation.specs.Falling.{Fell, counted}
-use Rattle.enet_isolation.specs.Law.{Fares, untouched, goes_on, begins, having_emitted, held_if}
+use Rattle.enet_isolation.specs.Law.{Stays, Fares, untouched, goes_on, begins, having_emitted, held_if}
 use Rattle.enet_isolation.proofs.Names.{free-or, IsThere, named-there, there-named, IsSpent, same-generations, past-freed, spent-step, spent-nobody}
 use Rattle.enet_isolation.proofs.OneCall.{one-call}
 use Rattle.enet_isolation.proofs.Slots.{held}
@@ -62,12 +60,13 @@ shows-after c old new name p q x t n low same there e = by (free-or q.state)
 -- one call: the peer is gone, or does alone what falls to it
 pub data Moved (c : Call) (old new : Host) (name : PeerRef) (p : Peering) : Type 0 where
   is_gone : ShowsPeer new name p → ((q : Peering) → IsThere old.slots name q → ⊥) → Moved c old new name p
-  goes : (x : IsThere old.slots name p) (ds : List Deed) (q : Peering) → Fell old name.slot x.slot p c ds → AllAlone ds p q → ShowsPeer new name q → Moved c old new name p
+  goes : (x : IsThere old.slots name p) (ds : List Deed) (q : Peering) → Fell (common_of old) name.slot x.slot p c ds → AllAlone ds p q → ShowsPeer new name q → Moved c old new name p
 
 moved-there : (c : Call) (old new : Host) (name : PeerRef) (p : Peering) → old.config.generations ≤ greatest → new.config.generations ≡ old.config.generations → p.state ≢ state.Free → (x : IsThere old.slots name p)
-    → (t : SlotState) → slice_get new.slots name.slot ≡ Some t → Fares c old name.slot x.slot t → Moved c old new name p
+    → (t : SlotState) → slice_get new.slots name.slot ≡ Some t → Fares c (common_of old) name.slot x.slot t → Moved c old new name p
 moved-there c old new name p low same live x t there (untouched none not' e) =
-    goes x [] p (none p x.peer) refl (shows-held new name p live (record {
+    let k : Stays c (common_of old) name.slot x.slot p = none p x.peer in
+    goes x k.deeds p k.fell k.alone (shows-held new name p live (record {
       slot = t;
       there = there;
       same = ap (λ (s : SlotState). s.generation) e ∙ x.same;
@@ -75,7 +74,7 @@ moved-there c old new name p low same live x t there (untouched none not' e) =
     }))
 moved-there c old new name p low same live x t there (goes_on r q ds has fell alone e) =
     let is : r ≡ p = (let y : ◌≡◌ {A = Option Peering} (Some r) (Some p) = sym has ∙ x.peer in cc) in
-    goes x ds q (subst (λ (y : Peering). Fell old name.slot x.slot y c ds) is fell) (subst (λ (y : Peering). AllAlone ds y q) is alone) (shows-after c old new name p q x t (counted c old name.slot x.slot) low same there e)
+    goes x ds q (subst (λ (y : Peering). Fell (common_of old) name.slot x.slot y c ds) is fell) (subst (λ (y : Peering). AllAlone ds y q) is alone) (shows-after c old new name p q x t (counted c (common_of old) name.slot x.slot) low same there e)
 moved-there c old new name p low same live x t there (begins none left b) = absurd (let y : ◌≡◌ {A = Option Peering} None (Some p) = sym none ∙ x.peer in cc)
 
 some-none : (h : Host) (name : PeerRef) (q : Peering) → named h.slots name ≡ None → IsThere h.slots name q → ⊥
@@ -87,18 +86,6 @@ moved c old new name p low acts k = by (there-or old name p k)
     by : ((p.state ≢ state.Free) × IsThere old.slots name p) ⊎ ((p.state ≡ state.Free) × IsSpent old name) → Moved c old new name p
     by (inl live) =
         let x : IsThere old.slots name p = live.1 in
-        let y : (t : SlotState) × (slice_get new.slots name.slot ≡ Some t) × Fares c old name.slot x.slot t = one-call c old new acts name.slot x.slot x.there in
+        let y : (t : SlotState) × (slice_get new.slots name.slot ≡ Some t) × Fares c (common_of old) name.slot x.slot t = one-call c old new acts name.slot x.slot x.there in
         moved-there c old new name p low (same-generations c old new acts) live.0 x y.0 y.1 y.2
     by (inr gone) = is_gone (shows-gone new name p gone.0 (spent-step c old new name low acts gone.1)) (λ q. some-none old name q (spent-nobody old name gone.1))
-
--- a call on a name that isn't refused finds its generation
-named-if : (slots : List SlotState) (name : PeerRef) (call : Peering → Result Peering Refusal) (after : List SlotState) (s : SlotState) (b : Bool) → (s.generation == name.generation) ≡ b
-    → on_slot slots name.slot call (cond b (Some s) None) ≡ Ok after → s.generation ≡ name.generation
-named-if slots name call after s true e h = grind (arith, nat_tests)
-named-if slots name call after s false e h = absurd (cc)
-
-pub named-generation : (slots : List SlotState) (name : PeerRef) (call : Peering → Result Peering Refusal) (after : List SlotState) (s : SlotState) → on_named slots name call ≡ Ok after → slice_get slots name.slot ≡ Some s
-    → s.generation ≡ name.generation
-named-generation slots name call after s h there =
-    named-if slots name call after s (s.generation == name.generation) refl
-    (subst (λ (o : Option SlotState). on_slot slots name.slot call (with_generation name.generation o) ≡ Ok after) there h)

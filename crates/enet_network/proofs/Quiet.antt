@@ -1,15 +1,17 @@
 -- Calls by which an end's peer alone changes: time that passes, disconnects, settings, and what is refused.
-use Rattle.std.proofs.Common.{◌≡◌, ◌≤◌, ℕ, Bool, true, false, List, [], ◌∷◌, refl, sym, ap, subst, ◌∙◌, Option, Some, None, Ok, Err, slice_get}
+use Rattle.std.proofs.Common.{◌≡◌, ◌≤◌, ℕ, ◌⊎◌, inl, inr, Bool, true, false, not, List, [], ◌∷◌, refl, sym, ap, subst, ◌∙◌, Option, Some, None, Ok, Err, slice_get}
 use Rattle.enet_peer.specs.Peering.{Peering}
 use Rattle.enet_connection.specs.Connection.{End}
 use Rattle.enet_connection.specs.Steps.{Event, Happens, with_peer}
 use Rattle.enet_connection.specs.Steps as event
 use Rattle.enet_slot.specs.Slot.{SlotState, greatest}
-use Rattle.enet_host.specs.Host.{Host}
 use Rattle.enet_isolation.specs.Calls.{Call, Acts}
 use Rattle.enet_isolation.specs.Calls as call
+use Rattle.enet_isolation.specs.Common.{Common, common_of}
 use Rattle.enet_isolation.specs.Deeds.{Deed, Alone, AllAlone, Tick, Disconnect, Set}
+use Rattle.enet_isolation.specs.Ends.{takes_effect}
 use Rattle.enet_isolation.specs.Falling.{Fell, deeds_if}
+use Rattle.enet_isolation.proofs.Matching.{was-set, matches}
 use Rattle.enet_network.specs.Log.{Logged}
 use Rattle.enet_network.specs.Network.{HostEnd, Site}
 use Rattle.enet_network.specs.Shown.{ShowsPeer, Shows, RunsAt, Went}
@@ -51,30 +53,46 @@ goes-still old new e own far k same shows = record {
   shows = shows-with old new e own far k.peer [] (same-peer own k.peer k.has) same k shows;
 }
 
--- deeds that change the peer alone
+-- deeds that change the peer alone, or nothing
 is_quiet : Deed → Bool
 is_quiet (Tick now) = true
-is_quiet (Disconnect way info) = true
-is_quiet (Set setting) = true
-is_quiet _ = false
+is_quiet (Disconnect way info answer) = true
+is_quiet (Set setting answer) = true
+is_quiet d = not (takes_effect d)
 
 abbrev AreQuiet : List Deed → Type 0
 AreQuiet [] = Unit {0}
 AreQuiet (d ∷ ds) = (is_quiet d ≡ true) × AreQuiet ds
 
-quiet-one : (d : Deed) (own far : End) (p q : Peering) → is_quiet d ≡ true → own.peer ≡ Some p → Alone d p q → (e : Event) × Happens own far e (with_peer own q)
+-- such a deed is an event, or leaves the peer as it is
+abbrev QuietOne : End → End → Peering → Peering → Type 0
+QuietOne own far p q = ((e : Event) × Happens own far e (with_peer own q)) ⊎ (q ≡ p)
+
+refused-one : (d : Deed) (own far : End) (p q : Peering) → takes_effect d ≡ false → Alone d p q → QuietOne own far p q
+refused-one d own far p q none alone = inr (matches.refused d p q alone none)
+
+no-effect : (b : Bool) → not b ≡ true → b ≡ false
+no-effect true h = absurd (cc)
+no-effect false h = refl
+
+quiet-one : (d : Deed) (own far : End) (p q : Peering) → is_quiet d ≡ true → own.peer ≡ Some p → Alone d p q → QuietOne own far p q
 unfolding is_quiet
-quiet-one (Tick now) own far p q quiet is alone = (event.Tick now, (p, is, ap (with_peer own) alone))
-quiet-one (Disconnect way info) own far p q quiet is alone = (event.Disconnect way info, (p, q, is, alone, refl))
-quiet-one (Set setting) own far p q quiet is alone = (event.Set setting, (p, is, alone.0, ap (with_peer own) alone.1))
-quiet-one d own far p q quiet is alone = absurd (cc)
+quiet-one (Tick now) own far p q quiet is alone = inl (event.Tick now, (p, is, ap (with_peer own) alone))
+quiet-one (Disconnect way info (Ok done)) own far p q quiet is alone = inl (event.Disconnect way info, (p, q, is, alone, refl))
+quiet-one (Disconnect way info (Err why)) own far p q quiet is alone = refused-one (Disconnect way info (Err why)) own far p q refl alone
+quiet-one (Set setting (Ok done)) own far p q quiet is alone = let set = was-set setting done p q alone in inl (event.Set setting, (p, is, set.0, ap (with_peer own) set.1))
+quiet-one (Set setting (Err why)) own far p q quiet is alone = refused-one (Set setting (Err why)) own far p q refl alone
+quiet-one d own far p q quiet is alone = refused-one d own far p q (no-effect (takes_effect d) quiet) alone
+
+quiet-more : (own far : End) (p r q : Peering) → own.peer ≡ Some p → QuietOne own far p r → ((before : End) → before.peer ≡ Some r → (es : List Event) × RunsAt es before far (with_peer before q))
+    → (es : List Event) × RunsAt es own far (with_peer own q)
+quiet-more own far p r q is (inl one) rest = let more = rest (with_peer own r) refl in (one.0 ∷ more.0, (with_peer own r, one.1, more.1))
+quiet-more own far p r q is (inr same) rest = rest own (is ∙ ap (λ (x : Peering). Some x) (sym same))
 
 quiet-all : (ds : List Deed) (own far : End) (p q : Peering) → AreQuiet ds → own.peer ≡ Some p → AllAlone ds p q → (es : List Event) × RunsAt es own far (with_peer own q)
 quiet-all [] own far p q quiet is alone = ([], same-peer own p is ∙ ap (with_peer own) alone)
 quiet-all (d ∷ ds) own far p q quiet is alone =
-    let one = quiet-one d own far p alone.0 quiet.0 is alone.1 in
-    let rest = quiet-all ds (with_peer own alone.0) far alone.0 q quiet.1 refl alone.2 in
-    (one.0 ∷ rest.0, (with_peer own alone.0, one.1, rest.1))
+    quiet-more own far p alone.0 q is (quiet-one d own far p alone.0 quiet.0 is alone.1) (λ before has. quiet-all ds before far alone.0 q quiet.1 has alone.2)
 
 -- calls of which nothing else falls to any slot
 abbrev pub is_quiet_call : Call → Bool
@@ -91,20 +109,20 @@ quiet-if false d h = tt
 quiet-is : (ds es : List Deed) → ds ≡ es → AreQuiet es → AreQuiet ds
 quiet-is ds es e h = subst AreQuiet (sym e) h
 
-fell-quiet : (c : Call) (h : Host) (i : ℕ) (s : SlotState) (p : Peering) (ds : List Deed) → is_quiet_call c ≡ true → Fell h i s p c ds → AreQuiet ds
+fell-quiet : (c : Call) (h : Common) (i : ℕ) (s : SlotState) (p : Peering) (ds : List Deed) → is_quiet_call c ≡ true → Fell h i s p c ds → AreQuiet ds
 unfolding is_quiet
 fell-quiet (call.Connect address channels info word answer) h i s p ds quiet fell = quiet-is ds _ fell tt
 fell-quiet (call.Submit name channel q (Ok done)) h i s p ds quiet fell = absurd (cc)
-fell-quiet (call.Submit name channel q (Err e)) h i s p ds quiet fell = quiet-is ds _ fell tt
+fell-quiet (call.Submit name channel q (Err e)) h i s p ds quiet fell = quiet-is ds _ fell (quiet-if _ _ refl)
 fell-quiet (call.Receive from bytes answer) h i s p ds quiet fell = absurd (cc)
 fell-quiet (call.Service answer buf) h i s p ds quiet fell = absurd (cc)
 fell-quiet (call.Tick ms) h i s p ds quiet fell = quiet-is ds _ fell (refl, quiet-if _ _ refl)
 fell-quiet (call.Disconnect mode name info answer) h i s p ds quiet fell = quiet-is ds _ fell (quiet-if _ _ refl)
-fell-quiet (call.SetBandwidth incoming outgoing answer) h i s p ds quiet fell = quiet-is ds _ fell (quiet-if _ _ refl)
+fell-quiet (call.SetBandwidth incoming outgoing answer) h i s p ds quiet fell = quiet-is ds _ fell (refl, tt)
 fell-quiet (call.ConfigureThrottle name interval acceleration deceleration answer) h i s p ds quiet fell = quiet-is ds _ fell (quiet-if _ _ refl)
 fell-quiet (call.SetPingInterval name ms answer) h i s p ds quiet fell = quiet-is ds _ fell (quiet-if _ _ refl)
 fell-quiet (call.SetTimeout name limit minimum maximum answer) h i s p ds quiet fell = quiet-is ds _ fell (quiet-if _ _ refl)
-fell-quiet (call.NextEvent None) h i s p ds quiet fell = quiet-is ds _ fell tt
+fell-quiet (call.NextEvent None) h i s p ds quiet fell = quiet-is ds _ fell (refl, tt)
 fell-quiet (call.NextEvent (Some event)) h i s p ds quiet fell = absurd (cc)
 
 -- such a call is a number of events of each end
@@ -114,5 +132,5 @@ goes-quiet c old new e own far quiet low acts same k = by (moved c old.host new.
     by : Moved c old.host new.host e.name k.peer → Went own far new e
     by (is_gone shows never) = goes-still old new e own far k same shows
     by (goes x ds q fell alone shows) =
-        let run = quiet-all ds own far k.peer q (fell-quiet c old.host e.name.slot x.slot k.peer ds quiet fell) k.has alone in
+        let run = quiet-all ds own far k.peer q (fell-quiet c (common_of old.host) e.name.slot x.slot k.peer ds quiet fell) k.has alone in
         record { new = with_peer own q; events = run.0; runs = run.1; shows = shows-with old new e own far q run.0 run.1 same k shows }

@@ -1,5 +1,5 @@
 -- A packet that is submitted, and an event that is taken.
-use Rattle.std.proofs.Common.{◌≡◌, ◌≢◌, ◌≤◌, ◌<◌, ℕ, ◌⊎◌, inl, inr, Bool, true, false, cond, ◌==◌, List, [], ◌∷◌, ◌++◌, length, refl, sym, ap, subst, ◌∙◌, arith, append-nil, Option, Some, Ok, slice_get}
+use Rattle.std.proofs.Common.{◌≡◌, ◌≢◌, ◌≤◌, ◌<◌, ℕ, ◌⊎◌, inl, inr, Bool, true, false, cond, ◌==◌, nat_lt, List, [], ◌∷◌, ◌++◌, length, refl, sym, ap, subst, ◌∙◌, arith, append-nil, Option, Some, None, Ok, slice_get}
 use Rattle.std.proofs.lemmas.Bool.Decides.{nat_tests}
 use Rattle.std.proofs.lemmas.List.{map-append}
 use Rattle.enet_types.specs.declared.event.Event.{Event as Told}
@@ -21,17 +21,19 @@ use Rattle.enet_slot.specs.Calls.{submission, event_of}
 use Rattle.enet_host.specs.Calls.{TakesOne}
 use Rattle.enet_isolation.specs.Calls.{Call, Acts}
 use Rattle.enet_isolation.specs.Calls as call
+use Rattle.enet_isolation.specs.Common.{Common, common_of}
 use Rattle.enet_isolation.specs.Deeds.{Deed, AllAlone, Submit, Take}
-use Rattle.enet_isolation.specs.Falling.{deeds_if, taken_from}
+use Rattle.enet_isolation.specs.Falling.{deeds_if, is_meant, taken_from}
 use Rattle.enet_isolation.proofs.Lists.{same-or}
 use Rattle.enet_isolation.proofs.Names.{IsThere, there-named}
-use Rattle.enet_isolation.proofs.Single.{Does, does-named}
+use Rattle.enet_isolation.proofs.Serving.{taken-event}
+use Rattle.enet_isolation.proofs.Single.{Does, does-named, meant-elsewhere}
 use Rattle.enet_network.specs.Log.{ChannelPackets, packets_at, with_submitted_packet, with_taken}
 use Rattle.enet_network.specs.Network.{HostEnd, Site, is_same_name}
 use Rattle.enet_network.specs.Shown.{ShowsPeer, Shows, RunsAt, Went, on_channel}
 use Rattle.enet_network.specs.Steps.{with_packet, packets_by, with_event}
 use Rattle.enet_network.proofs.Keeping.{part-stays, part-grows, with-long}
-use Rattle.enet_network.proofs.Peers.{Moved, is_gone, goes, moved, named-generation}
+use Rattle.enet_network.proofs.Peers.{Moved, is_gone, goes, moved}
 use Rattle.enet_network.proofs.Quiet.{KeepsLog, goes-still}
 use Rattle.enet_network.proofs.Steady.{mtu-stays, mtu-submitted}
 
@@ -69,6 +71,10 @@ same-some x y e = cc
 pub same-slot : (xs : List SlotState) (i j : ℕ) (s t : SlotState) → i ≡ j → slice_get xs i ≡ Some s → slice_get xs j ≡ Some t → s ≡ t
 same-slot xs i j s t e a b = same-some s t (sym a ∙ ap (λ (k : ℕ). slice_get xs k) e ∙ b)
 
+-- a name that a slot has
+meant : (name other : PeerRef) (s : SlotState) → name.slot ≡ other.slot → name.generation ≡ other.generation → s.generation ≡ other.generation → is_meant name other.slot s ≡ true
+meant name other s same g is = grind (arith, nat_tests)
+
 -- an end that is as it was, or changed
 pub stays-as : (own far : End) (s : Site) (b : Bool) (f e : HostEnd) → b ≡ false → Went own far s e → Went own far s (cond b f e)
 stays-as own far s b f e never w = subst (λ (t : Bool). Went own far s (cond t f e)) (sym never) w
@@ -95,24 +101,24 @@ goes-submitted name channel mtu q done old new e own far low acts same k goes-by
     does : Does old.host.slots name (submission channel q) new.host.slots
     does = does-named old.host.slots name (submission channel q) new.host.slots acts.0
 
-    generation : does.slot.generation ≡ name.generation
-    generation = named-generation old.host.slots name (submission channel q) new.host.slots does.slot acts.0 does.there
+    d : Deed
+    d = Submit packet (Ok done)
 
     by : Moved c old.host new.host e.name k.peer → Went own far new (cond (is_same_name e.name name) f e)
-    by (is_gone shows never) = stays-as own far new (is_same_name e.name name) f e (not-there old.host.slots e.name name does.slot does.peer does.there generation does.held never) (goes-still old new e own far k same shows)
+    by (is_gone shows never) = stays-as own far new (is_same_name e.name name) f e (not-there old.host.slots e.name name does.slot does.peer does.there does.same does.held never) (goes-still old new e own far k same shows)
     by (goes x ds r fell alone shows) = at (same-or name.slot e.name.slot)
       where
         at : (name.slot ≡ e.name.slot) ⊎ (name.slot ≢ e.name.slot) → Went own far new (cond (is_same_name e.name name) f e)
         at (inr n) =
-            let none : ds ≡ [] = fell ∙ ap (λ (b : Bool). deeds_if b (Submit packet)) (let z : (name.slot == e.name.slot) ≡ false = grind (arith, nat_tests) in z) in
+            let none : ds ≡ [] = fell ∙ ap (λ (b : Bool). deeds_if b d) (meant-elsewhere name e.name.slot x.slot n) in
             let is : k.peer ≡ r = subst (λ (l : List Deed). AllAlone l k.peer r) none alone in
             stays-as own far new (is_same_name e.name name) f e (other-slot e.name name (λ z. n (sym z)))
             (goes-still old new e own far k same (subst (λ (y : Peering). ShowsPeer new.host e.name y) (sym is) shows))
         at (inl here) =
-            let one : ds ≡ Submit packet ∷ [] = fell ∙ ap (λ (b : Bool). deeds_if b (Submit packet)) (let z : (name.slot == e.name.slot) ≡ true = grind (arith, nat_tests) in z) in
-            let a : AllAlone (Submit packet ∷ []) k.peer r = subst (λ (l : List Deed). AllAlone l k.peer r) one alone in
             let slot : does.slot ≡ x.slot = same-slot old.host.slots name.slot e.name.slot does.slot x.slot here does.there x.there in
-            let g : e.name.generation ≡ name.generation = sym x.same ∙ ap (λ (s : SlotState). s.generation) (sym slot) ∙ generation in
+            let g : e.name.generation ≡ name.generation = sym x.same ∙ ap (λ (s : SlotState). s.generation) (sym slot) ∙ does.same in
+            let one : ds ≡ d ∷ [] = fell ∙ ap (λ (b : Bool). deeds_if b d) (meant name e.name x.slot here (sym g) x.same) in
+            let a : AllAlone (d ∷ []) k.peer r = subst (λ (l : List Deed). AllAlone l k.peer r) one alone in
             let called : name ≡ e.name = (λ i. record { slot = here i; generation = sym g i }) in
             let held : named old.host.slots name ≡ Some k.peer = ap (λ (y : PeerRef). named old.host.slots y) called ∙ there-named old.host.slots e.name k.peer x in
             changes-as own far new (is_same_name e.name name) f e (same-name e.name name (sym here) g) (record {
@@ -154,11 +160,10 @@ event-taken (told.Receive q) name xs j es long low before =
     part-grows (λ (x : ChannelPackets). x.taken) (with_taken q) q (λ x. refl) xs j (packets_of es) long low before ∙ ap (on_channel j) (sym (packets-push es (told.Receive q)))
 event-taken (told.Disconnect info) name xs j es long low before = before ∙ ap (on_channel j) (sym (packets-push es (told.Disconnect info) ∙ append-nil (packets_of es)))
 
--- the event of a slot as its peer's
-taken-event : (i : ℕ) (name : PeerRef) (t : PeerEvent) → taken_from i (Some (event_of name t)) ≡ deeds_if (name.slot == i) (Take t)
-taken-event i name (told.Connect info) = refl
-taken-event i name (told.Receive packet) = refl
-taken-event i name (told.Disconnect info) = refl
+-- slots that were asked in vain
+stays-if : (b : Bool) (ds : List Deed) (p r : Peering) → ds ≡ deeds_if b (Take None) → AllAlone ds p r → p ≡ r
+stays-if true ds p r is alone = let a : AllAlone (Take None ∷ []) p r = subst (λ (l : List Deed). AllAlone l p r) is alone in sym a.1.1 ∙ a.2
+stays-if false ds p r is alone = subst (λ (l : List Deed). AllAlone l p r) is alone
 
 -- the slot `from`, which held a peer, gave it
 pub goes-taken : (told' : Told) (old new : Site) (e : HostEnd) (own far : End) → old.host.config.generations ≤ greatest → (acts : TakesOne old.host told' new.host) → KeepsLog old new e.connection → Shows old e own
@@ -180,8 +185,14 @@ goes-taken told' old new e own far low acts same k = by (moved c old.host new.ho
     is : told' ≡ event_of name t
     is = acts.gives.told
 
-    fallen : taken_from e.name.slot (Some told') ≡ deeds_if (acts.from == e.name.slot) (Take t)
-    fallen = ap (λ (x : Told). taken_from e.name.slot (Some x)) is ∙ taken-event e.name.slot name t
+    h : Common
+    h = common_of old.host
+
+    before : Bool
+    before = nat_lt (h.event_turn e.name.slot) (h.event_turn acts.from)
+
+    fallen : (b : Bool) → (acts.from == e.name.slot) ≡ b → taken_from h e.name.slot (Some told') ≡ cond b (Take (Some t) ∷ []) (deeds_if before (Take None))
+    fallen b z = ap (λ (x : Told). taken_from h e.name.slot (Some x)) is ∙ taken-event h e.name.slot name t ∙ ap (λ (y : Bool). cond y (Take (Some t) ∷ []) (deeds_if before (Take None))) z
 
     taken-end : Peering → End
     taken-end p = record own { peer = Some p; events = own.events ++ t ∷ [] }
@@ -195,13 +206,12 @@ goes-taken told' old new e own far low acts same k = by (moved c old.host new.ho
       where
         at : (acts.from ≡ e.name.slot) ⊎ (acts.from ≢ e.name.slot) → Went own far new (cond (is_same_name e.name name) f e)
         at (inr n) =
-            let none : ds ≡ [] = fell ∙ fallen ∙ ap (λ (b : Bool). deeds_if b (Take t)) (let z : (acts.from == e.name.slot) ≡ false = grind (arith, nat_tests) in z) in
-            let stays : k.peer ≡ r = subst (λ (l : List Deed). AllAlone l k.peer r) none alone in
+            let stays : k.peer ≡ r = stays-if before ds k.peer r (fell ∙ fallen false (grind (arith, nat_tests))) alone in
             stays-as own far new (is_same_name e.name name) f e (other-slot e.name name (λ z. n (sym z)))
             (goes-still old new e own far k same (subst (λ (y : Peering). ShowsPeer new.host e.name y) (sym stays) shows))
         at (inl here) =
-            let one : ds ≡ Take t ∷ [] = fell ∙ fallen ∙ ap (λ (b : Bool). deeds_if b (Take t)) (let z : (acts.from == e.name.slot) ≡ true = grind (arith, nat_tests) in z) in
-            let a : AllAlone (Take t ∷ []) k.peer r = subst (λ (l : List Deed). AllAlone l k.peer r) one alone in
+            let one : ds ≡ Take (Some t) ∷ [] = fell ∙ fallen true (grind (arith, nat_tests)) in
+            let a : AllAlone (Take (Some t) ∷ []) k.peer r = subst (λ (l : List Deed). AllAlone l k.peer r) one alone in
             let slot : acts.first.slot ≡ x.slot = same-slot old.host.slots acts.from e.name.slot acts.first.slot x.slot here acts.first.there x.there in
             let g : e.name.generation ≡ name.generation = sym x.same ∙ ap (λ (s : SlotState). s.generation) (sym slot) in
             let called : name ≡ e.name = (λ i. record { slot = here i; generation = sym g i }) in

@@ -24,11 +24,11 @@ use Rattle.enet_host.specs.Opening.{Connects, no_channel, no_slot, no_memory, as
 use Rattle.enet_isolation.specs.Calls.{Call, Acts}
 use Rattle.enet_isolation.specs.Calls as call
 use Rattle.enet_isolation.proofs.Lists.{same-or}
-use Rattle.enet_isolation.proofs.Names.{IsThere, IsSpent, same-generations}
+use Rattle.enet_isolation.proofs.Names.{IsThere, IsSpent, same-generations, begun-generation}
 use Rattle.enet_isolation.proofs.OneCall.{one-call}
 use Rattle.enet_isolation.proofs.Receiving.{is_open}
-use Rattle.enet_isolation.specs.Falling as falling
 use Rattle.enet_isolation.specs.Law as isolation
+use Rattle.enet_isolation.specs.Common.{common_of}
 use Rattle.enet_network.specs.Law.{AreNamed, HasNothingOf, GoesOn, IsElsewhere, IsBetween, Faces, Begins, ShowsAt}
 use Rattle.enet_network.specs.Log.{Logged, greatest_at}
 use Rattle.enet_network.specs.Network.{HostEnd, Site, fresh_end, end_of, numbers_in, numbers_of}
@@ -319,11 +319,7 @@ fresh-connected h address channels info word name answer slots after was (asks i
     let open' = is_open h.config slots i s free there in
     subst (IsFresh h) same (record { slot = s; there = ap (λ (xs : List SlotState). slice_get xs i) (sym was) ∙ there; vacant = open'.0; left = open'.1; generation = refl })
 
-begun-generation : (c : Call) (h : Host) (i : ℕ) (s t : SlotState) → falling.Begins c h i s t → t.generation ≡ s.generation
-begun-generation c h i s t (falling.asks address channels info word is some at) = refl
-begun-generation c h i s t (falling.answers from bytes commands header o is read stranger offer taken new at) = refl
-
-pub kept-generation : (c : Call) (h : Host) (i : ℕ) (s t : SlotState) → s.peer ≡ None → isolation.Fares c h i s t → t.generation ≡ s.generation
+pub kept-generation : (c : Call) (h : Host) (i : ℕ) (s t : SlotState) → s.peer ≡ None → isolation.Fares c (common_of h) i s t → t.generation ≡ s.generation
 kept-generation c h i s t none (isolation.untouched fell not' e) = ap (λ (z : SlotState). z.generation) e
 kept-generation c h i s t none (isolation.goes_on p q ds has fell alone e) = absurd (let y : ◌≡◌ {A = Option Peering} None (Some p) = sym none ∙ has in cc)
 kept-generation c h i s t none (isolation.begins vacant left b) = begun-generation c h i s t b

@@ -18,6 +18,7 @@ use Rattle.enet_host.specs.Foretelling.{next_name}
 use Rattle.enet_slot.specs.Hearing.{no_peer}
 use Rattle.enet_isolation.specs.Calls.{Call, Acts}
 use Rattle.enet_isolation.specs.Calls as call
+use Rattle.enet_isolation.specs.Common.{common_of}
 use Rattle.enet_isolation.specs.Falling as falling
 use Rattle.enet_isolation.specs.Law.{Fares, untouched, goes_on, begins}
 use Rattle.enet_isolation.proofs.OneCall.{one-call}
@@ -116,12 +117,12 @@ begun-none x old new none = ap (λ (o : Option ℕ). begun_in x o new) none
 -- a datagram to a peer begins none
 
 still-vacant : (old : Host) (from : Addr) (bytes : List ℕ) (answer : Received) (i : ℕ) (s t : SlotState) → s.peer ≡ None → ((header : Header) (commands : List ℕ) → IsRead bytes header commands → header.peer ≢ no_peer)
-    → Fares (call.Receive from bytes answer) old i s t → t.peer ≡ None
+    → Fares (call.Receive from bytes answer) (common_of old) i s t → t.peer ≡ None
 still-vacant old from bytes answer i s t none other (untouched fell not' e) = ap (λ (z : SlotState). z.peer) e ∙ none
 still-vacant old from bytes answer i s t none other (goes_on p q ds has fell alone e) = absurd (let y : ◌≡◌ {A = Option Peering} None (Some p) = sym none ∙ has in cc)
 still-vacant old from bytes answer i s t none other (begins vacant left b) = absurd (by b)
   where
-    by : {u : SlotState} → falling.Begins (call.Receive from bytes answer) old i s u → ⊥
+    by : {u : SlotState} → falling.Begins (call.Receive from bytes answer) (common_of old) i s u → ⊥
     by (falling.asks address channels info word is some at) = absurd (cc)
     by (falling.answers from' bytes' commands header o is read nobody offer fits new at) = (let same : bytes ≡ bytes' = cc in other header commands (subst (λ (l : List ℕ). IsRead l header commands) (sym same) read) nobody)
 
