@@ -8,7 +8,7 @@ use Rattle.enet_link.specs.Steps.{Has}
 use Rattle.enet_network.specs.declared.mark.Mark.{Mark}
 use Rattle.enet_network.specs.Log.{Logged, greatest_at}
 use Rattle.enet_network.specs.Marks.{Counts}
-use Rattle.enet_network.specs.Network.{HostEnd, with_end, numbers_in, end_of}
+use Rattle.enet_network.specs.Network.{HostEnd, with_end}
 
 pub record Records : Type 0 where
   pub log : List Logged
@@ -41,8 +41,9 @@ pub record AreKept (log : List Logged) (ends : List HostEnd) : Type 0 where
 abbrev pub HasEnd : List HostEnd → PeerRef → Type 0
 HasEnd ends name = (e : HostEnd) × Has ends e × (e.name ≡ name)
 
--- a datagram of the end of this name is to be logged: its commands are counted and marked; `far` are the ends of the other host
-pub record Notes (far : List HostEnd) (name : PeerRef) (to : Addr) (text : List ℕ) (old new : List HostEnd) (logged : Logged) : Type 0 where
+-- a datagram of the end of this name is to be logged: its commands are counted and marked; `far` has the greatest numbers that the other end of a
+-- connection sent
+pub record Notes (far : ℕ → List ℕ) (name : PeerRef) (to : Addr) (text : List ℕ) (old new : List HostEnd) (logged : Logged) : Type 0 where
   pub own : HostEnd
   pub there : Has old own
   pub named : own.name ≡ name
@@ -51,6 +52,6 @@ pub record Notes (far : List HostEnd) (name : PeerRef) (to : Addr) (text : List 
   pub read : IsRead text header commands
   pub greatest : List ℕ
   pub marks : List Mark
-  pub counts : Counts text own.greatest greatest (numbers_in (end_of own.connection far)) marks
+  pub counts : Counts text own.greatest greatest (far own.connection) marks
   pub is : logged ≡ record { connection = own.connection; to = to; peer = header.peer; text = text; marks = marks }
   pub ends : new ≡ with_end (λ (e : HostEnd). record e { greatest = greatest }) name old

@@ -114,7 +114,7 @@ fn end_of(ends: &[End], connection: u64) -> Option<&End>
 }
 
 /// The greatest numbers that were sent at the end of this connection, by channel; empty where there is no such end.
-pub(crate) fn numbers_of(ends: &[End], connection: u64) -> &[u128]
+pub fn numbers_of(ends: &[End], connection: u64) -> &[u128]
     ensures { result.now ≡ numbers_in (end_of connection ends.now) }
 {
     match end_of(ends, connection) {

@@ -1,6 +1,7 @@
 //! What is kept of a host in a network: the datagrams that it put out, each with its connection and the marks of its commands,
 //! and its ends of connections, each with what its user submitted and took and how far its numbers have come. The definitions
-//! are those of `enet_network`; no host is named here. Want of memory changes nothing.
+//! are those of `enet_network`; no host is named here, and what is around one is told by whoever knows it, by the trait `Around`. Want of
+//! memory changes nothing.
 //!
 //! Proved, without a premise but those that are named: `Records::open`, `Records::joined` and `fresh_end` give the stated first
 //! states. `note` counts the commands of a datagram at its end and marks them as its bytes spell them (`Notes`).
@@ -10,6 +11,7 @@
 //! Only tested, by scripts/rows and `check_lists`, through `enet_world`: that calls succeed with ample memory.
 #![tactic(auto)]
 
+mod around;
 mod end;
 mod keeping;
 mod lateness;
@@ -18,7 +20,8 @@ mod numbers;
 mod opening;
 mod records;
 
-pub use end::{Channel, End, events, position_of, submitted, taken};
+pub use around::Around;
+pub use end::{Channel, End, events, numbers_of, position_of, submitted, taken};
 pub use lateness::comes_late;
 pub use marks::MAX_COMMANDS;
 pub use opening::fresh_end;

@@ -8,7 +8,8 @@ ghost use Rattle.enet_link.specs.Steps.{Has};
 ghost use Rattle.enet_network.specs.Network.{HostEnd};
 ghost use Rattle.enet_records.specs.Records.{AreBelow, AreApart, HasEnd, Notes};
 
-use crate::end::{End, numbers_of, position_of};
+use crate::around::Around;
+use crate::end::{End, position_of};
 use crate::numbers::marks_of;
 use enet_datagram::read_heading;
 use enet_network::Mark;
@@ -75,10 +76,10 @@ impl Records {
 }
 
 /// The datagram of these bytes that the end of this name put out to an address. Its commands are counted there, and marked in
-/// a vector that has room for 32. `far` are the other host's ends.
-pub fn note(
+/// a vector that has room for 32.
+pub fn note<A: Around>(
     ends: &mut [End],
-    far: &[End],
+    around: &A,
     name: PeerRef,
     to: Addr,
     text: Vec<u8>,
@@ -90,12 +91,12 @@ pub fn note(
     requires apart { AreApart ends.old }
     requires below { (e : HostEnd) → Has ends.old e → AreBelow (2 ^ 126) e.greatest }
     requires read { (header : Header) × (commands : List ℕ) × IsRead text.items header commands }
-    ensures { Notes far.now name to text.items ends.old ends.new result }
+    ensures { Notes (A.numbers around.now) name to text.items ends.old ends.new result }
 {
     let place = position_of(ends, name).unwrap_or(0);
     let own = &mut ends[place];
     let peer = peer_in(&text);
-    let numbers = numbers_of(far, own.connection);
+    let numbers = around.numbers(own.connection);
     let marks = marks_of(&text, room, &mut own.greatest, numbers);
     Datagram {
         connection: own.connection,

@@ -1,5 +1,5 @@
 -- What a call said of a host and what is kept of it, it says of the site.
-use Rattle.std.proofs.Common.{◌≡◌, ℕ, refl, subst, Option, Result, Ok, Err, IfOk, IfErr, OnErr, slice_get}
+use Rattle.std.proofs.Common.{◌≡◌, ℕ, false, List, [], refl, subst, Option, Result, Ok, Err, IfOk, IfErr, OnErr, slice_get}
 use Rattle.enet_types.specs.declared.address.Addr.{Addr}
 use Rattle.enet_types.specs.declared.event.Event.{Event}
 use Rattle.enet_types.specs.declared.event.PeerRef.{PeerRef}
@@ -11,11 +11,11 @@ use Rattle.enet_slot.specs.Giving.{no_address}
 use Rattle.enet_isolation.specs.Calls.{Call, Done, Acts}
 use Rattle.enet_isolation.specs.Calls as call
 use Rattle.enet_network.specs.Network.{Site, delivery_refusal}
-use Rattle.enet_network.specs.Steps.{Calls, Hears, Happens, BringsOne}
+use Rattle.enet_network.specs.Steps.{Calls, Hears, beside, Happens, Called, BringsOne}
 use Rattle.enet_network.specs.World.{IsRefusedFor, RefusesCall}
 use Rattle.enet_records.specs.Records.{Records}
 use Rattle.enet_site.specs.Sites.{site, IsWhole, CallsOn, CallsAt}
-use Rattle.enet_site.proofs.Going.{whole-after}
+use Rattle.enet_site.proofs.Going.{whole-goes, whole-after}
 
 pub refuses-at : {T : Type 0} (r : Result T Refusal) (c : Refusal → Call) (a : Addr) (h : Host) (was : Records) (s : Site) → site a h was ≡ s → IfErr r (λ why. Acts (c why) h h) → IfErr r (λ why. RefusesCall (c why) s)
 refuses-at (Ok x) c a h was s same is = tt
@@ -39,7 +39,7 @@ pub asked-whole : (r : Result PeerRef Refusal) (b : Addr) (old new : Host) (was 
     → IfOk r (λ name. CallsOn next (call.Connect b channels info word (Ok name)) old was new is) → IsWhole old was.ends → IsWhole new is.ends
 asked-whole r b old new was is next channels info word host same done k =
     whole-after r (λ name. CallsOn next (call.Connect b channels info word (Ok name)) old was new is) old new was is host same done
-    (λ name d. (next, site b old was, Calls (call.Connect b channels info word (Ok name)), (refl, d no_address))) k
+    (λ name d. (beside next (site b old was), site b old was, Calls (call.Connect b channels info word (Ok name)), (refl, d no_address))) k
 
 -- a packet is submitted
 
@@ -51,7 +51,7 @@ submitted-at (Ok u) a old new was is name channel q s before done = subst (λ (z
 pub submitted-whole : (r : Done) (old new : Host) (was is : Records) (name : PeerRef) (channel : ℕ) (q : Packet) → OnErr r (new ≡ old) → OnErr r (is ≡ was) → IfOk r (λ done. CallsOn 0 (call.Submit name channel q (Ok tt)) old was new is)
     → IsWhole old was.ends → IsWhole new is.ends
 submitted-whole r old new was is name channel q host same done k =
-    whole-after r (λ u. CallsOn 0 (call.Submit name channel q (Ok tt)) old was new is) old new was is host same done (λ u d. (0, site no_address old was, Calls (call.Submit name channel q (Ok tt)), d no_address)) k
+    whole-after r (λ u. CallsOn 0 (call.Submit name channel q (Ok tt)) old was new is) old new was is host same done (λ u d. (beside 0 (site no_address old was), site no_address old was, Calls (call.Submit name channel q (Ok tt)), d no_address)) k
 
 -- an event is taken
 
@@ -61,7 +61,7 @@ taken-at (Ok event) a old new was is s before done = subst (λ (z : Site). Calls
 
 pub taken-whole : (r : Result (Option Event) Refusal) (old new : Host) (was is : Records) → OnErr r (new ≡ old) → OnErr r (is ≡ was) → IfOk r (λ event. CallsOn 0 (call.NextEvent event) old was new is) → IsWhole old was.ends → IsWhole new is.ends
 taken-whole r old new was is host same done k =
-    whole-after r (λ event. CallsOn 0 (call.NextEvent event) old was new is) old new was is host same done (λ event d. (0, site no_address old was, Calls (call.NextEvent event), d no_address)) k
+    whole-after r (λ event. CallsOn 0 (call.NextEvent event) old was new is) old new was is host same done (λ event d. (beside 0 (site no_address old was), site no_address old was, Calls (call.NextEvent event), d no_address)) k
 
 -- a datagram is brought
 
@@ -82,4 +82,13 @@ pub brought-whole : (r : Result Received Refusal) (b : Addr) (old new : Host) (w
     → IfOk r (λ answer. (address : Addr) (h : Host) → BringsOne (site b h far) (slice_get far.log n) answer (site address old was) (site address new is)) → IsWhole old was.ends → IsWhole new is.ends
 brought-whole r b old new was is far n host same done k =
     whole-after r (λ answer. (address : Addr) (h : Host) → BringsOne (site b h far) (slice_get far.log n) answer (site address old was) (site address new is)) old new was is host same done
-    (λ answer d. (0, site b old far, Hears n answer, d no_address old)) k
+    (λ answer d. (beside 0 (site b old far), site b old far, Hears n answer, d no_address old)) k
+
+-- a stranger's datagram comes
+
+pub heard-whole : (from : Addr) (bytes : List ℕ) (answer : Received) (a : Addr) (old new : Host) (was : Records) → Acts (call.Receive from bytes answer) old new → IsWhole old was.ends → IsWhole new was.ends
+heard-whole from bytes answer a old new was acts k =
+    whole-goes (record { count = 0; is_host = λ x. false; numbers = λ x. [] }) (site a old was) (site a old was) (site a new was) (Calls (call.Receive from bytes answer)) (refl, (acts, refl)) k
+
+pub heard-at : (from : Addr) (bytes : List ℕ) (answer : Received) (a : Addr) (old new : Host) (was : Records) (s : Site) → site a old was ≡ s → Acts (call.Receive from bytes answer) old new → (next : ℕ) → Called next (call.Receive from bytes answer) s (site a new was)
+heard-at from bytes answer a old new was s before acts next = subst (λ (z : Site). Called next (call.Receive from bytes answer) z (site a new was)) before (acts, refl)

@@ -13,7 +13,7 @@ use Rattle.enet_peer.specs.Peering.{Peering}
 use Rattle.enet_link.specs.Steps.{Has}
 use Rattle.enet_slot.specs.Slot.{SlotState, name_of}
 use Rattle.enet_host.specs.Host.{Host, named, peer_in, with_generation}
-use Rattle.enet_host.specs.Opening.{available, no_channel, no_slot, no_memory, asks}
+use Rattle.enet_host.specs.Opening.{available, no_channel, no_slot, no_memory}
 use Rattle.enet_host.specs.Foretelling.{next_name}
 use Rattle.enet_slot.specs.Hearing.{no_peer}
 use Rattle.enet_isolation.specs.Calls.{Call, Acts}

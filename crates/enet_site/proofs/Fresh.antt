@@ -1,5 +1,5 @@
 -- What holds of a site at first.
-use Rattle.std.proofs.Common.{◌≡◌, ◌<◌, ℕ, zero, suc, true, [], ◌∷◌, replicate, Some, refl, sym, ap, subst, ◌∙◌, inl, inr, arith, slice_get, slice_set}
+use Rattle.std.proofs.Common.{◌≡◌, ◌<◌, ℕ, zero, suc, true, [], ◌∷◌, replicate, Some, refl, sym, subst, inl, inr, arith, slice_get, slice_set}
 use Rattle.std.proofs.lemmas.Bool.Decides.{nat_tests}
 use Rattle.enet_types.specs.declared.address.Addr.{Addr}
 use Rattle.enet_types.specs.declared.config.Config.{Config}
@@ -11,26 +11,15 @@ use Rattle.enet_slot.specs.Slot.{SlotState}
 use Rattle.enet_host.specs.Host.{Host}
 use Rattle.enet_host.specs.Opening.{opened, joined}
 use Rattle.enet_isolation.proofs.Keeping.{each-keeps}
-use Rattle.enet_isolation.proofs.Names.{named-there}
 use Rattle.enet_network.specs.Network.{HostEnd}
 use Rattle.enet_network.specs.Shown.{ShowsPeer}
 use Rattle.enet_network.specs.World.{joined_end}
-use Rattle.enet_network.proofs.Owned.{none-held, one-held}
 use Rattle.enet_network.proofs.Peers.{shows-held}
 use Rattle.enet_records.specs.Records.{Records}
-use Rattle.enet_site.specs.Sites.{AreOwned, AreShown, IsWhole}
-
-none-owned : (c : Config) → AreOwned (opened c) []
-none-owned c name p is = (let x = named-there (opened c).slots name p is in absurd (none-held c.peers name.slot x.slot p x.there x.peer))
+use Rattle.enet_site.specs.Sites.{AreShown, IsWhole}
 
 first : (c : Config) (far : Addr) → SlotState
 first c far = given unused_slot far (joined_peer c.clock (joined_terms c) (limits_of c))
-
-one-owned : (c : Config) (far : Addr) → AreOwned (joined c far) (joined_end ∷ [])
-unfolding first
-one-owned c far name p is =
-    let x = named-there (joined c far).slots name p is in
-    (joined_end, inl refl, one-held c.peers name.slot (first c far) x.slot p x.there x.peer ∙ ap (λ (n : ℕ). record { slot = name.slot; generation = n }) x.same)
 
 first-there : (n : ℕ) (s : SlotState) → 0 < n → slice_get (slice_set (replicate n unused_slot) 0 s) 0 ≡ Some s
 first-there zero s h = absurd (omega arith)
@@ -52,9 +41,9 @@ one-shown c far h e (inr other) = absurd other
 pub whole-open : (c : Config) (h : Host) (r : Records) → is_in_range c ≡ true → h ≡ opened c → r ≡ record { log = []; ends = [] } → IsWhole h r.ends
 whole-open c h r fits host is =
     subst (λ (q : Records). IsWhole h q.ends) (sym is)
-    (subst (λ (g : Host). IsWhole g []) (sym host) (record { keeps = each-keeps.opened c fits; owned = none-owned c; shown = λ e there. absurd there }))
+    (subst (λ (g : Host). IsWhole g []) (sym host) (record { keeps = each-keeps.opened c fits; shown = λ e there. absurd there }))
 
 pub whole-joined : (c : Config) (far : Addr) (h : Host) (r : Records) → is_in_range c ≡ true → h ≡ joined c far → r ≡ record { log = []; ends = joined_end ∷ [] } → IsWhole h r.ends
 whole-joined c far h r fits host is =
     subst (λ (q : Records). IsWhole h q.ends) (sym is)
-    (subst (λ (g : Host). IsWhole g (joined_end ∷ [])) (sym host) (record { keeps = each-keeps.joined c far fits; owned = one-owned c far; shown = one-shown c far fits }))
+    (subst (λ (g : Host). IsWhole g (joined_end ∷ [])) (sym host) (record { keeps = each-keeps.joined c far fits; shown = one-shown c far fits }))

@@ -11,18 +11,17 @@ use Rattle.enet_host.specs.Opening.{available}
 use Rattle.enet_isolation.specs.Calls.{Call, Acts}
 use Rattle.enet_isolation.specs.Calls as call
 use Rattle.enet_isolation.proofs.Keeping.{each-keeps}
-use Rattle.enet_isolation.proofs.Names.{IsThere, there-named}
+use Rattle.enet_isolation.proofs.Names.{IsThere}
 use Rattle.enet_network.specs.Log.{Logged}
 use Rattle.enet_network.specs.Network.{HostEnd, Site}
 use Rattle.enet_network.specs.Shown.{ShowsPeer}
-use Rattle.enet_network.specs.Steps.{Happening, Calls, Hears, beside, Happens, end_in, end_in_slot, begun_in}
+use Rattle.enet_network.specs.Steps.{Around, Happening, Calls, Hears, HappensAmong, end_in, end_in_slot, begun_in}
 use Rattle.enet_network.proofs.Beginnings.{asked-in}
 use Rattle.enet_network.proofs.Growing.{more_of, more_in, Grows, grows, from-before}
-use Rattle.enet_network.proofs.Owned.{owned-goes, named-ends}
 use Rattle.enet_network.proofs.Peers.{shows-held, is_gone, goes, Moved, moved}
 use Rattle.enet_network.proofs.Worlds.{some-acts}
 use Rattle.enet_records.specs.Records.{Records}
-use Rattle.enet_site.specs.Sites.{site, AreOwned, AreShown, IsWhole}
+use Rattle.enet_site.specs.Sites.{site, AreShown, IsWhole}
 
 -- an end that begins has a peer
 
@@ -43,16 +42,16 @@ held-begun : (x : ℕ) (o : Option ℕ) (h : Host) (f : HostEnd) → Has (begun_
 held-begun x None h f m = absurd m
 held-begun x (Some i) h f m = held-at x i h (slice_get h.slots i) f refl m
 
-held-more : (next : ℕ) (far old new : Site) (what : Happening) → Happens next far what old new → (f : HostEnd) → Has (more_of next far old new what) f → Held new.host f.name
+held-more : (w : Around) (from old new : Site) (what : Happening) → HappensAmong w from what old new → (f : HostEnd) → Has (more_of w.count from old new what) f → Held new.host f.name
 unfolding Held
-held-more next far old new (Calls (call.Connect address channels info word (Ok name))) x f (inl e) =
+held-more w from old new (Calls (call.Connect address channels info word (Ok name))) x f (inl e) =
     let a = asked-in old.host address channels info word name (Ok name) old.host.slots new.host.slots x.1.0.0 refl in
     subst (λ (z : HostEnd). (q : Peering) × IsThere new.host.slots z.name q) e (_, a.there)
-held-more next far old new (Calls (call.Connect address channels info word (Ok name))) x f (inr m) = absurd m
-held-more next far old new (Calls c) x f m = absurd m
-held-more next far old new (Hears k answer) x f m = by (slice_get far.log k) m
+held-more w from old new (Calls (call.Connect address channels info word (Ok name))) x f (inr m) = absurd m
+held-more w from old new (Calls c) x f m = absurd m
+held-more w from old new (Hears k answer) x f m = by (slice_get from.log k) m
   where
-    by : (found : Option Logged) → Has (more_in next old new found) f → Held new.host f.name
+    by : (found : Option Logged) → Has (more_in w.count old new found) f → Held new.host f.name
     by None y = absurd y
     by (Some d) y = held-begun d.connection (available old.host.config old.host.slots) new.host f y
 
@@ -62,36 +61,29 @@ shown-moved : (c : Call) (old new : Host) (name : PeerRef) (p : Peering) → Mov
 shown-moved c old new name p (is_gone shows none) = (p, shows)
 shown-moved c old new name p (goes x ds q fell alone shows) = (q, shows)
 
-shown-goes : (next : ℕ) (far old new : Site) (what : Happening) → Happens next far what old new → Keeps old.host → Keeps new.host → AreShown old.host old.ends → AreShown new.host new.ends
+shown-goes : (w : Around) (from old new : Site) (what : Happening) → HappensAmong w from what old new → Keeps old.host → Keeps new.host → AreShown old.host old.ends → AreShown new.host new.ends
 unfolding Held
-shown-goes next far old new what x low keeps k f there = elim (from-before old new (more_of next far old new what) g f there) [
+shown-goes w from old new what x low keeps k f there = elim (from-before old new (more_of w.count from old new what) g f there) [
   | inl b ↦ (let own = k b.0 b.1 in subst (λ (n : PeerRef). (q : Peering) × ShowsPeer new.host n q) (sym (g.name b.0) ∙ ap (λ (z : HostEnd). z.name) b.2)
       (shown-moved a.0 old.host new.host (b.0).name own.0 (moved a.0 old.host new.host (b.0).name own.0 low.generations a.1 own.1)))
-  | inr m ↦ (let h = held-more next far old new what x f m in (h.0, shows-held new.host f.name h.0 (let t = h.1 in keeps.held (f.name).slot t.slot h.0 t.there t.peer) h.1))
+  | inr m ↦ (let h = held-more w from old new what x f m in (h.0, shows-held new.host f.name h.0 (let t = h.1 in keeps.held (f.name).slot t.slot h.0 t.there t.peer) h.1))
 ]
   where
-    g : Grows old new (more_of next far old new what)
-    g = grows (beside next far) far old new what x
+    g : Grows old new (more_of w.count from old new what)
+    g = grows w from old new what x
 
     a : (c : Call) × Acts c old.host new.host
-    a = some-acts (beside next far) far old new what x
+    a = some-acts w from old new what x
 
-pub whole-goes : (next : ℕ) (far old new : Site) (what : Happening) → Happens next far what old new → IsWhole old.host old.ends → IsWhole new.host new.ends
-whole-goes next far old new what x k = record { keeps = keeps; owned = owned; shown = shown-goes next far old new what x k.keeps keeps k.shown }
+pub whole-goes : (w : Around) (from old new : Site) (what : Happening) → HappensAmong w from what old new → IsWhole old.host old.ends → IsWhole new.host new.ends
+whole-goes w from old new what x k = record { keeps = keeps; shown = shown-goes w from old new what x k.keeps keeps k.shown }
   where
     keeps : Keeps new.host
-    keeps = (let a = some-acts (beside next far) far old new what x in each-keeps.call a.0 old.host new.host a.1 k.keeps)
-
-    owned : AreOwned new.host new.ends
-    owned =
-        named-ends new
-        (owned-goes (beside next far) far old new what x
-        (λ i s p there has at. k.owned (record { slot = i; generation = s.generation }) p
-        (there-named old.host.slots (record { slot = i; generation = s.generation }) p (record { slot = s; there = there; same = refl; peer = has }))))
+    keeps = (let a = some-acts w from old new what x in each-keeps.call a.0 old.host new.host a.1 k.keeps)
 
 -- some thing happened at a host of which this is kept
 abbrev pub Goes : Host → Records → Host → Records → Type 0
-Goes old was new is = (next : ℕ) × (far : Site) × (what : Happening) × Happens next far what (site no_address old was) (site no_address new is)
+Goes old was new is = (w : Around) × (from : Site) × (what : Happening) × HappensAmong w from what (site no_address old was) (site no_address new is)
 
 pub whole-after : {T : Type 0} (r : Result T Refusal) (P : T → Type 0) (old new : Host) (was is : Records) → OnErr r (new ≡ old) → OnErr r (is ≡ was) → IfOk r P → ((x : T) → P x → Goes old was new is) → IsWhole old was.ends → IsWhole new is.ends
 whole-after (Ok x) P old new was is host same done by k = (let g = by x done in whole-goes g.0 g.1 (site no_address old was) (site no_address new is) g.2 g.3 k)

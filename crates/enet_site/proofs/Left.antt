@@ -9,7 +9,7 @@ use Rattle.enet_host.specs.Host.{Host}
 use Rattle.enet_isolation.specs.Calls.{Done, Acts}
 use Rattle.enet_isolation.specs.Calls as call
 use Rattle.enet_network.specs.Network.{Site}
-use Rattle.enet_network.specs.Steps.{Calls}
+use Rattle.enet_network.specs.Steps.{Calls, beside}
 use Rattle.enet_network.specs.World.{RefusesCall}
 use Rattle.enet_records.specs.Records.{Records}
 use Rattle.enet_site.specs.Sites.{site, IsWhole, CallsAt}
@@ -31,10 +31,10 @@ left-ends how name info (Ok done) a old new was s same acts = subst (λ (z : Sit
 left-ends how name info (Err why) a old new was s same acts = tt
 
 pub left-whole : (how : DisconnectMode) (name : PeerRef) (info : ℕ) (r : Done) (a : Addr) (old new : Host) (was : Records) → Acts (call.Disconnect how name info r) old new → IsWhole old was.ends → IsWhole new was.ends
-left-whole how name info r a old new was acts k = whole-goes 0 (site a old was) (site a old was) (site a new was) (Calls (call.Disconnect how name info r)) (acts, refl) k
+left-whole how name info r a old new was acts k = whole-goes (beside 0 (site a old was)) (site a old was) (site a old was) (site a new was) (Calls (call.Disconnect how name info r)) (acts, refl) k
 
 pub ticked-whole : (ms : ℕ) (a : Addr) (old new : Host) (was : Records) → Acts (call.Tick ms) old new → IsWhole old was.ends → IsWhole new was.ends
-ticked-whole ms a old new was acts k = whole-goes 0 (site a old was) (site a old was) (site a new was) (Calls (call.Tick ms)) (acts, refl) k
+ticked-whole ms a old new was acts k = whole-goes (beside 0 (site a old was)) (site a old was) (site a old was) (site a new was) (Calls (call.Tick ms)) (acts, refl) k
 
 pub ticked-at : (ms : ℕ) (a : Addr) (old new : Host) (was : Records) (s : Site) → site a old was ≡ s → Acts (call.Tick ms) old new → CallsAt (call.Tick ms) s (site a new was)
 ticked-at ms a old new was s same acts = subst (λ (z : Site). CallsAt (call.Tick ms) z (site a new was)) same (λ next far. (acts, refl))

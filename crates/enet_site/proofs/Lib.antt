@@ -9,3 +9,4 @@ pub mod Submits
 pub mod Takes
 pub mod Hears
 pub mod AtSite
+pub mod Opens

@@ -1,4 +1,4 @@
--- What a host puts out is read, and is of one of its ends.
+-- What a host puts out is read, and goes where its peer stands.
 use Rattle.std.proofs.Common.{◌≡◌, ◌<◌, ℕ, ◌+◌, ◌*◌, ◌/◌, ◌%◌, ◌^◌, eqb, Bool, true, false, List, ◌++◌, length, take, refl, sym, ap, subst, ◌∙◌, arith, Some}
 use Rattle.std.specs.Prelude.{slice_index, is_some}
 use Rattle.std.specs.Int.{bit_at}
@@ -13,14 +13,14 @@ use Rattle.enet_codec.proofs.Arms.{flag}
 use Rattle.enet_datagram.specs.Heading.{IsRead, is_compressed}
 use Rattle.enet_outbox.specs.Emission.{HasDatagram}
 use Rattle.enet_outbox.proofs.Spelled.{datagram-spelled}
-use Rattle.enet_peer.specs.Peering.{Peering}
 use Rattle.enet_peer.specs.Calls.{destination_of}
 use Rattle.enet_slot.specs.Slot.{SlotState}
-use Rattle.enet_host.specs.Host.{Host, named}
+use Rattle.enet_host.specs.Host.{Host}
+use Rattle.enet_host.specs.Calls.{address_of, address_in, address_named}
 use Rattle.enet_slot.specs.Serving.{Gives as GivesSlot}
 use Rattle.enet_host.specs.Serving.{GivesInTurn, Serves}
 use Rattle.enet_isolation.proofs.Lists.{get-within}
-use Rattle.enet_isolation.proofs.Names.{there-named}
+use Rattle.enet_isolation.proofs.Names.{IsThere, there-slot}
 
 -- bit 14 of the word is bit 6 of the first byte
 low-bit : (p s b : ℕ) → p < 4096 → s < 4 → b < 2 → (p + 4096 * s + 2 ^ 14 * 0 + 2 ^ 15 * b) / 256 % 256 / 2 ^ 6 % 2 ≡ 0
@@ -66,8 +66,10 @@ gave-read h new name to len buf s =
     let d : HasDatagram h.clock (destination_of gives.peer) _ len buf = puts.emits.1 in
     spelled-read (take len buf) _ _ refl (datagram-spelled h.clock (destination_of gives.peer) _ len buf d)
 
-pub gave-named : (h new : Host) (name : PeerRef) (to : Addr) (len : ℕ) (buf : List ℕ) → Serves h (Some (name, to, len)) buf new → (p : Peering) × (named h.slots name ≡ Some p)
-gave-named h new name to len buf s =
+-- the peer that it is of stands where it goes
+pub gave-address : (h new : Host) (name : PeerRef) (to : Addr) (len : ℕ) (buf : List ℕ) → Serves h (Some (name, to, len)) buf new → address_named h.slots name ≡ Some to
+gave-address h new name to len buf s =
     let g = s.0 in
     let gives = (gave-slot h new name to len buf g).1 in
-    (gives.peer, there-named h.slots name gives.peer (record { slot = g.slot; there = g.there; same = sym (ap (λ (n : PeerRef). n.generation) g.named); peer = gives.held }))
+    let x : IsThere h.slots name gives.peer = record { slot = g.slot; there = g.there; same = sym (ap (λ (n : PeerRef). n.generation) g.named); peer = gives.held } in
+    ap address_in (there-slot h.slots name gives.peer x) ∙ ap (address_of g.slot) gives.held ∙ ap (λ (a : Addr). Some a) (sym g.addressed)

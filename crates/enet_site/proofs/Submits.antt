@@ -1,16 +1,13 @@
 -- A submission, at its site.
-use Rattle.std.proofs.Common.{◌≡◌, ◌<◌, ℕ, true, List, length, refl, sym, ap, subst, ◌∙◌, arith, Option, Some, None, IfSome, unwrap_or, Result, Ok, Err, IfOk, IfErr, OnErr, is_ok, slice_set}
+use Rattle.std.proofs.Common.{◌≡◌, ◌<◌, ℕ, true, List, length, refl, sym, ap, subst, ◌∙◌, arith, Option, Some, None, Result, Ok, Err, IfOk, IfErr, OnErr, is_ok, slice_set}
 use Rattle.std.specs.List.{position, slice_index_or}
 use Rattle.enet_types.specs.declared.event.PeerRef.{PeerRef}
 use Rattle.enet_types.specs.declared.packet.Packet.{Packet}
 use Rattle.enet_types.specs.declared.refusal.Refusal.{Refusal}
-use Rattle.enet_types.specs.declared.refusal.Refusal.TheVariants.{NoSuchPeer}
 use Rattle.enet_sender.specs.CommandChoice as command_choice
-use Rattle.enet_peer.specs.Peering.{Peering}
 use Rattle.enet_connection.specs.Law.{mtu_in}
 use Rattle.enet_host.specs.Host.{Host, named}
-use Rattle.enet_slot.specs.Calls.{refused_in}
-use Rattle.enet_host.specs.Foretelling.{submission_refusal, refusal_of}
+use Rattle.enet_host.specs.Foretelling.{refusal_of}
 use Rattle.enet_isolation.specs.Calls.{Done, Acts}
 use Rattle.enet_isolation.specs.Calls as call
 use Rattle.enet_network.specs.Log.{Logged}

@@ -1,5 +1,5 @@
 -- An event is taken, at its site.
-use Rattle.std.proofs.Common.{◌≡◌, ℕ, true, List, [], ◌∷◌, ◌++◌, length, refl, sym, ap, subst, ◌∙◌, Option, Some, None, Result, Ok, Err, IfOk, OnErr, slice_set}
+use Rattle.std.proofs.Common.{◌≡◌, ℕ, List, [], ◌∷◌, ◌++◌, length, sym, ap, subst, ◌∙◌, Option, Some, None, Result, Ok, Err, IfOk, OnErr, slice_set}
 use Rattle.std.specs.List.{position}
 use Rattle.enet_types.specs.declared.event.Event.{Event}
 use Rattle.enet_types.specs.declared.event.Event.TheVariants as events

@@ -1,18 +1,18 @@
 -- A host at its address, with what is kept of it.
-use Rattle.std.specs.Prelude.{◌≡◌, ℕ, Bool, true, false, List, [], ◌∷◌, Option, Some, None}
+use Rattle.std.specs.Prelude.{ℕ, Bool, true, false, List, [], ◌∷◌, Option, Some, None}
 use Rattle.enet_types.specs.declared.address.Addr.{Addr}
 use Rattle.enet_types.specs.declared.event.Event.{Event}
 use Rattle.enet_types.specs.declared.event.PeerRef.{PeerRef}
 use Rattle.enet_peer.specs.Peering.{Peering}
 use Rattle.enet_link.specs.Steps.{Has}
-use Rattle.enet_host.specs.Host.{Host, Keeps, named}
+use Rattle.enet_host.specs.Host.{Host, Keeps}
 use Rattle.enet_slot.specs.Giving.{no_address}
 use Rattle.enet_isolation.specs.Calls.{Call}
 use Rattle.enet_network.specs.Log.{Logged}
 use Rattle.enet_network.specs.Network.{HostEnd, Site, fresh_end}
 use Rattle.enet_network.specs.Shown.{ShowsPeer}
 use Rattle.enet_network.specs.Steps.{Calls, Happens, Called, with_event}
-use Rattle.enet_records.specs.Records.{Records, HasEnd}
+use Rattle.enet_records.specs.Records.{Records}
 
 abbrev pub site : Addr → Host → Records → Site
 site address host r = record { address = address; host = host; log = r.log; ends = r.ends }
@@ -24,10 +24,6 @@ with_ends host ends = record { address = no_address; host = host; log = []; ends
 abbrev pub unread : ℕ → Addr → ℕ → Logged
 unread connection from peer = record { connection = connection; to = from; peer = peer; text = []; marks = [] }
 
--- each peer of a host is that of an end
-abbrev pub AreOwned : Host → List HostEnd → Type 0
-AreOwned h ends = (name : PeerRef) (p : Peering) → named h.slots name ≡ Some p → HasEnd ends name
-
 -- of each end the host has the peer, or gave it up, so that nobody is called so any more
 abbrev pub AreShown : Host → List HostEnd → Type 0
 AreShown h ends = (e : HostEnd) → Has ends e → (p : Peering) × ShowsPeer h e.name p
@@ -35,7 +31,6 @@ AreShown h ends = (e : HostEnd) → Has ends e → (p : Peering) × ShowsPeer h 
 -- what holds of each site
 pub record IsWhole (h : Host) (ends : List HostEnd) : Type 0 where
   pub keeps : Keeps h
-  pub owned : AreOwned h ends
   pub shown : AreShown h ends
 
 -- one call of a host of which this is kept, where there have been so many connections

@@ -1,14 +1,16 @@
 -- A host puts out a datagram, or has none.
-use Rattle.std.specs.Prelude.{◌≡◌, ℕ, List, [], ◌∷◌, ◌++◌, length, take, Option, Some, None}
+use Rattle.std.specs.Prelude.{◌≡◌, ℕ, Bool, true, false, List, [], ◌∷◌, ◌++◌, length, take, Option, Some, None}
 use Rattle.enet_types.specs.declared.address.Addr.{Addr}
 use Rattle.enet_types.specs.declared.event.PeerRef.{PeerRef}
 use Rattle.enet_host.specs.Host.{Host}
 use Rattle.enet_host.specs.Serving.{Serves}
 use Rattle.enet_isolation.specs.Calls as call
 use Rattle.enet_network.specs.Log.{Logged}
-use Rattle.enet_network.specs.Network.{HostEnd, Site}
-use Rattle.enet_network.specs.Steps.{Calls, Happens}
+use Rattle.enet_network.specs.Network.{Site}
+use Rattle.enet_network.specs.Steps.{Calls, HappensAmong}
 use Rattle.enet_records.specs.Records.{Records, Notes}
+use Rattle.enet_site.specs.declared.put_out.Turned.{Turned}
+use Rattle.enet_site.specs.declared.put_out.Turned.TheVariants.{Sent, Away}
 
 -- it has none
 abbrev pub Rests : Host → Host → Type 0
@@ -21,22 +23,33 @@ pub record Gives (old : Host) (name : PeerRef) (to : Addr) (text : List ℕ) (ne
   pub serves : Serves old (Some (name, to, len)) buf new
   pub text_is : text ≡ take len buf
 
--- the datagram is logged last
-pub record Puts (far : List HostEnd) (old : Host) (was : Records) (new : Host) (is : Records) : Type 0 where
+-- the datagram is a host's, and is logged last; `far` has the greatest numbers that the other end of a connection sent
+pub record Puts (hosts : Addr → Bool) (far : ℕ → List ℕ) (old : Host) (was : Records) (new : Host) (is : Records) : Type 0 where
   pub name : PeerRef
   pub to : Addr
   pub text : List ℕ
   pub gives : Gives old name to text new
+  pub host : hosts to ≡ true
   pub logged : Logged
   pub notes : Notes far name to text was.ends is.ends logged
   pub log : is.log ≡ was.log ++ logged ∷ []
 
--- which number it got
-abbrev pub Turns : List HostEnd → Option ℕ → Host → Records → Host → Records → Type 0
-Turns far None old was new is = Rests old new × (is ≡ was)
-Turns far (Some n) old was new is = (n ≡ length was.log) × Puts far old was new is
+-- what it was: a host's datagram got the next number, and of a stranger's nothing is kept
+abbrev pub Turns : (Addr → Bool) → (ℕ → List ℕ) → Option Turned → Host → Records → Host → Records → Type 0
+Turns hosts far None old was new is = Rests old new × (is ≡ was)
+Turns hosts far (Some (Sent n)) old was new is = (n ≡ length was.log) × Puts hosts far old was new is
+Turns hosts far (Some (Away to text)) old was new is = (name : PeerRef) × Gives old name to text new × (hosts to ≡ false) × (is ≡ was)
+
+-- a call of service of a host with these hosts around it, however many connections there are
+abbrev pub ServesAmong : (Addr → Bool) → (ℕ → List ℕ) → Option (PeerRef × Addr × ℕ) → List ℕ → Site → Site → Type 0
+ServesAmong hosts far given buf old new =
+    (count : ℕ) (from : Site) → HappensAmong (record { count = count; is_host = hosts; numbers = far }) from (Calls (call.Service given buf)) old new
 
 -- so says the network's definition
-abbrev pub TurnsAt : Site → Option ℕ → Site → Site → Type 0
-TurnsAt far None old new = (buf : List ℕ) × Happens 0 far (Calls (call.Service None buf)) old new
-TurnsAt far (Some n) old new = (n ≡ length old.log) × (gave : PeerRef × Addr × ℕ) × (buf : List ℕ) × Happens 0 far (Calls (call.Service (Some gave) buf)) old new
+abbrev pub TurnsAmong : (Addr → Bool) → (ℕ → List ℕ) → Option Turned → Site → Site → Type 0
+TurnsAmong hosts far None old new = (buf : List ℕ) × ServesAmong hosts far None buf old new
+TurnsAmong hosts far (Some (Sent n)) old new =
+    (n ≡ length old.log) × (gave : PeerRef × Addr × ℕ) × (buf : List ℕ) × (hosts gave.1 ≡ true) × ServesAmong hosts far (Some gave) buf old new
+TurnsAmong hosts far (Some (Away to text)) old new =
+    (gave : PeerRef × Addr × ℕ) × (buf : List ℕ) × (hosts gave.1 ≡ false) × (to ≡ gave.1) × (text ≡ take gave.2 buf)
+    × ServesAmong hosts far (Some gave) buf old new

@@ -1,6 +1,6 @@
 //! A user asks the other host for a connection.
 
-ghost use Rattle.std.specs.Prelude.{◌≡◌, ℕ, Some, Ok, Err, IfOk, IfErr, OnErr};
+ghost use Rattle.std.specs.Prelude.{◌≡◌, ℕ, Some, Ok, Err, IfSome, IfNone, IfOk, IfErr, OnErr};
 ghost use Rattle.enet_types.specs.declared.address.Addr.{Addr};
 ghost use Rattle.enet_host.specs.Foretelling.{next_name};
 ghost use Rattle.enet_isolation.specs.Calls.{Acts};
@@ -35,6 +35,17 @@ fn asking_peer(host: &HostCore, channels: u8) -> Result<PeerRef, Refusal>
     match host.next_peer() {
         Some(name) => Ok(name),
         None => Err(Refusal::NoSlot),
+    }
+}
+
+/// The first refusal but want of memory that asking for so many channels meets.
+pub(crate) fn connect_refusal(host: &HostCore, channels: u8) -> Option<Refusal>
+    ensures refused { IfSome result (λ why. (address : Addr) (info word : ℕ) → Acts (call.Connect address channels info word (Err why)) host.now host.now) }
+    ensures memory { IfNone result ((address : Addr) (info word : ℕ) → Acts (call.Connect address channels info word (Err Refusal.Memory)) host.now host.now) }
+{
+    match asking_peer(host, channels) {
+        Ok(_name) => None,
+        Err(why) => Some(why),
     }
 }
 

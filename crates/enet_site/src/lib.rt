@@ -13,9 +13,15 @@ mod arriving;
 mod connecting;
 mod delivery;
 mod leaving;
+mod place;
+mod places;
+mod put_out;
 mod site;
 mod submitting;
 mod taking;
 mod turn;
 
+pub use place::Place;
+pub use places::{close_all, open_clients};
+pub use put_out::{Sent, Text, Turned};
 pub use site::Site;

@@ -1,27 +1,28 @@
 //! A host in a network, at its address.
 
-ghost use Rattle.std.specs.Prelude.{◌≡◌, ◌<◌, ◌^◌, ℕ, [], length, ◌∷◌, true, false, Ok, Err, IfOk, IfErr, OnErr, slice_get};
+ghost use Rattle.std.specs.Prelude.{◌≡◌, ◌<◌, ◌^◌, ℕ, [], length, ◌∷◌, true, false, Ok, Err, IfSome, IfNone, IfOk, IfErr, OnErr, slice_get};
 ghost use Rattle.std.specs.Option.{option_copied, option_map};
 ghost use Rattle.enet_types.specs.Config.{is_in_range};
 ghost use Rattle.enet_host.specs.Opening.{opened, joined};
-ghost use Rattle.enet_network.specs.Headline.{submitted_at, taken_at, events_at};
+ghost use Rattle.enet_network.specs.Headline.{AreEnds, submitted_at, taken_at, events_at};
 ghost use Rattle.enet_network.specs.Network.{end_of, delivery_refusal};
 ghost use Rattle.enet_isolation.specs.Calls as call;
-ghost use Rattle.enet_network.specs.Steps.{Calls, Hears, Happens};
+ghost use Rattle.enet_network.specs.Steps.{Calls, Hears, Happens, Called};
 ghost use Rattle.enet_network.specs.World.{joined_end, IsRefusedFor, RefusesCall};
 ghost use Rattle.enet_site.specs.Sites.{CallsAt};
-ghost use Rattle.enet_site.specs.Turning.{TurnsAt};
+ghost use Rattle.enet_site.specs.Turning.{TurnsAmong};
 
 use crate::arriving::deliver;
-use crate::connecting::{Question, connect};
+use crate::connecting::{Question, connect, connect_refusal};
 use crate::delivery::refused_delivery;
 use crate::leaving::disconnect;
+use crate::put_out::Turned;
 use crate::submitting::submit;
 use crate::taking::take;
 use crate::turn::turn;
 use bytes::Bytes;
 use enet_host::HostCore;
-use enet_records::Records;
+use enet_records::{Around, Records, numbers_of};
 use enet_types::{Addr, Config, DisconnectMode, Event, Packet, PeerRef, Received, Refusal};
 use std::alloc::Global;
 use std::marker::Model;
@@ -109,6 +110,15 @@ impl Site {
         connect(&mut self.host, &mut self.records, alloc, next, question)
     }
 
+    /// The first refusal but want of memory that asking for a connection with so many channels meets here, if there is one: E8
+    /// for no channels, E7 where no slot is left.
+    pub fn connect_refusal(&self, channels: u8) -> Option<Refusal>
+        ensures refused { IfSome result (λ why. (address : Addr) (info word : ℕ) → RefusesCall (call.Connect address channels info word (Err why)) self.now) }
+        ensures memory { IfNone result ((address : Addr) (info word : ℕ) → RefusesCall (call.Connect address channels info word (Err Refusal.Memory)) self.now) }
+    {
+        connect_refusal(&self.host, channels)
+    }
+
     /// Its user submits a packet to a peer on a channel; `flags` are its flags. E2, E3, E4, E5 as by the host, E1 where memory
     /// is refused, with nothing changed.
     pub fn submit(
@@ -149,14 +159,27 @@ impl Site {
         )
     }
 
-    /// The host may put out one datagram, which gets the site's next number, from 0; None where it has nothing to send. `far`
-    /// is the other host. E1 where memory is refused, with nothing changed.
-    pub fn turn(&mut self, alloc: Global, far: &Site) -> Result<Option<u64>, Refusal>
+    /// A datagram comes of a stranger, at the address `from`. Nothing is kept of it.
+    pub fn hear(&mut self, from: Addr, bytes: &[u8]) -> Received
+        ensures { (next : ℕ) → Called next (call.Receive from bytes.now result) self.old self.new }
+    {
+        self.host.receive(from, bytes)
+    }
+
+    /// The host may put out one datagram; None where it has nothing to send. One that goes to a host gets the site's next number,
+    /// from 0; one that goes to a stranger is given away. `around` tells which addresses are hosts'. E1 where memory is refused,
+    /// with nothing changed.
+    pub fn turn<A: Around>(
+        &mut self,
+        alloc: Global,
+        around: &A,
+    ) -> Result<Option<Turned>, Refusal>
+        requires owned { AreEnds (A.hosts around.now) self.old }
         ensures memory { IfErr result (λ why. why ≡ Refusal.Memory) }
         ensures unchanged { OnErr result (self.new ≡ self.old) }
-        ensures turns { IfOk result (λ sent. TurnsAt far.now sent self.old self.new) }
+        ensures turns { IfOk result (λ sent. TurnsAmong (A.hosts around.now) (A.numbers around.now) sent self.old self.new) }
     {
-        turn(&mut self.host, &mut self.records, &far.records, alloc)
+        turn(&mut self.host, &mut self.records, around, alloc)
     }
 
     /// The clock of the host goes on by so many milliseconds, by a minute at most.
@@ -238,4 +261,22 @@ impl Site {
 
     /// Lets the site go. A crate that drops one in any other way proves anew how all that a host holds is dropped.
     pub fn close(self) {}
+}
+
+/// Of the two hosts of a pair, each has the other around it alone: no stranger is there.
+impl Around for Site {
+    ghost use Rattle.std.specs.Prelude.{true};
+    ghost use Rattle.enet_network.specs.Network.{numbers_of};
+
+    ghost hosts = { λ site address. true };
+
+    ghost numbers = { numbers_of };
+
+    fn is_host(&self, _address: Addr) -> bool {
+        true
+    }
+
+    fn numbers(&self, connection: u64) -> &[u128] {
+        numbers_of(&self.records.ends, connection)
+    }
 }

@@ -1,11 +1,13 @@
-//! A host may put out a datagram, which is logged.
+//! A host may put out a datagram.
 
 ghost use Rattle.std.specs.Prelude.{◌≡◌, ◌+◌, ◌≤◌, [], vec_len, vec_capacity, IfSome, IfNone, IfOk, IfErr, OnErr};
-ghost use Rattle.enet_site.specs.Sites.{IsWhole};
+ghost use Rattle.enet_network.specs.Headline.{AreEnds};
+ghost use Rattle.enet_site.specs.Sites.{with_ends};
 ghost use Rattle.enet_site.specs.Turning.{Rests, Gives, Turns};
 
+use crate::put_out::{Text, Turned};
 use enet_host::HostCore;
-use enet_records::{MAX_COMMANDS, Records, note};
+use enet_records::{Around, MAX_COMMANDS, Records, note};
 use enet_types::{Addr, PeerRef, Refusal};
 use std::alloc::Global;
 
@@ -27,19 +29,19 @@ fn emit(host: &mut HostCore, room: Vec<u8>) -> Option<(PeerRef, Addr, Vec<u8>)>
     Some((name, to, text))
 }
 
-/// The host may put out a datagram, which gets the next number. `far` is what is kept of the other host. E1 where memory is
-/// refused, with nothing changed.
-pub(crate) fn turn(
+/// The host may put out a datagram, which gets the next number where it goes to a host. E1 where memory is refused, with nothing
+/// changed.
+pub(crate) fn turn<A: Around>(
     host: &mut HostCore,
     own: &mut Records,
-    far: &Records,
+    around: &A,
     alloc: Global,
-) -> Result<Option<u64>, Refusal>
-    requires { IsWhole host.old own.old.ends }
+) -> Result<Option<Turned>, Refusal>
+    requires { AreEnds (A.hosts around.now) (with_ends host.old own.old.ends) }
     ensures memory { IfErr result (λ why. why ≡ Refusal.Memory) }
     ensures host { OnErr result (host.new ≡ host.old) }
     ensures unchanged { OnErr result (own.new ≡ own.old) }
-    ensures turns { IfOk result (λ sent. Turns far.now.ends sent host.old own.old host.new own.new) }
+    ensures turns { IfOk result (λ sent. Turns (A.hosts around.now) (A.numbers around.now) sent host.old own.old host.new own.new) }
 {
     let Ok(room) = Vec::with_capacity(alloc, MAX_DATAGRAM) else {
         return Err(Refusal::Memory);
@@ -54,8 +56,12 @@ pub(crate) fn turn(
     let Some((name, to, text)) = emit(host, room) else {
         return Ok(None);
     };
+    if !around.is_host(to) {
+        let text = Text { bytes: text };
+        return Ok(Some(Turned::Away { to, text }));
+    }
     let number = log.len() as u64;
-    let datagram = note(&mut own.ends, &far.ends, name, to, text, marks);
+    let datagram = note(&mut own.ends, around, name, to, text, marks);
     log.push_reserved(datagram);
-    Ok(Some(number))
+    Ok(Some(Turned::Sent(number)))
 }

@@ -3,18 +3,18 @@ use Rattle.std.proofs.lemmas.List.{with_items_is}
 use Rattle.enet_codec.specs.declared.header.Header.{Header}
 use Rattle.enet_datagram.specs.Heading.{IsRead}
 use Rattle.enet_network.specs.Marks.{Counts}
-use Rattle.enet_network.specs.Network.{HostEnd, numbers_in, end_of}
+use Rattle.enet_network.specs.Network.{HostEnd}
 use Rattle.enet_records.specs.Records.{AreBelow}
 use Rattle.enet_records.proofs.Ends.{placed, with-one}
 use Rattle.enet_records.proofs.records.note.Goals as goal
 
 pub marks_of-marks-requires-clause-below : goal.marks_of-marks-requires-clause-below
-marks_of-marks-requires-clause-below c =
+marks_of-marks-requires-clause-below g c =
     let p = placed c.args.ends.now c.args.name c.position_of.result c.unwrap_or-place.result c.index-ends-place.result c.position_of.ensures.first c.requires.there c.unwrap_or-place.ensures c.index-ends-place.is in
     subst (AreBelow (2 ^ 126)) (sym (c.deref_mut.ensures.value ∙ ap (λ (e : HostEnd). e.greatest) (c.own.view_is ∙ sym c.index-ends-place.is))) (c.requires.below c.index-ends-place.result p.there)
 
 pub returns : goal.returns
-returns c =
+returns g c =
     let e = c.index-ends-place.result in
     let p = placed c.args.ends.now c.args.name c.position_of.result c.unwrap_or-place.result e c.position_of.ensures.first c.requires.there c.unwrap_or-place.ensures c.index-ends-place.is in
     let greatest = c.marks_of-marks.new.own in
@@ -23,10 +23,11 @@ returns c =
     let commands : List ℕ = c.requires.read.1 in
     let long : length greatest ≡ c.own.inside.greatest.len = search rules in
     let was : c.deref_mut.result.now ≡ e.greatest = c.deref_mut.ensures.value ∙ ap (λ (f : HostEnd). f.greatest) (c.own.view_is ∙ sym c.index-ends-place.is) in
-    let theirs : c.numbers_of-numbers.result.now ≡ numbers_in (end_of e.connection c.args.far.now) = c.numbers_of-numbers.ensures ∙ ap (λ (f : HostEnd). numbers_in (end_of f.connection c.args.far.now)) (c.own.view_is ∙ sym c.index-ends-place.is) in
-    let counts : Counts c.args.text.items e.greatest greatest (numbers_in (end_of e.connection c.args.far.now)) marks =
-    subst (λ (t : List ℕ). Counts t e.greatest greatest (numbers_in (end_of e.connection c.args.far.now)) marks) c.deref-2.ensures.value
-    (subst (λ (x : List ℕ). Counts c.deref-2.result.now x greatest (numbers_in (end_of e.connection c.args.far.now)) marks) was
+    let far : ℕ → List ℕ = g.A.Around.numbers c.args.around.now in
+    let theirs : c.numbers-numbers.result.now ≡ far e.connection = c.numbers-numbers.ensures ∙ ap (λ (f : HostEnd). far f.connection) (c.own.view_is ∙ sym c.index-ends-place.is) in
+    let counts : Counts c.args.text.items e.greatest greatest (far e.connection) marks =
+    subst (λ (t : List ℕ). Counts t e.greatest greatest (far e.connection) marks) c.deref-2.ensures.value
+    (subst (λ (x : List ℕ). Counts c.deref-2.result.now x greatest (far e.connection) marks) was
     (subst (λ (x : List ℕ). Counts c.deref-2.result.now c.deref_mut.result.now greatest x marks) theirs c.marks_of-marks.ensures)) in
     let peer : c.peer_in-peer.result ≡ header.peer = c.peer_in-peer.ensures header commands (subst (λ (t : List ℕ). IsRead t header commands) (sym c.deref.ensures.value) c.requires.read.2) in
     record {
