@@ -1,5 +1,5 @@
 -- What a call of a side's host does is a step of the world.
-use Rattle.std.proofs.Common.{◌≡◌, ℕ, List, Option, Some, None, Ok, refl, sym, subst}
+use Rattle.std.proofs.Common.{◌≡◌, ℕ, true, List, Option, Some, None, Ok, refl, sym, subst}
 use Rattle.enet_types.specs.declared.event.DisconnectMode.{DisconnectMode}
 use Rattle.enet_types.specs.declared.event.Event.{Event}
 use Rattle.enet_types.specs.declared.event.PeerRef.{PeerRef}
@@ -11,11 +11,12 @@ use Rattle.enet_network.specs.declared.event.Side.{Side}
 use Rattle.enet_network.specs.declared.event.Side.TheVariants.{A, B}
 use Rattle.enet_network.specs.declared.event.WorldEvent.{WorldEvent}
 use Rattle.enet_network.specs.declared.event.WorldEvent.TheVariants as happen
-use Rattle.enet_network.specs.Network.{Site}
+use Rattle.enet_network.specs.Network.{Site, numbers_of}
 use Rattle.enet_network.specs.Steps.{Happening, Calls, Hears, Happens, count_after}
 use Rattle.enet_network.specs.World.{Steps, Makes, side_of}
 use Rattle.enet_site.specs.Sites.{CallsAt}
-use Rattle.enet_site.specs.Turning.{TurnsAt}
+use Rattle.enet_site.specs.declared.put_out.Turned.TheVariants as turn
+use Rattle.enet_site.specs.Turning.{TurnsAmong}
 use Rattle.enet_world.specs.Worlds.{world_of}
 
 -- one thing happens at a side
@@ -34,11 +35,16 @@ pub delivered : (side : Side) (k : ℕ) (here new far : Site) (n : ℕ) (answer 
     → Steps (world_of side here far n) (happen.Deliver side k) (Ok (answers.Received answer)) (world_of side new far n)
 delivered side k here new far n answer h = done side here new far n n (happen.Deliver side k) (answers.Received answer) (Hears k answer) refl refl (h n) refl
 
-pub turned : (side : Side) (here new far : Site) (n : ℕ) (sent : Option ℕ) → TurnsAt far sent here new
-    → Steps (world_of side here far n) (happen.Turn side) (Ok (answers.Sent sent)) (world_of side new far n)
-turned side here new far n None h = done side here new far n n (happen.Turn side) (answers.Sent None) (Calls (call.Service None h.0)) refl (h.0, refl) h.1 refl
-turned A here new far n (Some k) h = done A here new far n n (happen.Turn A) (answers.Sent (Some k)) (Calls (call.Service (Some h.1) h.2)) refl (h.1, h.2, refl, h.0) h.3 refl
-turned B here new far n (Some k) h = done B here new far n n (happen.Turn B) (answers.Sent (Some k)) (Calls (call.Service (Some h.1) h.2)) refl (h.1, h.2, refl, h.0) h.3 refl
+-- a turn: both addresses are hosts'
+
+pub rested : (side : Side) (here new far : Site) (n : ℕ) → TurnsAmong (λ a. true) (numbers_of far) None here new
+    → Steps (world_of side here far n) (happen.Turn side) (Ok (answers.Sent None)) (world_of side new far n)
+rested side here new far n h = done side here new far n n (happen.Turn side) (answers.Sent None) (Calls (call.Service None h.0)) refl (h.0, refl) (h.1 n far) refl
+
+pub turned : (side : Side) (here new far : Site) (n k : ℕ) → TurnsAmong (λ a. true) (numbers_of far) (Some (turn.Sent k)) here new
+    → Steps (world_of side here far n) (happen.Turn side) (Ok (answers.Sent (Some k))) (world_of side new far n)
+turned A here new far n k h = done A here new far n n (happen.Turn A) (answers.Sent (Some k)) (Calls (call.Service (Some h.1) h.2)) refl (h.1, h.2, refl, h.0) (h.4 n far) refl
+turned B here new far n k h = done B here new far n n (happen.Turn B) (answers.Sent (Some k)) (Calls (call.Service (Some h.1) h.2)) refl (h.1, h.2, refl, h.0) (h.4 n far) refl
 
 pub ticked : (side : Side) (ms : ℕ) (here new far : Site) (n : ℕ) → CallsAt (call.Tick ms) here new
     → Steps (world_of side here far n) (happen.Tick side ms) (Ok answers.Done) (world_of side new far n)

@@ -1,13 +1,14 @@
 //! What an event does at its side. `far` is the other side, and `count` says how many connections there have been.
 
-ghost use Rattle.std.specs.Prelude.{◌≡◌, ◌<◌};
+ghost use Rattle.std.specs.Prelude.{◌≡◌, ◌<◌, true};
 ghost use Rattle.enet_network.specs.declared.event.WorldEvent.TheVariants as happen;
+ghost use Rattle.enet_network.specs.Headline.{AreEnds};
 ghost use Rattle.enet_network.specs.World.{Steps, address_of, other, side_of};
 ghost use Rattle.enet_world.specs.Worlds.{world_of};
 
 use bytes::Bytes;
 use enet_network::{Answer, Side, WorldEvent};
-use enet_site::Site;
+use enet_site::{Site, Turned};
 use enet_types::{DisconnectMode, PeerRef, Refusal};
 use std::alloc::Global;
 
@@ -71,10 +72,17 @@ fn turn(
     alloc: Global,
     side: Side,
 ) -> Result<Answer, Refusal>
+    requires owned { AreEnds (λ address. true) here.old }
     ensures { Steps (world_of side here.old far.now count) (happen.Turn side) result (world_of side here.new far.now count) }
 {
-    let sent = here.turn(alloc, far)?;
-    Ok(Answer::Sent(sent))
+    let Some(turned) = here.turn(alloc, far)? else {
+        return Ok(Answer::Sent(None));
+    };
+    let Turned::Sent(k) = turned else {
+        // Nothing goes to a stranger: around `far` there is none.
+        unreachable!()
+    };
+    Ok(Answer::Sent(Some(k)))
 }
 
 /// The clock of a side goes on.
@@ -134,6 +142,7 @@ pub(crate) fn happen(
 ) -> Result<Answer, Refusal>
     requires placed { far.now.address ≡ address_of (other (side_of event.now)) }
     requires few { count.old < 18446744073709551615 }
+    requires owned { AreEnds (λ address. true) here.old }
     ensures { Steps (world_of (side_of event.now) here.old far.now count.old) event.now result (world_of (side_of event.now) here.new far.now count.new) }
 {
     match event {

@@ -2,6 +2,8 @@
 
 ghost use Rattle.std.specs.Prelude.{◌≡◌, ◌&&◌, true, IfOk, IfErr};
 ghost use Rattle.enet_types.specs.Config.{is_in_range};
+ghost use Rattle.enet_network.specs.declared.event.Side.{Side};
+ghost use Rattle.enet_network.specs.Headline.{AreEnds};
 ghost use Rattle.enet_network.specs.World.{Steps, joined_config, open_world, joined_world, site_of};
 
 use crate::happening::{happen, side_of};
@@ -101,6 +103,7 @@ impl Hosts {
 
     /// Makes one event happen.
     pub fn happen(&mut self, alloc: Global, event: &WorldEvent) -> Result<Answer, Refusal>
+        requires owned { (side : Side) → AreEnds (λ address. true) (site_of self.old side) }
         ensures { Steps self.old event.now result self.new }
     {
         // That each site has few ends, as `connections` tells, keeps the count of connections within its type.

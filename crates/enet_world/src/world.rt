@@ -148,6 +148,8 @@ impl World {
         ensures steps { Steps self.old.world event.now result self.new.world }
         ensures joined { self.new.joined ≡ self.old.joined }
     {
+        // A host that puts out a datagram has an end of the peer to which it goes.
+        self.headline();
         self.hosts.happen(self.alloc, event)
     }
 

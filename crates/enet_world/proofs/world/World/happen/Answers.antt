@@ -1,5 +1,14 @@
+use Rattle.std.proofs.Common.{true, sym, subst}
+use Rattle.enet_network.specs.Headline.{AreEnds}
+use Rattle.enet_network.specs.World.{site_of}
+use Rattle.enet_world.specs.Worlds.{Begun}
 use Rattle.enet_world.proofs.Reaching.{reached-step}
 use Rattle.enet_world.proofs.world.World.happen.Goals as goal
 
 pub invariant_of-self : goal.invariant_of-self
 invariant_of-self c = reached-step c.self.inside.joined c.self.inside.hosts c.happen.new.self c.args.event.now c.happen.result c.self.invariant c.happen.ensures
+
+pub happen-requires : goal.happen-requires
+happen-requires c = record {
+  owned = λ side. subst (λ (w : Begun). AreEnds (λ a. true) (site_of w.world side)) (sym c.self.view_is) (let h = c.headline.ensures.hosts side in h.all);
+}
