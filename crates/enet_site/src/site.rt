@@ -169,11 +169,7 @@ impl Site {
     /// The host may put out one datagram; None where it has nothing to send. One that goes to a host gets the site's next number,
     /// from 0; one that goes to a stranger is given away. `around` tells which addresses are hosts'. E1 where memory is refused,
     /// with nothing changed.
-    pub fn turn<A: Around>(
-        &mut self,
-        alloc: Global,
-        around: &A,
-    ) -> Result<Option<Turned>, Refusal>
+    pub fn turn<A: Around>(&mut self, alloc: Global, around: &A) -> Result<Option<Turned>, Refusal>
         requires owned { AreEnds (A.hosts around.now) self.old }
         ensures memory { IfErr result (λ why. why ≡ Refusal.Memory) }
         ensures unchanged { OnErr result (self.new ≡ self.old) }
@@ -265,7 +261,6 @@ impl Site {
 
 /// Of the two hosts of a pair, each has the other around it alone: no stranger is there.
 impl Around for Site {
-    ghost use Rattle.std.specs.Prelude.{true};
     ghost use Rattle.enet_network.specs.Network.{numbers_of};
 
     ghost hosts = { λ site address. true };

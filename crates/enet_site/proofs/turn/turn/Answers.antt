@@ -27,4 +27,4 @@ invariant_of-own-2 g c =
     subst (AreKept c.push_reserved.new.self.items) (sym (with_items_is c.own.inside.ends c.note-datagram.new.ends long))
     (kept-noted (g.A.Around.numbers c.args.around.now) c.in-Some.name c.in-Some.to c.in-Some.text.items c.deref_mut.result.now c.note-datagram.new.ends c.note-datagram.result c.own.inside.log.items c.push_reserved.new.self.items
     (subst (AreKept c.own.inside.log.items) (sym c.deref_mut.ensures.value) c.own.invariant) c.note-datagram.ensures
-    (c.push_reserved.ensures.items ∙ ap (λ (l : List Logged). l ++ c.note-datagram.result ∷ []) c.reserve.ensures.items))
+    (◌∙◌ {A = List Logged} c.push_reserved.ensures.items (ap (λ (l : List Logged). l ++ c.note-datagram.result ∷ []) c.reserve.ensures.items)))
