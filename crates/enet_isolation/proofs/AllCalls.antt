@@ -17,12 +17,12 @@ use Rattle.enet_isolation.proofs.OneCall.{one-call}
 use Rattle.enet_isolation.proofs.Names.{free-or, IsThere, named-there, there-slot, there-named, IsSpent, same-generations, past-freed, spent-step, spent-fell, spent-nobody}
 
 -- deeds, and then more
-alone-append : (ds es : List Deed) (p q r : Peering) → AllAlone ds p q → AllAlone es q r → AllAlone (ds ++ es) p r
+pub alone-append : (ds es : List Deed) (p q r : Peering) → AllAlone ds p q → AllAlone es q r → AllAlone (ds ++ es) p r
 alone-append [] es p q r a b = subst (λ (x : Peering). AllAlone es x r) (sym a) b
 alone-append (d ∷ ds) es p q r a b = (a.0, a.1, alone-append ds es a.0 q r a.2 b)
 
 -- nothing falls to a name that is spent, and nobody has it
-spent-all : (cs : List Call) (old new : Host) (steps : Steps cs old new) (name : PeerRef) → old.config.generations ≤ greatest → IsSpent old name → FellAll name cs old new steps [] × (named new.slots name ≡ None)
+pub spent-all : (cs : List Call) (old new : Host) (steps : Steps cs old new) (name : PeerRef) → old.config.generations ≤ greatest → IsSpent old name → FellAll name cs old new steps [] × (named new.slots name ≡ None)
 spent-all [] old new steps name low x = (refl, ap (λ (h : Host). named h.slots name) (sym steps) ∙ spent-nobody old name x)
 spent-all (c ∷ cs) old new steps name low x =
     let r : FellAll name cs steps.0 new steps.2 [] × (named new.slots name ≡ None) =
@@ -34,7 +34,7 @@ live-in state.Free p n = absurd (n refl)
 live-in st p n = refl
 
 -- the deeds of one call of a name
-fell-there : (h : Host) (name : PeerRef) (p : Peering) (c : Call) (ds : List Deed) (x : IsThere h.slots name p) → Fell (common_of h) name.slot x.slot p c ds → fell_to (common_of h) name.slot (slot_named h.slots name) c ds
+pub fell-there : (h : Host) (name : PeerRef) (p : Peering) (c : Call) (ds : List Deed) (x : IsThere h.slots name p) → Fell (common_of h) name.slot x.slot p c ds → fell_to (common_of h) name.slot (slot_named h.slots name) c ds
 fell-there h name p c ds x f =
     subst (λ (o : Option SlotState). fell_to (common_of h) name.slot o c ds) (sym (there-slot h.slots name p x)) (subst (λ (o : Option Peering). fell_in (common_of h) name.slot x.slot o c ds) (sym x.peer) f)
 

@@ -7,7 +7,10 @@ pub mod Ticking
 pub mod Receiving
 pub mod Serving
 pub mod OneCall
+pub mod Counts
 pub mod Names
 pub mod AllCalls
+pub mod Beginning
+pub mod Alike
 pub mod Matching
 pub mod Keeping

@@ -38,10 +38,13 @@ there-at slots name p (Some s) there h = there-if slots name p s (s.generation =
 pub named-there : (slots : List SlotState) (name : PeerRef) (p : Peering) → named slots name ≡ Some p → IsThere slots name p
 named-there slots name p h = there-at slots name p (slice_get slots name.slot) refl h
 
+pub slot-named : (slots : List SlotState) (name : PeerRef) (s : SlotState) → slice_get slots name.slot ≡ Some s → s.generation ≡ name.generation → slot_named slots name ≡ Some s
+slot-named slots name s there same =
+    ap (λ (o : Option SlotState). with_generation name.generation o) there
+    ∙ ap (λ (b : Bool). cond b (Some s) None) (let g : s.generation ≡ name.generation = same in let e : (s.generation == name.generation) ≡ true = grind (arith, nat_tests) in e)
+
 pub there-slot : (slots : List SlotState) (name : PeerRef) (p : Peering) (x : IsThere slots name p) → slot_named slots name ≡ Some x.slot
-there-slot slots name p x =
-    ap (λ (o : Option SlotState). with_generation name.generation o) x.there
-    ∙ ap (λ (b : Bool). cond b (Some x.slot) None) (let same : x.slot.generation ≡ name.generation = x.same in let e : (x.slot.generation == name.generation) ≡ true = grind (arith, nat_tests) in e)
+there-slot slots name p x = slot-named slots name x.slot x.there x.same
 
 pub there-named : (slots : List SlotState) (name : PeerRef) (p : Peering) → IsThere slots name p → named slots name ≡ Some p
 there-named slots name p x = ap (λ (o : Option SlotState). peer_in o) (there-slot slots name p x) ∙ x.peer

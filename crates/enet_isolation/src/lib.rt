@@ -7,9 +7,14 @@
 #![tactic(auto)]
 
 ghost use Rattle.enet_isolation.specs.Ends.{Matches};
+ghost use Rattle.enet_isolation.specs.Alike.{OneWay, Alike};
+ghost use Rattle.enet_isolation.specs.Beginnings.{Beginnings};
 ghost use Rattle.enet_isolation.specs.Law.{OneCall, EachKeeps, Isolation, AreIsolated};
 
+mod settings;
+
 use enet_host::HostCore;
+pub use settings::{set_bandwidth, set_ping_interval, set_timeout, throttle_configure};
 
 /// What calls of a host make of one of its connections.
 ///
@@ -36,7 +41,10 @@ use enet_host::HostCore;
 pub fn isolation()
     ensures one_call { OneCall }
     ensures keeps { EachKeeps }
+    ensures one_way { OneWay }
+    ensures alike { Alike }
     ensures calls { Isolation }
+    ensures beginnings { Beginnings }
     ensures events { Matches }
 {}
 

@@ -28,7 +28,7 @@ use Rattle.enet_isolation.specs.Calls as call
 use Rattle.enet_isolation.specs.Common.{common_of}
 use Rattle.enet_isolation.specs.Falling as falling
 use Rattle.enet_isolation.specs.Law.{Fares, untouched, goes_on, begins}
-use Rattle.enet_isolation.proofs.Lists.{get-within}
+use Rattle.enet_isolation.proofs.Counts.{fares-back}
 use Rattle.enet_isolation.proofs.Names.{IsThere, named-there, there-slot}
 use Rattle.enet_isolation.proofs.OneCall.{one-call}
 use Rattle.enet_isolation.proofs.Single.{does-named, begins-at}
@@ -39,65 +39,6 @@ use Rattle.enet_network.specs.Steps.{Around, Happening, Calls, Hears, HappensAmo
 use Rattle.enet_network.proofs.Growing.{more_of, more_in, Grows, grows, stays-there, begins-there}
 use Rattle.enet_network.proofs.Submitting.{same-some}
 use Rattle.enet_network.proofs.Worlds.{acts-of}
-
--- no call changes how many slots a host has
-
-count-connects : (h : Host) (address : Addr) (channels info word : ℕ) (answer : Result PeerRef Refusal) (slots after : List SlotState) → Connects h.config h.clock slots address channels info word answer after → length after ≡ length slots
-count-connects h address channels info word answer slots after (no_channel z) = refl
-count-connects h address channels info word answer slots after (no_slot some none) = refl
-count-connects h address channels info word answer slots after (no_memory i some free) = refl
-count-connects h address channels info word answer slots after (asks i s some free there) = length-set slots i (asking h.config h.clock i s address channels info word)
-
-count-offers : (h : Host) (from : Addr) (o : Offer) (reply : Received) (slots after : List SlotState) → Offers h.config h.clock slots from o reply after → length after ≡ length slots
-count-offers h from o reply slots after (receiving.refused why r) = refl
-count-offers h from o reply slots after (receiving.repeated r known) = refl
-count-offers h from o reply slots after (receiving.no_slot r known full) = refl
-count-offers h from o reply slots after (receiving.no_memory j r known open') = refl
-count-offers h from o reply slots after (receiving.answers j s r known open' at) = length-set slots j (answering h.config h.clock j s from o)
-
-count-arrives : (h : Host) (from : Addr) (bytes : List ℕ) (reply : Received) (slots after : List SlotState) → Arrives h.config h.clock slots from bytes reply after → length after ≡ length slots
-count-arrives h from bytes reply slots after (receiving.unreadable why u) = refl
-count-arrives h from bytes reply slots after (receiving.no_offer header commands read nobody offer) = refl
-count-arrives h from bytes reply slots after (receiving.offered header commands o said left read nobody offer comes) = count-offers h from o said slots left comes
-count-arrives h from bytes reply slots after (receiving.turned_away header commands why read n r) = refl
-count-arrives h from bytes reply slots after (receiving.heard header commands s t said read n open' at hears) = length-set slots header.peer t
-
-count-named : (slots : List SlotState) (name : PeerRef) (made : Peering → Result Peering Refusal) (after : List SlotState) → on_named slots name made ≡ Ok after → length after ≡ length slots
-count-named slots name made after h = (let d = does-named slots name made after h in ap length d.set ∙ length-set slots name.slot (with_peer d.slot d.left))
-
-count-does : (answer : Done) (slots : List SlotState) (name : PeerRef) (made : Peering → Result Peering Refusal) (after : List SlotState) → DoesCall answer (on_named slots name made) slots after → length after ≡ length slots
-count-does (Ok done) slots name made after h = count-named slots name made after h
-count-does (Err why) slots name made after h = ap length h.1
-
-count-memory : (answer : Done) (slots : List SlotState) (name : PeerRef) (made : Peering → Result Peering Refusal) (after : List SlotState) → DoesWithMemory answer (on_named slots name made) slots after → length after ≡ length slots
-count-memory (Ok done) slots name made after h = count-named slots name made after h
-count-memory (Err why) slots name made after h = ap length h.1
-
-count-if : (b : Bool) (f : SlotState → SlotState) (slots : List SlotState) → length (cond b (map f slots) slots) ≡ length slots
-count-if true f slots = length-map slots f
-count-if false f slots = refl
-
-count-ticked : (h : Host) (ms : ℕ) → length (ticked h ms).slots ≡ length h.slots
-count-ticked h ms =
-    let timed : Host = with_time h (clock_after h.clock ms) in
-    count-if (is_due timed) (shared timed.config.outgoing (count_by is_standing timed.slots)) timed.slots ∙ length-map h.slots (changed (λ (p : Peering). peers.ticked p (clock_after h.clock ms)))
-
-same-count : (c : Call) (old new : Host) → Acts c old new → length new.slots ≡ length old.slots
-same-count (call.Connect address channels info word answer) old new acts = count-connects old address channels info word answer old.slots new.slots acts.0
-same-count (call.Submit name channel q (Ok done)) old new acts = count-named old.slots name (submission channel q) new.slots acts.0
-same-count (call.Submit name channel q (Err e)) old new acts = ap length acts.0.2
-same-count (call.Receive from bytes answer) old new acts = count-arrives old from bytes answer old.slots new.slots acts.arrives
-same-count (call.Service None buf) old new acts = (let a = acts.0 in a.count)
-same-count (call.Service (Some gave) buf) old new acts = (let a = acts.0 in a.count)
-same-count (call.Tick ms) old new acts = ap (λ (h : Host). length h.slots) acts ∙ count-ticked old ms
-same-count (call.Disconnect m name info answer) old new acts = count-does answer old.slots name (leaving m info) new.slots acts.0
-same-count (call.SetBandwidth incoming outgoing (Ok done)) old new acts = ap (λ (h : Host). length h.slots) acts ∙ length-map old.slots (changed (λ (p : Peering). peers.with_bandwidth p incoming outgoing))
-same-count (call.SetBandwidth incoming outgoing (Err why)) old new acts = ap (λ (h : Host). length h.slots) acts.1
-same-count (call.ConfigureThrottle name interval acceleration deceleration answer) old new acts = count-memory answer old.slots name (throttling interval acceleration deceleration) new.slots acts.0
-same-count (call.SetPingInterval name ms answer) old new acts = count-does answer old.slots name (pinging ms) new.slots acts.0
-same-count (call.SetTimeout name limit minimum maximum answer) old new acts = count-does answer old.slots name (waiting limit minimum maximum) new.slots acts.0
-same-count (call.NextEvent None) old new acts = ap (λ (h : Host). length h.slots) acts.1
-same-count (call.NextEvent (Some event)) old new acts = ap (λ (h : Host). length h.slots) acts.rest ∙ length-set old.slots acts.from acts.after
 
 -- slot by slot
 
@@ -149,10 +90,7 @@ brought x old new c i s t p there has b = (
 by-call : (is_host : Addr → Bool) (c : Call) (old new : Site) (more : List HostEnd) → Acts c old.host new.host → Grows old new more → AreOwned is_host old
     → ((i : ℕ) (s t : SlotState) (p : Peering) → slice_get new.host.slots i ≡ Some t → t.peer ≡ Some p → is_host t.address ≡ true → falling.Begins c (common_of old.host) i s t → IsOwned more i t) → AreOwned is_host new
 by-call is_host c old new more acts g k new-end i t p there has at =
-    let s = get-within old.host.slots i (let few : i < length new.host.slots = slice_get_within new.host.slots i t there in let same : length new.host.slots ≡ length old.host.slots = same-count c old.host new.host acts in omega arith) in
-    let f = one-call c old.host new.host acts i s.0 s.1 in
-    let fares : Fares c (common_of old.host) i s.0 t = subst (Fares c (common_of old.host) i s.0) (same-some f.0 t (sym f.1 ∙ there)) f.2 in
-    fared is_host c old new more g k i s.0 t p s.1 has at fares (new-end i s.0 t p there has at)
+    let s = fares-back c old.host new.host acts i t there in fared is_host c old new more g k i s.0 t p s.1 has at s.2 (new-end i s.0 t p there has at)
 
 pub owned-goes : (w : Around) (from old new : Site) (what : Happening) → HappensAmong w from what old new → AreOwned w.is_host old → AreOwned w.is_host new
 owned-goes w from old new (Calls c) x k =

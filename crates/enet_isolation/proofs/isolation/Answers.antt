@@ -1,6 +1,8 @@
 use Rattle.enet_isolation.proofs.OneCall.{one-call}
 use Rattle.enet_isolation.proofs.Keeping.{each-keeps}
 use Rattle.enet_isolation.proofs.AllCalls as all
+use Rattle.enet_isolation.proofs.Alike.{one-way, alike}
+use Rattle.enet_isolation.proofs.Beginning.{each-beginning}
 use Rattle.enet_isolation.proofs.Matching.{matches}
 use Rattle.enet_isolation.proofs.isolation.Goals as goal
 
@@ -10,8 +12,17 @@ returns-clause-one_call c = one-call
 pub returns-clause-keeps : goal.returns-clause-keeps
 returns-clause-keeps c = each-keeps
 
+pub returns-clause-one_way : goal.returns-clause-one_way
+returns-clause-one_way c = one-way
+
+pub returns-clause-alike : goal.returns-clause-alike
+returns-clause-alike c = alike
+
 pub returns-clause-calls : goal.returns-clause-calls
 returns-clause-calls c = all.isolation
+
+pub returns-clause-beginnings : goal.returns-clause-beginnings
+returns-clause-beginnings c = each-beginning
 
 pub returns-clause-events : goal.returns-clause-events
 returns-clause-events c = matches
