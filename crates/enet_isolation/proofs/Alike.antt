@@ -1,12 +1,13 @@
 -- A slot fares in one way.
-use Rattle.std.proofs.Common.{◌≡◌, ◌≢◌, ◌<◌, ◌≤◌, ℕ, suc, ◌+◌, min, ◌⊎◌, inl, inr, true, false, List, [], ◌∷◌, ◌++◌, length, refl, sym, ap, subst, ◌∙◌, arith, length-append, append-nil, Option, Some, None, Result, Ok, Err}
+use Rattle.std.proofs.Common.{◌≡◌, ◌≢◌, ◌<◌, ◌≤◌, ℕ, suc, ◌+◌, ◌⊎◌, inl, inr, true, false, List, [], ◌∷◌, ◌++◌, length, refl, sym, ap, subst, ◌∙◌, arith, length-append, append-nil, Option, Some, None, Result, Ok, Err}
 use Rattle.std.proofs.lemmas.List.{append_cancel_left}
 use Rattle.std.specs.Int.{w16, to_be_bytes}
 use Rattle.std.specs.List.{slice_get}
 use Rattle.enet_types.specs.declared.address.Addr.{Addr}
-use Rattle.enet_types.specs.declared.event.PeerRef.{PeerRef}
 use Rattle.enet_types.specs.declared.event.Received.{Received}
+use Rattle.enet_types.specs.declared.packet.Packet as codec
 use Rattle.enet_types.specs.declared.refusal.Refusal.{Refusal}
+use Rattle.enet_types.specs.declared.refusal.Refusal.TheVariants as refusal
 use Rattle.enet_types.specs.declared.stop.Stop.{Stop}
 use Rattle.enet_types.specs.declared.stop.Stop.TheVariants as stop
 use Rattle.enet_codec.specs.declared.command.Offer.{Offer}
@@ -17,28 +18,28 @@ use Rattle.enet_codec.proofs.Laws.{one_spelling}
 use Rattle.enet_codec.proofs.Datagrams.{some-bytes}
 use Rattle.enet_peer.specs.Peering.{Peering}
 use Rattle.enet_peer.specs.CommandEffect.{Outcome, Obeys, obeyed, wants_memory}
-use Rattle.enet_peer.specs.Calls.{Taken, next_event}
+use Rattle.enet_peer.specs.declared.parts.PeerEvent.{PeerEvent}
+use Rattle.enet_peer.specs.Calls.{Taken, Refuses}
 use Rattle.enet_datagram.specs.Handling.{one_more}
 use Rattle.enet_datagram.specs.Handling as handling
 use Rattle.enet_datagram.specs.Heading.{IsRead, IsUnreadable, IsOffer}
 use Rattle.enet_datagram.specs.Heading as heading
 use Rattle.enet_slot.specs.Slot.{SlotState, with_peer, name_of, greatest}
-use Rattle.enet_slot.specs.Calls.{Does, DoesWithMemory}
+use Rattle.enet_slot.specs.Calls.{Does, DoesWithMemory, IsRefusedBy}
 use Rattle.enet_slot.specs.Giving.{asking, answering}
 use Rattle.enet_slot.specs.Hearing.{no_peer, refused_by_slot}
-use Rattle.enet_host.specs.Host.{Host}
 use Rattle.enet_host.specs.Receiving.{handled_one}
 use Rattle.enet_connection.specs.Steps as setting
-use Rattle.enet_connection.specs.Steps.{Setting}
-use Rattle.enet_isolation.specs.Calls.{Call}
+use Rattle.enet_connection.specs.Steps.{Way, Setting}
+use Rattle.enet_isolation.specs.Calls.{Call, Done}
 use Rattle.enet_isolation.specs.Calls as call
 use Rattle.enet_isolation.specs.Common.{Common, common_of}
-use Rattle.enet_isolation.specs.Deeds.{Deed, Sets, Alone, AllAlone, Come}
+use Rattle.enet_isolation.specs.Deeds.{Deed, Sets, Alone, AllAlone, Come, put_out}
 use Rattle.enet_isolation.specs.Deeds as deed
 use Rattle.enet_isolation.specs.Falling.{Falls, nothing_left, no_command, stops, Reaches, unreadable, elsewhere, turned_away, here, Fell, Begins, asks, answers, counted}
 use Rattle.enet_isolation.specs.Falling as falling
 use Rattle.enet_isolation.specs.Law.{Stays, Fares, untouched, goes_on, begins, having_emitted}
-use Rattle.enet_isolation.specs.Alike.{IsCounted, IsHeld, OneWay, Alike}
+use Rattle.enet_isolation.specs.Alike.{asked, is_memory, is_wanting, OneAnswer, IsCounted, IsHeld, OneWay, Alike}
 use Rattle.enet_isolation.proofs.OneCall.{one-call}
 use Rattle.enet_isolation.proofs.Receiving.{read-once, offer-once}
 use Rattle.enet_isolation.proofs.Slots.{held}
@@ -86,6 +87,112 @@ alone-once (deed.Set s answer) p q r a b = sets-once s answer p q r a b
 all-once : (ds : List Deed) (p q r : Peering) → AllAlone ds p q → AllAlone ds p r → q ≡ r
 all-once [] p q r a b = sym a ∙ b
 all-once (d ∷ ds) p q r a b = all-once ds a.0 q r a.2 (subst (λ (x : Peering). AllAlone ds x r) (alone-once d p b.0 a.0 b.1 a.1) b.2)
+
+-- and answers in one way, want of memory apart
+
+refuses-first : (why : Refusal) (first : Option Refusal) → is_memory why ≡ false → Refuses why first → first ≡ Some why
+refuses-first refusal.Memory first n h = absurd (cc)
+refuses-first why first n h = h
+
+refused-outcome : (why : Refusal) (outcome : Result Peering Refusal) → is_memory why ≡ false → IsRefusedBy why outcome → outcome ≡ Err why
+refused-outcome refusal.Memory outcome n h = absurd (cc)
+refused-outcome why outcome n h = h
+
+ok-err : {A : Type 0} (r : Result Peering Refusal) (p : Peering) (why : Refusal) → r ≡ Ok p → r ≡ Err why → A
+ok-err r p why e f = absurd (let x : ◌≡◌ {A = Result Peering Refusal} (Ok p) (Err why) = sym e ∙ f in cc)
+
+same-err : (r : Result Peering Refusal) (why other : Refusal) → r ≡ Err why → r ≡ Err other → why ≡ other
+same-err r why other e f = let x : ◌≡◌ {A = Result Peering Refusal} (Err why) (Err other) = sym e ∙ f in cc
+
+some-none : {A X : Type 0} (o : Option X) (x : X) → o ≡ Some x → o ≡ None → A
+some-none o x e f = absurd (let y : ◌≡◌ {A = Option _} (Some x) None = sym e ∙ f in cc)
+
+same-submits : (q : codec.Packet) (a b : Result (Unit {0}) (Refusal × List ℕ)) (p r t : Peering) → is_wanting (deed.Submit q a) ≡ false → is_wanting (deed.Submit q b) ≡ false → Alone (deed.Submit q a) p r → Alone (deed.Submit q b) p t → a ≡ b
+same-submits q (Ok done) (Ok done') p r t n m x y = refl
+same-submits q (Ok done) (Err e) p r t n m x y = some-none _ e.0 (refuses-first e.0 _ m y.2) x.0
+same-submits q (Err e) (Ok done) p r t n m x y = some-none _ e.0 (refuses-first e.0 _ n x.2) y.0
+same-submits q (Err e) (Err f) p r t n m x y =
+    let why : e.0 ≡ f.0 = same-some e.0 f.0 (sym (refuses-first e.0 _ n x.2) ∙ refuses-first f.0 _ m y.2) in let body : e.1 ≡ f.1 = x.0 ∙ sym y.0 in λ i. Err (why i, body i)
+
+stop_in : Result (Unit {0}) Stop → Option Stop
+stop_in (Ok done) = None
+stop_in (Err why) = Some why
+
+-- the stop that is answered is the outcome's
+answered-stop : (a : Result (Unit {0}) Stop) (now : ℕ) (sent : Option ℕ) (m : Message) (p r : Peering) → is_wanting (deed.Come now sent m a) ≡ false → Alone (deed.Come now sent m a) p r → (obeyed p now sent m).stop ≡ stop_in a
+unfolding stop_in
+answered-stop (Ok done) now sent m p r n h = h.0
+answered-stop (Err stop.Memory) now sent m p r n h = absurd (cc)
+answered-stop (Err why) now sent m p r n h = h.0
+
+same-stop : (a b : Result (Unit {0}) Stop) → stop_in a ≡ stop_in b → a ≡ b
+unfolding stop_in
+same-stop (Ok done) (Ok done') e = refl
+same-stop (Ok done) (Err why) e = absurd (cc)
+same-stop (Err why) (Ok done) e = absurd (cc)
+same-stop (Err why) (Err other) e = ap (λ (w : Stop). Err w) (same-some why other e)
+
+same-obeys : (a b : Result (Unit {0}) Stop) (now : ℕ) (sent : Option ℕ) (m : Message) (p r t : Peering) → is_wanting (deed.Come now sent m a) ≡ false → is_wanting (deed.Come now sent m b) ≡ false
+    → Alone (deed.Come now sent m a) p r → Alone (deed.Come now sent m b) p t → a ≡ b
+same-obeys a b now sent m p r t n k x y = same-stop a b (sym (answered-stop a now sent m p r n x) ∙ answered-stop b now sent m p t k y)
+
+same-takes : (a b : Option PeerEvent) (p r t : Peering) → Alone (deed.Take a) p r → Alone (deed.Take b) p t → a ≡ b
+same-takes None None p r t x y = refl
+same-takes None (Some e) p r t x y = some-none _ _ y x.0
+same-takes (Some e) None p r t x y = some-none _ _ x y.0
+same-takes (Some e) (Some f) p r t x y = ap (λ (k : Taken). Some k.event) (same-some (record { event = e; after = r }) (record { event = f; after = t }) (sym x ∙ y))
+
+same-leaves : (a b : Done) (way : Way) (info : ℕ) (p r t : Peering) → Alone (deed.Disconnect way info a) p r → Alone (deed.Disconnect way info b) p t → a ≡ b
+same-leaves (Ok done) (Ok done') way info p r t x y = refl
+same-leaves (Ok done) (Err why) way info p r t x y = some-none _ r x y.0
+same-leaves (Err why) (Ok done) way info p r t x y = some-none _ t y x.0
+same-leaves (Err why) (Err other) way info p r t x y = ap (λ (w : Refusal). Err w) (x.1 ∙ sym y.1)
+
+same-does : (outcome : Result Peering Refusal) (a b : Done) (p r t : Peering) → Does a outcome p r → Does b outcome p t → a ≡ b
+same-does outcome (Ok done) (Ok done') p r t x y = refl
+same-does outcome (Ok done) (Err why) p r t x y = ok-err outcome r why x y.0
+same-does outcome (Err why) (Ok done) p r t x y = ok-err outcome t why y x.0
+same-does outcome (Err why) (Err other) p r t x y = ap (λ (w : Refusal). Err w) (same-err outcome why other x.0 y.0)
+
+same-does_memory : (s : Setting) (outcome : Result Peering Refusal) (a b : Done) (p r t : Peering) → is_wanting (deed.Set s a) ≡ false → is_wanting (deed.Set s b) ≡ false → DoesWithMemory a outcome p r → DoesWithMemory b outcome p t → a ≡ b
+same-does_memory s outcome (Ok done) (Ok done') p r t n m x y = refl
+same-does_memory s outcome (Ok done) (Err why) p r t n m x y = ok-err outcome r why x (refused-outcome why outcome m y.0)
+same-does_memory s outcome (Err why) (Ok done) p r t n m x y = ok-err outcome t why y (refused-outcome why outcome n x.0)
+same-does_memory s outcome (Err why) (Err other) p r t n m x y = ap (λ (w : Refusal). Err w) (same-err outcome why other (refused-outcome why outcome n x.0) (refused-outcome other outcome m y.0))
+
+same-sets : (s : Setting) (a b : Done) (p r t : Peering) → is_wanting (deed.Set s a) ≡ false → is_wanting (deed.Set s b) ≡ false → Sets s a p r → Sets s b p t → a ≡ b
+same-sets (setting.Bandwidth incoming outgoing) a b p r t n m x y = same-does_memory (setting.Bandwidth incoming outgoing) _ a b p r t n m x y
+same-sets (setting.Throttle interval acceleration deceleration) a b p r t n m x y = same-does_memory (setting.Throttle interval acceleration deceleration) _ a b p r t n m x y
+same-sets (setting.ThrottleLimit limit) a b p r t n m x y = same-does _ a b p r t x y
+same-sets (setting.PingInterval ms) a b p r t n m x y = same-does _ a b p r t x y
+same-sets (setting.Timeout limit minimum maximum) a b p r t n m x y = same-does _ a b p r t x y
+
+-- the answer to the same question
+same-deed : (d e : Deed) (p r t : Peering) → asked d ≡ asked e → is_wanting d ≡ false → is_wanting e ≡ false → Alone d p r → Alone e p t → d ≡ e
+same-deed (deed.Submit q a) (deed.Submit q' b) p r t is n m x y =
+    let s : q ≡ q' = cc in let same : a ≡ b = same-submits q a b p r t n m x (subst (λ (z : codec.Packet). Alone (deed.Submit z b) p t) (sym s) y) in λ i. deed.Submit (s i) (same i)
+same-deed (deed.Emit now a) (deed.Emit now' b) p r t is n m x y = let s : now ≡ now' = cc in let same : a ≡ b = x.0 ∙ ap (λ (z : ℕ). put_out p z) s ∙ sym y.0 in λ i. deed.Emit (s i) (same i)
+same-deed (deed.Come now sent message a) (deed.Come now' sent' message' b) p r t is n m x y =
+    let s : now ≡ now' = cc in
+    let k : sent ≡ sent' = cc in
+    let g : message ≡ message' = cc in
+    let whole : ◌≡◌ {A = ℕ × Option ℕ × Message} (now, sent, message) (now', sent', message') = (λ i. (s i, k i, g i)) in
+    let same : a ≡ b = same-obeys a b now sent message p r t n m x (subst (λ (z : ℕ × Option ℕ × Message). Alone (deed.Come z.0 z.1 z.2 b) p t) (sym whole) y) in
+    λ i. deed.Come (s i) (k i) (g i) (same i)
+same-deed (deed.Tick now) (deed.Tick now') p r t is n m x y = is
+same-deed (deed.Take a) (deed.Take b) p r t is n m x y = ap (λ (z : Option PeerEvent). deed.Take z) (same-takes a b p r t x y)
+same-deed (deed.Disconnect way info a) (deed.Disconnect way' info' b) p r t is n m x y =
+    let s : way ≡ way' = cc in
+    let k : info ≡ info' = cc in
+    let whole : ◌≡◌ {A = Way × ℕ} (way, info) (way', info') = (λ i. (s i, k i)) in
+    let same : a ≡ b = same-leaves a b way info p r t x (subst (λ (z : Way × ℕ). Alone (deed.Disconnect z.0 z.1 b) p t) (sym whole) y) in λ i. deed.Disconnect (s i) (k i) (same i)
+same-deed (deed.Set set a) (deed.Set set' b) p r t is n m x y =
+    let s : set ≡ set' = cc in let same : a ≡ b = same-sets set a b p r t n m x (subst (λ (z : Setting). Alone (deed.Set z b) p t) (sym s) y) in λ i. deed.Set (s i) (same i)
+same-deed d e p r t is n m x y = absurd (cc)
+
+pub one-answer : OneAnswer
+one-answer d e p q r is n m x y =
+    let same : d ≡ e = same-deed d e p q r is n m x y in (same, alone-once d p q r x (subst (λ (z : Deed). Alone z p r) (sym same) y))
 
 -- the commands of a datagram that is counted fall in one way
 

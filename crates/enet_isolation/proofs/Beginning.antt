@@ -18,11 +18,11 @@ use Rattle.enet_isolation.specs.Common.{common_of}
 use Rattle.enet_isolation.specs.Deeds.{Deed, AllAlone}
 use Rattle.enet_isolation.specs.Falling.{Fell, Begins, asks, answers, FellAll, counted}
 use Rattle.enet_isolation.specs.Law.{Stays, Fares, untouched, goes_on, begins, having_emitted}
-use Rattle.enet_isolation.specs.Beginnings.{BeginsAs, WasThere, BeganBy, Lived, IsAfter, IsFirst, IsBeginning, Beginnings}
+use Rattle.enet_isolation.specs.Beginnings.{WasThere, BeganBy, Lived, IsAfter, IsFirst, IsBeginning, Beginnings}
 use Rattle.enet_isolation.proofs.AllCalls.{alone-append, spent-all, fell-there}
 use Rattle.enet_isolation.proofs.Counts.{fares-back}
 use Rattle.enet_isolation.proofs.Keeping.{each-keeps}
-use Rattle.enet_isolation.proofs.Names.{free-or, IsThere, named-there, slot-named, there-named, IsSpent, same-generations, past-freed, begun-generation}
+use Rattle.enet_isolation.proofs.Names.{free-or, IsThere, named-there, slot-named, there-named, same-generations, past-freed, begun-generation}
 use Rattle.enet_isolation.proofs.Slots.{held, freed-in}
 
 -- what a host keeps: a slot holds a peer only where it has a generation left
@@ -205,11 +205,14 @@ sessions-all : (cs : List Call) (old new : Host) (steps : Steps cs old new) → 
 sessions-all [] old new steps sound i t there = (t, ap (λ (h : Host). slice_get h.slots i) steps ∙ there, inl (refl, refl, refl))
 sessions-all (c ∷ cs) old new steps sound i t there =
     let m : (m : SlotState) × (slice_get steps.0.slots i ≡ Some m) × HasSessions i cs steps.0 new steps.2 m t = sessions-all cs steps.0 new steps.2 (sound-goes c old steps.0 steps.1 sound) i t there in
-    let s : (s : SlotState) × (slice_get old.slots i ≡ Some s) × Fares c (common_of old) i s m.0 = fares-back c old steps.0 steps.1 i m.0 m.1 in
-    (s.0, s.1, elim m.2 [
-      | inl k ↦ sessions-since c cs old new steps i s.0 m.0 t sound s.1 m.1 s.2 k.0 k.1 k.2
-      | inr k ↦ inr (after-before c cs old new steps i t k)
-    ])
+    let s : (s : SlotState) × (slice_get old.slots i ≡ Some s) × Fares c (common_of old) i s m.0 = fares-back c old steps.0 steps.1 i m.0 m.1 in (
+      s.0,
+      s.1,
+      elim m.2 [
+        | inl k ↦ sessions-since c cs old new steps i s.0 m.0 t sound s.1 m.1 s.2 k.0 k.1 k.2
+        | inr k ↦ inr (after-before c cs old new steps i t k)
+      ],
+    )
 
 lived-all : (cs : List Call) (old new : Host) (steps : Steps cs old new) (name : PeerRef) (p : Peering) → named new.slots name ≡ Some p → Lived name cs old new steps p
 lived-all [] old new steps name p is = record { first = p; deeds = []; began = inl (ap (λ (h : Host). named h.slots name) steps ∙ is, refl); alone = refl }
@@ -264,10 +267,10 @@ begins-joined c address h =
           ];
     })
     (λ i s there.
-        elim (one-there c.peers i (joined_slot c address) s there) [
-          | inl at ↦ subst IsFirst (sym at.1) (record { generation = refl; incoming = refl; outgoing = refl })
-          | inr none ↦ first-of s none
-        ])
+    elim (one-there c.peers i (joined_slot c address) s there) [
+      | inl at ↦ subst IsFirst (sym at.1) (record { generation = refl; incoming = refl; outgoing = refl })
+      | inr none ↦ first-of s none
+    ])
 
 begins-nobody : (c : Config) (name : PeerRef) → named (opening.opened c).slots name ≡ None
 begins-nobody c name = by (named (opening.opened c).slots name) refl

@@ -1,12 +1,42 @@
 -- That connections share nothing else: how a slot fares is fixed by the slot, the call and what connections share.
-use Rattle.std.specs.Prelude.{◌≡◌, ◌≢◌, ◌≤◌, ℕ, List, length, Some, slice_get}
+use Rattle.std.specs.Prelude.{◌≡◌, ◌≢◌, ◌≤◌, ℕ, Bool, true, false, length, Some, None, Ok, Err, slice_get}
+use Rattle.enet_types.specs.declared.refusal.Refusal.{Refusal}
+use Rattle.enet_types.specs.declared.refusal.Refusal.TheVariants as refusal
+use Rattle.enet_types.specs.declared.stop.Stop.TheVariants as stop
 use Rattle.enet_peer.specs.declared.parts.PeerState.TheVariants as state
 use Rattle.enet_peer.specs.Peering.{Peering}
 use Rattle.enet_slot.specs.Slot.{SlotState, greatest}
 use Rattle.enet_host.specs.Host.{Host, Keeps}
 use Rattle.enet_isolation.specs.Calls.{Call, Receive, Acts}
 use Rattle.enet_isolation.specs.Common.{Common, common_of}
+use Rattle.enet_isolation.specs.Deeds.{Deed, Alone}
+use Rattle.enet_isolation.specs.Deeds as deed
 use Rattle.enet_isolation.specs.Law.{Fares}
+
+-- what a peer is asked by a deed, whatever it answers
+abbrev pub asked : Deed → Deed
+asked (deed.Submit q answer) = deed.Submit q (Ok tt)
+asked (deed.Emit now given) = deed.Emit now None
+asked (deed.Come now sent m answer) = deed.Come now sent m (Ok tt)
+asked (deed.Tick now) = deed.Tick now
+asked (deed.Take given) = deed.Take None
+asked (deed.Disconnect way info answer) = deed.Disconnect way info (Ok tt)
+asked (deed.Set setting answer) = deed.Set setting (Ok tt)
+
+-- whether memory was wanting
+abbrev pub is_memory : Refusal → Bool
+is_memory refusal.Memory = true
+is_memory why = false
+
+abbrev pub is_wanting : Deed → Bool
+is_wanting (deed.Submit q (Err e)) = is_memory e.0
+is_wanting (deed.Come now sent m (Err stop.Memory)) = true
+is_wanting (deed.Set setting (Err why)) = is_memory why
+is_wanting d = false
+
+-- what a peer is asked it answers in one way, and goes on in one way, want of memory apart
+abbrev pub OneAnswer : Type 0
+OneAnswer = (d e : Deed) (p q r : Peering) → asked d ≡ asked e → is_wanting d ≡ false → is_wanting e ≡ false → Alone d p q → Alone e p r → (d ≡ e) × (q ≡ r)
 
 -- the commands of a datagram are told by their count, which must not have stopped. Want of memory is told by the answer
 abbrev pub IsCounted : Call → Type 0

@@ -1,13 +1,14 @@
-//! The law of isolation: the peers of one host share nothing but what is said here. No code but the law.
+//! The law of isolation: the peers of one host share what is listed here (`Common`), and nothing else.
 //!
-//! It speaks of the definitions that the contracts of `enet_host::HostCore` and `enet_peer::Peer` name.
+//! It speaks of the definitions that the contracts of `enet_host::HostCore` and `enet_peer::Peer` name. The only code is that of the
+//! calls that no crate above makes (`settings`), which ties them to these definitions.
 //!
 //! Proved over every list of calls, with no premise on other connections: the peer of each name is where one peer alone would be after
-//! what fell to it (`isolation`), and so it is at any host that there is (`isolation_of`).
+//! what fell to it, and answered what one peer alone answers (`isolation`), and so it is at any host that there is (`isolation_of`).
 #![tactic(auto)]
 
 ghost use Rattle.enet_isolation.specs.Ends.{Matches};
-ghost use Rattle.enet_isolation.specs.Alike.{OneWay, Alike};
+ghost use Rattle.enet_isolation.specs.Alike.{OneAnswer, OneWay, Alike};
 ghost use Rattle.enet_isolation.specs.Beginnings.{Beginnings};
 ghost use Rattle.enet_isolation.specs.Law.{OneCall, EachKeeps, Isolation, AreIsolated};
 
@@ -18,29 +19,37 @@ pub use settings::{set_bandwidth, set_ping_interval, set_timeout, throttle_confi
 
 /// What calls of a host make of one of its connections.
 ///
-/// `one_call`: each call does to each slot one of three things. Nothing falls to it, no connection begins in it, and it stays as it
-/// was. Or its peer does alone what fell to it (commands that came, submissions, disconnects, emissions with the very datagram that
-/// they gave, those that gave nothing too, takes, ticks, settings, throttle limits), and where that leaves the peer free, so is the
-/// slot, with the next generation and the connection's sessions. Or a connection begins in it, for which the user asks or a CONNECT:
-/// it is the lowest slot that is free and has a generation left, and the CONNECT's connection isn't there yet. Each time it is
-/// said, too, how many bytes the slot counts for its next share of bandwidth.
+/// `one_call`: each call does to each slot one of three things (`Fares`). Its peer, if it has one, stays as it was: nothing fell to it, or
+/// all was refused. Or its peer does alone what fell to it: commands that came, submissions, disconnects, emissions with the very
+/// datagram that they gave, those that gave nothing too, takes, ticks, settings, throttle limits, each with what it answers, also where
+/// it refuses, stops or wants memory (`Deed`); and where that leaves the peer free, so is the slot, with the next generation and the
+/// connection's sessions. Or a connection begins in it, for which the user asks or a CONNECT: it is the lowest slot that is free and has
+/// a generation left, and the CONNECT's connection isn't there yet. Each time it is said, too, how many bytes the slot counts for its
+/// next share of bandwidth. Of the host this sees what its connections share alone (`Common`): settings and clock, the turn order of
+/// slots, when the bandwidth is shared out and among how many connected peers, and where they begin, the lowest slot that is free and
+/// has a generation left, and the test of a CONNECT's address and connect id.
+///
+/// `one_answer`: a peer alone answers in one way, and goes on in one way, want of memory apart. `one_way`: so a slot fares in one way by
+/// a call with its answers. `alike`: two hosts that agree on a slot, and on what connections share, leave that slot alike. What is
+/// answered of a datagram tells how many of its commands reached the peer by a count, which stops at 4,294,967,295: for these two it has
+/// no more bytes than that.
 ///
 /// `keeps`: from its opening on a host holds no peer that is free, whatever is called.
 ///
 /// `calls`: so over every list of calls the peer of a connection is where one peer alone would be after the deeds that fell to its
-/// slot, in order; what was refused, for want of memory too, is none of them. Once the connection is over nobody has its name
-/// again.
+/// slot, in order, with memory refused at the same places. Once the connection is over nobody has its name again.
 ///
-/// `events`: each deed is the event of that name at one end of a connection, as the law of one connection has it, where a command
-/// that comes is one of the other end's log and in time. So a connection of two hosts is two such lists of deeds.
+/// `beginnings`: from a host's opening on each peer has lived so since it began by one of the calls, as `connecting` or `answering` of
+/// `enet_peer` with the sessions of its slot, or, in a host that is joined from the start, as `joined`. A slot's sessions are those
+/// with which the peer before ended, 0xFF where there was none.
 ///
-/// What connections share stands in the definition of what falls to a slot: the clock, the turn order of slots, through the
-/// number of connected peers the throttle limit, and where they begin, the free slots with their generations and sessions, and
-/// the test of a CONNECT's address and connect id. How many commands of a datagram reached a peer is known by the number that were
-/// handled, which stops at 4,294,967,295: so many commands would need a datagram of more than 16 GiB.
+/// `events`: each deed that takes effect is the event of that name at one end of a connection, as the law of one connection has it,
+/// where a command that comes is one of the other end's log and in time; the others leave the peer as it was. So a connection of two
+/// hosts is two such lists of deeds.
 pub fn isolation()
     ensures one_call { OneCall }
     ensures keeps { EachKeeps }
+    ensures one_answer { OneAnswer }
     ensures one_way { OneWay }
     ensures alike { Alike }
     ensures calls { Isolation }

@@ -1,7 +1,7 @@
 use Rattle.enet_isolation.proofs.OneCall.{one-call}
 use Rattle.enet_isolation.proofs.Keeping.{each-keeps}
 use Rattle.enet_isolation.proofs.AllCalls as all
-use Rattle.enet_isolation.proofs.Alike.{one-way, alike}
+use Rattle.enet_isolation.proofs.Alike.{one-answer, one-way, alike}
 use Rattle.enet_isolation.proofs.Beginning.{each-beginning}
 use Rattle.enet_isolation.proofs.Matching.{matches}
 use Rattle.enet_isolation.proofs.isolation.Goals as goal
@@ -11,6 +11,9 @@ returns-clause-one_call c = one-call
 
 pub returns-clause-keeps : goal.returns-clause-keeps
 returns-clause-keeps c = each-keeps
+
+pub returns-clause-one_answer : goal.returns-clause-one_answer
+returns-clause-one_answer c = one-answer
 
 pub returns-clause-one_way : goal.returns-clause-one_way
 returns-clause-one_way c = one-way
