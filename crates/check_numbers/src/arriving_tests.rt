@@ -164,6 +164,27 @@ fn receiver_by_hand(rt: HostRuntime) {
     assert!(rt; receiver.pop().is_none());
 }
 
+/// A piece of the packet of number 28,000, which has so many pieces and bytes, a byte each.
+fn piece_past(number: u16, count: u32, total: u32) -> Command<'static> {
+    let index = u32::from(number).saturating_sub(28_000);
+    piece(number, place(28_000, count, index, total, index), b"x")
+}
+
+// A piece of which the own number is past the window is compared with those of its packet, and then passed over.
+#[test]
+fn pieces_past_the_window(rt: HostRuntime) {
+    let mut receiver = Incoming::open(rt.alloc(), 0, 1000).ok().expect(&rt, "open");
+    let rows = [
+        (piece_past(28_672, 701, 701), false, Took::Outside),
+        (piece_past(28_671, 700, 700), false, Took::Held),
+        (piece_past(28_672, 700, 700), false, Took::Outside),
+        (piece_past(28_672, 701, 701), false, Took::Bad),
+        (piece_past(28_672, 700, 699), false, Took::Bad),
+    ];
+    assert!(rt; receives(&mut receiver, &rows));
+    assert!(rt; receiver.held() == 700);
+}
+
 fn open(alloc: Global, channels: u8, max_packet: u32, max_waiting: u32) -> Option<Inbox> {
     Inbox::open(alloc, channels, max_packet, max_waiting).ok()
 }

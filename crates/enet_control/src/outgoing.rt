@@ -1,6 +1,6 @@
 //! The sender of channel 0xFF.
 
-ghost use Rattle.std.specs.Prelude.{◌≡◌, ◌+◌, ◌<◌, ◌≤◌, nat_lt, IsTrue, IfOk, IfErr, IfNone, OnOk, OnErr, length, slice_get};
+ghost use Rattle.std.specs.Prelude.{◌≡◌, ◌+◌, ◌<◌, ◌≤◌, nat_lt, false, IsTrue, IfOk, IfErr, IfNone, OnOk, OnErr, length, slice_get};
 ghost use Rattle.std.specs.List.{list_any};
 ghost use Rattle.enet_control.specs.Controlling.{after_acknowledgement, acknowledged_control, after_lateness, cleared, Did, is_idle, lateness, next, next_queued, next_resent, nothing_controlled, ends, is_late, with_marked, with_queued};
 
@@ -75,7 +75,7 @@ impl ControlChannel {
     }
 
     /// Makes room for one command more. Where there is some, it takes no memory; else E1 where memory is refused, with
-    /// nothing changed.
+    /// nothing changed. So E1 comes only where a command is queued or unacknowledged.
     pub fn reserve(&mut self) -> Result<(), Refusal>
         ensures commands { self.new.commands ≡ self.old.commands }
         ensures room { OnOk result (1 ≤ self.new.room) }
@@ -83,6 +83,7 @@ impl ControlChannel {
         ensures refused { OnErr result (self.new ≡ self.old) }
         ensures idle { 1 ≤ self.old.room → self.new ≡ self.old }
         ensures full { OnErr result (self.old.room ≡ 0) }
+        ensures busy { OnErr result (is_idle self.old.commands ≡ false) }
         ensures memory { IfErr result (λ why. why ≡ Refusal.Memory) }
     {
         if make_room(&mut self.queued, &mut self.sent) {

@@ -1,5 +1,5 @@
 -- Slots of the code and as they are shown.
-use Rattle.std.proofs.Common.{◌≡◌, ℕ, ◌<◌, Bool, true, false, ◌==◌, IsTrue, if◌then◌else◌, Option, Some, None, is_some, is_ok, Result, Ok, Err, List, length, slice_get, slice_set, get_or, refl, sym, ap, subst, ◌∙◌, arith}
+use Rattle.std.proofs.Common.{◌≡◌, ℕ, ◌<◌, Bool, true, false, ◌==◌, IsTrue, if◌then◌else◌, Option, Some, None, is_some, is_ok, Result, Ok, Err, IfErr, List, length, slice_get, slice_set, get_or, refl, sym, ap, subst, ◌∙◌, arith}
 use Rattle.std.proofs.lemmas.Bool.Decides.{nat_tests}
 use Rattle.enet_types.specs.declared.event.PeerRef.{PeerRef}
 use Rattle.enet_types.specs.declared.refusal.Refusal.{Refusal}
@@ -8,6 +8,7 @@ use Rattle.enet_sender.specs.CommandChoice.{Packet}
 use Rattle.enet_peer.specs.Peering.{Peering}
 use Rattle.enet_slot.specs.declared.slot.Slot.{Slot}
 use Rattle.enet_slot.specs.Slot.{SlotState}
+use Rattle.enet_slot.specs.Sharing.{wants_room, wants_room_in}
 use Rattle.enet_host.specs.Host.{named, peer_in, slot_named, with_generation}
 use Rattle.enet_slot.specs.Calls.{on_peer, Does, DoesWithMemory, Submits, IsRefusedBy}
 use Rattle.enet_host.specs.Calls.{on_slot, on_named, put_back}
@@ -95,6 +96,13 @@ does-named-with-memory xs name call i x y (Ok done) e inside read some h =
     sym (on-named xs name call i x e inside read some) ∙ put-ok xs i y (on_peer (shown x) call) h
 does-named-with-memory xs name call i x y (Err why) e inside read some h =
     (refused-named xs name call i x why e inside read some h.0, same-shown xs i x y read h.1)
+
+-- where memory may be wanted of a slot it may be of the peer that the name means
+pub wanted-named : {T : Type 0} (xs : List Slot) (name : PeerRef) (i : ℕ) (x : Slot) (result : Result T Refusal) → i ≡ name.slot → i < length xs → x ≡ get_or xs i x
+    → IsTrue (is_some (slot_named (all_shown xs) name)) → IfErr result (λ why. why ≡ Memory → wants_room (shown x) ≡ true)
+    → IfErr result (λ why. why ≡ Memory → wants_room_in (named (all_shown xs) name) ≡ true)
+wanted-named xs name i x result e inside read some h =
+    subst (λ (p : Option Peering). IfErr result (λ why. why ≡ Memory → wants_room_in p ≡ true)) (peer-named xs name i x (shown x).peer e inside read some refl) h
 
 pub submits-named : {T : Type 0} (xs : List Slot) (name : PeerRef) (q : Packet) (call : Peering → Result Peering Refusal) (i : ℕ) (x y : Slot)
     (result : Result T (Refusal × List ℕ)) → i ≡ name.slot → i < length xs → x ≡ get_or xs i x → IsTrue (is_some (slot_named (all_shown xs) name))

@@ -1,8 +1,9 @@
 //! Calls on the slot that a name means.
 
-ghost use Rattle.std.specs.Prelude.{◌≡◌, ◌<◌, length, is_some, IsTrue, IfSome, IfNone, None, Some};
+ghost use Rattle.std.specs.Prelude.{◌≡◌, ◌<◌, length, is_some, true, IsTrue, IfSome, IfNone, IfErr, None, Some};
 ghost use Rattle.std.specs.Option.{option_copied};
 ghost use Rattle.enet_slot.specs.Calls.{Submits, Does, DoesWithMemory, submission, leaving, throttling, set_by};
+ghost use Rattle.enet_slot.specs.Sharing.{wants_room_in};
 ghost use Rattle.enet_slot.specs.Slotted.{peer_shown, all_shown};
 ghost use Rattle.enet_host.specs.Calls.{address_named, on_named};
 ghost use Rattle.enet_host.specs.Host.{named, slot_named};
@@ -66,7 +67,8 @@ pub(crate) fn disconnect(
     slots[place].leave(mode, info)
 }
 
-/// Sets the throttle of the peer of this name, of which the other end is told.
+/// Sets the throttle of the peer of this name, of which the other end is told. E1 only where an earlier command of channel 0xFF
+/// is queued or unacknowledged there.
 pub(crate) fn throttle_configure(
     slots: &mut Vec<Slot>,
     name: PeerRef,
@@ -75,6 +77,7 @@ pub(crate) fn throttle_configure(
     deceleration: u32,
 ) -> Result<(), Refusal>
     ensures does { DoesWithMemory result (on_named (all_shown slots.old.items) name (throttling interval acceleration deceleration)) (all_shown slots.old.items) (all_shown slots.new.items) }
+    ensures wanted { IfErr result (λ why. why ≡ Refusal.Memory → wants_room_in (named (all_shown slots.old.items) name) ≡ true) }
     ensures count { length slots.new.items ≡ length slots.old.items }
 {
     let Some(place) = position_of(slots, name) else {

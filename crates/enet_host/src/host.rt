@@ -6,7 +6,7 @@ ghost use Rattle.enet_host.specs.Host.{Keeps, KeepsRest};
 ghost use Rattle.enet_host.specs.Opening.{opened, joined, Opens, Connects};
 ghost use Rattle.enet_host.specs.Receiving.{Receives};
 ghost use Rattle.enet_host.specs.Shown.{KeepsHost};
-ghost use Rattle.enet_slot.specs.Sharing.{is_standing};
+ghost use Rattle.enet_slot.specs.Sharing.{wants_room};
 ghost use Rattle.enet_slot.specs.Slotted.{all_shown};
 ghost use Rattle.enet_host.specs.Serving.{Serves};
 ghost use Rattle.enet_host.specs.Ticking.{ticked, clock_after};
@@ -204,12 +204,13 @@ impl HostCore {
     }
 
     /// Sets the host's bandwidths, in bytes per second, where 0 says that no limit is known. Each connected peer is told (ENet
-    /// 1.3). E1 where memory for that is refused, with nothing changed; never where no peer is connected.
+    /// 1.3). E1 where memory for that is refused, with nothing changed; never where no connected peer has a command of channel
+    /// 0xFF queued or unacknowledged.
     pub fn set_bandwidth(&mut self, incoming: u32, outgoing: u32) -> Result<(), Refusal>
         ensures set { OnOk result (self.new ≡ with_bandwidth self.old incoming outgoing) }
         ensures unchanged { OnErr result (self.new ≡ self.old) }
         ensures memory { IfErr result (λ why. why ≡ Refusal.Memory) }
-        ensures standing { OnErr result (list_any is_standing self.old.slots ≡ true) }
+        ensures wanted { OnErr result (list_any wants_room self.old.slots ≡ true) }
     {
         set_bandwidth(&mut self.slots, incoming, outgoing)?;
         self.start.config.incoming = incoming;

@@ -1,7 +1,7 @@
 //! What a user does with one peer of a host. Each call names the peer; it answers E2, or None, where there is no such peer: the
 //! slot is out of range or free, or has another generation.
 
-ghost use Rattle.std.specs.Prelude.{◌≡◌, length};
+ghost use Rattle.std.specs.Prelude.{◌≡◌, true, length, IfErr};
 ghost use Rattle.std.specs.Option.{option_map};
 ghost use Rattle.enet_types.specs.declared.event.DisconnectMode.TheVariants.{Now, Ask, Later};
 ghost use Rattle.enet_outbox.specs.Outbox.{transit_of};
@@ -9,6 +9,7 @@ ghost use Rattle.enet_sender.specs.CommandChoice.{Packet};
 ghost use Rattle.enet_host.specs.Host.{KeepsRest, named};
 ghost use Rattle.enet_host.specs.Foretelling.{submission_refusal, refusal_of};
 ghost use Rattle.enet_slot.specs.Calls.{Submits, Does, DoesWithMemory, submission, leaving, throttling, pinging, waiting};
+ghost use Rattle.enet_slot.specs.Sharing.{wants_room_in};
 ghost use Rattle.enet_host.specs.Calls.{address_named, on_named};
 
 use crate::calls;
@@ -83,7 +84,8 @@ impl HostCore {
     }
 
     /// Sets the throttle's interval in milliseconds, and its acceleration and deceleration in parts of 32, of which the other
-    /// end is told (ENet 1.3). E2; E3 where the peer is not connected; E1: then nothing has changed.
+    /// end is told (ENet 1.3). E2; E3 where the peer is not connected; E1, only where an earlier command of channel 0xFF is
+    /// queued or unacknowledged: then nothing has changed.
     pub fn throttle_configure(
         &mut self,
         peer: PeerRef,
@@ -92,6 +94,7 @@ impl HostCore {
         deceleration: u32,
     ) -> Result<(), Refusal>
         ensures configures { DoesWithMemory result (on_named self.old.slots peer (throttling interval acceleration deceleration)) self.old.slots self.new.slots }
+        ensures wanted { IfErr result (λ why. why ≡ Refusal.Memory → wants_room_in (named self.old.slots peer) ≡ true) }
         ensures rest { KeepsRest self.old self.new }
     {
         calls::throttle_configure(&mut self.slots, peer, interval, acceleration, deceleration)

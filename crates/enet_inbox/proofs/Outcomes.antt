@@ -1,6 +1,6 @@
 -- What a receiver's foresight means for a datagram.
 use Rattle.std.proofs.Common.{◌≡◌, ◌≢◌, ℕ, ◌%◌, ◌<◌, Bool, true, false, cond, Option, Some, None, Result, Ok, Err, refl, sym, ap, subst, ◌∙◌, arith}
-use Rattle.std.specs.Prelude.{◌&&◌, ◌||◌, not, slice_get}
+use Rattle.std.specs.Prelude.{◌&&◌, ◌||◌, slice_get}
 use Rattle.std.specs.Option.{is_none}
 use Rattle.enet_types.specs.declared.stop.Stop.{Stop}
 use Rattle.enet_seq.specs.Numbering.{wire}
@@ -11,7 +11,7 @@ use Rattle.enet_receiver.specs.declared.took.Took.{Took}
 use Rattle.enet_receiver.specs.declared.took.Took.TheVariants.{Held, Again, Outside, Bad, Waiting, Memory}
 use Rattle.enet_receiver.specs.declared.took.Foresight.{Foresight}
 use Rattle.enet_receiver.specs.Receiver.{Receiver}
-use Rattle.enet_receiver.specs.DataOutcome.{outcome, outcome_at, outcome_of, place_read, came_at, is_piece, agrees_with, is_behind, came, is_handled}
+use Rattle.enet_receiver.specs.DataOutcome.{outcome, outcome_at, outcome_of, place_read, came_at, is_piece_of_its_packet, is_behind, came, is_handled}
 use Rattle.enet_receiver.specs.Foresight.{ReceivingEnd, foreseen as foreseen_by, outcome_for, after_command}
 use Rattle.enet_inbox.specs.Inbox.{Inbox, is_full}
 use Rattle.enet_inbox.specs.DataEffect.{is_kept_as, is_kept_on, is_kept_sequenced, sequenced, sequenced_on, by_took, handed_over}
@@ -25,8 +25,7 @@ one_of false x y p q = q
 
 of_known : (r : Receiver) (c : DataCommand) (full : Bool) (place : ℕ) (earlier : Option IncomingPacket) → outcome_of r c full place earlier ≢ Memory
 of_known r c full place earlier =
-    one_of (not (agrees_with earlier c)) Bad _ (λ e. cc)
-    (one_of (is_behind r c place || came earlier c) Again _ (λ e. cc) (one_of (full && is_none earlier) Waiting Held (λ e. cc) (λ e. cc)))
+    one_of (is_behind r c place || came earlier c) Again _ (λ e. cc) (one_of (full && is_none earlier) Waiting Held (λ e. cc) (λ e. cc))
 
 at_known : (r : Receiver) (c : DataCommand) (full : Bool) (o : Option ℕ) → outcome_at r c full o ≢ Memory
 at_known r c full None = λ e. cc
@@ -34,7 +33,7 @@ at_known r c full (Some place) = of_known r c full place (came_at r c place)
 
 -- with ample memory no outcome is want of memory
 pub outcome_known : (most : ℕ) (r : Receiver) (c : DataCommand) (full : Bool) → outcome wire most r c full ≢ Memory
-outcome_known most r c full = one_of (is_piece most c) _ Bad (at_known r c full (place_read wire r c)) (λ e. cc)
+outcome_known most r c full = one_of (is_piece_of_its_packet wire most r c) _ Bad (at_known r c full (place_read wire r c)) (λ e. cc)
 
 by_answer : (t : Took) (may : Bool) (b : Inbox) (channel : ℕ) (r : ReceivingEnd) (c : DataCommand) → may ≡ acknowledges r.receiver.front c.number
     → answer_by t (is_handled t && may) ≡ (by_took t b channel r c).answer

@@ -1,5 +1,5 @@
 -- What a command of the log does to the receiver.
-use Rattle.std.proofs.Common.{◌≡◌, ◌≢◌, ℕ, ◌+◌, ◌-◌, ◌%◌, ◌<◌, ◌≤◌, Bool, true, false, cond, not, ◌||◌, if◌then◌else◌, List, ◌++◌, refl, sym, ap, subst, ◌∙◌, inl, inr, ◌⊎◌, arith, Option, Some, None}
+use Rattle.std.proofs.Common.{◌≡◌, ◌≢◌, ℕ, ◌+◌, ◌-◌, ◌%◌, ◌<◌, ◌≤◌, Bool, true, false, cond, ◌||◌, if◌then◌else◌, List, ◌++◌, refl, sym, ap, subst, ◌∙◌, inl, inr, ◌⊎◌, arith, Option, Some, None}
 use Rattle.std.proofs.lemmas.Bool.Decides.{nat_tests}
 use Rattle.std.specs.Ordering.{nat_cmp}
 use Rattle.std.specs.Option.{is_some, is_none}
@@ -14,7 +14,7 @@ use Rattle.enet_fragment.specs.DataCommand.{piece_of, place_in_packet}
 use Rattle.enet_fragment.specs.PartialPacket.{PartialPacket, count_of, with_piece}
 use Rattle.enet_packets.specs.declared.incoming_packet.IncomingPacket.{IncomingPacket}
 use Rattle.enet_packets.specs.Packets.{line_at, with_line}
-use Rattle.enet_receiver.specs.DataOutcome.{is_piece, place_read, came_at, agrees_with, came, is_behind, outcome_of, outcome_at, outcome, earlier_or_new, with_more, with_added, added_at, received_with, received, is_handled}
+use Rattle.enet_receiver.specs.DataOutcome.{is_piece_of_its_packet, place_read, came_at, came, is_behind, outcome_of, outcome_at, outcome, earlier_or_new, with_more, with_added, added_at, received_with, received, is_handled}
 use Rattle.enet_receiver.specs.Receiver.{Receiver, flushed, with_dispatched, released, all_released}
 use Rattle.enet_receiver.specs.declared.took.Took.{Took}
 use Rattle.enet_receiver.specs.declared.took.Took.TheVariants.{Bad, Outside, Again, Waiting, Held}
@@ -66,11 +66,11 @@ and_both : (a b : Bool) → (a && b) ≡ true → (a ≡ true) × (b ≡ true)
 and_both true b h = (refl, h)
 and_both false b h = absurd (cc)
 
-less_or_not : (a b : ℕ) → (a < b) ⊎ (b ≤ a)
+pub less_or_not : (a b : ℕ) → (a < b) ⊎ (b ≤ a)
 less_or_not a b = grind arith
 
 -- a fragment's start is read as itself, or it is at or behind the front
-start_reads : (front start own sent : ℕ) → start ≤ own → own ≤ start + 16383 → own ≤ sent → sent ≤ front + 24575 → front ≤ sent → sent ≤ own + 32768
+pub start_reads : (front start own sent : ℕ) → start ≤ own → own ≤ start + 16383 → own ≤ sent → sent ≤ front + 24575 → front ≤ sent → sent ≤ own + 32768
     → ((start_read unbounded front (start % 65536) (own % 65536) ≡ Some start) × (front ≤ start)) ⊎ ((start_read unbounded front (start % 65536) (own % 65536) ≡ None) × (start ≤ front))
 start_reads front start own sent low near high span below late = go (fragment_in_window (front % 65536) (start % 65536) (own % 65536)) refl
   where
@@ -99,23 +99,19 @@ start_reads front start own sent low near high span below late = go (fragment_in
 -- the cases of an outcome where the place is read
 outcome_cases : (r : Receiver) (d : DataCommand) (full : Bool) (place : ℕ) (earlier : Option IncomingPacket)
     → ((outcome_of r d full place earlier ≡ Held) × (is_behind r d place ≡ false))
-    ⊎ ((is_handled (outcome_of r d full place earlier) ≡ false) × ((outcome_of r d full place earlier ≡ Bad) ⊎ (outcome_of r d full place earlier ≡ Waiting)))
+    ⊎ (outcome_of r d full place earlier ≡ Waiting)
     ⊎ ((outcome_of r d full place earlier ≡ Again) × ((is_behind r d place ≡ true) ⊎ (came earlier d ≡ true)))
 outcome_cases r d full place earlier =
-    elim (agrees_with earlier d) as (λ x. let o : Took = cond (not x) Bad (cond (is_behind r d place || came earlier d) Again (cond (full && is_none earlier) Waiting Held)) in
-    ((o ≡ Held) × (is_behind r d place ≡ false)) ⊎ ((is_handled o ≡ false) × ((o ≡ Bad) ⊎ (o ≡ Waiting))) ⊎ ((o ≡ Again) × ((is_behind r d place ≡ true) ⊎ (came earlier d ≡ true)))) [
-      | false ↦ inr (inl (refl, inl refl))
-      | true ↦ elim (is_behind r d place) as (λ y. let o : Took = cond (y || came earlier d) Again (cond (full && is_none earlier) Waiting Held) in
-          ((o ≡ Held) × (y ≡ false)) ⊎ ((is_handled o ≡ false) × ((o ≡ Bad) ⊎ (o ≡ Waiting))) ⊎ ((o ≡ Again) × ((y ≡ true) ⊎ (came earlier d ≡ true)))) [
-            | true ↦ inr (inr (refl, inl refl))
-            | false ↦ elim (came earlier d) as (λ z. let o : Took = cond z Again (cond (full && is_none earlier) Waiting Held) in
-                ((o ≡ Held) × (false ≡ false)) ⊎ ((is_handled o ≡ false) × ((o ≡ Bad) ⊎ (o ≡ Waiting))) ⊎ ((o ≡ Again) × ((false ≡ true) ⊎ (z ≡ true)))) [
-                  | true ↦ inr (inr (refl, inr refl))
-                  | false ↦ elim (full && is_none earlier) as (λ w. let o : Took = cond w Waiting Held in
-                      ((o ≡ Held) × (false ≡ false)) ⊎ ((is_handled o ≡ false) × ((o ≡ Bad) ⊎ (o ≡ Waiting))) ⊎ ((o ≡ Again) × ((false ≡ true) ⊎ (false ≡ true)))) [
-                        | true ↦ inr (inl (refl, inr refl))
-                        | false ↦ inl (refl, refl)
-                      ]
+    elim (is_behind r d place) as (λ y. let o : Took = cond (y || came earlier d) Again (cond (full && is_none earlier) Waiting Held) in
+    ((o ≡ Held) × (y ≡ false)) ⊎ (o ≡ Waiting) ⊎ ((o ≡ Again) × ((y ≡ true) ⊎ (came earlier d ≡ true)))) [
+      | true ↦ inr (inr (refl, inl refl))
+      | false ↦ elim (came earlier d) as (λ z. let o : Took = cond z Again (cond (full && is_none earlier) Waiting Held) in
+          ((o ≡ Held) × (false ≡ false)) ⊎ (o ≡ Waiting) ⊎ ((o ≡ Again) × ((false ≡ true) ⊎ (z ≡ true)))) [
+            | true ↦ inr (inr (refl, inr refl))
+            | false ↦ elim (full && is_none earlier) as (λ w. let o : Took = cond w Waiting Held in
+                ((o ≡ Held) × (false ≡ false)) ⊎ (o ≡ Waiting) ⊎ ((o ≡ Again) × ((false ≡ true) ⊎ (false ≡ true)))) [
+                  | true ↦ inr (inl refl)
+                  | false ↦ inl (refl, refl)
                 ]
           ]
     ]
@@ -278,12 +274,12 @@ Arrived-reliable mtu cs sent most r d full p k s l rel high span late =
       | inr w ↦ arrived_by mtu cs sent most r d full k s l (inr (go_outside (place ∙ w.0) (λ t. inl (let low = w.1 in let z = reached mtu cs r p.number p.count c k p.stands cr (omega arith) in omega arith))))
     ]
   where
-    shape : outcome unbounded most r (wired d) full ≡ cond (is_piece most (wired d)) (outcome_at r (wired d) full (place_read unbounded r (wired d))) Bad
+    shape : outcome unbounded most r (wired d) full ≡ cond (is_piece_of_its_packet unbounded most r (wired d)) (outcome_at r (wired d) full (place_read unbounded r (wired d))) Bad
     shape = refl
 
     go_outside : place_read unbounded r (wired d) ≡ None → (d.reliable ≡ true → IsReceived r d.number) → (o : Took) × (outcome unbounded most r (wired d) full ≡ o) × ((o ≡ Bad) ⊎ (o ≡ Waiting) ⊎ (((o ≡ Outside) ⊎ (o ≡ Again)) × (d.reliable ≡ true → IsReceived r d.number)))
     go_outside e known =
-        elim (is_piece most (wired d)) as (λ b. (o : Took) × (cond b (outcome_at r (wired d) full (place_read unbounded r (wired d))) Bad ≡ o) × ((o ≡ Bad) ⊎ (o ≡ Waiting) ⊎ (((o ≡ Outside) ⊎ (o ≡ Again)) × (d.reliable ≡ true → IsReceived r d.number)))) [
+        elim (is_piece_of_its_packet unbounded most r (wired d)) as (λ b. (o : Took) × (cond b (outcome_at r (wired d) full (place_read unbounded r (wired d))) Bad ≡ o) × ((o ≡ Bad) ⊎ (o ≡ Waiting) ⊎ (((o ≡ Outside) ⊎ (o ≡ Again)) × (d.reliable ≡ true → IsReceived r d.number)))) [
           | true ↦ (Outside, ap (outcome_at r (wired d) full) e, inr (inr (inl refl, known)))
           | false ↦ (Bad, refl, inl refl)
         ]
@@ -330,7 +326,7 @@ Arrived-reliable mtu cs sent most r d full p k s l rel high span late =
 
     inside_case : place_read unbounded r (wired d) ≡ Some (p.number + 1) → r.front ≤ p.number + 1 → p.packet.reliable ≡ true → d.number ≡ p.number + (p.index + 1) → (piece_of (wired d)).number ≡ p.index → Arrived mtu cs sent most r d full
     inside_case e above cr own idx =
-        elim (is_piece most (wired d)) as (λ b. (outcome unbounded most r (wired d) full ≡ cond b (outcome_at r (wired d) full (place_read unbounded r (wired d))) Bad) → Arrived mtu cs sent most r d full) [
+        elim (is_piece_of_its_packet unbounded most r (wired d)) as (λ b. (outcome unbounded most r (wired d) full ≡ cond b (outcome_at r (wired d) full (place_read unbounded r (wired d))) Bad) → Arrived mtu cs sent most r d full) [
           | false ↦ λ q. arrived_by mtu cs sent most r d full k s l (inr (Bad, q, inl refl))
           | true ↦ λ q. considered (q ∙ ap (outcome_at r (wired d) full) e)
         ] refl
@@ -362,10 +358,7 @@ Arrived-reliable mtu cs sent most r d full p k s l rel high span late =
               let both = added_reliable mtu cs sent r d p k s rel high (not_front h.1) in
               let is : added_at unbounded r (wired d) (place_read unbounded r (wired d)) ≡ all_released unbounded (with_added r (wired d) (p.number + 1) (with_more (earlier_or_new (came_at r (wired d) (p.number + 1)) (wired d)) (wired d))) = ap (added_at unbounded r (wired d)) e in
               arrived_by mtu cs sent most r d full k s l (inl (q ∙ h.0, subst (λ x. Settled mtu cs sent r x) (sym is) both.0, λ t. subst (λ x. IsReceived x d.number) (sym is) both.1))
-          | inr (inl h) ↦ elim h.1 [
-            | inl is ↦ arrived_by mtu cs sent most r d full k s l (inr (Bad, q ∙ is, inl refl))
-            | inr is ↦ arrived_by mtu cs sent most r d full k s l (inr (Waiting, q ∙ is, inr (inl refl)))
-          ]
+          | inr (inl is) ↦ arrived_by mtu cs sent most r d full k s l (inr (Waiting, q ∙ is, inr (inl refl)))
           | inr (inr h) ↦ arrived_by mtu cs sent most r d full k s l (inr (Again, q ∙ h.0, inr (inr (inr refl, λ t. elim h.1 [ inl b ↦ at_front b | inr b ↦ came_index (came_at r (wired d) (p.number + 1)) refl b own idx ]))))
         ]
 
@@ -429,14 +422,14 @@ Arrived-unreliable mtu cs sent most r d full p k s l rel high span late =
 
     outside : place_read unbounded r (wired d) ≡ None → Arrived mtu cs sent most r d full
     outside e =
-        elim (is_piece most (wired d)) as (λ b. (outcome unbounded most r (wired d) full ≡ cond b (outcome_at r (wired d) full (place_read unbounded r (wired d))) Bad) → Arrived mtu cs sent most r d full) [
+        elim (is_piece_of_its_packet unbounded most r (wired d)) as (λ b. (outcome unbounded most r (wired d) full ≡ cond b (outcome_at r (wired d) full (place_read unbounded r (wired d))) Bad) → Arrived mtu cs sent most r d full) [
           | false ↦ λ q. arrived_by mtu cs sent most r d full k s l (inr (Bad, q, inl refl))
           | true ↦ λ q. arrived_by mtu cs sent most r d full k s l (inr (Outside, q ∙ ap (outcome_at r (wired d) full) e, inr (inr (inl refl, unknown))))
         ] refl
 
     inside_case : place_read unbounded r (wired d) ≡ Some p.number → Arrived mtu cs sent most r d full
     inside_case e =
-        elim (is_piece most (wired d)) as (λ b. (outcome unbounded most r (wired d) full ≡ cond b (outcome_at r (wired d) full (place_read unbounded r (wired d))) Bad) → Arrived mtu cs sent most r d full) [
+        elim (is_piece_of_its_packet unbounded most r (wired d)) as (λ b. (outcome unbounded most r (wired d) full ≡ cond b (outcome_at r (wired d) full (place_read unbounded r (wired d))) Bad) → Arrived mtu cs sent most r d full) [
           | false ↦ λ q. arrived_by mtu cs sent most r d full k s l (inr (Bad, q, inl refl))
           | true ↦ λ q. considered (q ∙ ap (outcome_at r (wired d) full) e)
         ] refl
@@ -446,10 +439,7 @@ Arrived-unreliable mtu cs sent most r d full p k s l rel high span late =
           | inl h ↦
               let is : added_at unbounded r (wired d) (place_read unbounded r (wired d)) ≡ all_released unbounded (with_added r (wired d) p.number (with_more (earlier_or_new (came_at r (wired d) p.number) (wired d)) (wired d))) = ap (added_at unbounded r (wired d)) e in
               arrived_by mtu cs sent most r d full k s l (inl (q ∙ h.0, subst (λ x. Settled mtu cs sent r x) (sym is) (added_unreliable mtu cs sent r d p k s rel), λ t. absurd (let f : true ≡ false = sym t ∙ rel in cc)))
-          | inr (inl h) ↦ elim h.1 [
-            | inl is ↦ arrived_by mtu cs sent most r d full k s l (inr (Bad, q ∙ is, inl refl))
-            | inr is ↦ arrived_by mtu cs sent most r d full k s l (inr (Waiting, q ∙ is, inr (inl refl)))
-          ]
+          | inr (inl is) ↦ arrived_by mtu cs sent most r d full k s l (inr (Waiting, q ∙ is, inr (inl refl)))
           | inr (inr h) ↦ arrived_by mtu cs sent most r d full k s l (inr (Again, q ∙ h.0, inr (inr (inr refl, unknown))))
         ]
 

@@ -9,6 +9,7 @@ mod ContentLemmas
 mod PieceLemmas
 mod ReceiverLemmas
 mod ArrivalLemmas
+mod Compared
 mod LinkLemmas
 mod QueueLemmas
 mod Reading

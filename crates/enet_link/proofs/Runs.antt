@@ -8,15 +8,16 @@ use Rattle.enet_fragment.specs.declared.data.DataCommand.{DataCommand}
 use Rattle.enet_packets.specs.declared.incoming_packet.IncomingPacket.{IncomingPacket}
 use Rattle.enet_packets.specs.Packets.{line_at}
 use Rattle.enet_receiver.specs.Receiver.{nothing_received}
-use Rattle.enet_receiver.specs.DataOutcome.{outcome, is_handled, place_read}
+use Rattle.enet_receiver.specs.DataOutcome.{outcome, is_handled, place_read, came_at, came_before}
 use Rattle.enet_sender.specs.CommandChoice.{ChosenPacket}
 use Rattle.enet_sender.specs.declared.sent.Sent.{Sent}
 use Rattle.enet_link.specs.Link.{PutOut, is_late, number_below}
 use Rattle.enet_link.specs.WireLink.{WireLink}
 use Rattle.enet_link.specs.Steps.{Has, Event, Submit, Send, Drop, Mark, PutsOut, Arrive, ArriveAnswered, PutsAnswer, Acknowledge, StopSending, StopReceiving, DropAnswers, Happens, Runs, fresh_link, bodies_of}
 use Rattle.enet_link.specs.Keeps.{Keeps}
-use Rattle.enet_link.specs.Meant.{OfReliable, OfUnreliable, IsReadAsMeant, IsReadAsItself}
+use Rattle.enet_link.specs.Meant.{OfReliable, OfUnreliable, place_meant, IsReadAsMeant, IsReadAsItself}
 use Rattle.enet_link.proofs.ArrivalLemmas.{place_as_meant}
+use Rattle.enet_link.proofs.Compared.{compared_as_meant}
 use Rattle.enet_link.proofs.WireReceiver.{Shows-nothing}
 use Rattle.enet_link.proofs.LinkLemmas.{in_time, number_below_true, order}
 use Rattle.enet_link.proofs.Reading.{reads-piece}
@@ -155,7 +156,8 @@ Keeps-sound mtu v s =
         let w = g.within o in
         let now : is_late l.sent c.sent_then (d.number % 65536) ≡ false = ap (λ z. is_late z c.sent_then (d.number % 65536)) (sym h.greatest) ∙ ap (λ (x : DataCommand). is_late v.greatest c.sent_then x.number) (sym y.command) ∙ late in
         let low = in_time l.sent d.number c.sent_then out.number (omega arith) now in
-        let place = place_as_meant mtu l.carried l.sent l.receiver d p s.ready w.front (omega arith) (g.span o) low in (
+        let place = place_as_meant mtu l.carried l.sent l.receiver d p s.ready w.front (omega arith) (g.span o) low in
+        let compared = compared_as_meant mtu l.carried l.sent l.receiver d p s.ready w (omega arith) (g.span o) low in (
           record {
             meant = d;
             piece = p;
@@ -163,6 +165,10 @@ Keeps-sound mtu v s =
             read = elim place [
               | inl none ↦ inl (ap (place_read unbounded l.receiver) y.command ∙ none)
               | inr some' ↦ inr (ap (place_read unbounded l.receiver) y.command ∙ some')
+            ];
+            compared = elim compared [
+              | inl none ↦ inl (ap (came_before unbounded l.receiver) y.command ∙ none)
+              | inr same ↦ inr (ap (came_before unbounded l.receiver) y.command ∙ same ∙ ap (λ (x : DataCommand). came_at l.receiver x (place_meant p)) (sym y.command))
             ];
           },
           sym (number_below_true d.number c.sent_then out.number (omega arith)) ∙ sym (ap (λ (x : DataCommand). number_below c.sent_then x.number) y.command),

@@ -1,5 +1,5 @@
 -- A receiver that keeps wire numbers does what one with unbounded numbers does.
-use Rattle.std.proofs.Common.{◌≡◌, ◌≢◌, ℕ, ◌+◌, ◌-◌, ◌%◌, ◌<◌, ◌≤◌, Bool, true, false, not, cond, ◌==◌, ◌||◌, if◌then◌else◌, [], ◌∷◌, ◌++◌, length, refl, sym, ap, subst, ◌∙◌, inl, inr, ◌⊎◌, arith, Option, Some, None, zero, suc}
+use Rattle.std.proofs.Common.{◌≡◌, ◌≢◌, ℕ, ◌+◌, ◌-◌, ◌%◌, ◌<◌, ◌≤◌, Bool, true, false, cond, ◌==◌, ◌||◌, if◌then◌else◌, [], ◌∷◌, ◌++◌, length, refl, sym, ap, subst, ◌∙◌, inl, inr, ◌⊎◌, arith, Option, Some, None, zero, suc}
 use Rattle.std.proofs.lemmas.Bool.Decides.{nat_tests}
 use Rattle.std.specs.Ordering.{nat_cmp}
 use Rattle.std.specs.Option.{is_none}
@@ -16,7 +16,7 @@ use Rattle.enet_fragment.proofs.Places.{Sound-from_test}
 use Rattle.enet_fragment.specs.PartialPacket.{count_of}
 use Rattle.enet_packets.specs.declared.incoming_packet.IncomingPacket.{IncomingPacket}
 use Rattle.enet_packets.specs.Packets.{line_at, with_line, fresh, last_fresh, handed_out}
-use Rattle.enet_receiver.specs.DataOutcome.{is_piece, place_read, came_at, agrees_with, came, is_behind, outcome_of, outcome_at, outcome, earlier_or_new, with_more, with_added, added_at, received_with, received, is_handled, acknowledged, dispatch_count}
+use Rattle.enet_receiver.specs.DataOutcome.{is_piece, is_piece_of_its_packet, own_place, place_read, came_at, came_if, came_before, agrees_with, came, is_behind, outcome_of, outcome_at, outcome, earlier_or_new, with_more, with_added, added_at, received_with, received, is_handled, acknowledged, dispatch_count}
 use Rattle.enet_receiver.specs.declared.took.Took.TheVariants.{Memory, Bad, Outside, Again, Waiting, Held}
 use Rattle.enet_receiver.specs.Receiver.{Receiver, nothing_received, cleared, flushed_from, flushed, without, with_passed, with_dispatched, next_whole, released_with, released, all_released}
 pub use Rattle.enet_link.specs.Image.{IsSized, AllSized, ShowsReceiver}
@@ -302,8 +302,19 @@ outcome_same_at v r c full o p (inr w) s =
     let came' : came_at v c ((r.front + a) % 65536) ≡ came_at r c (r.front + a) = came_at_same v r c a w.1 s in
     let behind : is_behind v c ((r.front + a) % 65536) ≡ is_behind r c (r.front + a) = behind_same v r c a w.1 s in
     ap (outcome_at v c full) w.2
-    ∙ (λ i. let earlier = came' i in if not (agrees_with earlier c) then Bad else if behind i || came earlier c then Again else if full && is_none earlier then Waiting else Held)
+    ∙ (λ i. let earlier = came' i in if behind i || came earlier c then Again else if full && is_none earlier then Waiting else Held)
     ∙ sym (ap (outcome_at r c full) w.3)
+
+-- both compare it with the same pieces
+came_before-same : (v r : Receiver) (c : DataCommand) → c.number < 65536 → (c.reliable ≡ true → (piece_of c).start < 65536) → ShowsReceiver v r → came_before wire v c ≡ came_before unbounded r c
+came_before-same v r c small small_start s = go (Places-read v.front r.front (own_place c) (λ x. in_window x (own_place c)) s.front (λ t. inside_is_near (r.front % 65536) (own_place c) (omega arith) low t))
+  where
+    low : own_place c < 65536
+    low = elim c.reliable as (λ b. (b ≡ true → (piece_of c).start < 65536) → cond b (piece_of c).start c.number < 65536) [ true ↦ λ h. h refl | false ↦ λ h. small ] small_start
+
+    go : Places r.front (number_read wire v.front (own_place c)) (number_read unbounded r.front (own_place c)) → came_before wire v c ≡ came_before unbounded r c
+    go (inl none) = ap (came_if v c) none.0 ∙ sym (ap (came_if r c) none.1)
+    go (inr w) = ap (came_if v c) w.2 ∙ came_at_same v r c w.0 w.1 s ∙ sym (ap (came_if r c) w.3)
 
 -- the packet of a command is replaced by one with a piece more
 Shows-added : (v r : Receiver) (c : DataCommand) (a : ℕ) (e : IncomingPacket) → a ≤ 28671 → (c.reliable ≡ true → (0 < a) × IsSized e) → ShowsReceiver v r
@@ -349,12 +360,9 @@ Shows-added v r c a e near above s =
 -- a command that is held isn't behind the front
 not_behind : (r : Receiver) (c : DataCommand) (full : Bool) (place : ℕ) (earlier : Option IncomingPacket) → outcome_of r c full place earlier ≡ Held → is_behind r c place ≡ false
 not_behind r c full place earlier h =
-    elim (agrees_with earlier c) as (λ x. cond (not x) Bad (cond (is_behind r c place || came earlier c) Again (cond (full && is_none earlier) Waiting Held)) ≡ Held → is_behind r c place ≡ false) [
-      | false ↦ λ k. absurd (cc)
-      | true ↦ λ k. elim (is_behind r c place) as (λ y. cond (y || came earlier c) Again (cond (full && is_none earlier) Waiting Held) ≡ Held → y ≡ false) [
-        | true ↦ λ j. absurd (cc)
-        | false ↦ λ j. refl
-      ] k
+    elim (is_behind r c place) as (λ y. cond (y || came earlier c) Again (cond (full && is_none earlier) Waiting Held) ≡ Held → y ≡ false) [
+      | true ↦ λ j. absurd (cc)
+      | false ↦ λ j. refl
     ] h
 
 above_front : (r : Receiver) (c : DataCommand) (a : ℕ) → is_behind r c (r.front + a) ≡ false → c.reliable ≡ true → 0 < a
@@ -406,8 +414,9 @@ pub Shows-received : (most : ℕ) (v r : Receiver) (c : DataCommand) (full : Boo
     → (outcome wire most v c full ≡ outcome unbounded most r c full) × ShowsReceiver (received wire most v c full) (received unbounded most r c full)
 Shows-received most v r c full small small_start s =
     let places = Places-command v r c small small_start s in
-    let same : outcome wire most v c full ≡ outcome unbounded most r c full =
-    ap (λ x. cond (is_piece most c) x Bad) (outcome_same_at v r c full _ _ places s) in (
+    let came' : came_before wire v c ≡ came_before unbounded r c = came_before-same v r c small small_start s in
+    let at : outcome_at v c full (place_read wire v c) ≡ outcome_at r c full (place_read unbounded r c) = outcome_same_at v r c full _ _ places s in
+    let same : outcome wire most v c full ≡ outcome unbounded most r c full = (λ i. cond (is_piece most c && agrees_with (came' i) c) (at i) Bad) in (
       same,
       subst (λ x. ShowsReceiver (received_with x wire v c) (received unbounded most r c full)) (sym same)
           (elim (outcome unbounded most r c full) as (λ x. outcome unbounded most r c full ≡ x → ShowsReceiver (received_with x wire v c) (received_with x unbounded r c)) [
@@ -421,10 +430,10 @@ Shows-received most v r c full small small_start s =
     )
   where
     held : Places r.front (place_read wire v c) (place_read unbounded r c) → outcome unbounded most r c full ≡ Held → ShowsReceiver (added_at wire v c (place_read wire v c)) (added_at unbounded r c (place_read unbounded r c))
-    held places e = go (is_piece most c) refl e
+    held places e = go (is_piece_of_its_packet unbounded most r c) refl e
       where
-        go : (a : Bool) → is_piece most c ≡ a → cond a (outcome_at r c full (place_read unbounded r c)) Bad ≡ Held → ShowsReceiver (added_at wire v c (place_read wire v c)) (added_at unbounded r c (place_read unbounded r c))
-        go true t k = received_at v r c full _ _ places (is_piece-sized most c t) s k
+        go : (a : Bool) → is_piece_of_its_packet unbounded most r c ≡ a → cond a (outcome_at r c full (place_read unbounded r c)) Bad ≡ Held → ShowsReceiver (added_at wire v c (place_read wire v c)) (added_at unbounded r c (place_read unbounded r c))
+        go true t k = received_at v r c full _ _ places (is_piece-sized most c (and_left _ _ t)) s k
         go false t k = absurd (cc)
 
 -- whether it is acknowledged, and how many packets it dispatches

@@ -6,7 +6,7 @@ use Rattle.enet_fragment.specs.PartialPacket.{PartialPacket, count_of, piece_at}
 use Rattle.enet_fragment.specs.declared.data.DataCommand.{DataCommand}
 use Rattle.enet_fragment.specs.DataCommand.{data_of, message_of}
 use Rattle.enet_receiver.specs.Receiver.{Receiver}
-use Rattle.enet_receiver.specs.DataOutcome.{place_read}
+use Rattle.enet_receiver.specs.DataOutcome.{place_read, came_at, came_before}
 use Rattle.enet_sender.specs.CommandChoice.{ChosenPacket, is_long}
 use Rattle.enet_sender.specs.Sender.{command_at, piece_of_body}
 use Rattle.enet_link.specs.Follows.{command_count, count_after}
@@ -64,12 +64,18 @@ pub record IsPieceOf (mtu : ℕ) (cs : List ChosenPacket) (d : DataCommand) : Ty
   pub plain : IsPlain mtu packet
   pub command : d ≡ command_at unbounded mtu number count packet index
 
--- a command on the wire was meant as one of the list, and its place is read as that of its packet, or as nothing
+-- the place of the packet of a command of the list
+abbrev pub place_meant : {mtu : ℕ} {cs : List ChosenPacket} {d : DataCommand} → IsPieceOf mtu cs d → ℕ
+place_meant piece = if piece.packet.reliable then piece.number + 1 else piece.number
+
+-- a command on the wire was meant as one of the list: its place is read as that of its packet, or as nothing, and it is compared
+-- with what came of its packet, or with nothing
 pub record IsReadAsMeant (mtu : ℕ) (cs : List ChosenPacket) (r : Receiver) (c : DataCommand) : Type 0 where
   pub meant : DataCommand
   pub piece : IsPieceOf mtu cs meant
   pub command : c ≡ wired meant
-  pub read : (place_read unbounded r c ≡ None) ⊎ (place_read unbounded r c ≡ Some (if piece.packet.reliable then piece.number + 1 else piece.number))
+  pub read : (place_read unbounded r c ≡ None) ⊎ (place_read unbounded r c ≡ Some (place_meant piece))
+  pub compared : (came_before unbounded r c ≡ None) ⊎ (came_before unbounded r c ≡ came_at r c (place_meant piece))
 
 -- a command is read as itself where it comes, on every channel
 abbrev pub IsReadAsItself : DataCommand → Type 0

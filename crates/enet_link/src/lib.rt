@@ -9,10 +9,11 @@
 //! as a premise: what was dispatched is a subsequence of what was submitted, each packet whole and once, leaving out no
 //! reliable packet before its last (`one_link`, clause `follows`); an acknowledgement removes only what was dispatched or is
 //! held, unless the receiver no longer dispatches, the receiver's front stays within 24,575 numbers of the greatest number
-//! sent, every command that isn't late is read as it was meant or as nothing, and all pieces that are held under one number
-//! are of one packet (`keeps`); each command that is put out is read again as itself (`reads`). A receiver with wire numbers
-//! does with every command, hostile ones too, what one with unbounded numbers does (`wire_receiver`), and a sender with wire
-//! numbers does in each of its calls what one with unbounded numbers does (`wire_sender`).
+//! sent, every command that isn't late is read as it was meant or as nothing, and compared with pieces of its own packet
+//! alone, and all pieces that are held under one number are of one packet (`keeps`); each command that is put out is read
+//! again as itself (`reads`). A receiver with wire numbers does with every command, hostile ones too, what one with
+//! unbounded numbers does (`wire_receiver`), and a sender with wire numbers does in each of its calls what one with
+//! unbounded numbers does (`wire_sender`).
 //! Neither: that the two receivers count equally many bytes as held.
 #![tactic(auto)]
 
@@ -45,9 +46,9 @@ ghost use Rattle.enet_link.specs.Keeps.{Keeps};
 /// `follows`: what was dispatched is a subsequence of what was submitted, each packet whole, that leaves out no reliable
 /// packet before its last. `keeps`: an acknowledgement removes only what was dispatched or is held, unless the receiver no
 /// longer dispatches; the receiver's front is at most 16,384 numbers behind the oldest that was not acknowledged and at most
-/// 24,575 behind the greatest number sent, and never ahead of it; every command that isn't late is read as it was meant or as
-/// nothing, and all pieces that are held or wait under one number are of one packet. `reads`: each command that was put out is
-/// read from its message as that very command.
+/// 24,575 behind the greatest number sent, and never ahead of it; every command that isn't late is read as it was meant or
+/// as nothing, and compared with pieces of its own packet alone, and all pieces that are held or wait under one number are
+/// of one packet. `reads`: each command that was put out is read from its message as that very command.
 pub fn one_link()
     ensures follows { (mtu : ℕ) (events : List Event) (link : WireLink) → 28 < mtu → Runs mtu events fresh_link link
         → Follows mtu link.submitted (bodies_of link.incoming.dispatched) }

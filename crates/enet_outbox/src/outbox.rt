@@ -1,12 +1,13 @@
 //! All that a peer has to send.
 
-ghost use Rattle.std.specs.Prelude.{◌≡◌, ◌+◌, ◌/◌, ◌%◌, ◌≤◌, ◌<◌, ◌⊎◌, ◌↔◌, ◌&&◌, ◌==◌, not, nat_lt, length, IsTrue, OnOk, OnErr, IfOk, IfErr, IsErrAnd};
+ghost use Rattle.std.specs.Prelude.{◌≡◌, ◌+◌, ◌/◌, ◌%◌, ◌≤◌, ◌<◌, ◌⊎◌, ◌↔◌, ◌&&◌, ◌==◌, not, nat_lt, false, length, IsTrue, OnOk, OnErr, IfOk, IfErr, IsErrAnd};
 ghost use Rattle.enet_throttle.specs.Throttle.{with_interval, limited};
 ghost use Rattle.enet_sender.specs.CommandChoice.{fragment_limit};
 ghost use Rattle.std.specs.List.{list_any};
 ghost use Rattle.enet_fragment.specs.Cutting.{piece_length, piece_count};
 ghost use Rattle.enet_sender.specs.Due.{SendingEnd};
 ghost use Rattle.enet_sender.specs.Sender as sender;
+ghost use Rattle.enet_control.specs.Controlling.{is_idle};
 ghost use Rattle.enet_outbox.specs.Outbox.{after_acknowledgement, after_lateness, cleared, empty_outbox, is_done, is_quiet, lateness, marked, matched_by, narrowed, sampled, submitted, transit_of, with_acknowledgement, with_control, with_unsequenced};
 
 use crate::{Acknowledgement, Matched, Unsequenced, lists};
@@ -186,13 +187,14 @@ impl Outbox {
     }
 
     /// Makes room for one command more of channel 0xFF. Where there is some, it takes no memory; else E1 where memory is
-    /// refused, with nothing changed.
+    /// refused, with nothing changed. So E1 comes only where a command of that channel is queued or unacknowledged.
     pub fn reserve_control(&mut self) -> Result<(), Refusal>
         ensures outbox { self.new.outbox ≡ self.old.outbox }
         ensures room { OnOk result (1 ≤ self.new.control_room) }
         ensures grows { self.old.control_room ≤ self.new.control_room }
         ensures idle { 1 ≤ self.old.control_room → self.new ≡ self.old }
         ensures full { OnErr result (self.old.control_room ≡ 0) }
+        ensures busy { OnErr result (is_idle self.old.outbox.control ≡ false) }
         ensures acknowledgement_room { self.new.acknowledgement_room ≡ self.old.acknowledgement_room }
         ensures refused { OnErr result (self.new ≡ self.old) }
         ensures memory { IfErr result (λ why. why ≡ Refusal.Memory) }

@@ -10,6 +10,7 @@ use Rattle.enet_rtt.specs.declared.expiry.Expiry.{Expiry}
 use Rattle.enet_rtt.specs.declared.expiry.Expiry.TheVariants.{No, Resend, End}
 use Rattle.enet_throttle.specs.Throttle.{with_interval, limited}
 use Rattle.enet_control.specs.declared.control.Control.TheVariants as control
+use Rattle.enet_control.specs.Controlling.{is_idle}
 use Rattle.enet_fragment.specs.Cutting.{piece_count}
 use Rattle.enet_sender.specs.CommandChoice.{Packet, fragment_limit}
 use Rattle.enet_outbox.specs.declared.parts.Pace.{Pace}
@@ -165,6 +166,10 @@ body_of None (q ∷ rest) = Some q.body
 
 abbrev pub next_body : Peering → Option (List ℕ)
 next_body p = body_of p.greeting p.inbox.untaken
+
+-- whether a command of channel 0xFF is queued or unacknowledged; without one there is room for the next
+abbrev pub has_controls : Peering → Bool
+has_controls p = not (is_idle p.outbox.control)
 
 -- new bandwidths of the host, in bytes per second; a connected peer is told
 abbrev pub with_bandwidth : Peering → ℕ → ℕ → Peering

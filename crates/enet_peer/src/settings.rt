@@ -1,7 +1,7 @@
 //! What the user sets.
 
-ghost use Rattle.std.specs.Prelude.{◌≡◌, ◌≤◌, IsTrue, OnOk, OnErr, IfErr};
-ghost use Rattle.enet_peer.specs.Calls.{is_connected, with_bandwidth, with_throttle, with_throttle_limit, with_ping_interval, with_timeout};
+ghost use Rattle.std.specs.Prelude.{◌≡◌, ◌≤◌, true, IsTrue, OnOk, OnErr, IfErr};
+ghost use Rattle.enet_peer.specs.Calls.{is_connected, has_controls, with_bandwidth, with_throttle, with_throttle_limit, with_ping_interval, with_timeout};
 
 use crate::Peer;
 use enet_codec::Refusal;
@@ -10,13 +10,15 @@ use enet_rtt::Patience;
 
 impl Peer {
     /// Makes room for at least one command of channel 0xFF; where there is some, it takes no memory and makes no second
-    /// place. E1 where memory is refused, with nothing changed.
+    /// place. E1 where memory is refused, with nothing changed; so only where a command of that channel is queued or
+    /// unacknowledged.
     pub fn reserve(&mut self) -> Result<(), Refusal>
         ensures peer { self.new.peer ≡ self.old.peer }
         ensures room { OnOk result (1 ≤ self.new.room) }
         ensures grows { self.old.room ≤ self.new.room }
         ensures idle { 1 ≤ self.old.room → self.new ≡ self.old }
         ensures full { OnErr result (self.old.room ≡ 0) }
+        ensures busy { OnErr result (has_controls self.old.peer ≡ true) }
         ensures refused { OnErr result (self.new ≡ self.old) }
         ensures memory { IfErr result (λ why. why ≡ Refusal.Memory) }
     {

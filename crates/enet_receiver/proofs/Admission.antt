@@ -4,7 +4,7 @@ use Rattle.std.specs.Option.{is_none}
 use Rattle.std.specs.FinMap.{get, insert}
 use Rattle.std.proofs.lemmas.Bool.{and_parts}
 use Rattle.std.proofs.lemmas.Bool.Decides.{nat_tests}
-use Rattle.enet_seq.specs.Numbering.{wire}
+use Rattle.enet_seq.specs.Numbering.{Numbering, wire, number_read, start_read}
 use Rattle.enet_seq.specs.Windows.{ahead, after, in_window}
 use Rattle.enet_seq.proofs.WindowsLemmas.{inside_is_near}
 use Rattle.enet_fragment.specs.Place.{is_sound}
@@ -17,7 +17,7 @@ use Rattle.enet_packets.specs.declared.incoming_packet.IncomingPacket.{IncomingP
 use Rattle.enet_packets.specs.Packets.{line_at, with_line}
 use Rattle.enet_receiver.specs.declared.took.Took.TheVariants.{Held, Again, Bad, Waiting}
 use Rattle.enet_receiver.specs.Receiver.{Receiver}
-use Rattle.enet_receiver.specs.DataOutcome.{outcome, outcome_at, outcome_of, place_read, came_at, is_piece, agrees_with, came, is_behind, earlier_or_new, with_more, with_added}
+use Rattle.enet_receiver.specs.DataOutcome.{outcome, outcome_at, outcome_of, place_read, came_at, came_if, came_before, is_piece, is_piece_of_its_packet, agrees_with, came, is_behind, earlier_or_new, with_more, with_added}
 use Rattle.enet_receiver.specs.ReceiverParts.{grown_at, with_stored}
 use Rattle.enet_receiver.specs.Admitted.{Admitted, IsInside}
 use Rattle.enet_receiver.specs.Invariant.{IsHeld, Keeps}
@@ -45,20 +45,43 @@ too_long most c long =
           ap (λ b. b && (not c.reliable || eqb c.number (((piece_of c).start + (piece_of c).number) % 65536))) above)
     ] refl
 
-held_when : (a b c w : Bool) → cond (not a) Bad (cond (b || c) Again (cond w Waiting Held)) ≡ Held → (a ≡ true) × (b ≡ false) × (c ≡ false)
-held_when false b c w e = absurd (cc)
-held_when true true c w e = absurd (cc)
-held_when true false true w e = absurd (cc)
-held_when true false false w e = (refl, refl, refl)
+held_when : (b c w : Bool) → cond (b || c) Again (cond w Waiting Held) ≡ Held → (b ≡ false) × (c ≡ false)
+held_when true c w e = absurd (cc)
+held_when false true w e = absurd (cc)
+held_when false false w e = (refl, refl)
+
+-- a command that is looked at is compared with what came of its packet
+pub came_before-read : (g : Numbering) (r : Receiver) (c : DataCommand) (place : ℕ) → place_read g r c ≡ Some place → came_before g r c ≡ came_at r c place
+came_before-read g r c place =
+    elim c.reliable as (λ b. cond b (start_read g r.front (piece_of c).start c.number) (number_read g r.front c.number) ≡ Some place
+    → came_if r c (number_read g r.front (cond b (piece_of c).start c.number)) ≡ came_at r c place) [
+      | true ↦ λ e. ap (came_if r c) (start_of (in_window (r.front % 65536) (piece_of c).start) (in_window (r.front % 65536) c.number) (g.after r.front (ahead (r.front % 65536) (piece_of c).start)) e)
+      | false ↦ λ e. ap (came_if r c) e
+    ]
+  where
+    start_of : (a b : Bool) (n : ℕ) → cond (a && b) (Some n) None ≡ Some place → cond a (Some n) None ≡ Some place
+    start_of true true n e = e
+    start_of true false n e = absurd (cc)
+    start_of false b n e = absurd (cc)
+
+-- what comes of a command that is looked at
+pub outcome-read : (most : ℕ) (r : Receiver) (c : DataCommand) (full : Bool) (place : ℕ) (earlier : Option IncomingPacket) → is_piece most c ≡ true → earlier ≡ came_before wire r c → agrees_with earlier c ≡ true → place_read wire r c ≡ Some place
+    → outcome wire most r c full ≡ outcome_of r c full place earlier
+outcome-read most r c full place earlier piece is agrees read =
+    let fits : is_piece_of_its_packet wire most r c ≡ true = λ i. piece i && (ap (λ o. agrees_with o c) (sym is) ∙ agrees) i in
+    ap (λ b. cond b (outcome_at r c full (place_read wire r c)) Bad) fits ∙ ap (outcome_at r c full) read
+    ∙ ap (outcome_of r c full place) (sym (came_before-read wire r c place read) ∙ sym is)
 
 pub admitted : (most : ℕ) (r : Receiver) (c : DataCommand) (full : Bool) (place : ℕ) → outcome wire most r c full ≡ Held → place_read wire r c ≡ Some place → Admitted most r c place
 admitted most r c full place held read =
-    elim (is_piece most c) as (λ b. is_piece most c ≡ b → cond b (outcome_at r c full (place_read wire r c)) Bad ≡ Held → Admitted most r c place) [
+    elim (is_piece_of_its_packet wire most r c) as (λ b. is_piece_of_its_packet wire most r c ≡ b → cond b (outcome_at r c full (place_read wire r c)) Bad ≡ Held → Admitted most r c place) [
       | false ↦ λ _ e. absurd (cc)
       | true ↦ λ t e.
+          let fits = and_parts (is_piece most c) (agrees_with (came_before wire r c) c) t in
           let at : outcome_of r c full place (came_at r c place) ≡ Held = ap (outcome_at r c full) (sym read) ∙ e in
-          let parts = held_when (agrees_with (came_at r c place) c) (is_behind r c place) (came (came_at r c place) c) _ at in
-          record { piece = t; read = read; agrees = parts.0; not_behind = parts.1; missing = parts.2 }
+          let parts = held_when (is_behind r c place) (came (came_at r c place) c) _ at in
+          let agrees : agrees_with (came_at r c place) c ≡ true = ap (λ o. agrees_with o c) (sym (came_before-read wire r c place read)) ∙ fits.1 in
+          record { piece = fits.0; read = read; agrees = agrees; not_behind = parts.0; missing = parts.1 }
     ] refl held
 
 -- what a piece says

@@ -13,12 +13,11 @@ use Rattle.enet_packets.specs.Packets.{Lines}
 use Rattle.enet_receiver.specs.declared.foreseeing.Completed.{Completed}
 use Rattle.enet_receiver.specs.declared.took.Took.TheVariants.{Held, Outside, Bad}
 use Rattle.enet_receiver.specs.Receiver.{Receiver, all_released}
-use Rattle.enet_receiver.specs.DataOutcome.{outcome, outcome_at, is_piece, received, received_with, place_read, added_at, dispatch_count}
+use Rattle.enet_receiver.specs.DataOutcome.{outcome, outcome_at, is_piece_of_its_packet, received, received_with, place_read, own_place, added_at, dispatch_count}
 use Rattle.enet_receiver.specs.ReceiverParts.{receiver_of, holding, with_stored, with_kept}
 use Rattle.enet_receiver.specs.Invariant.{Keeps}
 use Rattle.enet_receiver.specs.Admitted.{Admitted, IsInside}
 use Rattle.enet_receiver.specs.Walk.{walked, Completes}
-use Rattle.enet_receiver.specs.ArrivingData.{own_place}
 use Rattle.enet_receiver.specs.Foresight.{ReceivingEnd, after_command}
 use Rattle.enet_receiver.proofs.Admission.{Keeps-stored, admitted, short_piece, read_back, inside_number}
 use Rattle.enet_receiver.proofs.Foreseen.{dispatches-is}
@@ -62,7 +61,7 @@ own_when false front n low small there inside = absurd (there refl)
 own_place_is : (most : ℕ) (r : Receiver) (c : DataCommand) (full : Bool) → r.front < 65536 → own_place c < 65536 → outcome wire most r c full ≡ Held
     → (place_read wire r c ≡ Some (own_place c)) × IsInside r.front (own_place c)
 own_place_is most r c full low small held =
-    let there : place_read wire r c ≢ nothing = λ none. is_not_held (is_piece most c) (sym (ap (λ o. cond (is_piece most c) (outcome_at r c full o) Bad) none) ∙ held) in
+    let there : place_read wire r c ≢ nothing = λ none. is_not_held (is_piece_of_its_packet wire most r c) (sym (ap (λ o. cond (is_piece_of_its_packet wire most r c) (outcome_at r c full o) Bad) none) ∙ held) in
     elim c.reliable as (λ b. cond b (piece_of c).start c.number < 65536 → cond b (start_read wire r.front (piece_of c).start c.number) (number_read wire r.front c.number) ≢ nothing
     → (cond b (start_read wire r.front (piece_of c).start c.number) (number_read wire r.front c.number) ≡ Some (cond b (piece_of c).start c.number)) × IsInside r.front (cond b (piece_of c).start c.number)) [
       | true ↦ λ few some'. own_when (fragment_in_window (r.front % 65536) (piece_of c).start c.number) r.front (piece_of c).start low few some' (λ t. (and_parts (in_window (r.front % 65536) (piece_of c).start) (in_window (r.front % 65536) c.number) t).0)

@@ -22,6 +22,18 @@ place_read g r c = if c.reliable then start_read g r.front (piece_of c).start c.
 abbrev pub came_at : Receiver → DataCommand → ℕ → Option IncomingPacket
 came_at r c place = if c.reliable then get r.held place else get (line_at r.waiting place) c.unreliable
 
+-- the number that names its packet: of a reliable command that of the packet's first piece, of an unreliable one its own
+abbrev pub own_place : DataCommand → ℕ
+own_place c = if c.reliable then (piece_of c).start else c.number
+
+-- what came of its packet, wherever its own number is; nothing where the number that names the packet is outside the window
+abbrev pub came_if : Receiver → DataCommand → Option ℕ → Option IncomingPacket
+came_if r c None = None
+came_if r c (Some place) = came_at r c place
+
+abbrev pub came_before : Numbering → Receiver → DataCommand → Option IncomingPacket
+came_before g r c = came_if r c (number_read g r.front (own_place c))
+
 -- whether it can be a piece of a packet of at most `most` bytes, and has the number of that piece
 abbrev pub is_piece : ℕ → DataCommand → Bool
 is_piece most c =
@@ -44,20 +56,22 @@ is_behind r c place = place == r.front && (c.reliable || nat_le c.unreliable r.u
 
 abbrev pub outcome_of : Receiver → DataCommand → Bool → ℕ → Option IncomingPacket → Took
 outcome_of r c full place earlier =
-    if not (agrees_with earlier c) then Bad
-    else (if is_behind r c place || came earlier c then Again
+    if is_behind r c place || came earlier c then Again
     else (if full && is_none earlier then Waiting
-    else Held))
+    else Held)
 
 abbrev pub outcome_at : Receiver → DataCommand → Bool → Option ℕ → Took
 outcome_at r c full None = Outside
 outcome_at r c full (Some place) = outcome_of r c full place (came_at r c place)
 
+-- whether it can be a piece of its packet, with the pieces that came
+abbrev pub is_piece_of_its_packet : Numbering → ℕ → Receiver → DataCommand → Bool
+is_piece_of_its_packet g most r c = is_piece most c && agrees_with (came_before g r c) c
+
 -- the outcome with ample memory, the first that applies. `most` is the greatest packet that is taken in, in bytes, and `full`
--- says that the bytes that are held, wait or weren't taken are at their limit or above. A fragment of which the start or the
--- own number is outside the window stands for nothing, so it is compared with nothing
+-- says that the bytes that are held, wait or weren't taken are at their limit or above
 abbrev pub outcome : Numbering → ℕ → Receiver → DataCommand → Bool → Took
-outcome g most r c full = if is_piece most c then outcome_at r c full (place_read g r c) else Bad
+outcome g most r c full = if is_piece_of_its_packet g most r c then outcome_at r c full (place_read g r c) else Bad
 
 -- the flags of the packet that a command is of
 abbrev pub flags_of : DataCommand → ℕ

@@ -4,8 +4,8 @@ ghost use Rattle.std.specs.Prelude.{◌≡◌, ◌+◌, ◌<◌, ◌^◌, ◌%�
 ghost use Rattle.std.specs.Option.{option_copied, option_map};
 ghost use Rattle.enet_codec.specs.Message.{view};
 ghost use Rattle.enet_fragment.specs.DataCommand.{data_of, piece_of, place_in_packet};
-ghost use Rattle.enet_receiver.specs.ArrivingData.{data_command, own_place};
-ghost use Rattle.enet_receiver.specs.DataOutcome.{is_piece, agrees_with, came, flags_of};
+ghost use Rattle.enet_receiver.specs.ArrivingData.{data_command};
+ghost use Rattle.enet_receiver.specs.DataOutcome.{own_place, is_piece, agrees_with, came, flags_of};
 
 use enet_codec::{Command, Fragment, Head};
 use enet_fragment::Place;
@@ -97,7 +97,7 @@ impl<'a> ArrivingData<'a> {
         }
     }
 
-    /// The number under which its packet is held, or for which it waits, where that is inside the window.
+    /// The number that names its packet, under which that is held or for which it waits, where it is inside the window.
     pub(crate) fn own_place(self) -> u16
         ensures { result ≡ own_place (data_command self.entry) }
     {

@@ -11,7 +11,7 @@ ghost use Rattle.enet_receiver.specs.Admitted.{Admitted, IsInside};
 ghost use Rattle.enet_receiver.specs.ReceiverParts.{with_first, with_kept, grown_at, answered_with};
 ghost use Rattle.enet_receiver.specs.Walk.{Completes};
 ghost use Rattle.enet_receiver.specs.Receiver.{held_bytes, cleared};
-ghost use Rattle.enet_receiver.specs.DataOutcome.{outcome, outcome_of, place_read, came_at, is_behind, is_handled, dispatch_count};
+ghost use Rattle.enet_receiver.specs.DataOutcome.{outcome, outcome_of, place_read, came_at, came_before, is_behind, is_handled, dispatch_count};
 ghost use Rattle.enet_receiver.specs.Foresight.{new_end, data_if, is_reliable, is_unreliable, is_fragment, is_unreliable_fragment, outcome_for, after_command, WouldBeHeld, Receives, foreseen};
 
 use crate::arriving_data::ArrivingData;
@@ -140,8 +140,8 @@ impl Incoming {
     }
 
     /// Takes a SEND_FRAGMENT in, as `reliable` does a SEND_RELIABLE. It is `Bad` too where it can't be a piece of a packet, or
-    /// its number is not that of its piece (our profile), and `Outside` too where its start is. Inside the window it is `Bad`
-    /// where it can't be a piece of the packet that is held; outside it is compared with none.
+    /// of the one that is held under its start, or its number is not that of its piece (our profile), and `Outside` too where
+    /// its start is.
     pub fn fragment(&mut self, command: &Command<'_>, full: bool) -> Took
         ensures { Receives (data_if (is_fragment (view command.now).body) (view command.now)) full result self.old self.new }
     {
@@ -164,7 +164,7 @@ impl Incoming {
     }
 
     /// Takes a SEND_UNRELIABLE_FRAGMENT in, as `unreliable` does a SEND_UNRELIABLE. It is `Bad` too where it can't be a piece
-    /// of a packet, or, inside the window, of the one that waits (our profile).
+    /// of a packet, or of the one that waits (our profile).
     pub fn unreliable_fragment(&mut self, command: &Command<'_>, full: bool) -> Took
         ensures { Receives (data_if (is_unreliable_fragment (view command.now).body) (view command.now)) full result self.old self.new }
     {
@@ -325,10 +325,14 @@ impl Incoming {
         if !arriving.is_piece(self.max_packet) {
             return Err(Took::Bad);
         }
+        let earlier = self.came_before(arriving);
+        if !arriving.agrees_with(earlier) {
+            return Err(Took::Bad);
+        }
         let Some(place) = self.place_read(arriving) else {
             return Err(Took::Outside);
         };
-        match self.outcome_of(arriving, full, place) {
+        match self.outcome_of(arriving, full, place, earlier) {
             Took::Held => Ok(place),
             took => Err(took),
         }
@@ -344,6 +348,18 @@ impl Incoming {
             fragment_in_window(self.front, start, arriving.head.number).then_some(start)
         } else {
             in_window(self.front, arriving.head.number).then_some(arriving.head.number)
+        }
+    }
+
+    /// What came of its packet, wherever its own number is; nothing where the number that names the packet is outside the window.
+    fn came_before(&self, arriving: ArrivingData<'_>) -> Option<&IncomingPacket>
+        ensures { option_copied result ≡ came_before wire self.now.receiver (data_command arriving.entry) }
+    {
+        let place = arriving.own_place();
+        if in_window(self.front, place) {
+            self.earlier(arriving, place)
+        } else {
+            None
         }
     }
 
@@ -365,16 +381,18 @@ impl Incoming {
         place == self.front && (arriving.reliable || arriving.unreliable <= self.unreliable)
     }
 
-    /// What becomes of it at its place.
-    fn outcome_of(&self, arriving: ArrivingData<'_>, full: bool, place: u16) -> Took
+    /// What becomes of it at its place, where this came of its packet.
+    fn outcome_of(
+        &self,
+        arriving: ArrivingData<'_>,
+        full: bool,
+        place: u16,
+        earlier: Option<&IncomingPacket>,
+    ) -> Took
         requires { length arriving.payload.now < 2 ^ 32 }
-        ensures value { result ≡ outcome_of self.now.receiver (data_command arriving.entry) full place (came_at self.now.receiver (data_command arriving.entry) place) }
+        ensures value { result ≡ outcome_of self.now.receiver (data_command arriving.entry) full place (option_copied earlier.entry) }
         ensures known { result ≢ Took.Memory }
     {
-        let earlier = self.earlier(arriving, place);
-        if !arriving.agrees_with(earlier) {
-            return Took::Bad;
-        }
         if self.is_behind(arriving, place) || arriving.came(earlier) {
             return Took::Again;
         }

@@ -1,7 +1,7 @@
 //! What a receiver answers.
 
-/// What became of a command: the first that applies of `Bad`, `Outside`, `Again`, `Waiting`, `Memory` and `Held`, a fragment that
-/// contradicts earlier pieces being `Bad` only inside the window. All but `Held` leave the receiver as it was.
+/// What became of a command: the first that applies of `Bad`, `Outside`, `Again`, `Waiting`, `Memory` and `Held`. All but `Held`
+/// leave the receiver as it was.
 #[derive(Clone, Copy, PartialEq, Eq)]
 pub enum Took {
     /// It was taken in, and what it completed was dispatched.

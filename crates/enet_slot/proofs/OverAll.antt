@@ -10,7 +10,6 @@ use Rattle.std.specs.List.{count_by, list_any}
 use Rattle.std.specs.Int.{from_bool}
 use Rattle.enet_slot.specs.declared.slot.Slot.{Slot}
 use Rattle.enet_slot.specs.Slot.{SlotState}
-use Rattle.enet_slot.specs.Sharing.{is_standing}
 use Rattle.enet_slot.specs.Slotted.{HasRoom, shown, all_shown}
 use Rattle.enet_slot.proofs.Shown.{set-shown, length-shown}
 
@@ -66,15 +65,15 @@ pub later-more : (all xs : List Slot) (i : ℕ) (y : Slot) → ((k : ℕ) (x : S
     → (k : ℕ) (x : Slot) → i + 1 ≤ k → get_or (slice_set xs i y) k x ≡ get_or all k x
 later-more all xs i y later k x past = get_or-set_other xs i k y x (omega arith) ∙ later k x (omega arith)
 
--- a slot that stands is one of those that do
-pub stands-among : {T E : Type 0} (r : Result T E) (all xs : List Slot) (i : ℕ) (x : Slot) → i < length xs → x ≡ get_or xs i x → all_shown xs ≡ all_shown all
-    → is_standing (shown x) ≡ true → OnErr r (list_any is_standing (all_shown all) ≡ true)
-stands-among (Ok done) all xs i x inside read same stands = tt
-stands-among (Err why) all xs i x inside read same stands =
+-- a slot that passes a test is one of those that do
+pub one-among : (p : SlotState → Bool) {T E : Type 0} (r : Result T E) (all xs : List Slot) (i : ℕ) (x : Slot) → i < length xs → x ≡ get_or xs i x → all_shown xs ≡ all_shown all
+    → p (shown x) ≡ true → OnErr r (list_any p (all_shown all) ≡ true)
+one-among p (Ok done) all xs i x inside read same passes = tt
+one-among p (Err why) all xs i x inside read same passes =
     let count = length-shown xs in
     let there : get_or (all_shown xs) i (shown x) ≡ shown x = get_or-map shown xs i x (shown x) inside ∙ sym (ap shown read) in
-    ap (λ (ss : List SlotState). list_any is_standing ss) (sym same)
-    ∙ list_any_at is_standing (all_shown xs) i (shown x) (omega arith) (ap is_standing there ∙ stands)
+    ap (λ (ss : List SlotState). list_any p ss) (sym same)
+    ∙ list_any_at p (all_shown xs) i (shown x) (omega arith) (ap p there ∙ passes)
 
 -- a count goes on by one slot
 pub one-if : (b : Bool) → from_bool b ≡ (if b then 1 else 0)

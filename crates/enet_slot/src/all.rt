@@ -9,7 +9,7 @@ ghost use Rattle.enet_peer.specs.Calls as peers;
 ghost use Rattle.enet_slot.specs.Slot.{changed};
 ghost use Rattle.enet_slot.specs.Giving.{unused_slot, joined_slots, is_available};
 ghost use Rattle.enet_slot.specs.Hearing.{is_connection};
-ghost use Rattle.enet_slot.specs.Sharing.{is_standing, shared};
+ghost use Rattle.enet_slot.specs.Sharing.{is_standing, wants_room, shared};
 ghost use Rattle.enet_slot.specs.Slotted.{HasRoom, shown, all_shown};
 
 use crate::Slot;
@@ -114,14 +114,14 @@ pub fn share_out(slots: &mut Vec<Slot>, outgoing: u32)
     share_all(slots, outgoing, standing);
 }
 
-/// Makes room for one command of channel 0xFF of each connected peer. E1 where memory is refused, so never where none is
-/// connected.
+/// Makes room for one command of channel 0xFF of each connected peer. E1 where memory is refused, so never where no connected
+/// peer has such a command queued or unacknowledged.
 fn reserve_all(slots: &mut Vec<Slot>) -> Result<(), Refusal>
     ensures unchanged { all_shown slots.new.items ≡ all_shown slots.old.items }
     ensures count { length slots.new.items ≡ length slots.old.items }
     ensures room { OnOk result (All HasRoom slots.new.items) }
     ensures memory { IfErr result (λ why. why ≡ Refusal.Memory) }
-    ensures standing { OnErr result (list_any is_standing (all_shown slots.old.items) ≡ true) }
+    ensures wanted { OnErr result (list_any wants_room (all_shown slots.old.items) ≡ true) }
 {
     for place in 0..slots.len() {
         slots[place].reserve()?;
@@ -141,13 +141,13 @@ fn set_all(slots: &mut Vec<Slot>, incoming: u32, outgoing: u32)
 }
 
 /// Sets the bandwidths of each peer, in bytes per second, of which the connected ones are told. E1 where memory for that is
-/// refused, with nothing changed; never where none is connected.
+/// refused, with nothing changed; never where no connected peer has a command of channel 0xFF queued or unacknowledged.
 pub fn set_bandwidth(slots: &mut Vec<Slot>, incoming: u32, outgoing: u32) -> Result<(), Refusal>
     ensures set { OnOk result (all_shown slots.new.items ≡ map (changed (λ (p : Peering). peers.with_bandwidth p incoming outgoing)) (all_shown slots.old.items)) }
     ensures count { length slots.new.items ≡ length slots.old.items }
     ensures unchanged { OnErr result (all_shown slots.new.items ≡ all_shown slots.old.items) }
     ensures memory { IfErr result (λ why. why ≡ Refusal.Memory) }
-    ensures standing { OnErr result (list_any is_standing (all_shown slots.old.items) ≡ true) }
+    ensures wanted { OnErr result (list_any wants_room (all_shown slots.old.items) ≡ true) }
 {
     reserve_all(slots)?;
     set_all(slots, incoming, outgoing);

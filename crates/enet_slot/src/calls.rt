@@ -1,5 +1,7 @@
 //! A user's calls on a slot. Each answers E2, with nothing changed, where the slot is free.
 
+ghost use Rattle.std.specs.Prelude.{◌≡◌, true, IfErr};
+ghost use Rattle.enet_slot.specs.Sharing.{wants_room};
 ghost use Rattle.enet_slot.specs.Calls.{on_peer, Submits, Does, DoesWithMemory, submission, leaving, throttling, set_by};
 
 use crate::Slot;
@@ -52,14 +54,15 @@ impl Slot {
     }
 
     /// Sets its peer's throttle: the interval in milliseconds, acceleration and deceleration in parts of 32. E2; E3 where the
-    /// peer is not connected; E1: then nothing has changed.
+    /// peer is not connected; E1, only where a command of channel 0xFF is queued or unacknowledged: then nothing has changed.
     pub fn configure(
         &mut self,
         interval: u32,
         acceleration: u32,
         deceleration: u32,
     ) -> Result<(), Refusal>
-        ensures { DoesWithMemory result (on_peer self.old.slot (throttling interval acceleration deceleration)) self.old.slot self.new.slot }
+        ensures does { DoesWithMemory result (on_peer self.old.slot (throttling interval acceleration deceleration)) self.old.slot self.new.slot }
+        ensures wanted { IfErr result (λ why. why ≡ Refusal.Memory → wants_room self.old.slot ≡ true) }
     {
         let Some(peer) = &mut self.peer else {
             return Err(Refusal::NoSuchPeer);

@@ -4,7 +4,7 @@ ghost use Rattle.std.specs.Prelude.{◌≡◌, true, OnOk, OnErr, IfErr};
 ghost use Rattle.enet_peer.specs.Peering.{Peering};
 ghost use Rattle.enet_peer.specs.Calls as peers;
 ghost use Rattle.enet_slot.specs.Slot.{changed};
-ghost use Rattle.enet_slot.specs.Sharing.{is_standing, shared};
+ghost use Rattle.enet_slot.specs.Sharing.{is_standing, wants_room, shared};
 ghost use Rattle.enet_slot.specs.Slotted.{HasRoom};
 
 use crate::Slot;
@@ -47,13 +47,13 @@ impl Slot {
         self.emitted = 0;
     }
 
-    /// Makes room for one command of channel 0xFF of a connected peer; a slot without one takes no memory. E1 where memory is
-    /// refused.
+    /// Makes room for one command of channel 0xFF of a connected peer; a slot without one takes no memory, nor does one whose
+    /// peer has no such command queued or unacknowledged. E1 where memory is refused.
     pub(crate) fn reserve(&mut self) -> Result<(), Refusal>
         ensures unchanged { self.new.slot ≡ self.old.slot }
         ensures room { OnOk result (HasRoom self.new) }
         ensures memory { IfErr result (λ why. why ≡ Refusal.Memory) }
-        ensures standing { OnErr result (is_standing self.old.slot ≡ true) }
+        ensures wanted { OnErr result (wants_room self.old.slot ≡ true) }
     {
         match &mut self.peer {
             Some(peer) if peer.state() == PeerState::Connected => peer.reserve(),

@@ -1,6 +1,7 @@
 use Rattle.std.proofs.Common.{arith, ◌∙◌}
+use Rattle.enet_slot.specs.Sharing.{wants_room}
 use Rattle.enet_slot.proofs.Shown.{same-shown}
-use Rattle.enet_slot.proofs.OverAll.{room-more, all-room, stands-among}
+use Rattle.enet_slot.proofs.OverAll.{room-more, all-room, one-among}
 use Rattle.enet_slot.proofs.all.reserve_all.Goals as goal
 
 pub loop-place-preserved : goal.loop-place-preserved
@@ -18,10 +19,10 @@ pub returns-in_err-reserve-clause-unchanged : goal.returns-in_err-reserve-clause
 returns-in_err-reserve-clause-unchanged c =
     same-shown c.loop-place.slots.items c.loop-place.place c.index_mut.result.now c.reserve.new.self c.index_mut.ensures.value c.reserve.ensures.unchanged ∙ c.loop-place.invariant.items
 
-pub returns-in_err-reserve-clause-standing : goal.returns-in_err-reserve-clause-standing
-returns-in_err-reserve-clause-standing c =
-    stands-among c.from_residual.result c.args.slots.now.items c.loop-place.slots.items c.loop-place.place c.index_mut.result.now (grind arith) c.index_mut.ensures.value
-    c.loop-place.invariant.items c.in_err-reserve.ensures.standing
+pub returns-in_err-reserve-clause-wanted : goal.returns-in_err-reserve-clause-wanted
+returns-in_err-reserve-clause-wanted c =
+    one-among wants_room c.from_residual.result c.args.slots.now.items c.loop-place.slots.items c.loop-place.place c.index_mut.result.now (grind arith) c.index_mut.ensures.value
+    c.loop-place.invariant.items c.in_err-reserve.ensures.wanted
 
 pub returns-clause-room : goal.returns-clause-room
 returns-clause-room c = all-room c.loop-place.slots.items c.loop-place.place (grind arith) c.loop-place.invariant.room
