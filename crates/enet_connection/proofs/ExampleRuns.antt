@@ -1,29 +1,18 @@
 -- Short runs, computed.
-use Rattle.std.proofs.Common.{◌≡◌, ℕ, ◌+◌, ◌<◌, false, List, [], ◌∷◌, map, refl, sym, ap, subst, ◌∙◌, Option, Some, None, inl, inr, arith}
-use Rattle.std.specs.Prelude.{nat_le}
-use Rattle.enet_types.specs.declared.packet.Packet.{Packet}
+use Rattle.std.proofs.Common.{◌≡◌, ℕ, ◌<◌, false, List, [], ◌∷◌, refl, sym, ap, subst, ◌∙◌, Option, Some, None, inl, inr, arith}
 use Rattle.enet_codec.specs.Message.{ping}
-use Rattle.enet_seq.specs.Numbering.{wire}
 use Rattle.enet_connect.specs.declared.server.Server.{Server}
-use Rattle.enet_fragment.specs.DataCommand.{message_of}
 use Rattle.enet_fragment.specs.Cutting as cutting
-use Rattle.enet_receiver.specs.declared.took.Took.{Took}
-use Rattle.enet_receiver.specs.declared.took.Took.TheVariants.{Held}
-use Rattle.enet_receiver.specs.Receiver.{nothing_received}
-use Rattle.enet_receiver.specs.DataOutcome.{outcome, received}
-use Rattle.enet_receiver.specs.Foresight.{ReceivingEnd, new_end}
-use Rattle.enet_inbox.specs.Inbox.{is_full}
-use Rattle.enet_inbox.specs.DataEffect.{packet_of, by_took}
 use Rattle.enet_peer.specs.declared.parts.PeerEvent.TheVariants as told
 use Rattle.enet_peer.specs.Peering.{Peering, joined, answering}
-use Rattle.enet_peer.specs.CommandEffect.{obeyed, by_arrival}
+use Rattle.enet_peer.specs.CommandEffect.{obeyed}
 use Rattle.enet_link.specs.Link.{is_late}
 use Rattle.enet_link.specs.Steps.{Has}
 use Rattle.enet_connection.specs.Connection as connection
 use Rattle.enet_connection.specs.Connection.{Put, End, Connection, sent_on}
 use Rattle.enet_connection.specs.Steps.{One, Two, Submit, Emit, Come, Take, Answer, InTime, no_end, asking_pair, joined_pair, with_submission, with_emission, with_peer}
 use Rattle.enet_connection.specs.Examples.{example_terms, example_limits, example_packet, example_offer, OfSomeJoined, OfSomeAsking, HasTaken, HasOneMark, HasConnected}
-use Rattle.enet_connection.proofs.FirstPacket.{first_command, first-outcome, first-received, nothing-waits}
+use Rattle.enet_connection.proofs.FirstPacket.{first_message, with_untaken, rest, first-comes}
 
 abbrev here : Peering
 here = joined 0 example_terms example_limits
@@ -52,7 +41,7 @@ abbrev emitted : End
 emitted = with_emission submitted pair.two (peer_of submitted.peer) 0
 
 abbrev put : Put
-put = record { message = message_of 0 first_command; sent_then = 1 }
+put = record { message = first_message; sent_then = 1 }
 
 emitted-log : emitted.log ≡ put ∷ []
 unfolding cutting.piece_count connection.reached
@@ -62,38 +51,14 @@ emitted-greatest : sent_on 0 emitted ≡ 1
 unfolding cutting.piece_count connection.reached
 emitted-greatest = refl
 
--- the packet comes to a receiver to which nothing came
-
-abbrev receiving : ReceivingEnd
-receiving = new_end 0 1000
-
-abbrev by-outcome : Took → Peering
-by-outcome t = (by_arrival here put.message (Some 0) (by_took t here.inbox 0 receiving first_command)).after
-
-not-full : is_full here.inbox ≡ false
-not-full = ap (λ n. nat_le 1000 (0 + n + 0)) nothing-waits
-
-arrives : (obeyed here 0 (Some 0) put.message).after ≡ by-outcome Held
-arrives = ap (λ full. by-outcome (outcome wire 1000 nothing_received first_command full)) not-full ∙ ap by-outcome first-outcome
-
--- its inbox with a packet more first
-abbrev with-untaken : List Packet → Peering
-with-untaken qs = record (by-outcome Held) { inbox = record (by-outcome Held).inbox { untaken = qs } }
-
-abbrev rest : List Packet
-rest = map (packet_of 0) first-received.0
-
-untaken-is : (by-outcome Held).inbox.untaken ≡ example_packet ∷ rest
-untaken-is = ap (λ full. map (packet_of 0) (received wire 1000 nothing_received first_command full).dispatched) not-full ∙ ap (map (packet_of 0)) first-received.1
-
 abbrev arrived : End
-arrived = with_peer pair.two (with-untaken (example_packet ∷ rest))
+arrived = with_peer pair.two (with_untaken here (example_packet ∷ rest))
 
 comes : arrived ≡ with_peer pair.two (obeyed here 0 (Some 0) put.message).after
-comes = ap (λ qs. with_peer pair.two (with-untaken qs)) (sym untaken-is) ∙ ap (with_peer pair.two) (sym arrives)
+comes = ap (with_peer pair.two) (sym (first-comes here).1)
 
 abbrev took : End
-took = record arrived { peer = Some (with-untaken rest); events = told.Receive example_packet ∷ [] }
+took = record arrived { peer = Some (with_untaken here rest); events = told.Receive example_packet ∷ [] }
 
 in-time : InTime pair.two emitted put
 in-time = record {
@@ -118,7 +83,7 @@ a-packet-is-taken = (
         ((here, refl, in-time, comes), refl),
         (
           record { one = emitted; two = took },
-          ((with-untaken (example_packet ∷ rest), with-untaken rest, told.Receive example_packet, refl, refl, refl), refl),
+          ((with_untaken here (example_packet ∷ rest), with_untaken here rest, told.Receive example_packet, refl, refl, refl), refl),
           refl,
         ),
       ),

@@ -16,7 +16,10 @@ pub mod Worlds
 pub mod Once
 pub mod Sent
 pub mod Owned
+pub mod Running
 pub mod Runs
 pub mod Channels
 pub mod Agreed
 pub mod Headlines
+pub mod LoneSites
+pub mod ExampleWorlds

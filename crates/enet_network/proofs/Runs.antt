@@ -26,9 +26,10 @@ use Rattle.enet_network.specs.Log.{Logged, ChannelPackets as KeptOf, no_packets,
 use Rattle.enet_network.specs.Network.{HostEnd, Site, fresh_end}
 use Rattle.enet_network.specs.Shown.{Shows}
 use Rattle.enet_network.specs.Steps.{Around, Happening, Calls, Hears, Logs, LogsIf, BringsOne, HappensAmong, beside, Happens, count_after}
-use Rattle.enet_network.specs.World.{World, other, address_of, HappensAt, AllHappen, side_of, Runs, open_world, joined_config, joined_end, joined_site, joined_world}
+use Rattle.enet_network.specs.World.{World, other, address_of, HappensAt, AllHappen, side_of, Steps, Runs, open_world, joined_config, joined_end, joined_site, joined_world}
 use Rattle.enet_network.proofs.Beginnings.{asked}
 use Rattle.enet_network.proofs.Peers.{shows-held}
+use Rattle.enet_network.proofs.Running.{runs-keep}
 use Rattle.enet_network.proofs.Submitting.{same-some}
 use Rattle.enet_network.proofs.Worlds.{KeptEither, Pair, IsHost, AreShown, ComesOf, IsJoined, swapped, pair-goes, shown-end, host-goes, nothing-of, count-grows}
 use Rattle.enet_network.proofs.Once.{AreAt, IsOfSender, at-goes, begins-once}
@@ -172,19 +173,19 @@ sound-happens : (j : ℕ → Bool) (es : List (Side × Happening)) (w v : World)
 sound-happens j [] w v r k = subst (Sound j) r k
 sound-happens j (e ∷ es) w v r k = sound-happens j es r.0 v r.2 (sound-goes j e.0 e.1 w r.0 r.1 k)
 
+sound-step : (j : ℕ → Bool) (w v : World) (e : WorldEvent) (a : Result Answer Refusal) → Steps w e a v → Sound j w → Sound j v
+sound-step j w v e (Ok a) r k = sound-goes j (side_of e) r.0 w v r.2 k
+sound-step j w v e (Err why) r k = subst (Sound j) (sym r.1) k
+
 sound-runs : (j : ℕ → Bool) (events : List WorldEvent) (answers : List (Result Answer Refusal)) (w v : World) → Runs w events answers v → Sound j w → Sound j v
-sound-runs j [] [] w v r k = subst (Sound j) (sym r) k
-sound-runs j [] (a ∷ as') w v r k = absurd r
-sound-runs j (e ∷ es) [] w v r k = absurd r
-sound-runs j (e ∷ es) (Ok a ∷ as') w v r k = sound-runs j es as' r.0 v r.2 (sound-goes j (side_of e) r.1.0 w r.0 r.1.2 k)
-sound-runs j (e ∷ es) (Err why ∷ as') w v r k = sound-runs j es as' r.0 v r.2 (subst (Sound j) (sym r.1.1) k)
+sound-runs j events answers w v r k = runs-keep Steps (Sound j) (sound-step j) events answers w v r k
 
 -- at first
 
 pub few-of : (c : Config) → is_in_range c ≡ true → c.generations ≤ greatest
 few-of c h = grind (arith, nat_tests)
 
-both : (a b : Bool) → (a && b) ≡ true → (a ≡ true) × (b ≡ true)
+pub both : (a b : Bool) → (a && b) ≡ true → (a ≡ true) × (b ≡ true)
 both true true h = (refl, refl)
 both true false h = absurd (cc)
 both false b h = absurd (cc)

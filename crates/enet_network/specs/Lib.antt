@@ -3,8 +3,10 @@ pub mod Log
 pub mod Marks
 pub mod Network
 pub mod Steps
+pub mod Running
 pub mod World
 pub mod Shown
 pub mod Law
 pub mod Numbers
 pub mod Headline
+pub mod Examples

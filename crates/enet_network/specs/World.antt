@@ -16,6 +16,7 @@ use Rattle.enet_network.specs.declared.event.WorldEvent.{WorldEvent}
 use Rattle.enet_network.specs.declared.event.WorldEvent.TheVariants as happen
 use Rattle.enet_network.specs.Log.{fresh_channels, joined_greatest}
 use Rattle.enet_network.specs.Network.{HostEnd, Site, delivery_refusal}
+use Rattle.enet_network.specs.Running.{RunsBy}
 use Rattle.enet_network.specs.Steps.{Happening, Calls, Hears, Happens, count_after}
 
 -- both sides, and how many connections there have been
@@ -97,9 +98,7 @@ Steps old event (Err why) new = Refuses old event why × (new ≡ old)
 
 -- the steps of a list of events with what was answered to each, in order
 abbrev pub Runs : World → List WorldEvent → List (Result Answer Refusal) → World → Type 0
-Runs old [] [] new = new ≡ old
-Runs old (e ∷ es) (a ∷ as') new = (between : World) × Steps old e a between × Runs between es as' new
-Runs old _ _ new = ⊥
+Runs = RunsBy Steps
 
 -- a world of two hosts to which nothing has happened
 abbrev pub open_site : Side → Config → Site

@@ -11,12 +11,13 @@
 //!
 //! Proved, of these definitions, which the calls of `enet_site` and `enet_world` meet: what happens at a host is events of each of its
 //! connections (`each_thing_is_events`, `each_thing_at`); over every run of two hosts the law of one connection holds of each
-//! (`one_world`), and with it the headline (`each_connection_in_order`).
+//! (`one_world`), and with it the headline (`each_connection_in_order`). Such runs do happen (`runs_happen`).
 #![tactic(auto)]
 
 ghost use Rattle.std.specs.Prelude.{true, false};
 ghost use Rattle.enet_network.specs.Law.{OneThing, GoOnAt, Asked, Answered, AreLawful, OfEachRun, OfEachJoinedRun, OfEachList, OfEachJoinedList};
 ghost use Rattle.enet_network.specs.Headline.{HasHeadline};
+ghost use Rattle.enet_network.specs.Examples.{IsInRange, CrossesOpened, CrossesJoined};
 
 use enet_host::HostCore;
 
@@ -91,4 +92,13 @@ pub fn each_connection_in_order()
     ensures joined { OfEachJoinedRun (HasHeadline true) }
     ensures events_opened { OfEachList (HasHeadline false) }
     ensures events_joined { OfEachJoinedList (HasHeadline true) }
+{}
+
+/// Lists of a world's events that do happen, so that the laws above speak of something: a host asks the other for a connection
+/// and both users are told, a packet is submitted, put out, comes and is taken (`opened`); so it is between two hosts that are
+/// connected from the start (`joined`). The settings are in their ranges (`in_range`).
+pub fn runs_happen()
+    ensures in_range { IsInRange }
+    ensures opened { CrossesOpened }
+    ensures joined { CrossesJoined }
 {}
