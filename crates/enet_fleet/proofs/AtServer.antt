@@ -18,11 +18,12 @@ use Rattle.enet_network.proofs.Once.{IsOfSender, at-goes, begins-once}
 use Rattle.enet_network.proofs.Owned.{owned-goes}
 use Rattle.enet_network.proofs.Runs.{stays-put}
 use Rattle.enet_network.proofs.Sent.{sent-goes, more-brought}
+use Rattle.enet_site.specs.Places.{Place}
 use Rattle.enet_fleet.specs.declared.event.Node.{Node}
 use Rattle.enet_fleet.specs.declared.event.Node.TheVariants.{Server, Client}
-use Rattle.enet_fleet.specs.Fleets.{Place, Fleet, place_of, address_of, numbers_at, client_in, around}
+use Rattle.enet_fleet.specs.Fleets.{Fleet, place_of, address_of, numbers_at, client_in, around}
 use Rattle.enet_fleet.proofs.Places.{place_in, place, client-apart, server-apart, client-host}
-use Rattle.enet_fleet.proofs.Hosts.{Holds, Sound, each-holds, asked-end, asked-sent, ends-elsewhere, no-strangers, IsAllowed, server-count}
+use Rattle.enet_fleet.proofs.Holding.{Holds, Sound, each-holds, asked-end, asked-sent, ends-elsewhere, no-strangers, IsAllowed, server-count}
 
 -- a datagram that is brought to the server is of a client that asked for its connection
 record IsClients (f : Fleet) (m : Node) (x : ℕ) : Type 0 where
@@ -123,7 +124,7 @@ server-goes f m what sender new sends here allowed s = record {
 
     joins : (x i : ℕ) → slice_get f.asked x ≡ Some i → (p : Place) → slice_get f.clients i ≡ Some p → IsJoined w from what old p.site x
     joins x i asked p there = record {
-      numbers = ap (λ (o : Option ℕ). numbers_at x (client_in f o)) asked ∙ ap (numbers_at x) there;
+      numbers = ap (λ (o : Option ℕ). numbers_at x (client_in f.clients o)) asked ∙ ap (numbers_at x) there;
       strangers = no-strangers f.asked (length f.clients) Server old x (address_of (Client i)) own (place-is x i asked) (client-host (length f.clients) i (slice_get_within f.clients i p there));
       sender = by-sender m sends sent-by.address;
       comes = comes what allowed;

@@ -18,22 +18,26 @@ use Rattle.enet_network.specs.Steps.{Happening, Calls, Hears, HappensAmong}
 use Rattle.enet_network.proofs.Addresses.{equal-address}
 use Rattle.enet_network.proofs.Submitting.{same-some}
 use Rattle.enet_network.proofs.Owned.{none-held}
-use Rattle.enet_network.proofs.Runs.{few-of, none-at, lawful-either}
+use Rattle.enet_network.proofs.Running.{runs-keep}
+use Rattle.enet_network.proofs.Runs.{few-of, both, none-at, lawful-either}
+use Rattle.enet_site.specs.declared.put_out.Sent.{Sent}
+use Rattle.enet_site.specs.declared.put_out.Sent.TheVariants.{Of, Away}
+use Rattle.enet_site.specs.Places.{Place, opened_at, all_opened}
 use Rattle.enet_fleet.specs.declared.event.Node.{Node}
 use Rattle.enet_fleet.specs.declared.event.Node.TheVariants.{Server, Client}
 use Rattle.enet_fleet.specs.declared.event.FleetEvent.{FleetEvent}
 use Rattle.enet_fleet.specs.declared.event.FleetEvent.TheVariants as happen
-use Rattle.enet_fleet.specs.Fleets.{Sent, Of, Away, Place, Fleet, place_of, address_of, around, asked_after, HappensAt, gone_to, logged_in, brings, node_of, from_of, Makes, Runs, open_place, open_clients, open_fleet}
-use Rattle.enet_fleet.specs.Law.{AreLawful, IsAcross, AreAcross, OfEachRun}
+use Rattle.enet_fleet.specs.Fleets.{Fleet, place_of, address_of, around, asked_after, HappensAt, gone_to, logged_in, brings, node_of, from_of, Makes, Steps, Runs, open_fleet}
+use Rattle.enet_fleet.specs.Law.{AreLawful, AreAcross, OfEachRun}
 use Rattle.enet_fleet.proofs.Places.{place_in, place}
-use Rattle.enet_fleet.proofs.Hosts.{AreOwn, Holds, Sound, each-holds, asked-sent, AllowsCall, IsAllowed}
+use Rattle.enet_fleet.proofs.Holding.{AreOwn, Holds, Sound, each-holds, asked-sent, far-known, AllowsCall, IsAllowed}
 use Rattle.enet_fleet.proofs.AtServer.{ServerGone, server-goes}
 use Rattle.enet_fleet.proofs.AtClient.{ClientGone, client-goes}
 
 -- one thing at a host
 
 at-server : (m : Node) (what : Happening) (f g : Fleet) (h : HappensAt Server m what f g) → IsAllowed f Server m what → Sound f → Sound g
-at-server m what f g h allowed s = subst Sound (sym h.rest) (record { server = gone.holds; clients = s.clients; pairs = gone.pairs })
+at-server m what f g h allowed s = subst Sound (sym h.rest) (record { server = gone.holds; clients = s.clients; pairs = gone.pairs; begun = s.begun })
   where
     here : HappensAmong (around f Server) h.sender.site what f.server.site h.is.site
     here = subst (λ (p : Place). HappensAmong (around f Server) h.sender.site what p.site h.is.site) (sym (same-some f.server h.was h.there)) h.here
@@ -44,7 +48,7 @@ at-server m what f g h allowed s = subst Sound (sym h.rest) (record { server = g
 at-client : (i : ℕ) (m : Node) (what : Happening) (f g : Fleet) (h : HappensAt (Client i) m what f g) → IsAllowed f (Client i) m what → Sound f → Sound g
 at-client i m what f g h allowed s =
     let gone : ClientGone f i (asked_after (Client i) what f.asked) h.is = client-goes f i m what h.sender h.was h.is h.sends h.there h.here allowed s in
-    subst Sound (sym h.rest) (record { server = gone.server; clients = gone.clients; pairs = gone.pairs })
+    subst Sound (sym h.rest) (record { server = gone.server; clients = gone.clients; pairs = gone.pairs; begun = gone.begun })
 
 pub sound-goes : (n m : Node) (what : Happening) (f g : Fleet) → HappensAt n m what f g → IsAllowed f n m what → Sound f → Sound g
 sound-goes Server m what f g h allowed s = at-server m what f g h allowed s
@@ -52,12 +56,11 @@ sound-goes (Client i) m what f g h allowed s = at-client i m what f g h allowed 
 
 -- an event makes what is allowed
 
-is_connect : Call → Bool
+abbrev pub is_connect : Call → Bool
 is_connect (call.Connect address channels info word answer) = true
 is_connect c = false
 
 plain : (n : Node) (c : Call) → is_connect c ≡ false → AllowsCall n Server c
-unfolding is_connect
 plain (Client i) c h = refl
 plain Server (call.Connect address channels info word answer) h = absurd (let e : true ≡ false = h in cc)
 plain Server c h = refl
@@ -87,7 +90,6 @@ brought f to from k n answer h p there d is =
     went (address_of to) p n (slice_get p.sent k) (ap (λ (o : Option Place). brings to o k) (sym there) ∙ h) d is
 
 pub allowed-of : (f : Fleet) (event : FleetEvent) (answer : Answer) (e : Happening) → Makes f event answer e → IsAllowed f (node_of event) (from_of event) e
-unfolding is_connect
 allowed-of f (happen.Connect client channels info word) (answers.Peer name) e m = subst (IsAllowed f (Client client) Server) (sym m) refl
 allowed-of f (happen.Submit node peer channel flags body) answers.Done e m = plain-call f node (call.Submit peer channel (record { flags = flags; body = body }) (Ok tt)) e refl m
 allowed-of f (happen.Deliver to from k) (answers.Received answer) e m = subst (IsAllowed f to from) (sym m.2) (brought f to from k m.0 answer m.1)
@@ -99,52 +101,48 @@ allowed-of f (happen.Take node) (answers.Taken event) e m = plain-call f node (c
 allowed-of f (happen.Disconnect node peer how info) answers.Done e m = plain-call f node (call.Disconnect how peer info (Ok tt)) e refl m
 allowed-of f event answer e m = absurd m
 
+pub sound-step : (f g : Fleet) (event : FleetEvent) (answer : Result Answer Refusal) → Steps f event answer g → Sound f → Sound g
+sound-step f g e (Ok a) r s = sound-goes (node_of e) (from_of e) r.0 f g r.2 (allowed-of f e a r.0 r.1) s
+sound-step f g e (Err why) r s = subst Sound (sym r.1) s
+
 sound-runs : (events : List FleetEvent) (answers : List (Result Answer Refusal)) (f g : Fleet) → Runs f events answers g → Sound f → Sound g
-sound-runs [] [] f g r s = subst Sound (sym r) s
-sound-runs [] (a ∷ as') f g r s = absurd r
-sound-runs (e ∷ es) [] f g r s = absurd r
-sound-runs (e ∷ es) (Ok a ∷ as') f g r s = sound-runs es as' r.0 g r.2 (sound-goes (node_of e) (from_of e) r.1.0 f r.0 r.1.2 (allowed-of f e a r.1.0 r.1.1) s)
-sound-runs (e ∷ es) (Err why ∷ as') f g r s = sound-runs es as' r.0 g r.2 (subst Sound (sym r.1.1) s)
+sound-runs events answers f g r s = runs-keep Steps Sound sound-step events answers f g r s
 
 -- at first
 
-open-holds : (clients : ℕ) (n : Node) (c : Config) → is_in_range c ≡ true → Holds [] clients n (open_place n c).site
+open-holds : (clients : ℕ) (n : Node) (c : Config) → is_in_range c ≡ true → Holds [] clients n (opened_at (address_of n) c).site
 open-holds clients n c fits = record {
   host = record { few = few-of c fits; apart = λ e i. absurd i; below = λ e i. absurd i; logged = λ d i. absurd i; named = λ d i. absurd i };
   address = refl;
-  far = none-at (place [] n) (open_place n c).site refl;
+  far = none-at (place [] n) (opened_at (address_of n) c).site refl;
   sent = λ d i. absurd i;
   own = own n;
   owned = λ i t p there has at. absurd (none-held c.peers i t p there has);
 }
   where
-    own : (m : Node) → AreOwn [] m (open_place n c).site
+    own : (m : Node) → AreOwn [] m (opened_at (address_of n) c).site
     own Server = tt
     own (Client k) = λ e i. absurd i
 
-both : (a b : Bool) → (a && b) ≡ true → (a ≡ true) × (b ≡ true)
-both true true h = (refl, refl)
-both true false h = absurd (cc)
-both false b h = absurd (cc)
-
-open-client : (cs : List Config) (first i : ℕ) (p : Place) → list_all is_in_range cs ≡ true → slice_get (open_clients first cs) i ≡ Some p → (c : Config) × (is_in_range c ≡ true) × (open_place (Client (first + i)) c ≡ p)
+open-client : (cs : List Config) (first i : ℕ) (p : Place) → list_all is_in_range cs ≡ true → slice_get (all_opened (λ k. address_of (Client k)) first cs) i ≡ Some p → (c : Config) × (is_in_range c ≡ true) × (opened_at (address_of (Client (first + i))) c ≡ p)
 open-client [] first i p fits h = absurd (let e : ◌≡◌ {A = Option Place} None (Some p) = h in cc)
 open-client (c ∷ cs) first zero p fits h =
     let n : first ≡ first + 0 = omega arith in
-    (c, (both (is_in_range c) (list_all is_in_range cs) fits).0, ap (λ (k : ℕ). open_place (Client k) c) (sym n) ∙ same-some (open_place (Client first) c) p h)
+    (c, (both (is_in_range c) (list_all is_in_range cs) fits).0, ap (λ (k : ℕ). opened_at (address_of (Client k)) c) (sym n) ∙ same-some (opened_at (address_of (Client first)) c) p h)
 open-client (c ∷ cs) first (suc i) p fits h =
     let r = open-client cs (first + 1) i p (both (is_in_range c) (list_all is_in_range cs) fits).1 h in
     let n : first + 1 + i ≡ first + suc i = omega arith in
-    (r.0, r.1, ap (λ (k : ℕ). open_place (Client k) r.0) (sym n) ∙ r.2)
+    (r.0, r.1, ap (λ (k : ℕ). opened_at (address_of (Client k)) r.0) (sym n) ∙ r.2)
 
 open-sound : (server : Config) (clients : List Config) → is_in_range server ≡ true → list_all is_in_range clients ≡ true → Sound (open_fleet server clients)
 open-sound server clients one all = record {
-  server = open-holds (length (open_clients 0 clients)) Server server one;
+  server = open-holds (length (open_fleet server clients).clients) Server server one;
   clients = λ i p h. (let r = open-client clients 0 i p all h in
       let n : 0 + i ≡ i = omega arith in
-      subst (λ (k : ℕ). Holds [] (length (open_clients 0 clients)) (Client k) p.site) n
-      (subst (λ (q : Place). Holds [] (length (open_clients 0 clients)) (Client (0 + i)) q.site) r.2 (open-holds (length (open_clients 0 clients)) (Client (0 + i)) r.0 r.1)));
+      subst (λ (k : ℕ). Holds [] (length (open_fleet server clients).clients) (Client k) p.site) n
+      (subst (λ (q : Place). Holds [] (length (open_fleet server clients).clients) (Client (0 + i)) q.site) r.2 (open-holds (length (open_fleet server clients).clients) (Client (0 + i)) r.0 r.1)));
   pairs = λ x i h. absurd (let e : ◌≡◌ {A = Option ℕ} None (Some i) = h in cc);
+  begun = λ x i h. absurd (let e : ◌≡◌ {A = Option ℕ} None (Some i) = h in cc);
 }
 
 pub sound-run : OfEachRun Sound
@@ -159,10 +157,16 @@ are-lawful f s x i asked =
 pub each-run : OfEachRun AreLawful
 each-run server clients one all events answers f r = are-lawful f (sound-run server clients one all events answers f r)
 
--- and what is put out goes across
-goes-across : (asked : List ℕ) (clients : ℕ) (n : Node) (s : Site) (d : Logged) → Holds asked clients n s → Has s.log d → IsAcross n d.to
+-- and what is put out goes across: the server's to clients, a client's to the server
+abbrev pub IsAcross : Node → Addr → Type 0
+IsAcross Server to = (i : ℕ) × (to ≡ address_of (Client i))
+IsAcross (Client i) to = to ≡ address_of Server
+
+pub goes-across : (asked : List ℕ) (clients : ℕ) (n : Node) (s : Site) (d : Logged) → Holds asked clients n s → Has s.log d → IsAcross n d.to
 goes-across asked clients Server s d k h = (let a = asked-sent asked clients Server s d k h in (a.0, k.sent d h ∙ ap place_in a.1))
 goes-across asked clients (Client i) s d k h = k.sent d h
 
 pub across-run : OfEachRun AreAcross
-across-run server clients one all events answers f r n p there d h = goes-across f.asked (length f.clients) n p.site d (each-holds f (sound-run server clients one all events answers f r) n p there) h
+across-run server clients one all events answers f r n p there d h =
+    let k : Holds f.asked (length f.clients) n p.site = each-holds f (sound-run server clients one all events answers f r) n p there in
+    far-known f n d.connection (asked-sent f.asked (length f.clients) n p.site d k h) ∙ ap (λ (a : Addr). Some a) (sym (k.sent d h))

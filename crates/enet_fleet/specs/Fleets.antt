@@ -7,29 +7,22 @@ use Rattle.enet_types.specs.declared.event.PeerRef.{PeerRef}
 use Rattle.enet_types.specs.declared.refusal.Refusal.{Refusal}
 use Rattle.enet_types.specs.declared.refusal.Refusal.TheVariants.{Memory, NoSuchDatagram, NoSuchHost}
 use Rattle.enet_slot.specs.Hearing.{is_same_address}
-use Rattle.enet_host.specs.Opening as host
 use Rattle.enet_isolation.specs.Calls.{Call}
 use Rattle.enet_isolation.specs.Calls as call
 use Rattle.enet_network.specs.declared.event.Answer.{Answer}
 use Rattle.enet_network.specs.declared.event.Answer.TheVariants as answers
 use Rattle.enet_network.specs.Log.{Logged}
 use Rattle.enet_network.specs.Network.{Site, numbers_of, delivery_refusal}
+use Rattle.enet_network.specs.Running.{RunsBy}
 use Rattle.enet_network.specs.Steps.{Around, Happening, Calls, Hears, HappensAmong}
 use Rattle.enet_network.specs.World.{IsRefusedFor, RefusesCall}
+use Rattle.enet_site.specs.declared.put_out.Sent.{Sent}
+use Rattle.enet_site.specs.declared.put_out.Sent.TheVariants.{Of, Away}
+use Rattle.enet_site.specs.Places.{Place, opened_at, all_opened}
 use Rattle.enet_fleet.specs.declared.event.Node.{Node}
 use Rattle.enet_fleet.specs.declared.event.Node.TheVariants.{Server, Client}
 use Rattle.enet_fleet.specs.declared.event.FleetEvent.{FleetEvent}
 use Rattle.enet_fleet.specs.declared.event.FleetEvent.TheVariants as happen
-
--- a datagram that a host put out
-pub data Sent : Type 0 where
-  Of : (n : ℕ) → Sent  -- of a connection: this one of the host's log
-  Away : (to : Addr) (text : List ℕ) → Sent  -- to a stranger
-
--- a host with all that it put out
-pub record Place : Type 0 where
-  pub site : Site
-  pub sent : List Sent
 
 -- all hosts, and the client of each connection so far
 pub record Fleet : Type 0 where
@@ -49,6 +42,11 @@ abbrev pub address_of : Node → Addr
 address_of Server = record { ip = 0x0A000001; port = 7001 }
 address_of (Client i) = record { ip = 0x0A000002; port = 7002 + i }
 
+-- where the other host of a connection of a host is, once a client has asked for it
+abbrev pub far_address : Fleet → Node → ℕ → Option Addr
+far_address f Server x = option_map (λ i. address_of (Client i)) (slice_get f.asked x)
+far_address f (Client i) x = Some (address_of Server)
+
 -- whether a host is at an address where there are so many clients
 abbrev pub is_host : ℕ → Addr → Bool
 is_host clients a = is_same_address a (address_of Server) || (a.ip == 0x0A000002 && (nat_le 7002 a.port && nat_lt a.port (7002 + clients)))
@@ -59,12 +57,12 @@ numbers_at x None = []
 numbers_at x (Some p) = numbers_of p.site x
 
 -- the client that asked for a connection
-abbrev pub client_in : Fleet → Option ℕ → Option Place
-client_in f None = None
-client_in f (Some i) = slice_get f.clients i
+abbrev pub client_in : List Place → Option ℕ → Option Place
+client_in clients None = None
+client_in clients (Some i) = slice_get clients i
 
 abbrev pub client_of : Fleet → ℕ → Option Place
-client_of f x = client_in f (slice_get f.asked x)
+client_of f x = client_in f.clients (slice_get f.asked x)
 
 -- the greatest numbers that the other end of a connection of a host sent
 abbrev pub numbers_far : Fleet → Node → ℕ → List ℕ
@@ -172,12 +170,12 @@ RefusesAt None c = ⊥
 RefusesAt (Some p) c = RefusesCall c p.site
 
 -- a delivery: E13 where the datagram went to no such host
-abbrev pub refused_there : Place → Place → Option ℕ → Option Refusal
+abbrev pub refused_there : Site → Site → Option ℕ → Option Refusal
 refused_there from to None = Some NoSuchDatagram
-refused_there from to (Some n) = delivery_refusal from.site to.site (slice_get from.site.log n)
+refused_there from to (Some n) = delivery_refusal from to (slice_get from.log n)
 
 abbrev pub refused_delivery : Node → Option Place → Option Place → ℕ → Option Refusal
-refused_delivery to (Some from) (Some at) k = refused_there from at (logged_to (address_of to) from k)
+refused_delivery to (Some from) (Some at) k = refused_there from.site at.site (logged_to (address_of to) from k)
 refused_delivery to _ _ k = Some NoSuchDatagram
 
 -- why an event is refused whose hosts are there
@@ -207,17 +205,9 @@ Steps old event (Err why) new = Refuses old event why × (new ≡ old)
 
 -- the steps of a list of events with what was answered to each, in order
 abbrev pub Runs : Fleet → List FleetEvent → List (Result Answer Refusal) → Fleet → Type 0
-Runs old [] [] new = new ≡ old
-Runs old (e ∷ es) (a ∷ as') new = (between : Fleet) × Steps old e a between × Runs between es as' new
-Runs old _ _ new = ⊥
+Runs = RunsBy Steps
 
 -- a fleet to which nothing has happened
-abbrev pub open_place : Node → Config → Place
-open_place n c = record { site = record { address = address_of n; host = host.opened c; log = []; ends = [] }; sent = [] }
-
-abbrev pub open_clients : ℕ → List Config → List Place
-open_clients i [] = []
-open_clients i (c ∷ cs) = open_place (Client i) c ∷ open_clients (i + 1) cs
-
 abbrev pub open_fleet : Config → List Config → Fleet
-open_fleet server clients = record { server = open_place Server server; clients = open_clients 0 clients; asked = [] }
+open_fleet server clients =
+    record { server = opened_at (address_of Server) server; clients = all_opened (λ i. address_of (Client i)) 0 clients; asked = [] }

@@ -1,7 +1,6 @@
 -- The law of one connection, of each connection of a fleet.
 use Rattle.std.specs.Prelude.{◌≡◌, ℕ, false, true, List, Some, Result, slice_get}
 use Rattle.std.specs.List.{list_all}
-use Rattle.enet_types.specs.declared.address.Addr.{Addr}
 use Rattle.enet_types.specs.declared.config.Config.{Config}
 use Rattle.enet_types.specs.declared.refusal.Refusal.{Refusal}
 use Rattle.enet_types.specs.Config.{is_in_range}
@@ -9,22 +8,18 @@ use Rattle.enet_network.specs.declared.event.Answer.{Answer}
 use Rattle.enet_link.specs.Steps.{Has}
 use Rattle.enet_network.specs.Law.{IsPaired}
 use Rattle.enet_network.specs.Log.{Logged}
+use Rattle.enet_site.specs.Places.{Place}
 use Rattle.enet_fleet.specs.declared.event.FleetEvent.{FleetEvent}
 use Rattle.enet_fleet.specs.declared.event.Node.{Node}
-use Rattle.enet_fleet.specs.declared.event.Node.TheVariants.{Server, Client}
-use Rattle.enet_fleet.specs.Fleets.{Place, Fleet, place_of, address_of, Runs, open_fleet}
+use Rattle.enet_fleet.specs.Fleets.{Fleet, place_of, far_address, Runs, open_fleet}
 
 -- the client that asked for a connection and the server show its two ends
 abbrev pub AreLawful : Fleet → Type 0
 AreLawful f = (x i : ℕ) → slice_get f.asked x ≡ Some i → (p : Place) × (slice_get f.clients i ≡ Some p) × IsPaired false p.site f.server.site x
 
--- what a host puts out of connections: the server's goes to clients, a client's to the server
-abbrev pub IsAcross : Node → Addr → Type 0
-IsAcross Server to = (i : ℕ) × (to ≡ address_of (Client i))
-IsAcross (Client i) to = to ≡ address_of Server
-
+-- what a host puts out of a connection goes to the host that has its other end
 abbrev pub AreAcross : Fleet → Type 0
-AreAcross f = (n : Node) (p : Place) → place_of f n ≡ Some p → (d : Logged) → Has p.site.log d → IsAcross n d.to
+AreAcross f = (n : Node) (p : Place) → place_of f n ≡ Some p → (d : Logged) → Has p.site.log d → far_address f n d.connection ≡ Some d.to
 
 -- of every fleet that comes of hosts whose slots are all free, by events of any kind, whatever is answered to them
 abbrev pub OfEachRun : (Fleet → Type 0) → Type 0

@@ -232,6 +232,14 @@ impl Site {
         Some(&datagram.text)
     }
 
+    /// Where to a datagram went that the host put out, or None where it has put out fewer.
+    pub fn destination(&self, k: u64) -> Option<Addr>
+        ensures { result ≡ option_map (λ d. d.to) (slice_get self.now.log k) }
+    {
+        let datagram = self.records.logged(k)?;
+        Some(datagram.to)
+    }
+
     /// What the user of this end of a connection submitted on a channel, in order; empty where there is no such connection or
     /// channel.
     pub fn submitted(&self, connection: u64, channel: u8) -> &[Packet]

@@ -1,6 +1,7 @@
 use Rattle.std.proofs.Common.{arith, ◌∙◌}
 use Rattle.std.proofs.lemmas.List.{take_more}
-use Rattle.enet_world.proofs.Reaching.{runs-push}
+use Rattle.enet_network.specs.World.{Steps}
+use Rattle.enet_network.proofs.Running.{runs-push}
 use Rattle.enet_world.proofs.world.World.run_all.Goals as goal
 
 pub loop-event-preserved : goal.loop-event-preserved
@@ -9,7 +10,7 @@ loop-event-preserved c =
     let event = c.event-item.result in
     record {
       runs = rw (take_more events c.loop-event.event-index event c.loop-event-test.true, ← c.event-item.is, c.push_reserved.ensures.items)
-          (runs-push _ _ _ _ _ _ _ c.loop-event.invariant.runs c.happen.ensures.steps);
+          (runs-push Steps _ _ _ _ _ _ _ c.loop-event.invariant.runs c.happen.ensures.steps);
       joined = c.happen.ensures.joined ∙ c.loop-event.invariant.joined;
       len = omega arith;
       capacity = omega arith;

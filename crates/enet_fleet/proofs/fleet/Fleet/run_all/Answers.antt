@@ -1,0 +1,16 @@
+use Rattle.std.proofs.Common.{arith}
+use Rattle.std.proofs.lemmas.List.{take_more}
+use Rattle.enet_network.proofs.Running.{runs-push}
+use Rattle.enet_fleet.specs.Fleets.{Steps}
+use Rattle.enet_fleet.proofs.fleet.Fleet.run_all.Goals as goal
+
+pub loop-event-preserved : goal.loop-event-preserved
+loop-event-preserved c =
+    let events = c.args.events.now in
+    let event = c.event-item.result in
+    record {
+      runs = rw (take_more events c.loop-event.event-index event c.loop-event-test.true, ← c.event-item.is, c.push_reserved.ensures.items)
+          (runs-push Steps _ _ _ _ _ _ _ c.loop-event.invariant.runs c.happen.ensures);
+      len = omega arith;
+      capacity = omega arith;
+    }

@@ -1,0 +1,26 @@
+use Rattle.std.proofs.Common.{◌≡◌, Some, Err, sym, ap, ◌∙◌}
+use Rattle.std.proofs.lemmas.Result.{err_from_is_err_and}
+use Rattle.enet_isolation.specs.Calls as call
+use Rattle.enet_site.specs.Places.{Place}
+use Rattle.enet_fleet.specs.declared.event.FleetEvent.TheVariants as happen
+use Rattle.enet_fleet.specs.Fleets.{Fleet, place_of}
+use Rattle.enet_fleet.proofs.Stepping.{some-there, refuses-at, refused, left}
+use Rattle.enet_fleet.proofs.happening.disconnect.Goals as goal
+
+pub returns-in_err-disconnect : goal.returns-in_err-disconnect
+returns-in_err-disconnect c =
+    let f : Fleet = c.args.hosts.now in
+    let was : Place = record { site = c.here.inside.site; sent = c.here.inside.sent.items } in
+    let there : place_of f c.args.node ≡ Some was = sym c.in-Some.ensures.there ∙ ap (λ (p : Place). Some p) (sym c.here.view_is) in
+    let p = err_from_is_err_and c.from_residual.result c.from_residual.ensures.1 in
+    let why = c.in_err-disconnect.field-0.0 in
+    rw (p.1, p.2)
+    (refused f (happen.Disconnect c.args.node c.args.peer c.args.how c.args.info) why c.args.node was c.disconnect.new.self
+    (some-there (place_of f c.args.node) was there) (refuses-at f c.args.node was (call.Disconnect c.args.how c.args.peer c.args.info (Err why)) there c.in_err-disconnect.ensures.refused) there c.in_err-disconnect.ensures.unchanged)
+
+pub returns : goal.returns
+returns c =
+    let f : Fleet = c.args.hosts.now in
+    let was : Place = record { site = c.here.inside.site; sent = c.here.inside.sent.items } in
+    let there : place_of f c.args.node ≡ Some was = sym c.in-Some.ensures.there ∙ ap (λ (p : Place). Some p) (sym c.here.view_is) in
+    left f c.args.node was c.disconnect.new.self c.args.peer c.args.how c.args.info there c.in_ok-disconnect.ensures.ends

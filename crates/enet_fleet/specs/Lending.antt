@@ -1,0 +1,12 @@
+-- A host of a fleet is lent.
+use Rattle.std.specs.Prelude.{Option}
+use Rattle.std.specs.Borrow.{LendsIf, MutBor, Fml}
+use Rattle.enet_site.specs.Places.{Place}
+use Rattle.enet_site.specs.contracts.place.Place as place
+use Rattle.enet_fleet.specs.declared.event.Node.{Node}
+use Rattle.enet_fleet.specs.contracts.hosts.Hosts as hosts
+use Rattle.enet_fleet.specs.Fleets.{Fleet, with_place}
+
+-- afterwards the fleet has that host as it was left, and is as it was where there is none
+abbrev pub LendsPlace : MutBor Fleet → Node → Option (MutBor Place) → Fml
+LendsPlace f n p = LendsIf hosts.the_row place.the_row f p (with_place f.now n) f.now
