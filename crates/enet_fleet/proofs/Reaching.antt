@@ -1,5 +1,5 @@
 -- The fleets that are reached, and what holds of them.
-use Rattle.std.proofs.Common.{◌≡◌, ℕ, suc, ◌≤◌, ◌<◌, ◌+◌, ◌&&◌, ◌||◌, nat_le, Bool, true, false, List, [], ◌∷◌, ◌++◌, length, refl, sym, ap, subst, ◌∙◌, arith, Option, Some, None, Result, Ok, Err, slice_get}
+use Rattle.std.proofs.Common.{◌≡◌, ℕ, suc, ◌≤◌, ◌+◌, ◌&&◌, ◌||◌, nat_le, Bool, true, false, List, [], ◌∷◌, ◌++◌, length, refl, sym, ap, subst, ◌∙◌, arith, Option, Some, None, Result, Ok, Err, slice_get}
 use Rattle.std.specs.Prelude.{is_none}
 use Rattle.std.specs.List.{list_all}
 use Rattle.std.proofs.lemmas.Bool.Decides.{nat_tests}
@@ -25,11 +25,11 @@ use Rattle.enet_fleet.specs.declared.event.FleetEvent.{FleetEvent}
 use Rattle.enet_fleet.specs.declared.event.FleetEvent.TheVariants as happen
 use Rattle.enet_fleet.specs.declared.event.Node.{Node}
 use Rattle.enet_fleet.specs.declared.event.Node.TheVariants.{Server, Client}
-use Rattle.enet_fleet.specs.Fleets.{Fleet, place_of, with_place, address_of, is_host, gone_to, logged_in, logged_to, node_of, lacks, refused_there, refused_delivery, Refuses, RefusesIf, Steps, Runs, open_fleet}
+use Rattle.enet_fleet.specs.Fleets.{Fleet, place_of, with_place, address_of, is_host, gone_to, logged_in, logged_to, node_of, lacks, refused_there, refused_delivery, Refuses, RefusesIf, Steps, open_fleet}
 use Rattle.enet_fleet.specs.Headline.{HasHeadline}
 use Rattle.enet_fleet.specs.Law.{OfEachRun}
 use Rattle.enet_fleet.specs.Reached.{fit, IsReached}
-use Rattle.enet_fleet.proofs.Places.{client-apart, server-apart}
+use Rattle.enet_fleet.proofs.Places.{server-apart}
 use Rattle.enet_fleet.proofs.Holding.{Sound, Holds, each-holds}
 use Rattle.enet_fleet.proofs.Runs.{sound-run, IsAcross, goes-across}
 use Rattle.enet_fleet.proofs.Headlines.{has-headline}

@@ -42,7 +42,7 @@ abbrev pub address_of : Node → Addr
 address_of Server = record { ip = 0x0A000001; port = 7001 }
 address_of (Client i) = record { ip = 0x0A000002; port = 7002 + i }
 
--- where the other host of a connection of a host is, once a client has asked for it
+-- where the other host of a connection is: for a client always the server, for the server the client that asked for it
 abbrev pub far_address : Fleet → Node → ℕ → Option Addr
 far_address f Server x = option_map (λ i. address_of (Client i)) (slice_get f.asked x)
 far_address f (Client i) x = Some (address_of Server)
@@ -158,7 +158,7 @@ Makes f (happen.Take node) (answers.Taken event) e = e ≡ Calls (call.NextEvent
 Makes f (happen.Disconnect node peer how info) answers.Done e = e ≡ Calls (call.Disconnect how peer info (Ok tt))
 Makes f _ _ e = ⊥
 
--- whether a host of an event isn't there, or its stranger's address is a host's
+-- whether E17 applies: a host of the event isn't there, or its stranger's address is a host's
 abbrev pub lacks : Fleet → FleetEvent → Bool
 lacks f (happen.Stranger to addr bytes) = is_none (place_of f to) || is_host (length f.clients) addr
 lacks f (happen.Deliver to from k) = is_none (place_of f to) || is_none (place_of f from)

@@ -25,8 +25,7 @@ const MAX_CLIENTS: usize = 4095;
 /// network between them, which loses, repeats and reorders datagrams as the events say. Strangers are at all other addresses.
 ///
 /// Every fleet is one that steps made of hosts to which nothing had happened, so `step` and `run` promise the headline without any
-/// premise. A step looks at the host of its event and at one other at most: it takes longer where these have more slots or had more
-/// connections, not where there are more hosts.
+/// premise.
 #[derive(Drop)]
 pub struct Fleet {
     alloc: Global,
@@ -106,7 +105,10 @@ impl Fleet {
     /// nothing after a Disconnect, all of the end's own peer. Each peer of a host that is at a host's address is that of an end, so
     /// what is submitted to it or taken from it is kept; no two ends of a host share a connection or a name; a client has ends of just
     /// those connections for which it asked, the server of such alone, and the peer of an end is at the address of the host that has
-    /// the other. As long as the peers of both ends stand, they agree on the numbers of each channel (`numbers`).
+    /// the other. As long as both ends have their peers, in whatever state, these agree on the numbers of each channel below 255: an
+    /// acknowledgement removes a command only if the receiver holds or dispatched it, or no longer dispatches; the front is at most
+    /// 16,384 numbers behind the oldest that wasn't acknowledged; and a wire number that comes in time is read as the number that was
+    /// meant, or as nothing (`numbers`).
     pub fn headline(&self)
         ensures { HasHeadline self.now }
     {
@@ -166,8 +168,8 @@ impl Fleet {
         self.hosts.clients()
     }
 
-    /// What the user of an end of a connection has submitted on a channel, in order; empty where there is no such connection or
-    /// channel.
+    /// The packets of the user of an end of a connection that were accepted on a channel, in order; empty where there is no such
+    /// connection or channel.
     pub fn submitted(&self, conn: u64, end: End, channel: u8) -> &[Packet]
         ensures { result.now ≡ submitted_at channel (end_at self.now conn end) }
     {
@@ -177,8 +179,8 @@ impl Fleet {
         }
     }
 
-    /// What the user of the other end has taken of what the user of an end submitted so, in order; empty where there is no such
-    /// connection or channel.
+    /// The packets that the user of the other end has taken on that channel, unsequenced ones too, in order; empty where there is no
+    /// such connection or channel.
     pub fn dispatched(&self, conn: u64, end: End, channel: u8) -> &[Packet]
         ensures { result.now ≡ taken_at channel (end_at self.now conn (far_end end)) }
     {

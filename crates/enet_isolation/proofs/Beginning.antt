@@ -214,7 +214,7 @@ sessions-all (c ∷ cs) old new steps sound i t there =
       ],
     )
 
-lived-all : (cs : List Call) (old new : Host) (steps : Steps cs old new) (name : PeerRef) (p : Peering) → named new.slots name ≡ Some p → Lived name cs old new steps p
+pub lived-all : (cs : List Call) (old new : Host) (steps : Steps cs old new) (name : PeerRef) (p : Peering) → named new.slots name ≡ Some p → Lived name cs old new steps p
 lived-all [] old new steps name p is = record { first = p; deeds = []; began = inl (ap (λ (h : Host). named h.slots name) steps ∙ is, refl); alone = refl }
 lived-all (c ∷ cs) old new steps name p is = lived-before c cs old new steps name p (lived-all cs steps.0 new steps.2 name p is)
 

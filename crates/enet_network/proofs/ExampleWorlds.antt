@@ -14,7 +14,7 @@ use Rattle.enet_peer.specs.declared.parts.PeerState.TheVariants as state
 use Rattle.enet_peer.specs.declared.parts.PeerEvent.TheVariants as told
 use Rattle.enet_peer.specs.Peering.{Peering, joined}
 use Rattle.enet_peer.specs.CommandEffect.{obeyed}
-use Rattle.enet_peer.specs.Calls.{submission_refusal, submitted, next_event}
+use Rattle.enet_peer.specs.Calls.{submission_refusal, next_event}
 use Rattle.enet_sender.specs.CommandChoice.{Packet}
 use Rattle.enet_connection.specs.Examples.{example_packet, example_terms, example_limits}
 use Rattle.enet_connection.proofs.FirstPacket.{first_message, with_untaken, rest, first-comes}
@@ -57,49 +57,49 @@ message-fits m h =
       fields = all-fit (fields_of m.body) b.1;
     }
 
--- a packet crosses, from a host A to a host B
+-- a packet crosses, from a host B to a host A
 
-abbrev content : Packet
+abbrev pub content : Packet
 content = record { flags = example_packet.flags; body = example_packet.body }
 
-abbrev submitting : Lone → Lone
+abbrev pub submitting : Lone → Lone
 submitting x = after_submission x 0 content
 
-abbrev sending : Lone → Lone → Lone
-sending x y = after_putting A (site B y) (submitting x) first_message
+abbrev pub sending : Lone → Lone → Lone
+sending x y = after_putting B (site A y) (submitting x) first_message
 
--- A's next datagram
-abbrev sent : Lone → Lone → Logged
-sent x y = logged A (site B y) (submitting x) first_message
+-- B's next datagram
+abbrev pub sent : Lone → Lone → Logged
+sent x y = logged B (site A y) (submitting x) first_message
 
-abbrev hearing : Lone → Lone → Peering → Lone
+abbrev pub hearing : Lone → Lone → Peering → Lone
 hearing x y q = after_hearing y (sent x y).text q
 
-abbrev taking : Lone → Lone → Peering → Peering → Lone
+abbrev pub taking : Lone → Lone → Peering → Peering → Lone
 taking x y q u = after_taking (hearing x y q) (events.Receive first_name example_packet) u
 
--- it makes q of the peer of B, and its taking u
-record Crosses (x y : Lone) (k : ℕ) (q u : Peering) : Type 0 where
-  live : x.peer.state ≢ state.Free
-  accepted : submission_refusal x.peer 0 (length content.body) ≡ None
-  puts : PutsOne (submitting x).peer first_message
-  number : k ≡ length x.log
-  brings : Brings (site A (sending x y)) (site B y) B k 0 (header_of (submitting x).peer first_message).session (Some 0) (sent x y) first_message
-  obeys : Obeys B y (header_of (submitting x).peer first_message).session (Some 0) first_message q
-  tells : next_event q ≡ Some (record { event = told.Receive example_packet; after = u })
-  stays : u.state ≢ state.Free
+-- it makes q of the peer of A, and its taking u
+pub record Crosses (x y : Lone) (k : ℕ) (q u : Peering) : Type 0 where
+  pub live : x.peer.state ≢ state.Free
+  pub accepted : submission_refusal x.peer 0 (length content.body) ≡ None
+  pub puts : PutsOne (submitting x).peer first_message
+  pub number : k ≡ length x.log
+  pub brings : Brings (site B (sending x y)) (site A y) A k 0 (header_of (submitting x).peer first_message).session (Some 0) (sent x y) first_message
+  pub obeys : Obeys A y (header_of (submitting x).peer first_message).session (Some 0) first_message q
+  pub tells : next_event q ≡ Some (record { event = told.Receive example_packet; after = u })
+  pub stays : u.state ≢ state.Free
 
-crosses : (x y : Lone) (k : ℕ) (q u : Peering) → Crosses x y k q u → Runs (between A (site A x) (site B y)) (crossing k) (crossed k) (between A (site A (sending x y)) (site B (taking x y q u)))
+crosses : (x y : Lone) (k : ℕ) (q u : Peering) → Crosses x y k q u → Runs (between B (site B x) (site A y)) (crossing k) (crossed k) (between B (site B (sending x y)) (site A (taking x y q u)))
 crosses x y k q u c = (
-  between A (site A (submitting x)) (site B y),
-  submit A (site B y) x 0 content c.accepted c.live,
+  between B (site B (submitting x)) (site A y),
+  submit B (site A y) x 0 content c.accepted c.live,
   (
-    between A (site A (sending x y)) (site B y),
-    turn A (site B y) (submitting x) first_message k c.puts c.number,
+    between B (site B (sending x y)) (site A y),
+    turn B (site A y) (submitting x) first_message k c.puts c.number,
     (
-      between A (site A (sending x y)) (site B (hearing x y q)),
-      deliver B (site A (sending x y)) y k (header_of (submitting x).peer first_message).session (Some 0) (sent x y) first_message q c.brings c.obeys,
-      (between A (site A (sending x y)) (site B (taking x y q u)), take_event B (site A (sending x y)) (hearing x y q) u (told.Receive example_packet) c.tells c.stays, refl),
+      between B (site B (sending x y)) (site A (hearing x y q)),
+      deliver A (site B (sending x y)) y k (header_of (submitting x).peer first_message).session (Some 0) (sent x y) first_message q c.brings c.obeys,
+      (between B (site B (sending x y)) (site A (taking x y q u)), take_event A (site B (sending x y)) (hearing x y q) u (told.Receive example_packet) c.tells c.stays, refl),
     ),
   ),
 )
@@ -129,99 +129,99 @@ crosses-idle = record {
 pub crosses-joined : CrossesJoined
 unfolding fresh_channels
 crosses-joined = (
-  between A (site A (sending idle idle)) (site B (taking idle idle (with_untaken idle.peer (example_packet ∷ rest)) (with_untaken idle.peer rest))),
+  between B (site B (sending idle idle)) (site A (taking idle idle (with_untaken idle.peer (example_packet ∷ rest)) (with_untaken idle.peer rest))),
   crosses idle idle 0 (with_untaken idle.peer (example_packet ∷ rest)) (with_untaken idle.peer rest) crosses-idle,
-  record { one = stands A (sending idle idle); two = stands B (taking idle idle (with_untaken idle.peer (example_packet ∷ rest)) (with_untaken idle.peer rest)); submitted = refl; taken = refl },
+  record { one = stands B (sending idle idle); two = stands A (taking idle idle (with_untaken idle.peer (example_packet ∷ rest)) (with_untaken idle.peer rest)); submitted = refl; taken = refl },
 )
 
--- between two hosts whose slots are free: A asks, B answers, and three datagrams come
+-- between two hosts whose slots are free: B asks, A answers, and three datagrams come
 
-abbrev offer : Offer
+abbrev pub offer : Offer
 offer = offer_with 3 9
 
-abbrev reliable : Head
+abbrev pub reliable : Head
 reliable = record { acknowledge = true; unsequenced = false; channel = 0xFF; number = 1 }
 
-abbrev asking_message : Message
+abbrev pub asking_message : Message
 asking_message = record { head = reliable; body = connect offer }
 
-abbrev verifying_message : Message
+abbrev pub verifying_message : Message
 verifying_message = record { head = reliable; body = verify_connect (verification_of offer (server_from example_config 0 unused_slot)) }
 
-abbrev confirming_message : Message
+abbrev pub confirming_message : Message
 confirming_message = record { head = record { acknowledge = false; unsequenced = false; channel = 0xFF; number = 1 }; body = acknowledge 1 0 }
 
-abbrev asking : Lone
+abbrev pub asking : Lone
 asking = beginning no_totals (asking_peer offer)
 
-abbrev asked : Lone
-asked = after_putting A (free_site B) asking asking_message
+abbrev pub asked : Lone
+asked = after_putting B (free_site A) asking asking_message
 
-abbrev ask : Logged
-ask = logged A (free_site B) asking asking_message
+abbrev pub ask : Logged
+ask = logged B (free_site A) asking asking_message
 
-abbrev answering : Lone
+abbrev pub answering : Lone
 answering = beginning (with_datagram_in no_totals (length ask.text)) (answering_peer offer)
 
-abbrev verified : Lone
-verified = after_putting B (site A asked) answering verifying_message
+abbrev pub verified : Lone
+verified = after_putting A (site B asked) answering verifying_message
 
-abbrev verify : Logged
-verify = logged B (site A asked) answering verifying_message
+abbrev pub verify : Logged
+verify = logged A (site B asked) answering verifying_message
 
-abbrev welcomed : Lone
+abbrev pub welcomed : Lone
 welcomed = after_hearing asked verify.text (obeyed asked.peer 0 (Some 0) verifying_message).after
 
-abbrev confirmed : Lone
-confirmed = after_putting A (site B verified) welcomed confirming_message
+abbrev pub confirmed : Lone
+confirmed = after_putting B (site A verified) welcomed confirming_message
 
-abbrev confirm : Logged
-confirm = logged A (site B verified) welcomed confirming_message
+abbrev pub confirm : Logged
+confirm = logged B (site A verified) welcomed confirming_message
 
-abbrev standing : Lone
+abbrev pub standing : Lone
 standing = after_hearing verified confirm.text (obeyed verified.peer 0 None confirming_message).after
 
 -- both users are told
-abbrev told_a : Lone
-told_a = after_taking confirmed (events.Connect first_name 0) (record confirmed.peer { greeting = None })
+abbrev pub told_asker : Lone
+told_asker = after_taking confirmed (events.Connect first_name 0) (record confirmed.peer { greeting = None })
 
-abbrev told_b : Lone
-told_b = after_taking standing (events.Connect first_name 3) (record standing.peer { greeting = None })
+abbrev pub told_answerer : Lone
+told_answerer = after_taking standing (events.Connect first_name 3) (record standing.peer { greeting = None })
 
-puts-ask : PutsOne asking.peer asking_message
+pub puts-ask : PutsOne asking.peer asking_message
 puts-ask = record { messages = refl; live = λ e. absurd (cc); ranges = message-fits asking_message refl; plain = refl }
 
-brings-ask : Brings (site A asked) (free_site B) B 0 0xFFF (header_of asking.peer asking_message).session (Some 0) ask asking_message
+pub brings-ask : Brings (site B asked) (free_site A) A 0 0xFFF (header_of asking.peer asking_message).session (Some 0) ask asking_message
 unfolding fresh_greatest
 brings-ask = record { there = refl; at = refl; of = refl; in_time = refl; spelled = spells asking.peer asking_message puts-ask; plain = refl }
 
-puts-verify : PutsOne answering.peer verifying_message
+pub puts-verify : PutsOne answering.peer verifying_message
 puts-verify = record { messages = refl; live = λ e. absurd (cc); ranges = message-fits verifying_message refl; plain = refl }
 
-brings-verify : Brings (site B verified) (site A asked) A 0 0 (header_of answering.peer verifying_message).session (Some 0) verify verifying_message
+pub brings-verify : Brings (site A verified) (site B asked) B 0 0 (header_of answering.peer verifying_message).session (Some 0) verify verifying_message
 unfolding fresh_greatest
 brings-verify = record { there = refl; at = refl; of = refl; in_time = refl; spelled = spells answering.peer verifying_message puts-verify; plain = refl }
 
-puts-confirm : PutsOne welcomed.peer confirming_message
+pub puts-confirm : PutsOne welcomed.peer confirming_message
 puts-confirm = record { messages = refl; live = λ e. absurd (cc); ranges = message-fits confirming_message refl; plain = refl }
 
-brings-confirm : Brings (site A confirmed) (site B verified) B 1 0 (header_of welcomed.peer confirming_message).session None confirm confirming_message
+pub brings-confirm : Brings (site B confirmed) (site A verified) A 1 0 (header_of welcomed.peer confirming_message).session None confirm confirming_message
 unfolding fresh_greatest
 brings-confirm = record { there = refl; at = refl; of = refl; in_time = refl; spelled = spells welcomed.peer confirming_message puts-confirm; plain = refl }
 
-puts-packet-told : PutsOne (submitting told_a).peer first_message
+puts-packet-told : PutsOne (submitting told_asker).peer first_message
 unfolding cutting.piece_count
 puts-packet-told = record { messages = refl; live = λ e. absurd (cc); ranges = message-fits first_message refl; plain = refl }
 
-crosses-told : Crosses told_a told_b 2 (with_untaken told_b.peer (example_packet ∷ rest)) (with_untaken told_b.peer rest)
+pub crosses-told : Crosses told_asker told_answerer 2 (with_untaken told_answerer.peer (example_packet ∷ rest)) (with_untaken told_answerer.peer rest)
 unfolding fresh_greatest cutting.piece_count
 crosses-told = record {
   live = λ e. absurd (cc);
   accepted = refl;
   puts = puts-packet-told;
   number = refl;
-  brings = record { there = refl; at = refl; of = refl; in_time = refl; spelled = spells (submitting told_a).peer first_message puts-packet-told; plain = refl };
-  obeys = record { let_in = refl; goes = (first-comes told_b.peer).0; after = sym (first-comes told_b.peer).1; live = λ e. absurd (cc) };
+  brings = record { there = refl; at = refl; of = refl; in_time = refl; spelled = spells (submitting told_asker).peer first_message puts-packet-told; plain = refl };
+  obeys = record { let_in = refl; goes = (first-comes told_answerer.peer).0; after = sym (first-comes told_answerer.peer).1; live = λ e. absurd (cc) };
   tells = refl;
   stays = λ e. absurd (cc);
 }
@@ -229,37 +229,37 @@ crosses-told = record {
 pub crosses-opened : CrossesOpened
 unfolding fresh_channels
 crosses-opened = (
-  between A (site A (sending told_a told_b)) (site B (taking told_a told_b (with_untaken told_b.peer (example_packet ∷ rest)) (with_untaken told_b.peer rest))),
+  between B (site B (sending told_asker told_answerer)) (site A (taking told_asker told_answerer (with_untaken told_answerer.peer (example_packet ∷ rest)) (with_untaken told_answerer.peer rest))),
   (
-    between A (site A asking) (free_site B),
+    between B (site B asking) (free_site A),
     connect_event 3 9,
     (
-      between A (site A asked) (free_site B),
-      turn A (free_site B) asking asking_message 0 puts-ask refl,
+      between B (site B asked) (free_site A),
+      turn B (free_site A) asking asking_message 0 puts-ask refl,
       (
-        between A (site A asked) (site B answering),
-        deliver_offer (site A asked) 0 (header_of asking.peer asking_message).session (Some 0) ask reliable offer refl brings-ask,
+        between B (site B asked) (site A answering),
+        deliver_offer (site B asked) 0 (header_of asking.peer asking_message).session (Some 0) ask reliable offer refl brings-ask,
         (
-          between A (site A asked) (site B verified),
-          turn B (site A asked) answering verifying_message 0 puts-verify refl,
+          between B (site B asked) (site A verified),
+          turn A (site B asked) answering verifying_message 0 puts-verify refl,
           (
-            between A (site A welcomed) (site B verified),
-            deliver A (site B verified) asked 0 (header_of answering.peer verifying_message).session (Some 0) verify verifying_message welcomed.peer brings-verify
+            between B (site B welcomed) (site A verified),
+            deliver B (site A verified) asked 0 (header_of answering.peer verifying_message).session (Some 0) verify verifying_message welcomed.peer brings-verify
                 (record { let_in = refl; goes = refl; after = refl; live = λ e. absurd (cc) }),
             (
-              between A (site A confirmed) (site B verified),
-              turn A (site B verified) welcomed confirming_message 1 puts-confirm refl,
+              between B (site B confirmed) (site A verified),
+              turn B (site A verified) welcomed confirming_message 1 puts-confirm refl,
               (
-                between A (site A confirmed) (site B standing),
-                deliver B (site A confirmed) verified 1 (header_of welcomed.peer confirming_message).session None confirm confirming_message standing.peer brings-confirm
+                between B (site B confirmed) (site A standing),
+                deliver A (site B confirmed) verified 1 (header_of welcomed.peer confirming_message).session None confirm confirming_message standing.peer brings-confirm
                     (record { let_in = refl; goes = refl; after = refl; live = λ e. absurd (cc) }),
                 (
-                  between A (site A told_a) (site B standing),
-                  take_event A (site B standing) confirmed told_a.peer (told.Connect 0) refl (λ e. absurd (cc)),
+                  between B (site B told_asker) (site A standing),
+                  take_event B (site A standing) confirmed told_asker.peer (told.Connect 0) refl (λ e. absurd (cc)),
                   (
-                    between A (site A told_a) (site B told_b),
-                    take_event B (site A told_a) standing told_b.peer (told.Connect 3) refl (λ e. absurd (cc)),
-                    crosses told_a told_b 2 (with_untaken told_b.peer (example_packet ∷ rest)) (with_untaken told_b.peer rest) crosses-told,
+                    between B (site B told_asker) (site A told_answerer),
+                    take_event A (site B told_asker) standing told_answerer.peer (told.Connect 3) refl (λ e. absurd (cc)),
+                    crosses told_asker told_answerer 2 (with_untaken told_answerer.peer (example_packet ∷ rest)) (with_untaken told_answerer.peer rest) crosses-told,
                   ),
                 ),
               ),
@@ -269,5 +269,5 @@ crosses-opened = (
       ),
     ),
   ),
-  record { one = stands A (sending told_a told_b); two = stands B (taking told_a told_b (with_untaken told_b.peer (example_packet ∷ rest)) (with_untaken told_b.peer rest)); submitted = refl; taken = refl },
+  record { one = stands B (sending told_asker told_answerer); two = stands A (taking told_asker told_answerer (with_untaken told_answerer.peer (example_packet ∷ rest)) (with_untaken told_answerer.peer rest)); submitted = refl; taken = refl },
 )

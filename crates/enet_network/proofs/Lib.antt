@@ -23,3 +23,4 @@ pub mod Agreed
 pub mod Headlines
 pub mod LoneSites
 pub mod ExampleWorlds
+pub mod Alone

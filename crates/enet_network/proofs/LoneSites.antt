@@ -1,10 +1,11 @@
 -- A host of one slot, which a peer holds that is of connection 0: what its calls come to.
-use Rattle.std.proofs.Common.{◌≡◌, ◌≢◌, ◌≤◌, ℕ, zero, suc, ◌+◌, min, false, inl, inr, List, [], ◌∷◌, ◌++◌, length, map, take, refl, sym, ap, subst, ◌∙◌, arith, Option, Some, None, Ok, slice_get}
+use Rattle.std.proofs.Common.{◌≡◌, ◌≢◌, ◌≤◌, ℕ, zero, suc, ◌+◌, min, Bool, false, true, inl, inr, List, [], ◌∷◌, ◌++◌, length, map, take, refl, sym, ap, subst, ◌∙◌, arith, Option, Some, None, Ok, slice_get}
 use Rattle.std.proofs.lemmas.List.{append-nil}
 use Rattle.std.specs.Option.{is_some}
 use Rattle.enet_types.specs.declared.address.Addr.{Addr}
 use Rattle.enet_types.specs.declared.event.Event.{Event}
 use Rattle.enet_types.specs.declared.refusal.Refusal.{Refusal}
+use Rattle.enet_types.specs.declared.stop.Stop.TheVariants.{Short}
 use Rattle.enet_codec.specs.declared.command.Head.{Head}
 use Rattle.enet_codec.specs.declared.command.Offer.{Offer}
 use Rattle.enet_codec.specs.declared.header.Header.{Header}
@@ -13,7 +14,7 @@ use Rattle.enet_codec.specs.Message.{Message, IsMessage, Spells, connect}
 use Rattle.enet_codec.specs.Datagram.{SpellsAll, SpellsDatagram}
 use Rattle.enet_codec.proofs.Datagrams.{some-bytes}
 use Rattle.enet_datagram.specs.Handling.{Handles, nothing_left, goes_on}
-use Rattle.enet_datagram.specs.Heading.{is_compressed, IsRead, IsOffer}
+use Rattle.enet_datagram.specs.Heading.{is_compressed, too_short, IsRead, IsOffer}
 use Rattle.enet_sender.specs.CommandChoice.{Packet}
 use Rattle.enet_outbox.specs.Emission.{Filling, datagram, header_for, filled, HasDatagram}
 use Rattle.enet_outbox.proofs.Spelled.{datagram-spelled}
@@ -27,13 +28,13 @@ use Rattle.enet_peer.specs.Calls.{Taken, submission_refusal, submitted, pace_of,
 use Rattle.enet_slot.specs.Slot.{SlotState, greatest}
 use Rattle.enet_slot.specs.Calls.{event_of, submitted_unless, kept}
 use Rattle.enet_slot.specs.Giving.{unused_slot, limits_of, offer_from, server_from}
-use Rattle.enet_slot.specs.Hearing.{refused_by_slot, no_peer, Hears}
+use Rattle.enet_slot.specs.Hearing.{refused_by_slot, no_peer, stopped, Hears}
 use Rattle.enet_slot.specs.Serving.{with_emitted, Gives}
 use Rattle.enet_host.specs.declared.totals.Totals.{Totals}
 use Rattle.enet_host.specs.Host.{Host}
 use Rattle.enet_host.specs.Calls.{put_back}
 use Rattle.enet_host.specs.Opening.{no_totals, asks}
-use Rattle.enet_host.specs.Receiving.{Arrives, heard, offered, answers, offer_refused, handled_one, with_datagram_in}
+use Rattle.enet_host.specs.Receiving.{Arrives, unreadable, heard, offered, answers, offer_refused, handled_one, with_datagram_in}
 use Rattle.enet_host.specs.Serving.{InTurn, with_datagram_out}
 use Rattle.enet_isolation.specs.Calls as call
 use Rattle.enet_isolation.proofs.Slots.{held}
@@ -46,7 +47,7 @@ use Rattle.enet_network.specs.Log.{Logged, ChannelPackets, fresh_channels, fresh
 use Rattle.enet_network.specs.Marks.{MarksOf}
 use Rattle.enet_network.specs.Network.{HostEnd, Site, fresh_end, numbers_of, delivery_refusal}
 use Rattle.enet_network.specs.Numbers.{Stands}
-use Rattle.enet_network.specs.Steps.{Calls, Hears as HearsIt, packets_by, after_event, BringsOne, Happens}
+use Rattle.enet_network.specs.Steps.{Calls, Hears as HearsIt, Called, Logs, LogsIf, Around, packets_by, after_event, beside, BringsOne, Happens, HappensAmong}
 use Rattle.enet_network.specs.World.{World, other, address_of, Steps, open_site, open_world}
 use Rattle.enet_network.proofs.Marked.{marks_of}
 use Rattle.enet_network.proofs.Submitting.{same-some}
@@ -87,7 +88,7 @@ after_submission x channel q = record x {
   channels = with_packets x.channels channel (with_submitted_packet (record { channel = channel; flags = q.flags; body = q.body }));
 }
 
-submits : (next : ℕ) (side : Side) (far : Site) (x : Lone) (channel : ℕ) (q : Packet) → submission_refusal x.peer channel (length q.body) ≡ None → x.peer.state ≢ state.Free
+pub submits : (next : ℕ) (side : Side) (far : Site) (x : Lone) (channel : ℕ) (q : Packet) → submission_refusal x.peer channel (length q.body) ≡ None → x.peer.state ≢ state.Free
     → Happens next far (Calls (call.Submit first_name channel q (Ok tt))) (site side x) (site side (after_submission x channel q))
 submits next side far x channel q fits live = (
   (
@@ -108,7 +109,7 @@ ends-taken x q (told.Connect info) = refl
 ends-taken x q (told.Receive packet) = refl
 ends-taken x q (told.Disconnect info) = refl
 
-takes : (next : ℕ) (side : Side) (far : Site) (x : Lone) (q : Peering) (e : PeerEvent) → next_event x.peer ≡ Some (record { event = e; after = q }) → q.state ≢ state.Free
+pub takes : (next : ℕ) (side : Side) (far : Site) (x : Lone) (q : Peering) (e : PeerEvent) → next_event x.peer ≡ Some (record { event = e; after = q }) → q.state ≢ state.Free
     → Happens next far (Calls (call.NextEvent (Some (event_of first_name e)))) (site side x) (site side (after_taking x (event_of first_name e) q))
 takes next side far x q e tells live = (
   record {
@@ -193,34 +194,11 @@ marks-spelled (suc most) (m ∷ ms) bytes few s = inr (record {
   joined = refl;
 })
 
-puts-out : (next : ℕ) (side : Side) (far : Site) (x : Lone) (m : Message) → PutsOne x.peer m
-    → Happens next far (Calls (call.Service (Some (first_name, address_of (other side), length (text_of x.peer m))) (text_of x.peer m))) (site side x) (site side (after_putting side far x m))
-puts-out next side far x m k = (
+pub puts-out : (w : Around) (from : Site) (side : Side) (far : Site) (x : Lone) (m : Message) → w.is_host (address_of (other side)) ≡ true → w.numbers 0 ≡ numbers_of far 0 → PutsOne x.peer m
+    → HappensAmong w from (Calls (call.Service (Some (first_name, address_of (other side), length (text_of x.peer m))) (text_of x.peer m))) (site side x) (site side (after_putting side far x m))
+puts-out w from side far x m host numbers k = (
   (record { slot = old; there = refl; named = refl; addressed = refl; slots = in-turn; count = refl }, refl),
-  record {
-    own = end_of x;
-    there = inl refl;
-    name = refl;
-    header = header_of x.peer m;
-    commands = spelled.commands;
-    read = record { front = spelled.front; split = spelled.split; spelled = spelled.header; plain = ap is_compressed all ∙ k.plain };
-    greatest = numbers_after x.numbers m;
-    marks = (logged side far x m).marks;
-    counts = record {
-      read = marks_of (m ∷ []);
-      marked = inl (record {
-        header = header_of x.peer m;
-        front = spelled.front;
-        commands = spelled.commands;
-        split = spelled.split;
-        spelled = spelled.header;
-        marked = marks-spelled 32 (m ∷ []) spelled.commands (omega arith) spelled.messages;
-      });
-      counted = refl;
-      noted = refl;
-    };
-    rest = ap (λ (bytes : List ℕ). record (site side (after_putting side far x m)) { log = x.log ++ (record (logged side far x m) { text = bytes }) ∷ [] }) (sym all);
-  },
+  subst (λ (b : Bool). LogsIf b w.numbers (first_name, address_of (other side), length text) text (site side x) (site side (after_putting side far x m))) (sym host) logs,
 )
   where
     text : List ℕ
@@ -259,6 +237,32 @@ puts-out next side far x m k = (
     }
     in-turn (suc i) s u a b = absurd (let e : ◌≡◌ {A = Option SlotState} None (Some s) = a in cc)
 
+    logs : Logs w.numbers (first_name, address_of (other side), length text) text (site side x) (site side (after_putting side far x m))
+    logs = record {
+      own = end_of x;
+      there = inl refl;
+      name = refl;
+      header = header_of x.peer m;
+      commands = spelled.commands;
+      read = record { front = spelled.front; split = spelled.split; spelled = spelled.header; plain = ap is_compressed all ∙ k.plain };
+      greatest = numbers_after x.numbers m;
+      marks = (logged side far x m).marks;
+      counts = record {
+        read = marks_of (m ∷ []);
+        marked = inl (record {
+          header = header_of x.peer m;
+          front = spelled.front;
+          commands = spelled.commands;
+          split = spelled.split;
+          spelled = spelled.header;
+          marked = marks-spelled 32 (m ∷ []) spelled.commands (omega arith) spelled.messages;
+        });
+        counted = refl;
+        noted = ap (λ (other : List ℕ). map (reached (numbers_after x.numbers m) other) (marks_of (m ∷ []))) (sym numbers);
+      };
+      rest = ap (λ (bytes : List ℕ). record (site side (after_putting side far x m)) { log = x.log ++ (record (logged side far x m) { text = bytes }) ∷ [] }) (sym all);
+    }
+
 -- datagram k of the other host comes, which has the command m alone and is refused for no reason
 
 pub record Brings (from to : Site) (side : Side) (k peer session : ℕ) (sent : Option ℕ) (d : Logged) (m : Message) : Type 0 where
@@ -284,7 +288,7 @@ pub record Obeys (side : Side) (x : Lone) (session : ℕ) (sent : Option ℕ) (m
   pub after : q ≡ (obeyed x.peer 0 sent m).after
   pub live : q.state ≢ state.Free
 
-hears : (next : ℕ) (side : Side) (from : Site) (x : Lone) (k session : ℕ) (sent : Option ℕ) (d : Logged) (m : Message) (q : Peering) → Brings from (site side x) side k 0 session sent d m → Obeys side x session sent m q
+pub hears : (next : ℕ) (side : Side) (from : Site) (x : Lone) (k session : ℕ) (sent : Option ℕ) (d : Logged) (m : Message) (q : Peering) → Brings from (site side x) side k 0 session sent d m → Obeys side x session sent m q
     → Happens next from (HearsIt k handled_one) (site side x) (site side (after_hearing x d.text q))
 hears next side from x k session sent d m q b o =
     subst (λ (found : Option Logged). BringsOne from found handled_one (site side x) (site side (after_hearing x d.text q))) (sym b.there) (b.in_time, (record { arrives = arrives; rest = refl }, refl))
@@ -309,6 +313,10 @@ hears next side from x k session sent d m q b o =
     arrives = subst (λ (a : Addr). Arrives example_config 0 (old ∷ []) a d.text handled_one (new ∷ [])) (sym b.at)
         (heard (record { peer = 0; session = session; compressed = false; sent = sent }) s.commands old new handled_one (read-of from (site side x) side k 0 session sent d m b) (λ e. omega arith) o.let_in refl hears-it)
 
+-- a stranger's datagram without a byte
+pub hears-nothing : (next : ℕ) (side : Side) (x : Lone) (from : Addr) → Called next (call.Receive from [] (stopped Short)) (site side x) (site side (after_hearing x [] x.peer))
+hears-nothing next side x from = (record { arrives = unreadable Short (too_short (omega arith)); rest = refl }, refl)
+
 -- an end begins, where the user asks for a connection or an offer comes
 
 abbrev pub free_site : Side → Site
@@ -327,11 +335,11 @@ asking_peer o = peers.connecting 0 o (limits_of example_config)
 abbrev pub answering_peer : Offer → Peering
 answering_peer o = peers.answering 0 o (server_from example_config 0 unused_slot) (limits_of example_config)
 
-asks-first : (side : Side) (far : Site) (info word : ℕ) → far.address ≡ address_of (other side)
+pub asks-first : (side : Side) (far : Site) (info word : ℕ) → far.address ≡ address_of (other side)
     → Happens 0 far (Calls (call.Connect (address_of (other side)) 1 info word (Ok first_name))) (free_site side) (site side (beginning no_totals (asking_peer (offer_with info word))))
 asks-first side far info word at = (sym at, ((asks 0 unused_slot (λ e. omega arith) refl refl, refl), refl))
 
-answers-first : (side : Side) (from : Site) (k session : ℕ) (sent : Option ℕ) (d : Logged) (head : Head) (o : Offer) → offer_refused o ≡ None
+pub answers-first : (side : Side) (from : Site) (k session : ℕ) (sent : Option ℕ) (d : Logged) (head : Head) (o : Offer) → offer_refused o ≡ None
     → Brings from (free_site side) side k no_peer session sent d (record { head = head; body = connect o })
     → Happens 1 from (HearsIt k handled_one) (free_site side) (site side (beginning (with_datagram_in no_totals (length d.text)) (answering_peer o)))
 answers-first side from k session sent d head o fits b =
@@ -372,12 +380,12 @@ pub turn : (side : Side) (far : Site) (x : Lone) (m : Message) (k : ℕ) → Put
 turn A far x m k puts number = (
   Calls (call.Service (Some (first_name, address_of B, length (text_of x.peer m))) (text_of x.peer m)),
   ((first_name, address_of B, length (text_of x.peer m)), text_of x.peer m, refl, number),
-  record { here = puts-out 1 A far x m puts; there = refl; count = refl },
+  record { here = puts-out (beside 1 far) far A far x m refl refl puts; there = refl; count = refl },
 )
 turn B far x m k puts number = (
   Calls (call.Service (Some (first_name, address_of A, length (text_of x.peer m))) (text_of x.peer m)),
   ((first_name, address_of A, length (text_of x.peer m)), text_of x.peer m, refl, number),
-  record { here = puts-out 1 B far x m puts; there = refl; count = refl },
+  record { here = puts-out (beside 1 far) far B far x m refl refl puts; there = refl; count = refl },
 )
 
 pub deliver : (side : Side) (from : Site) (x : Lone) (k session : ℕ) (sent : Option ℕ) (d : Logged) (m : Message) (q : Peering) → Brings from (site side x) side k 0 session sent d m → Obeys side x session sent m q
@@ -390,12 +398,12 @@ pub take_event : (side : Side) (far : Site) (x : Lone) (q : Peering) (e : PeerEv
 take_event A far x q e tells live = (Calls (call.NextEvent (Some (event_of first_name e))), refl, record { here = takes 1 A far x q e tells live; there = refl; count = refl })
 take_event B far x q e tells live = (Calls (call.NextEvent (Some (event_of first_name e))), refl, record { here = takes 1 B far x q e tells live; there = refl; count = refl })
 
--- and where A asks for it, and its CONNECT comes to B
+-- and where B asks for it, and its CONNECT comes to A
 
 pub connect_event : (info word : ℕ)
-    → Steps (open_world example_config example_config) (happen.Connect A 1 info word) (Ok (answer.Peer first_name)) (between A (site A (beginning no_totals (asking_peer (offer_with info word)))) (free_site B))
-connect_event info word = (Calls (call.Connect (address_of B) 1 info word (Ok first_name)), refl, record { here = asks-first A (free_site B) info word refl; there = refl; count = refl })
+    → Steps (open_world example_config example_config) (happen.Connect B 1 info word) (Ok (answer.Peer first_name)) (between B (site B (beginning no_totals (asking_peer (offer_with info word)))) (free_site A))
+connect_event info word = (Calls (call.Connect (address_of A) 1 info word (Ok first_name)), refl, record { here = asks-first B (free_site A) info word refl; there = refl; count = refl })
 
-pub deliver_offer : (from : Site) (k session : ℕ) (sent : Option ℕ) (d : Logged) (head : Head) (o : Offer) → offer_refused o ≡ None → Brings from (free_site B) B k no_peer session sent d (record { head = head; body = connect o })
-    → Steps (between B (free_site B) from) (happen.Deliver B k) (Ok (answer.Received handled_one)) (between B (site B (beginning (with_datagram_in no_totals (length d.text)) (answering_peer o))) from)
-deliver_offer from k session sent d head o fits b = (HearsIt k handled_one, refl, record { here = answers-first B from k session sent d head o fits b; there = refl; count = refl })
+pub deliver_offer : (from : Site) (k session : ℕ) (sent : Option ℕ) (d : Logged) (head : Head) (o : Offer) → offer_refused o ≡ None → Brings from (free_site A) A k no_peer session sent d (record { head = head; body = connect o })
+    → Steps (between A (free_site A) from) (happen.Deliver A k) (Ok (answer.Received handled_one)) (between A (site A (beginning (with_datagram_in no_totals (length d.text)) (answering_peer o))) from)
+deliver_offer from k session sent d head o fits b = (HearsIt k handled_one, refl, record { here = answers-first A from k session sent d head o fits b; there = refl; count = refl })

@@ -53,10 +53,10 @@ IsFrom from (call.Receive address bytes answer) = address ≡ from
 IsFrom from c = Unit {0}
 
 -- the call that a thing is, with the other host's address where an end begins
-record IsCall (w : Around) (from old new : Site) (what : Happening) : Type 0 where
-  made : Call
-  acts : Acts made old.host new.host
-  speaks : (f : HostEnd) → Has (more_of w.count from old new what) f → IsFrom from.address made
+pub record IsCall (w : Around) (from old new : Site) (what : Happening) : Type 0 where
+  pub made : Call
+  pub acts : Acts made old.host new.host
+  pub speaks : (f : HostEnd) → Has (more_of w.count from old new what) f → IsFrom from.address made
 
 speaks-of : (w : Around) (from old new : Site) (c : Call) → HappensAmong w from (Calls c) old new → (f : HostEnd) → Has (more_of w.count from old new (Calls c)) f → IsFrom from.address c
 speaks-of w from old new (call.Connect address channels info word answer) x f h = x.0
@@ -67,7 +67,7 @@ brings-from : (from old new : Site) (answer : Received) (found : Option Logged) 
 brings-from from old new answer None x = absurd x
 brings-from from old new answer (Some d) x = (call.Receive from.address d.text answer, x.1.0, refl)
 
-call-from : (w : Around) (from old new : Site) (what : Happening) → HappensAmong w from what old new → IsCall w from old new what
+pub call-from : (w : Around) (from old new : Site) (what : Happening) → HappensAmong w from what old new → IsCall w from old new what
 call-from w from old new (Calls c) x = record { made = c; acts = acts-of w from old new c x; speaks = speaks-of w from old new c x }
 call-from w from old new (Hears k answer) x = (let b = brings-from from old new answer (slice_get from.log k) x in record { made = b.0; acts = b.1; speaks = λ f h. b.2 })
 

@@ -1,28 +1,16 @@
 -- Each peer of a host that is at a host's address is that of an end.
-use Rattle.std.proofs.Common.{◌≡◌, ◌<◌, ℕ, zero, suc, Bool, true, false, cond, inl, List, length, map, replicate, refl, sym, ap, subst, ◌∙◌, arith, Option, Some, None, Result, Ok, Err, slice_get, slice_set}
-use Rattle.std.proofs.lemmas.List.{length-set, length-map}
-use Rattle.std.proofs.lemmas.Option.{slice_get_within}
+use Rattle.std.proofs.Common.{◌≡◌, ℕ, zero, suc, Bool, true, false, inl, List, replicate, refl, sym, ap, subst, ◌∙◌, Option, Some, None, slice_get, slice_set}
 use Rattle.enet_types.specs.declared.address.Addr.{Addr}
 use Rattle.enet_types.specs.declared.event.PeerRef.{PeerRef}
-use Rattle.enet_types.specs.declared.event.Received.{Received}
-use Rattle.enet_types.specs.declared.refusal.Refusal.{Refusal}
-use Rattle.enet_codec.specs.declared.command.Offer.{Offer}
 use Rattle.enet_peer.specs.declared.parts.PeerState.{PeerState}
 use Rattle.enet_peer.specs.declared.parts.PeerState.TheVariants as state
 use Rattle.enet_peer.specs.Peering.{Peering}
-use Rattle.enet_peer.specs.Calls as peers
 use Rattle.enet_link.specs.Steps.{Has}
-use Rattle.enet_slot.specs.Slot.{SlotState, name_of, with_peer, with_peer_in, changed}
+use Rattle.enet_slot.specs.Slot.{SlotState, name_of, with_peer, with_peer_in}
 use Rattle.enet_host.specs.Host.{Host, slot_named, peer_in, named}
-use Rattle.enet_slot.specs.Calls.{DoesWithMemory, submission, leaving, throttling, pinging, waiting, Does as DoesCall}
-use Rattle.enet_host.specs.Calls.{on_named, address_of, address_in}
-use Rattle.enet_slot.specs.Giving.{unused_slot, asking, answering}
-use Rattle.enet_host.specs.Opening.{Connects, no_channel, no_slot, no_memory, asks}
-use Rattle.enet_host.specs.Receiving.{Offers, Arrives, handled_one}
-use Rattle.enet_host.specs.Receiving as receiving
-use Rattle.enet_slot.specs.Sharing.{is_standing, shared}
-use Rattle.enet_host.specs.Ticking.{clock_after, with_time, is_due, ticked}
-use Rattle.std.specs.List.{count_by}
+use Rattle.enet_host.specs.Calls.{address_of, address_in}
+use Rattle.enet_slot.specs.Giving.{unused_slot}
+use Rattle.enet_host.specs.Receiving.{handled_one}
 use Rattle.enet_isolation.specs.Calls.{Call, Done, Acts}
 use Rattle.enet_isolation.specs.Calls as call
 use Rattle.enet_isolation.specs.Common.{common_of}
@@ -30,8 +18,7 @@ use Rattle.enet_isolation.specs.Falling as falling
 use Rattle.enet_isolation.specs.Law.{Fares, untouched, goes_on, begins}
 use Rattle.enet_isolation.proofs.Counts.{fares-back}
 use Rattle.enet_isolation.proofs.Names.{IsThere, named-there, there-slot}
-use Rattle.enet_isolation.proofs.OneCall.{one-call}
-use Rattle.enet_isolation.proofs.Single.{does-named, begins-at}
+use Rattle.enet_isolation.proofs.Single.{begins-at}
 use Rattle.enet_network.specs.Headline.{AreEnds}
 use Rattle.enet_network.specs.Log.{Logged}
 use Rattle.enet_network.specs.Network.{HostEnd, Site, fresh_end}

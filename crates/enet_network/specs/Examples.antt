@@ -24,27 +24,27 @@ example_config = record { peers = 1; channels = 1; mtu = 576; incoming = 0; outg
 abbrev pub first_name : PeerRef
 first_name = record { slot = 0; generation = 0 }
 
--- A asks for a connection, with the connect id 9 and the word 3 for B's user, and three datagrams come; both users are told
+-- B asks for a connection, with the connect id 9 and the word 3 for A's user, and three datagrams come; both users are told
 abbrev pub connecting : List WorldEvent
-connecting = happen.Connect A 1 3 9 ∷ happen.Turn A ∷ happen.Deliver B 0 ∷ happen.Turn B ∷ happen.Deliver A 0 ∷ happen.Turn A ∷ happen.Deliver B 1 ∷ happen.Take A ∷ happen.Take B ∷ []
+connecting = happen.Connect B 1 3 9 ∷ happen.Turn B ∷ happen.Deliver A 0 ∷ happen.Turn A ∷ happen.Deliver B 0 ∷ happen.Turn B ∷ happen.Deliver A 1 ∷ happen.Take B ∷ happen.Take A ∷ []
 
 abbrev pub connected : List (Result Answer Refusal)
 connected = Ok (answers.Peer first_name) ∷ Ok (answers.Sent (Some 0)) ∷ Ok (answers.Received handled_one) ∷ Ok (answers.Sent (Some 0)) ∷ Ok (answers.Received handled_one)
     ∷ Ok (answers.Sent (Some 1)) ∷ Ok (answers.Received handled_one) ∷ Ok (answers.Taken (Some (events.Connect first_name 0))) ∷ Ok (answers.Taken (Some (events.Connect first_name 3))) ∷ []
 
--- a reliable packet is submitted at A, goes by its datagram k, comes to B and is taken there
+-- a reliable packet is submitted at B, goes by its datagram k, comes to A and is taken there
 abbrev pub crossing : ℕ → List WorldEvent
-crossing k = happen.Submit A first_name 0 example_packet.flags example_packet.body ∷ happen.Turn A ∷ happen.Deliver B k ∷ happen.Take B ∷ []
+crossing k = happen.Submit B first_name 0 example_packet.flags example_packet.body ∷ happen.Turn B ∷ happen.Deliver A k ∷ happen.Take A ∷ []
 
 abbrev pub crossed : ℕ → List (Result Answer Refusal)
 crossed k = Ok answers.Done ∷ Ok (answers.Sent (Some k)) ∷ Ok (answers.Received handled_one) ∷ Ok (answers.Taken (Some (events.Receive first_name example_packet))) ∷ []
 
 -- both ends of connection 0 stand, and the packet is in the lists of both
 pub record HasCrossed (w : World) : Type 0 where
-  pub one : Stands w.a 0
-  pub two : Stands w.b 0
-  pub submitted : submitted_at 0 (end_at w 0 A) ≡ example_packet ∷ []
-  pub taken : taken_at 0 (end_at w 0 B) ≡ example_packet ∷ []
+  pub one : Stands w.b 0
+  pub two : Stands w.a 0
+  pub submitted : submitted_at 0 (end_at w 0 B) ≡ example_packet ∷ []
+  pub taken : taken_at 0 (end_at w 0 A) ≡ example_packet ∷ []
 
 -- from two hosts whose slots are free, with these answers
 abbrev pub CrossesOpened : Type 0

@@ -10,3 +10,4 @@ pub mod Law
 pub mod Numbers
 pub mod Headline
 pub mod Examples
+pub mod Alone

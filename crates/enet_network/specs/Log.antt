@@ -12,7 +12,7 @@ use Rattle.enet_network.specs.declared.mark.MarkKind.TheVariants.{Data, Acknowle
 pub record Logged : Type 0 where
   pub connection : ℕ  -- the number of the connection that it is of
   pub to : Addr  -- where to it went
-  pub peer : ℕ  -- the peer id that its header names: a slot of the taking host, or 0xFFF, which only a CONNECT has
+  pub peer : ℕ  -- the peer id that its header names: a slot of the taking host, or 0xFFF, by which a CONNECT is known
   pub text : List ℕ
   pub marks : List Mark
 

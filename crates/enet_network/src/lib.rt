@@ -11,11 +11,13 @@
 //!
 //! Proved, of these definitions, which the calls of `enet_site` and `enet_world` meet: what happens at a host is events of each of its
 //! connections (`each_thing_is_events`, `each_thing_at`); over every run of two hosts the law of one connection holds of each
-//! (`one_world`), and with it the headline (`each_connection_in_order`). Such runs do happen (`runs_happen`).
+//! (`one_world`), and with it the headline (`each_connection_in_order`); each host is where its own calls lead, so isolation speaks of
+//! its peers (`each_host_by_its_calls`). Such runs do happen (`runs_happen`).
 #![tactic(auto)]
 
 ghost use Rattle.std.specs.Prelude.{true, false};
 ghost use Rattle.enet_network.specs.Law.{OneThing, GoOnAt, Asked, Answered, AreLawful, OfEachRun, OfEachJoinedRun, OfEachList, OfEachJoinedList};
+ghost use Rattle.enet_network.specs.Alone.{EachAlone};
 ghost use Rattle.enet_network.specs.Headline.{HasHeadline};
 ghost use Rattle.enet_network.specs.Examples.{IsInRange, CrossesOpened, CrossesJoined};
 
@@ -92,6 +94,12 @@ pub fn each_connection_in_order()
     ensures joined { OfEachJoinedRun (HasHeadline true) }
     ensures events_opened { OfEachList (HasHeadline false) }
     ensures events_joined { OfEachJoinedList (HasHeadline true) }
+{}
+
+/// Each host of a run is where a list of its own calls leads, of which each event makes one at most: so the law of isolation speaks
+/// of it, and each of its peers is where one peer alone would be, since it began.
+pub fn each_host_by_its_calls()
+    ensures { EachAlone }
 {}
 
 /// Lists of a world's events that do happen, so that the laws above speak of something: a host asks the other for a connection

@@ -153,15 +153,16 @@ impl World {
         self.hosts.happen(self.alloc, event)
     }
 
-    /// What a side's user has submitted on a channel of a connection, in order; empty where there is no such connection or channel.
+    /// The packets of a side's user that were accepted on a channel of a connection, in order; empty where there is no such connection
+    /// or channel.
     pub fn submitted(&self, conn: u64, side: Side, channel: u8) -> &[Packet]
         ensures { result.now ≡ submitted_at channel (end_at self.now.world conn side) }
     {
         self.hosts.site(side).submitted(conn, channel)
     }
 
-    /// What the other side's user has taken of what a side's user submitted so, in order; empty where there is no such connection
-    /// or channel.
+    /// The packets that the other side's user has taken on that channel, unsequenced ones too, in order; empty where there is no such
+    /// connection or channel.
     pub fn dispatched(&self, conn: u64, side: Side, channel: u8) -> &[Packet]
         ensures { result.now ≡ taken_at channel (end_at self.now.world conn (other side)) }
     {

@@ -1,4 +1,4 @@
-use Rattle.std.proofs.Common.{◌≡◌, refl}
+use Rattle.std.proofs.Common.{refl}
 use Rattle.enet_fleet.specs.declared.event.Node.TheVariants.{Server}
 use Rattle.enet_fleet.proofs.Reaching.{refuses-aside}
 use Rattle.enet_fleet.proofs.delivering.deliver.Goals as goal

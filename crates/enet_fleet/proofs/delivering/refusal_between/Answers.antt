@@ -1,4 +1,4 @@
-use Rattle.std.proofs.Common.{◌≡◌, sym}
+use Rattle.std.proofs.Common.{sym}
 use Rattle.enet_fleet.specs.declared.event.Node.TheVariants.{Client}
 use Rattle.enet_fleet.proofs.Reaching.{refuses-aside}
 use Rattle.enet_fleet.proofs.delivering.refusal_between.Goals as goal

@@ -1,0 +1,166 @@
+-- A run of a fleet, of the things that happen in the example of a world: client 0 is where B is, and the server where A is.
+use Rattle.std.proofs.Common.{◌≡◌, ℕ, zero, suc, List, [], ◌∷◌, ◌++◌, length, refl, Some, None, Ok}
+use Rattle.enet_types.specs.declared.event.Event.TheVariants as events
+use Rattle.enet_types.specs.declared.stop.Stop.TheVariants.{Short}
+use Rattle.enet_codec.specs.Message.{Message}
+use Rattle.enet_peer.specs.declared.parts.PeerEvent.TheVariants as told
+use Rattle.enet_peer.specs.Peering.{Peering}
+use Rattle.enet_slot.specs.Hearing.{stopped}
+use Rattle.enet_host.specs.Receiving.{handled_one}
+use Rattle.enet_connection.specs.Examples.{example_packet}
+use Rattle.enet_connection.proofs.FirstPacket.{with_untaken, rest, first_message}
+use Rattle.enet_network.specs.declared.event.Answer.TheVariants as answer
+use Rattle.enet_network.specs.declared.event.Side.TheVariants.{A, B}
+use Rattle.enet_network.specs.Examples.{example_config, first_name}
+use Rattle.enet_network.specs.Log.{fresh_greatest, fresh_channels}
+use Rattle.enet_network.specs.Network.{Site}
+use Rattle.enet_network.specs.World as world
+use Rattle.enet_network.proofs.LoneSites.{Lone, site, stands, submits, takes, PutsOne, after_putting, puts-out, text_of, header_of, after_hearing, hears, hears-nothing, free_site, asks-first, answers-first}
+use Rattle.enet_network.proofs.ExampleWorlds.{content, submitting, sending, sent, hearing, taking, offer, reliable, asking_message, verifying_message, confirming_message, asking, asked, ask, answering, verified, verify, welcomed, confirmed, confirm, standing, told_asker, told_answerer, puts-ask, brings-ask, puts-verify, brings-verify, puts-confirm, brings-confirm, crosses-told}
+use Rattle.enet_site.specs.Places.{Place, opened_at}
+use Rattle.enet_site.specs.declared.put_out.Sent.{Sent}
+use Rattle.enet_site.specs.declared.put_out.Sent.TheVariants.{Of}
+use Rattle.enet_fleet.specs.declared.event.FleetEvent.TheVariants as happen
+use Rattle.enet_fleet.specs.declared.event.Node.TheVariants.{Server, Client}
+use Rattle.enet_fleet.specs.Fleets.{Fleet, address_of, is_host, numbers_far, Steps}
+use Rattle.enet_fleet.specs.Examples as example
+use Rattle.enet_fleet.proofs.Stepping.{asks, submitted, turned, delivered, heard, taken}
+
+-- a host that put out so many datagrams, all of them to hosts
+abbrev numbered : ℕ → List Sent
+numbered zero = []
+numbered (suc n) = numbered n ++ Of n ∷ []
+
+abbrev place : Site → ℕ → Place
+place s n = record { site = s; sent = numbered n }
+
+-- client 0 and the server with as many datagrams, and the connections so far; nothing happens to client 1
+abbrev fleet : Site → ℕ → Site → ℕ → List ℕ → Fleet
+fleet client c server s asked = record { server = place server s; clients = place client c ∷ opened_at (address_of (Client 1)) example_config ∷ []; asked = asked }
+
+abbrev pair : Site → ℕ → Site → ℕ → Fleet
+pair client c server s = fleet client c server s (0 ∷ [])
+
+-- a datagram is put out by client 0, and by the server
+
+client-turns : (x : Lone) (c : ℕ) (server : Site) (s : ℕ) (m : Message) → PutsOne x.peer m → c ≡ length (numbered c) → numbered (suc c) ≡ numbered c ++ Of (length x.log) ∷ []
+    → Steps (pair (site B x) c server s) (happen.Turn (Client 0)) (Ok (answer.Sent (Some c))) (pair (site B (after_putting B server x m)) (suc c) server s)
+client-turns x c server s m puts number next =
+    let f = pair (site B x) c server s in
+    turned f (Client 0) (Some c) (place (site B x) c) (place (site B (after_putting B server x m)) (suc c)) refl (
+      number,
+      (first_name, world.address_of A, length (text_of x.peer m)),
+      text_of x.peer m,
+      (λ count from. puts-out (record { count = count; is_host = is_host 2; numbers = numbers_far f (Client 0) }) from B server x m refl refl puts),
+      next,
+    )
+
+server-turns : (x : Lone) (s : ℕ) (client : Site) (c : ℕ) (m : Message) → PutsOne x.peer m → s ≡ length (numbered s) → numbered (suc s) ≡ numbered s ++ Of (length x.log) ∷ []
+    → Steps (pair client c (site A x) s) (happen.Turn Server) (Ok (answer.Sent (Some s))) (pair client c (site A (after_putting A client x m)) (suc s))
+server-turns x s client c m puts number next =
+    let f = pair client c (site A x) s in
+    turned f Server (Some s) (place (site A x) s) (place (site A (after_putting A client x m)) (suc s)) refl (
+      number,
+      (first_name, world.address_of B, length (text_of x.peer m)),
+      text_of x.peer m,
+      (λ count from. puts-out (record { count = count; is_host = is_host 2; numbers = numbers_far f Server }) from A client x m refl refl puts),
+      next,
+    )
+
+-- the packet comes, and is taken
+
+abbrev untaken : Peering
+untaken = with_untaken told_answerer.peer (example_packet ∷ rest)
+
+abbrev emptied : Peering
+emptied = with_untaken told_answerer.peer rest
+
+-- the client and the server once the packet was taken, and the server once a stranger's datagram came
+
+abbrev client : Site
+client = site B (sending told_asker told_answerer)
+
+abbrev server : Lone
+server = taking told_asker told_answerer untaken emptied
+
+abbrev undisturbed : Lone
+undisturbed = after_hearing server [] server.peer
+
+pub crosses : example.Crosses
+unfolding fresh_channels fresh_greatest
+crosses = (
+  pair client 3 (site A undisturbed) 1,
+  (
+    pair (site B asking) 0 (free_site A) 0,
+    asks (fleet (free_site B) 0 (free_site A) 0 []) 0 (place (free_site B) 0) (site B asking) (0 ∷ []) 1 3 9 first_name refl refl (asks-first B (free_site A) 3 9 refl) refl,
+    (
+      pair (site B asked) 1 (free_site A) 0,
+      client-turns asking 0 (free_site A) 0 asking_message puts-ask refl refl,
+      (
+        pair (site B asked) 1 (site A answering) 0,
+        delivered (pair (site B asked) 1 (free_site A) 0) Server (Client 0) 0 0 (place (free_site A) 0) (place (site B asked) 1) (site A answering) handled_one refl refl refl
+            (λ next. answers-first A (site B asked) 0 (header_of asking.peer asking_message).session (Some 0) ask reliable offer refl brings-ask),
+        (
+          pair (site B asked) 1 (site A verified) 1,
+          server-turns answering 0 (site B asked) 1 verifying_message puts-verify refl refl,
+          (
+            pair (site B welcomed) 1 (site A verified) 1,
+            delivered (pair (site B asked) 1 (site A verified) 1) (Client 0) Server 0 0 (place (site B asked) 1) (place (site A verified) 1) (site B welcomed) handled_one refl refl refl
+                (λ next. hears next B (site A verified) asked 0 (header_of answering.peer verifying_message).session (Some 0) verify verifying_message welcomed.peer brings-verify
+                (record { let_in = refl; goes = refl; after = refl; live = λ e. absurd (cc) })),
+            (
+              pair (site B confirmed) 2 (site A verified) 1,
+              client-turns welcomed 1 (site A verified) 1 confirming_message puts-confirm refl refl,
+              (
+                pair (site B confirmed) 2 (site A standing) 1,
+                delivered (pair (site B confirmed) 2 (site A verified) 1) Server (Client 0) 1 1 (place (site A verified) 1) (place (site B confirmed) 2) (site A standing) handled_one refl refl refl
+                    (λ next. hears next A (site B confirmed) verified 1 (header_of welcomed.peer confirming_message).session None confirm confirming_message standing.peer brings-confirm
+                    (record { let_in = refl; goes = refl; after = refl; live = λ e. absurd (cc) })),
+                (
+                  pair (site B told_asker) 2 (site A standing) 1,
+                  taken (pair (site B confirmed) 2 (site A standing) 1) (Client 0) (place (site B confirmed) 2) (site B told_asker) (Some (events.Connect first_name 0)) refl
+                      (λ next far. takes next B far confirmed told_asker.peer (told.Connect 0) refl (λ e. absurd (cc))),
+                  (
+                    pair (site B told_asker) 2 (site A told_answerer) 1,
+                    taken (pair (site B told_asker) 2 (site A standing) 1) Server (place (site A standing) 1) (site A told_answerer) (Some (events.Connect first_name 3)) refl
+                        (λ next far. takes next A far standing told_answerer.peer (told.Connect 3) refl (λ e. absurd (cc))),
+                    (
+                      pair (site B (submitting told_asker)) 2 (site A told_answerer) 1,
+                      submitted (pair (site B told_asker) 2 (site A told_answerer) 1) (Client 0) (place (site B told_asker) 2) (site B (submitting told_asker)) first_name 0 content.flags content.body refl
+                          (λ next far. submits next B far told_asker 0 content crosses-told.accepted crosses-told.live),
+                      (
+                        pair client 3 (site A told_answerer) 1,
+                        client-turns (submitting told_asker) 2 (site A told_answerer) 1 first_message crosses-told.puts refl refl,
+                        (
+                          pair client 3 (site A (hearing told_asker told_answerer untaken)) 1,
+                          delivered (pair client 3 (site A told_answerer) 1) Server (Client 0) 2 2 (place (site A told_answerer) 1) (place client 3) (site A (hearing told_asker told_answerer untaken)) handled_one refl refl refl
+                              (λ next. hears next A client told_answerer 2 (header_of (submitting told_asker).peer first_message).session (Some 0) (sent told_asker told_answerer) first_message untaken crosses-told.brings crosses-told.obeys),
+                          (
+                            pair client 3 (site A server) 1,
+                            taken (pair client 3 (site A (hearing told_asker told_answerer untaken)) 1) Server (place (site A (hearing told_asker told_answerer untaken)) 1) (site A server) (Some (events.Receive first_name example_packet)) refl
+                                (λ next far. takes next A far (hearing told_asker told_answerer untaken) emptied (told.Receive example_packet) crosses-told.tells crosses-told.stays),
+                            (
+                              pair client 3 (site A undisturbed) 1,
+                              heard (pair client 3 (site A server) 1) Server (place (site A server) 1) (site A undisturbed) example.stranger [] (stopped Short) refl refl
+                                  (λ next. hears-nothing next A server example.stranger),
+                              (
+                                pair client 3 (site A undisturbed) 1,
+                                (refl, refl),
+                                (pair client 3 (site A undisturbed) 1, (refl, refl), refl),
+                              ),
+                            ),
+                          ),
+                        ),
+                      ),
+                    ),
+                  ),
+                ),
+              ),
+            ),
+          ),
+        ),
+      ),
+    ),
+  ),
+  record { client = place client 3; asked = refl; one = stands B (sending told_asker told_answerer); two = stands A undisturbed; submitted = refl; taken = refl },
+)
