@@ -2,9 +2,9 @@
 # Runs each script that scripts/rows/list.txt names through the built program `enet_relay lab`, and compares what it writes
 # to standard output with NAME.out, to standard error with NAME.err (no such file: nothing) and its status with NAME.status
 # (no such file: 0). A long script and its output are made by NAME.awk. A script that is listed and missing fails. Each line of
-# unreadable-lines.txt, whose escapes are printf's, is the second of a script, and the first that can't be read. Each short script
-# that makes two hosts is also run by `check_memory` as one list of events, in one call. Command lines are tried too; those of `demo` take
-# ports 47100 to 47108. The last line is
+# unreadable-lines.txt and of unreadable-lines-of-a-fleet.txt, whose escapes are printf's, is the second of a script for a pair or a
+# fleet, and the first that can't be read. Each short script that makes two hosts is also run by `check_memory` as one list of events,
+# in one call. Command lines are tried too; those of `demo` take ports 47100 to 47108. The last line is
 # 'N passed, M failed'; the status is 1 where one fails. The programs are those that `rt ci`, or `rt run` in crates/enet_relay and
 # crates/check_memory, leaves; another `enet_relay` can be named as argument.
 cd "$(dirname "$0")/.." || exit 1
@@ -54,13 +54,14 @@ at_once() {
     passed=$((passed + 1))
 }
 
+# Lines that can't be read: the line before each, the one behind it, and the file that has them.
 unreadable_lines() {
     echo ok > "$room/unreadable.out"
     echo 'E15 BadScript line 2' > "$room/unreadable.err"
     while IFS= read -r line; do
-        printf "pair 1\n%b\nturn A\n" "$line" > "$room/unreadable.lab"
-        script "unreadable line '$line'" "$room/unreadable.lab" "$room/unreadable.out" "$room/unreadable.err" 2
-    done < "$rows/unreadable-lines.txt"
+        printf "$1\n%b\n$2\n" "$line" > "$room/unreadable.lab"
+        script "unreadable line '$line' behind $1" "$room/unreadable.lab" "$room/unreadable.out" "$room/unreadable.err" 2
+    done < "$rows/$3"
 }
 
 # A command line: its name here, the wanted status and standard error, the file that is its standard input, that of its
@@ -189,13 +190,14 @@ first=
 trap 'kill $first 2> /dev/null; rm -rf "$room"' EXIT
 if [ ! -x "$program" ]; then
     fail "$program" "it isn't there: run 'rt ci', or 'rt run' in crates/enet_relay"
-elif [ ! -r "$rows/list.txt" ] || [ ! -r "$rows/unreadable-lines.txt" ]; then
-    fail "$rows" "list.txt or unreadable-lines.txt is missing"
+elif [ ! -r "$rows/list.txt" ] || [ ! -r "$rows/unreadable-lines.txt" ] || [ ! -r "$rows/unreadable-lines-of-a-fleet.txt" ]; then
+    fail "$rows" "list.txt, unreadable-lines.txt or unreadable-lines-of-a-fleet.txt is missing"
 else
     while IFS= read -r name || [ -n "$name" ]; do
         case $name in '' | '#'*) ;; *) row "$name"; at_once "$name" ;; esac
     done < "$rows/list.txt"
-    unreadable_lines
+    unreadable_lines 'pair 1' 'turn A' unreadable-lines.txt
+    unreadable_lines 'fleet 2 2 2' 'turn S' unreadable-lines-of-a-fleet.txt
     command_lines
     services
     demonstrations

@@ -2,7 +2,7 @@
 
 use crate::fault::Fault;
 use crate::seen::Seen;
-use enet_lines::{Line, outcome_text, read_line};
+use enet_lines::{Host, Line, outcome_text, read_line};
 use enet_types::{Config, Received, Refusal, Stop};
 use enet_world::{Answer, Side, World, WorldEvent, side_of};
 use std::alloc::Global;
@@ -115,7 +115,8 @@ fn is_told(
     outcome: &Outcome,
     wanted: &str,
 ) -> Result<bool, Fault> {
-    match outcome_text(alloc, side, datagram_of(world, side, outcome), outcome) {
+    let datagram = datagram_of(world, side, outcome);
+    match outcome_text(alloc, Host::OfWorld(side), None, datagram, outcome) {
         Ok(told) => Ok(told.as_str() == wanted),
         Err(_) => Err(Fault::OwnMemory),
     }
@@ -185,7 +186,7 @@ fn run_steps(alloc: Global, world: &mut World, steps: &str, answers: &str) -> Re
 /// The event of a line behind the first.
 fn event_of(alloc: Global, number: u32, text: &str) -> Result<WorldEvent, Fault> {
     match line(alloc, number, text)? {
-        Some(Line::Step(event)) => Ok(event),
+        Some(Line::InWorld(event)) => Ok(event),
         _ => Err(Fault::Differs(number)),
     }
 }

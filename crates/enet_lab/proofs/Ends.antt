@@ -1,33 +1,10 @@
 -- How a script begins, what a fault says, and bytes that stay written.
-use Rattle.std.proofs.Common.{◌≡◌, ℕ, ◌&&◌, Bool, true, false, List, Option, Some, None, Result, Ok, Err, IfSome, IfOk, IfErr, IsErrAnd, refl, sym, subst}
+use Rattle.std.proofs.Common.{◌≡◌, ℕ, List, Option, Some, None, Result, Ok, Err, IfSome, IfErr, IsErrAnd, sym, subst}
 use Rattle.std.proofs.KnownBytes.{Appends-kept}
 use Rattle.std.specs.Io.KnownBytes.{Keeps}
-use Rattle.enet_types.specs.declared.config.Config.{Config}
-use Rattle.enet_types.specs.declared.refusal.Refusal.{Refusal}
-use Rattle.enet_types.specs.declared.refusal.Refusal.TheVariants.{Memory, BadConfig}
-use Rattle.enet_types.specs.Config.{is_in_range}
-use Rattle.enet_world.specs.Worlds.{Begun, begun}
 use Rattle.enet_lab.specs.declared.fault.LabFault.{LabFault}
 use Rattle.enet_lab.specs.declared.fault.LabFault.TheVariants as faults
-use Rattle.enet_lab.specs.declared.script.Stage.{Stage}
-use Rattle.enet_lab.specs.declared.script.Stage.TheVariants.{Empty}
-use Rattle.enet_lab.specs.Lines.{Makes, Begins, Opens}
 use Rattle.enet_lab.specs.Scripts.{IsPart, IsStopped, Wrote}
-
-makes_by : (joined : Bool) (a b : Config) (made : Result Begun Refusal) (r : Bool) → (is_in_range a && is_in_range b) ≡ r
-    → ((is_in_range a && is_in_range b) ≡ false → made ≡ Err BadConfig) → ((is_in_range a && is_in_range b) ≡ true → IfErr made (λ why. why ≡ Memory))
-    → IfOk made (λ w. w ≡ begun joined a b) → Makes joined a b made
-makes_by joined a b (Ok w) true e bad good is = (e, is)
-makes_by joined a b (Err why) true e bad good is = subst (λ x. Makes joined a b (Err x)) (sym (good e)) (e, refl)
-makes_by joined a b made false e bad good is = subst (Makes joined a b) (sym (bad e)) e
-
--- what an opening promises is what a first line does
-pub opened : {T : Type 0} (r : Result T LabFault) (text : T → Option (List ℕ)) (old new : Stage) (joined : Bool) (a b : Config) (made : Result Begun Refusal) → old ≡ Empty
-    → ((is_in_range a && is_in_range b) ≡ false → made ≡ Err BadConfig) → ((is_in_range a && is_in_range b) ≡ true → IfErr made (λ why. why ≡ Memory))
-    → IfOk made (λ w. w ≡ begun joined a b) → IfOk r (λ answer. Begins made (text answer) new) → IfOk r (λ answer. Opens old joined a b (text answer) new)
-opened (Ok answer) text old new joined a b made empty bad good is h =
-    subst (λ s. Opens s joined a b (text answer) new) (sym empty) (made, makes_by joined a b made (is_in_range a && is_in_range b) refl bad good is, h)
-opened (Err fault) text old new joined a b made empty bad good is h = tt
 
 -- what was written stays so
 kept : (P : List ℕ → List ℕ → Type 0) (o a b c : Option (List ℕ)) → IfSome o (λ script. Wrote a b (P script)) → Keeps b c → IfSome o (λ script. Wrote a c (P script))

@@ -4,7 +4,7 @@ use Rattle.std.proofs.KnownBytes.{Appends-kept, Appends-trans, Consumes-trans, C
 use Rattle.std.specs.Io.KnownBytes.{Appends, Consumes, IsAtEnd, Keeps}
 use Rattle.enet_lab.specs.declared.fault.LabFault.{LabFault}
 use Rattle.enet_lab.specs.declared.fault.LabFault.TheVariants.{BadScript, Memory}
-use Rattle.enet_lab.specs.declared.script.Stage.{Stage}
+use Rattle.enet_lab.specs.declared.stage.Stage.{Stage}
 use Rattle.enet_lab.specs.Lines.{RunsLine, can_read}
 use Rattle.enet_lab.specs.Scripts.{HasRun, IsRun, IsPart, IsStopped, Wrote, given, written_for}
 use Rattle.enet_lab.proofs.Running.{partly, stopped}

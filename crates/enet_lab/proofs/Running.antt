@@ -4,8 +4,8 @@ use Rattle.std.proofs.lemmas.List.Elements.{All-push, All-nil}
 use Rattle.std.proofs.lemmas.Grind.{flat_map-append}
 use Rattle.std.proofs.lemmas.List.{take_more}
 use lib.Seq.{drop-cons}
-use Rattle.enet_lab.specs.declared.script.Stage.{Stage}
-use Rattle.enet_lab.specs.declared.script.Stage.TheVariants.{Empty}
+use Rattle.enet_lab.specs.declared.stage.Stage.{Stage}
+use Rattle.enet_lab.specs.declared.stage.Stage.TheVariants.{Empty}
 use Rattle.enet_lab.specs.Lines.{RunsLine, can_read}
 use Rattle.enet_lab.specs.Scripts.{RunsLines, HasRun, IsPart, IsStopped, IsLine, EndsLine, with_feed, written_for}
 

@@ -1,5 +1,6 @@
 -- What a line of a script does to what the lines so far have made.
-use Rattle.std.specs.Prelude.{◌≡◌, ℕ, ◌&&◌, Bool, true, false, List, [], codes, Option, Some, None, Result, Ok, Err, ⊤, slice_get}
+use Rattle.std.specs.Prelude.{◌≡◌, ℕ, ◌&&◌, Bool, true, false, List, [], codes, Option, Some, None, Result, Ok, Err, ⊤, length, replicate, slice_get}
+use Rattle.enet_types.specs.declared.address.Addr.{Addr}
 use Rattle.enet_types.specs.declared.config.Config.{Config}
 use Rattle.enet_types.specs.declared.refusal.Refusal.{Refusal}
 use Rattle.enet_types.specs.declared.refusal.Refusal.TheVariants.{Memory, BadConfig}
@@ -10,16 +11,24 @@ use Rattle.enet_network.specs.declared.event.Answer.TheVariants.{Sent}
 use Rattle.enet_network.specs.declared.event.Side.{Side}
 use Rattle.enet_network.specs.declared.event.WorldEvent.{WorldEvent}
 use Rattle.enet_network.specs.Log.{Logged}
-use Rattle.enet_network.specs.World.{World, Steps, site_of, side_of}
+use Rattle.enet_network.specs.World.{World, site_of, side_of}
+use Rattle.enet_network.specs.World as world
+use Rattle.enet_world.specs.Worlds.{Begun, begun}
+use Rattle.enet_fleet.specs.declared.event.FleetEvent.{FleetEvent}
+use Rattle.enet_fleet.specs.declared.event.Node.{Node}
+use Rattle.enet_fleet.specs.Fleets.{Fleet, place_of, node_of, sent_by, open_fleet}
+use Rattle.enet_fleet.specs.Fleets as fleet
+use Rattle.enet_fleet.specs.Reached.{fit}
+use Rattle.enet_lines.specs.declared.host.Host.TheVariants.{OfWorld, OfFleet}
 use Rattle.enet_lines.specs.declared.line.Line.{Line}
 use Rattle.enet_lines.specs.declared.line.Line.TheVariants as spelled
-use Rattle.enet_lines.specs.Lines.{spells}
 use Rattle.enet_lines.specs.Answers.{outcome_text}
-use Rattle.enet_world.specs.Worlds.{Begun, begun}
+use Rattle.enet_lines.specs.Hosts.{recipient_at}
+use Rattle.enet_lines.specs.Lines.{spells}
 use Rattle.enet_lab.specs.declared.fault.LabFault.{LabFault}
 use Rattle.enet_lab.specs.declared.fault.LabFault.TheVariants as faults
-use Rattle.enet_lab.specs.declared.script.Stage.{Stage}
-use Rattle.enet_lab.specs.declared.script.Stage.TheVariants.{Empty, Running, Refused}
+use Rattle.enet_lab.specs.declared.stage.Stage.{Stage}
+use Rattle.enet_lab.specs.declared.stage.Stage.TheVariants.{Empty, InWorld, InFleet, Refused}
 
 -- The bytes of a datagram, where there is one.
 abbrev pub bytes_in : Option Logged → List ℕ
@@ -31,37 +40,74 @@ abbrev pub bytes_shown : World → Side → Result Answer Refusal → List ℕ
 bytes_shown w side (Ok (Sent (Some k))) = bytes_in (slice_get (site_of w side).log k)
 bytes_shown w side _ = []
 
--- An event happens in the world: the text of what is answered to it.
-pub record StepsTo (old : Begun) (event : WorldEvent) (text : List ℕ) (new : Begun) : Type 0 where
+-- What is told of what came of an event in a world, of what the world is then.
+abbrev pub world_text : WorldEvent → Result Answer Refusal → Begun → List ℕ
+world_text event outcome new = outcome_text (OfWorld (side_of event)) None (bytes_shown new.world (side_of event) outcome) outcome
+
+abbrev pub WorldSteps : Begun → WorldEvent → Result Answer Refusal → Begun → Type 0
+WorldSteps old event outcome new = world.Steps old.world event outcome new.world × (new.joined ≡ old.joined)
+
+-- The datagram that an answer of a fleet shows: where it went, and its bytes.
+abbrev pub sent_shown : Fleet → Node → Result Answer Refusal → Option (Addr × List ℕ)
+sent_shown f node (Ok (Sent (Some k))) = sent_by (place_of f node) k
+sent_shown f node _ = None
+
+abbrev pub text_with : ℕ → Node → Option (Addr × List ℕ) → Result Answer Refusal → List ℕ
+text_with clients node None outcome = outcome_text (OfFleet node) None [] outcome
+text_with clients node (Some sent) outcome = outcome_text (OfFleet node) (Some (recipient_at clients sent.0)) sent.1 outcome
+
+-- The same in a fleet.
+abbrev pub fleet_text : FleetEvent → Result Answer Refusal → Fleet → List ℕ
+fleet_text event outcome new = text_with (length new.clients) (node_of event) (sent_shown new (node_of event) outcome) outcome
+
+abbrev pub FleetSteps : Fleet → FleetEvent → Result Answer Refusal → Fleet → Type 0
+FleetSteps = fleet.Steps
+
+-- An event happens in a network that steps so and of which that is told: the text of what is answered to it.
+pub record StepsTo {N E : Type 0} (Steps : N → E → Result Answer Refusal → N → Type 0) (told : E → Result Answer Refusal → N → List ℕ) (old : N) (event : E) (text : List ℕ) (new : N) : Type 0 where
   pub outcome : Result Answer Refusal
-  pub steps : Steps old.world event outcome new.world
-  pub joined : new.joined ≡ old.joined
-  pub text_is : text ≡ outcome_text (side_of event) (bytes_shown new.world (side_of event) outcome) outcome
+  pub steps : Steps old event outcome new
+  pub text_is : text ≡ told event outcome new
 
--- A world of two configurations, connected from the start or not: E8 exactly where a number is out of its range, else memory may be wanting.
-abbrev pub Makes : Bool → Config → Config → Result Begun Refusal → Type 0
-Makes joined a b (Ok w) = ((is_in_range a && is_in_range b) ≡ true) × (w ≡ begun joined a b)
-Makes joined a b (Err BadConfig) = (is_in_range a && is_in_range b) ≡ false
-Makes joined a b (Err why) = ((is_in_range a && is_in_range b) ≡ true) × (why ≡ Memory)
+-- The network that a first line makes: E8 exactly where a number is out of its range, else memory may be wanting.
+abbrev pub Makes : Bool → Stage → Result Stage Refusal → Type 0
+Makes in_range fresh (Ok made) = (in_range ≡ true) × (made ≡ fresh)
+Makes in_range fresh (Err BadConfig) = in_range ≡ false
+Makes in_range fresh (Err why) = (in_range ≡ true) × (why ≡ Memory)
 
--- A script begins with a world, or with the refusal of one.
-abbrev pub Begins : Result Begun Refusal → Option (List ℕ) → Stage → Type 0
-Begins (Ok w) text new = (text ≡ Some (codes "ok")) × (new ≡ Running w)
+-- Two hosts that are connected from the start or not.
+abbrev pub MakesWorld : Bool → Config → Config → Result Stage Refusal → Type 0
+MakesWorld joined a b made = Makes (is_in_range a && is_in_range b) (InWorld (begun joined a b)) made
+
+-- A server and so many clients.
+abbrev pub MakesFleet : Config → List Config → Result Stage Refusal → Type 0
+MakesFleet server clients made = Makes (fit server clients) (InFleet (open_fleet server clients)) made
+
+-- A script begins with a network, or with the refusal of one.
+abbrev pub Begins : Result Stage Refusal → Option (List ℕ) → Stage → Type 0
+Begins (Ok made) text new = (text ≡ Some (codes "ok")) × (new ≡ made)
 Begins (Err why) text new = (text ≡ Some (label_of why)) × (new ≡ Refused)
 
--- The line that comes first and once: it makes a world of these configurations, or is answered by the refusal of one.
-abbrev pub Opens : Stage → Bool → Config → Config → Option (List ℕ) → Stage → Type 0
-Opens Empty joined a b text new = (made : Result Begun Refusal) × Makes joined a b made × Begins made text new
-Opens old joined a b text new = ⊥
+-- The line that comes first and once: it makes a network, or is answered by the refusal of one.
+abbrev pub Opens : Stage → (Result Stage Refusal → Type 0) → Option (List ℕ) → Stage → Type 0
+Opens Empty Made text new = (made : Result Stage Refusal) × Made made × Begins made text new
+Opens old Made text new = ⊥
 
--- What a line does that can be read after those so far: `pair` or `open` comes first and once, events then, and nothing where the
--- first was refused.
+-- What a line does that can be read after those so far: the line that makes a network comes first and once, its events then, and
+-- nothing where the first was refused.
 abbrev pub Does : Stage → Line → Option (List ℕ) → Stage → Type 0
 Does old spelled.PassedOver text new = (text ≡ None) × (new ≡ old)
-Does old (spelled.Pair channels) text new = Opens old true (standard_config 1 channels) (standard_config 1 channels) text new
-Does old (spelled.Open peers_a channels_a peers_b channels_b) text new = Opens old false (standard_config peers_a channels_a) (standard_config peers_b channels_b) text new
-Does (Running old) (spelled.Step event) text new = (w : Begun) × (bytes : List ℕ) × StepsTo old event bytes w × (text ≡ Some bytes) × (new ≡ Running w)
-Does old (spelled.Step event) text new = ⊥
+Does old (spelled.Pair channels) text new = Opens old (MakesWorld true (standard_config 1 channels) (standard_config 1 channels)) text new
+Does old (spelled.Open peers_a channels_a peers_b channels_b) text new =
+    Opens old (MakesWorld false (standard_config peers_a channels_a) (standard_config peers_b channels_b)) text new
+Does old (spelled.Fleet clients peers channels) text new =
+    Opens old (MakesFleet (standard_config peers channels) (replicate clients (standard_config 1 channels))) text new
+Does (InWorld old) (spelled.InWorld event) text new =
+    (w : Begun) × (bytes : List ℕ) × StepsTo WorldSteps world_text old event bytes w × (text ≡ Some bytes) × (new ≡ InWorld w)
+Does old (spelled.InWorld event) text new = ⊥
+Does (InFleet old) (spelled.InFleet event) text new =
+    (f : Fleet) × (bytes : List ℕ) × StepsTo FleetSteps fleet_text old event bytes f × (text ≡ Some bytes) × (new ≡ InFleet f)
+Does old (spelled.InFleet event) text new = ⊥
 
 -- Whether nothing was made yet.
 abbrev pub is_empty : Stage → Bool
@@ -71,8 +117,10 @@ is_empty _ = false
 -- Whether a line can be read after those so far.
 abbrev pub can_do : Stage → Line → Bool
 can_do stage spelled.PassedOver = true
-can_do (Running w) (spelled.Step event) = true
-can_do stage (spelled.Step event) = false
+can_do (InWorld w) (spelled.InWorld event) = true
+can_do stage (spelled.InWorld event) = false
+can_do (InFleet f) (spelled.InFleet event) = true
+can_do stage (spelled.InFleet event) = false
 can_do stage line = is_empty stage
 
 abbrev pub can_read_as : Stage → Option Line → Bool

@@ -1,8 +1,8 @@
 -- What a whole script writes.
 use Rattle.std.specs.Prelude.{◌≡◌, ◌≢◌, ℕ, ◌+◌, ⊤, min, false, All, flat_map, List, [], ◌∷◌, ◌++◌, length, take, Option, Some, None}
 use Rattle.std.specs.Io.KnownBytes.{Appends}
-use Rattle.enet_lab.specs.declared.script.Stage.{Stage}
-use Rattle.enet_lab.specs.declared.script.Stage.TheVariants.{Empty}
+use Rattle.enet_lab.specs.declared.stage.Stage.{Stage}
+use Rattle.enet_lab.specs.declared.stage.Stage.TheVariants.{Empty}
 use Rattle.enet_lab.specs.Lines.{RunsLine, can_read}
 
 -- Lines one after another, with the text that answers each.

@@ -12,7 +12,7 @@ pub enum LabFault {
     /// This line, counted from 1, can't be read after those before it. The count stops at 4,294,967,295.
     #[error("E15 BadScript line {0}")]
     BadScript(u32),
-    /// A growth of the lab itself was refused. A world that is out of memory is no fault: its answer is `E1 Memory`.
+    /// A growth of the lab itself was refused. A network that is out of memory is no fault: its answer is `E1 Memory`.
     #[error("E1 Memory")]
     Memory,
     /// A read, a write or the flush failed, or the script took more than 16,777,216 reads.

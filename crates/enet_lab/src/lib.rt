@@ -1,10 +1,11 @@
-//! The lab: a script of what happens to two hosts and the network between them, with one answer a line.
+//! The lab: a script of what happens to two hosts, or to a server and its clients with strangers around them, and the network between
+//! them, with one answer a line.
 //!
 //! Proved: `lab` returns for every script and every reader and writer. Where both tell their bytes and it ends with Ok, the whole
-//! script was run (`IsRun`): each line spells what it does by `enet_lines`, the first that isn't passed over makes the world, each
-//! further one is one step of it, and what is written is the text of each answer with a line feed. Where it ends with BadScript, that
-//! is so up to the first line that can't be read, whose number is told (`IsStopped`); where it ends with Memory, what is written is the
-//! answers of lines from the script's beginning on (`IsPart`).
+//! script was run (`IsRun`): each line spells what it does by `enet_lines`, the first that isn't passed over makes the world or the
+//! fleet, each further one is one step of it, and what is written is the text of each answer with a line feed. Where it ends with
+//! BadScript, that is so up to the first line that can't be read, whose number is told (`IsStopped`); where it ends with Memory, what is
+//! written is the answers of lines from the script's beginning on (`IsPart`).
 //! Only tested, by scripts/rows and `check_lab`: that calls succeed with ample memory, worked scripts with what is written, and that a
 //! read, a write or a flush that fails is told.
 //! Neither: what was written before reading or writing failed.
@@ -13,7 +14,9 @@
 mod fault;
 mod reading;
 mod script;
+mod stage;
+mod step;
 
 pub use fault::LabFault;
 pub use reading::lab;
-pub use script::Stage;
+pub use stage::Stage;

@@ -2,7 +2,7 @@
 
 ghost use Rattle.std.specs.Prelude.{◌≡◌, ◌≤◌, ◌+◌, ◌++◌, ℕ, List, Option, min, false, IfOk, IfErr, IfSome, IsNone, OnOk};
 ghost use Rattle.std.specs.Io.KnownBytes.{Keeps, Consumes, IsAtEnd};
-ghost use Rattle.enet_lab.specs.declared.script.Stage.TheVariants as stages;
+ghost use Rattle.enet_lab.specs.declared.stage.Stage.TheVariants as stages;
 ghost use Rattle.enet_lab.specs.Lines.{RunsLine, can_read};
 ghost use Rattle.enet_lab.specs.Scripts.{HasRun, IsPart, IsRun, IsStopped, Wrote, given, written_for};
 
@@ -105,12 +105,15 @@ fn run_script<R: Read, W: Write>(
 }
 
 /// Runs a script: reads it from the reader to its end and writes one answer a line. A line ends at a line feed or at the
-/// end of the script. Blank lines and lines that begin with `#` are counted and passed over. `pair <channels>` or
-/// `open <peers A> <channels A> <peers B> <channels B>` comes first and once; then `connect <side> <channels> <data> <id>`,
-/// `submit <side> <peer> <channel> <flags> <bytes>`, `deliver <side> <k>`, `turn <side>`, `tick <side> <ms>`, `take <side>`, and
-/// `now`, `ask` or `later <side> <peer> <data>`, which disconnect. Words are separated by spaces, numbers are decimal, a peer is
-/// `slot.generation`, bytes are hex of either case or `-` for none, a connect id is 8 hex digits. A refusal of the world is
-/// answered by its number and its name, and the script goes on.
+/// end of the script. Blank lines and lines that begin with `#` are counted and passed over. `pair <channels>`,
+/// `open <peers A> <channels A> <peers B> <channels B>` or `fleet <clients> <peers> <channels>` comes first and once; then
+/// `connect <host> <channels> <data> <id>`, `submit <host> <peer> <channel> <flags> <bytes>`, `turn <host>`, `tick <host> <ms>`,
+/// `take <host>`, and `now`, `ask` or `later <host> <peer> <data>`, which disconnect. The hosts behind `pair` and `open` are `A` and
+/// `B`, and `deliver <host> <k>` brings a host a datagram of the other. Those of a fleet are the server `S`, which doesn't connect, and
+/// the clients `C0`, `C1` and on; `deliver <host> <from> <k>` brings a host a datagram of another, and
+/// `stranger <host> <ip> <port> <bytes>` one that a stranger sends. Words are separated by spaces, numbers are decimal, a peer is
+/// `slot.generation`, bytes are hex of either case or `-` for none, a connect id is 8 hex digits, an ip four numbers with points between
+/// them. A refusal of the world or the fleet is answered by its number and its name, and the script goes on.
 ///
 /// BadScript at the first line that can't be read; behind a first line that was refused that is the next one that isn't passed
 /// over. Memory where a growth of the lab itself was refused; Io where a read, a write or the flush failed, and after 16,777,216

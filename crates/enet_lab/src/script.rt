@@ -1,40 +1,23 @@
 //! Running a script, line by line.
 
-ghost use Rattle.std.specs.Prelude.{◌≡◌, ◌+◌, min, true, false, IfOk, IfErr};
+ghost use Rattle.std.specs.Prelude.{◌≡◌, ◌+◌, min, true, false, replicate, IfOk, IfErr};
 ghost use Rattle.std.specs.Option.{option_map};
 ghost use Rattle.std.specs.String.{string_bytes};
+ghost use Rattle.enet_types.specs.Config.{standard_config};
 ghost use Rattle.enet_lines.specs.declared.line.Line.TheVariants as spelled;
-ghost use Rattle.enet_lab.specs.declared.script.Stage.TheVariants as stages;
-ghost use Rattle.enet_lab.specs.Lines.{Begins, Does, IsRefused, Opens, RunsLine, StepsTo, bytes_shown, can_do, can_read, is_empty};
+ghost use Rattle.enet_lab.specs.declared.stage.Stage.TheVariants as stages;
+ghost use Rattle.enet_lab.specs.Lines.{Begins, Does, IsRefused, MakesFleet, MakesWorld, Opens, RunsLine, can_do, can_read, is_empty};
 
 use crate::fault::LabFault;
-use enet_lines::{Line, outcome_text, read_line};
-use enet_network::{Answer, Side, WorldEvent};
+use crate::stage::Stage;
+use crate::step::{fleet_step, world_step};
+use enet_fleet::FleetEvent;
+use enet_lines::{Line, read_line};
+use enet_network::WorldEvent;
 use enet_script::refusal_text;
 use enet_types::{Config, Refusal};
-use enet_world::{World, side_of};
-use std::alloc::{AllocError, Global};
+use std::alloc::Global;
 use std::mem::replace;
-
-/// What the lines so far have made. It is let go by `close` alone, so that how a world is dropped is not proved here again.
-pub enum Stage {
-    /// Nothing: `pair` or `open` is still to come.
-    Empty,
-    /// A world.
-    Running(World),
-    /// Nothing, since the first line was refused. No further line can be read, save those that are passed over.
-    Refused,
-}
-
-impl Stage {
-    /// Lets go of what the lines so far have made.
-    fn close(self) {
-        match self {
-            Stage::Running(world) => world.close(),
-            Stage::Empty | Stage::Refused => {}
-        }
-    }
-}
 
 /// A script that is being run.
 pub(crate) struct Script {
@@ -78,7 +61,8 @@ impl Script {
     {
         match line {
             Line::PassedOver => Ok(None),
-            Line::Step(event) => self.step(event),
+            Line::InWorld(event) => self.step_world(event),
+            Line::InFleet(event) => self.step_fleet(event),
             Line::Pair { channels } => self.pair(Config::standard(1, channels)),
             Line::Open {
                 peers_a,
@@ -89,31 +73,58 @@ impl Script {
                 Config::standard(peers_a, channels_a),
                 Config::standard(peers_b, channels_b),
             ),
+            Line::Fleet {
+                clients,
+                peers,
+                channels,
+            } => self.fleet(
+                Config::standard(peers, channels),
+                Config::standard(1, channels),
+                clients,
+            ),
         }
     }
 
     /// Makes a world of two hosts that are connected from the start, once.
     fn pair(&mut self, config: Config) -> Result<Option<String>, LabFault>
         ensures lines { self.new.lines ≡ self.old.lines }
-        ensures does { IfOk result (λ answer. Opens self.old.stage true config config (option_map string_bytes answer) self.new.stage) }
+        ensures does { IfOk result (λ answer. Opens self.old.stage (MakesWorld true config config) (option_map string_bytes answer) self.new.stage) }
         ensures unreadable { IfErr result (IsRefused self.old.lines (is_empty self.old.stage)) }
     {
         let Stage::Empty = self.stage else {
             return Err(LabFault::BadScript(self.lines));
         };
-        self.begin(World::joined(self.alloc, config, config))
+        self.begin(Stage::pair(self.alloc, config))
     }
 
     /// Makes a world of two hosts that know nothing of each other, once.
     fn open(&mut self, cfg_a: Config, cfg_b: Config) -> Result<Option<String>, LabFault>
         ensures lines { self.new.lines ≡ self.old.lines }
-        ensures does { IfOk result (λ answer. Opens self.old.stage false cfg_a cfg_b (option_map string_bytes answer) self.new.stage) }
+        ensures does { IfOk result (λ answer. Opens self.old.stage (MakesWorld false cfg_a cfg_b) (option_map string_bytes answer) self.new.stage) }
         ensures unreadable { IfErr result (IsRefused self.old.lines (is_empty self.old.stage)) }
     {
         let Stage::Empty = self.stage else {
             return Err(LabFault::BadScript(self.lines));
         };
-        self.begin(World::open(self.alloc, cfg_a, cfg_b))
+        self.begin(Stage::open(self.alloc, cfg_a, cfg_b))
+    }
+
+    /// Makes a server and so many clients alike, once.
+    fn fleet(
+        &mut self,
+        server: Config,
+        client: Config,
+        clients: u16,
+    ) -> Result<Option<String>, LabFault>
+        ensures lines { self.new.lines ≡ self.old.lines }
+        ensures does { IfOk result (λ answer. Opens self.old.stage (MakesFleet server (replicate clients client)) (option_map string_bytes answer) self.new.stage) }
+        ensures unreadable { IfErr result (IsRefused self.old.lines (is_empty self.old.stage)) }
+    {
+        let Stage::Empty = self.stage else {
+            return Err(LabFault::BadScript(self.lines));
+        };
+        let clients = vec![in self.alloc; client; usize::from(clients)]?;
+        self.begin(Stage::fleet(self.alloc, server, &clients))
     }
 
     /// Lets go of the stage so far, for this one.
@@ -124,15 +135,15 @@ impl Script {
         replace(&mut self.stage, stage).close();
     }
 
-    /// Begins with a world, or with the refusal of one.
-    fn begin(&mut self, made: Result<World, Refusal>) -> Result<Option<String>, LabFault>
+    /// Begins with a network, or with the refusal of one.
+    fn begin(&mut self, made: Result<Stage, Refusal>) -> Result<Option<String>, LabFault>
         ensures lines { self.new.lines ≡ self.old.lines }
         ensures begins { IfOk result (λ answer. Begins made (option_map string_bytes answer) self.new.stage) }
         ensures memory { IfErr result (λ fault. fault ≡ LabFault.Memory) }
     {
         let text = match made {
-            Ok(world) => {
-                self.go_on(Stage::Running(world));
+            Ok(stage) => {
+                self.go_on(stage);
                 String::from_str(self.alloc, "ok")?
             }
             Err(refusal) => {
@@ -144,15 +155,27 @@ impl Script {
     }
 
     /// Makes an event happen in the world.
-    fn step(&mut self, event: WorldEvent) -> Result<Option<String>, LabFault>
+    fn step_world(&mut self, event: WorldEvent) -> Result<Option<String>, LabFault>
         ensures lines { self.new.lines ≡ self.old.lines }
-        ensures does { IfOk result (λ answer. Does self.old.stage (spelled.Step event) (option_map string_bytes answer) self.new.stage) }
-        ensures unreadable { IfErr result (IsRefused self.old.lines (can_do self.old.stage (spelled.Step event))) }
+        ensures does { IfOk result (λ answer. Does self.old.stage (spelled.InWorld event) (option_map string_bytes answer) self.new.stage) }
+        ensures unreadable { IfErr result (IsRefused self.old.lines (can_do self.old.stage (spelled.InWorld event))) }
     {
-        let Stage::Running(world) = &mut self.stage else {
+        let Stage::InWorld(world) = &mut self.stage else {
             return Err(LabFault::BadScript(self.lines));
         };
-        Ok(Some(step_text(self.alloc, world, event)?))
+        Ok(Some(world_step(self.alloc, world, event)?))
+    }
+
+    /// Makes an event happen in the fleet.
+    fn step_fleet(&mut self, event: FleetEvent) -> Result<Option<String>, LabFault>
+        ensures lines { self.new.lines ≡ self.old.lines }
+        ensures does { IfOk result (λ answer. Does self.old.stage (spelled.InFleet event) (option_map string_bytes answer) self.new.stage) }
+        ensures unreadable { IfErr result (IsRefused self.old.lines (can_do self.old.stage (spelled.InFleet event))) }
+    {
+        let Stage::InFleet(fleet) = &mut self.stage else {
+            return Err(LabFault::BadScript(self.lines));
+        };
+        Ok(Some(fleet_step(self.alloc, fleet, event)?))
     }
 
     /// Ends the script.
@@ -163,24 +186,5 @@ impl Script {
             lines: _,
         } = self;
         stage.close();
-    }
-}
-
-/// Makes one event happen, and gives the text of its answer.
-fn step_text(alloc: Global, world: &mut World, event: WorldEvent) -> Result<String, AllocError>
-    ensures { IfOk result (λ text. StepsTo world.old event (string_bytes text) world.new) }
-{
-    let side = side_of(&event);
-    let outcome = world.step(event);
-    outcome_text(alloc, side, bytes_shown(world, side, &outcome), &outcome)
-}
-
-/// The bytes of the datagram that an answer shows; none where it shows none.
-fn bytes_shown<'a>(world: &'a World, side: Side, outcome: &Result<Answer, Refusal>) -> &'a [u8]
-    ensures { result.now ≡ bytes_shown world.now.world side outcome.now }
-{
-    match outcome {
-        Ok(Answer::Sent(Some(k))) => world.datagram(side, *k).unwrap_or(&[]),
-        _ => &[],
     }
 }

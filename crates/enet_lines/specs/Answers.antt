@@ -1,29 +1,31 @@
 -- The text of each answer, without the line feed that ends a line.
-use Rattle.std.specs.Prelude.{ℕ, List, ◌++◌, codes, Some, None, Result, Ok, Err}
+use Rattle.std.specs.Prelude.{ℕ, List, [], ◌++◌, codes, Option, Some, None, Result, Ok, Err}
 use Rattle.std.specs.Fmt.{decimal}
 use Rattle.enet_types.specs.declared.refusal.Refusal.{Refusal}
 use Rattle.enet_types.specs.Refusal.{label_of}
 use Rattle.enet_network.specs.declared.event.Answer.{Answer}
 use Rattle.enet_network.specs.declared.event.Answer.TheVariants.{Peer, Done, Received, Sent, Taken}
-use Rattle.enet_network.specs.declared.event.Side.{Side}
-use Rattle.enet_network.specs.declared.event.Side.TheVariants.{A, B}
 use Rattle.enet_script.specs.Texts.{bytes_text, event_text, peer_text, received_text}
+use Rattle.enet_lines.specs.declared.host.Host.{Host}
+use Rattle.enet_lines.specs.declared.host.Recipient.{Recipient}
+use Rattle.enet_lines.specs.Hosts.{host_text, recipient_text}
 
-abbrev pub side_text : Side → List ℕ
-side_text A = codes "A"
-side_text B = codes "B"
+-- Whom a datagram went to. In a world that goes without saying.
+abbrev pub to_text : Option Recipient → List ℕ
+to_text None = []
+to_text (Some recipient) = codes " to " ++ recipient_text recipient
 
--- What a side answered to an event. Where it put a datagram out, these are the datagram's bytes.
-abbrev pub text_of : Side → List ℕ → Answer → List ℕ
-text_of side datagram (Peer peer) = codes "peer " ++ peer_text peer
-text_of side datagram Done = codes "ok"
-text_of side datagram (Received received) = received_text received
-text_of side datagram (Sent None) = codes "none"
-text_of side datagram (Sent (Some k)) = side_text side ++ codes "#" ++ decimal k ++ codes " " ++ bytes_text datagram
-text_of side datagram (Taken None) = codes "none"
-text_of side datagram (Taken (Some event)) = event_text event
+-- What a host answered to an event. Where it put a datagram out, that went to this recipient and has these bytes.
+abbrev pub text_of : Host → Option Recipient → List ℕ → Answer → List ℕ
+text_of host to datagram (Peer peer) = codes "peer " ++ peer_text peer
+text_of host to datagram Done = codes "ok"
+text_of host to datagram (Received received) = received_text received
+text_of host to datagram (Sent None) = codes "none"
+text_of host to datagram (Sent (Some k)) = host_text host ++ codes "#" ++ decimal k ++ to_text to ++ codes " " ++ bytes_text datagram
+text_of host to datagram (Taken None) = codes "none"
+text_of host to datagram (Taken (Some event)) = event_text event
 
 -- The same, or the refusal.
-abbrev pub outcome_text : Side → List ℕ → Result Answer Refusal → List ℕ
-outcome_text side datagram (Ok answer) = text_of side datagram answer
-outcome_text side datagram (Err refusal) = label_of refusal
+abbrev pub outcome_text : Host → Option Recipient → List ℕ → Result Answer Refusal → List ℕ
+outcome_text host to datagram (Ok answer) = text_of host to datagram answer
+outcome_text host to datagram (Err refusal) = label_of refusal

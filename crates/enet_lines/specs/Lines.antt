@@ -1,40 +1,20 @@
--- What a line of a script spells: the words behind its first word have the form that the first names, or it spells nothing.
+-- What a line of a script spells: the words behind its first word have the form that the first names, or it spells nothing. Where a
+-- form is one of a world and of a fleet alike, the name of the host tells of which.
 use Rattle.std.specs.Prelude.{ℕ, ◌^◌, nat_eq, if◌then◌else◌, List, [], ◌∷◌, codes, bytes_eq, Option, Some, None, option_map}
 use Rattle.std.specs.List.{starts_with}
+use Rattle.std.specs.Option.{option_or}
 use Rattle.enet_types.specs.declared.event.DisconnectMode.{DisconnectMode}
 use Rattle.enet_types.specs.declared.event.DisconnectMode.TheVariants.{Now, Ask, Later}
-use Rattle.enet_network.specs.declared.event.Side.{Side}
-use Rattle.enet_network.specs.declared.event.Side.TheVariants.{A, B}
-use Rattle.enet_network.specs.declared.event.WorldEvent.{WorldEvent}
-use Rattle.enet_network.specs.declared.event.WorldEvent.TheVariants.{Connect, Submit, Deliver, Turn, Tick, Take, Disconnect}
-use Rattle.enet_script.specs.Words.{words, number_below, peer_of, bytes_of, id_of, ◌>>=◌}
+use Rattle.enet_types.specs.declared.event.PeerRef.{PeerRef}
+use Rattle.enet_network.specs.declared.event.WorldEvent.TheVariants as world
+use Rattle.enet_fleet.specs.declared.event.FleetEvent.TheVariants as fleet
+use Rattle.enet_fleet.specs.declared.event.Node.TheVariants.{Server, Client}
+use Rattle.enet_script.specs.Words.{words, number_below, peer_of, ip_of, bytes_of, id_of, of_one, of_two, of_three, of_four, of_five, ◌>>=◌}
+use Rattle.enet_lines.specs.declared.host.Host.{Host}
+use Rattle.enet_lines.specs.declared.host.Host.TheVariants.{OfWorld, OfFleet}
 use Rattle.enet_lines.specs.declared.line.Line.{Line}
-use Rattle.enet_lines.specs.declared.line.Line.TheVariants.{PassedOver, Pair, Open, Step}
-
--- What one word spells, or two to five, where there are just so many.
-abbrev pub of_one : {T : Type 0} → (List ℕ → Option T) → List (List ℕ) → Option T
-of_one spelled (a ∷ []) = spelled a
-of_one spelled _ = None
-
-abbrev pub of_two : {T : Type 0} → (List ℕ → List ℕ → Option T) → List (List ℕ) → Option T
-of_two spelled (a ∷ b ∷ []) = spelled a b
-of_two spelled _ = None
-
-abbrev pub of_three : {T : Type 0} → (List ℕ → List ℕ → List ℕ → Option T) → List (List ℕ) → Option T
-of_three spelled (a ∷ b ∷ c ∷ []) = spelled a b c
-of_three spelled _ = None
-
-abbrev pub of_four : {T : Type 0} → (List ℕ → List ℕ → List ℕ → List ℕ → Option T) → List (List ℕ) → Option T
-of_four spelled (a ∷ b ∷ c ∷ d ∷ []) = spelled a b c d
-of_four spelled _ = None
-
-abbrev pub of_five : {T : Type 0} → (List ℕ → List ℕ → List ℕ → List ℕ → List ℕ → Option T) → List (List ℕ) → Option T
-of_five spelled (a ∷ b ∷ c ∷ d ∷ e ∷ []) = spelled a b c d e
-of_five spelled _ = None
-
--- A side by its name.
-abbrev pub side_named : List ℕ → Option Side
-side_named word = if bytes_eq word (codes "A") then Some A else (if bytes_eq word (codes "B") then Some B else None)
+use Rattle.enet_lines.specs.declared.line.Line.TheVariants.{PassedOver, Pair, Open, Fleet, InWorld, InFleet}
+use Rattle.enet_lines.specs.Hosts.{side_named, node_named, host_named}
 
 -- How a connection is ended, by the first word of the line.
 abbrev pub mode_named : List ℕ → Option DisconnectMode
@@ -55,66 +35,119 @@ open_of others = of_four (λ peers_a channels_a peers_b channels_b. do
   channels_b ← number_below (2 ^ 8) channels_b
   Some (Open peers_a channels_a peers_b channels_b)) others
 
--- `connect <side> <channels> <data> <id>`
-abbrev pub connect_of : List (List ℕ) → Option WorldEvent
-connect_of others = of_four (λ side channels info id. do
-  side ← side_named side
+-- `fleet <clients> <peers> <channels>`
+abbrev pub fleet_of : List (List ℕ) → Option Line
+fleet_of others = of_three (λ clients peers channels. do
+  clients ← number_below (2 ^ 16) clients
+  peers ← number_below (2 ^ 16) peers
+  channels ← number_below (2 ^ 8) channels
+  Some (Fleet clients peers channels)) others
+
+-- `connect <host> <channels> <data> <id>`: in a fleet a client asks, the server doesn't.
+abbrev pub connect_at : Host → ℕ → ℕ → ℕ → Option Line
+connect_at (OfWorld side) channels info id = Some (InWorld (world.Connect side channels info id))
+connect_at (OfFleet Server) channels info id = None
+connect_at (OfFleet (Client i)) channels info id = Some (InFleet (fleet.Connect i channels info id))
+
+abbrev pub connect_of : List (List ℕ) → Option Line
+connect_of others = of_four (λ host channels info id. do
+  host ← host_named host
   channels ← number_below (2 ^ 8) channels
   info ← number_below (2 ^ 32) info
   id ← id_of id
-  Some (Connect side channels info id)) others
+  connect_at host channels info id) others
 
--- `submit <side> <peer> <channel> <flags> <bytes>`
-abbrev pub submit_of : List (List ℕ) → Option WorldEvent
-submit_of others = of_five (λ side peer channel flags body. do
-  side ← side_named side
+-- `submit <host> <peer> <channel> <flags> <bytes>`
+abbrev pub submit_at : Host → PeerRef → ℕ → ℕ → List ℕ → Line
+submit_at (OfWorld side) peer channel flags body = InWorld (world.Submit side peer channel flags body)
+submit_at (OfFleet node) peer channel flags body = InFleet (fleet.Submit node peer channel flags body)
+
+abbrev pub submit_of : List (List ℕ) → Option Line
+submit_of others = of_five (λ host peer channel flags body. do
+  host ← host_named host
   peer ← peer_of peer
   channel ← number_below (2 ^ 8) channel
   flags ← number_below (2 ^ 8) flags
   body ← bytes_of body
-  Some (Submit side peer channel flags body)) others
+  Some (submit_at host peer channel flags body)) others
 
--- `deliver <side> <k>`
-abbrev pub deliver_of : List (List ℕ) → Option WorldEvent
-deliver_of others = of_two (λ side k. do
+-- `deliver <side> <k>` in a world, `deliver <host> <from> <k>` in a fleet
+abbrev pub deliver_side_of : List (List ℕ) → Option Line
+deliver_side_of others = of_two (λ side k. do
   side ← side_named side
   k ← number_below (2 ^ 64) k
-  Some (Deliver side k)) others
+  Some (InWorld (world.Deliver side k))) others
 
--- `turn <side>`
-abbrev pub turn_of : List (List ℕ) → Option WorldEvent
-turn_of others = of_one (λ side. option_map Turn (side_named side)) others
+abbrev pub deliver_from_of : List (List ℕ) → Option Line
+deliver_from_of others = of_three (λ to from k. do
+  to ← node_named to
+  from ← node_named from
+  k ← number_below (2 ^ 64) k
+  Some (InFleet (fleet.Deliver to from k))) others
 
--- `tick <side> <ms>`
-abbrev pub tick_of : List (List ℕ) → Option WorldEvent
-tick_of others = of_two (λ side ms. do
-  side ← side_named side
+abbrev pub deliver_of : List (List ℕ) → Option Line
+deliver_of others = option_or (deliver_side_of others) (deliver_from_of others)
+
+-- `stranger <host> <ip> <port> <bytes>` in a fleet
+abbrev pub stranger_of : List (List ℕ) → Option Line
+stranger_of others = of_four (λ to ip port body. do
+  to ← node_named to
+  ip ← ip_of ip
+  port ← number_below (2 ^ 16) port
+  body ← bytes_of body
+  Some (InFleet (fleet.Stranger to (record { ip = ip; port = port }) body))) others
+
+-- `turn <host>`
+abbrev pub turn_at : Host → Line
+turn_at (OfWorld side) = InWorld (world.Turn side)
+turn_at (OfFleet node) = InFleet (fleet.Turn node)
+
+abbrev pub turn_of : List (List ℕ) → Option Line
+turn_of others = of_one (λ host. option_map turn_at (host_named host)) others
+
+-- `tick <host> <ms>`
+abbrev pub tick_at : Host → ℕ → Line
+tick_at (OfWorld side) ms = InWorld (world.Tick side ms)
+tick_at (OfFleet node) ms = InFleet (fleet.Tick node ms)
+
+abbrev pub tick_of : List (List ℕ) → Option Line
+tick_of others = of_two (λ host ms. do
+  host ← host_named host
   ms ← number_below (2 ^ 32) ms
-  Some (Tick side ms)) others
+  Some (tick_at host ms)) others
 
--- `take <side>`
-abbrev pub take_of : List (List ℕ) → Option WorldEvent
-take_of others = of_one (λ side. option_map Take (side_named side)) others
+-- `take <host>`
+abbrev pub take_at : Host → Line
+take_at (OfWorld side) = InWorld (world.Take side)
+take_at (OfFleet node) = InFleet (fleet.Take node)
 
--- `now`, `ask` or `later <side> <peer> <data>`
-abbrev pub disconnect_of : List ℕ → List (List ℕ) → Option WorldEvent
-disconnect_of form others = of_three (λ side peer info. do
+abbrev pub take_of : List (List ℕ) → Option Line
+take_of others = of_one (λ host. option_map take_at (host_named host)) others
+
+-- `now`, `ask` or `later <host> <peer> <data>`
+abbrev pub disconnect_at : Host → PeerRef → DisconnectMode → ℕ → Line
+disconnect_at (OfWorld side) peer how info = InWorld (world.Disconnect side peer how info)
+disconnect_at (OfFleet node) peer how info = InFleet (fleet.Disconnect node peer how info)
+
+abbrev pub disconnect_of : List ℕ → List (List ℕ) → Option Line
+disconnect_of form others = of_three (λ host peer info. do
   how ← mode_named form
-  side ← side_named side
+  host ← host_named host
   peer ← peer_of peer
   info ← number_below (2 ^ 32) info
-  Some (Disconnect side peer how info)) others
+  Some (disconnect_at host peer how info)) others
 
--- The event that a line spells, by its first word.
-unfoldable pub event_of : List ℕ → List (List ℕ) → Option WorldEvent
+-- How a network goes on that a line spells, by its first word.
+unfoldable pub event_of : List ℕ → List (List ℕ) → Option Line
 event_of form others =
     if bytes_eq form (codes "connect") then connect_of others
     else (if bytes_eq form (codes "submit") then submit_of others
     else (if bytes_eq form (codes "deliver") then deliver_of others
+    else (if bytes_eq form (codes "stranger") then stranger_of others
     else (if bytes_eq form (codes "turn") then turn_of others
     else (if bytes_eq form (codes "tick") then tick_of others
     else (if bytes_eq form (codes "take") then take_of others
-    else disconnect_of form others)))))
+    else disconnect_of form others))))))
 
 -- What a line of these words spells.
 unfoldable pub line_of : List (List ℕ) → Option Line
@@ -122,7 +155,8 @@ line_of [] = Some PassedOver
 line_of (form ∷ others) =
     if bytes_eq form (codes "pair") then pair_of others
     else (if bytes_eq form (codes "open") then open_of others
-    else option_map Step (event_of form others))
+    else (if bytes_eq form (codes "fleet") then fleet_of others
+    else event_of form others))
 
 -- What a line spells. One that begins with `#` is passed over, as one without words is.
 unfoldable pub spells : List ℕ → Option Line

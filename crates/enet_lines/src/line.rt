@@ -1,14 +1,17 @@
 //! What the lines of a script spell.
 
-ghost use Rattle.std.specs.Prelude.{◌≡◌, ◌∷◌, bytes_eq, IfOk};
+ghost use Rattle.std.specs.Prelude.{◌≡◌, ◌∷◌, IfOk};
 ghost use Rattle.enet_script.specs.Words.{words};
-ghost use Rattle.enet_lines.specs.Lines.{side_named, mode_named, pair_of, open_of, connect_of, submit_of, deliver_of, turn_of, tick_of, take_of, disconnect_of, event_of, line_of, spells};
+ghost use Rattle.enet_lines.specs.Lines.{mode_named, pair_of, open_of, fleet_of, connect_of, submit_of, deliver_of, deliver_side_of, deliver_from_of, stranger_of, turn_of, tick_of, take_of, disconnect_of, event_of, line_of, spells};
 
-use enet_network::{Side, WorldEvent};
+use crate::host::{host_named, is, node_named, side_named};
+use enet_fleet::FleetEvent;
+use enet_network::WorldEvent;
 use enet_script::{
-    bytes_of, five, four, id_of, one, peer_of, three, two, u8_of, u16_of, u32_of, u64_of, word,
+    bytes_of, five, four, id_of, ip_of, one, peer_of, three, two, u8_of, u16_of, u32_of, u64_of,
+    word,
 };
-use enet_types::DisconnectMode;
+use enet_types::{Addr, DisconnectMode};
 use std::alloc::{AllocError, Global};
 
 /// What a line spells.
@@ -32,8 +35,19 @@ pub enum Line {
         /// How many channels B grants.
         channels_b: u8,
     },
-    /// Something happens in the world.
-    Step(WorldEvent),
+    /// A server and its clients are opened that know nothing of each other, with one slot for each client.
+    Fleet {
+        /// How many clients there are.
+        clients: u16,
+        /// How many slots the server has.
+        peers: u16,
+        /// How many channels each host has.
+        channels: u8,
+    },
+    /// Something happens in a world of two hosts.
+    InWorld(WorldEvent),
+    /// Something happens in a fleet.
+    InFleet(FleetEvent),
 }
 
 /// What a line spells, without the line feed that ends it; None where it can't be read. An error where there is no memory for
@@ -50,13 +64,6 @@ pub fn read_line(alloc: Global, line: &[u8]) -> Result<Option<Line>, AllocError>
     }
 }
 
-// A word is this one.
-fn is(word: &[u8], name: &[u8]) -> bool
-    ensures { result ≡ bytes_eq word.now name.now }
-{
-    word == name
-}
-
 // What a line spells that has this form and these words behind it.
 fn read_form(alloc: Global, form: &[u8], rest: &[u8]) -> Result<Option<Line>, AllocError>
     ensures { IfOk result (λ read. read ≡ line_of (form.now ∷ words rest.now)) }
@@ -67,10 +74,10 @@ fn read_form(alloc: Global, form: &[u8], rest: &[u8]) -> Result<Option<Line>, Al
     if is(form, b"open") {
         return Ok(open(rest));
     }
-    match read_event(alloc, form, rest)? {
-        None => Ok(None),
-        Some(event) => Ok(Some(Line::Step(event))),
+    if is(form, b"fleet") {
+        return Ok(fleet(rest));
     }
+    read_event(alloc, form, rest)
 }
 
 fn pair(text: &[u8]) -> Option<Line>
@@ -97,9 +104,23 @@ fn open(text: &[u8]) -> Option<Line>
     })
 }
 
-// The event that a line of this form spells with these words behind it.
-fn read_event(alloc: Global, form: &[u8], rest: &[u8]) -> Result<Option<WorldEvent>, AllocError>
-    ensures { IfOk result (λ event. event ≡ event_of form.now (words rest.now)) }
+fn fleet(text: &[u8]) -> Option<Line>
+    ensures { result ≡ fleet_of (words text.now) }
+{
+    let (clients, peers, channels) = three(text)?;
+    let clients = u16_of(clients)?;
+    let peers = u16_of(peers)?;
+    let channels = u8_of(channels)?;
+    Some(Line::Fleet {
+        clients,
+        peers,
+        channels,
+    })
+}
+
+// How a network goes on that a line of this form spells with these words behind it.
+fn read_event(alloc: Global, form: &[u8], rest: &[u8]) -> Result<Option<Line>, AllocError>
+    ensures { IfOk result (λ read. read ≡ event_of form.now (words rest.now)) }
 {
     if is(form, b"connect") {
         return Ok(connect(rest));
@@ -109,6 +130,9 @@ fn read_event(alloc: Global, form: &[u8], rest: &[u8]) -> Result<Option<WorldEve
     }
     if is(form, b"deliver") {
         return Ok(deliver(rest));
+    }
+    if is(form, b"stranger") {
+        return stranger(alloc, rest);
     }
     if is(form, b"turn") {
         return Ok(turn(rest));
@@ -122,29 +146,24 @@ fn read_event(alloc: Global, form: &[u8], rest: &[u8]) -> Result<Option<WorldEve
     Ok(disconnect(form, rest))
 }
 
-fn connect(text: &[u8]) -> Option<WorldEvent>
+fn connect(text: &[u8]) -> Option<Line>
     ensures { result ≡ connect_of (words text.now) }
 {
-    let (side, channels, info, word) = four(text)?;
-    let side = side_named(side)?;
+    let (host, channels, info, word) = four(text)?;
+    let host = host_named(host)?;
     let channels = u8_of(channels)?;
     let info = u32_of(info)?;
     let word = id_of(word)?;
-    Some(WorldEvent::Connect {
-        side,
-        channels,
-        info,
-        word,
-    })
+    host.connect(channels, info, word)
 }
 
-fn submit(alloc: Global, text: &[u8]) -> Result<Option<WorldEvent>, AllocError>
-    ensures { IfOk result (λ event. event ≡ submit_of (words text.now)) }
+fn submit(alloc: Global, text: &[u8]) -> Result<Option<Line>, AllocError>
+    ensures { IfOk result (λ read. read ≡ submit_of (words text.now)) }
 {
-    let Some((side, peer, channel, flags, body)) = five(text) else {
+    let Some((host, peer, channel, flags, body)) = five(text) else {
         return Ok(None);
     };
-    let Some(side) = side_named(side) else {
+    let Some(host) = host_named(host) else {
         return Ok(None);
     };
     let Some(peer) = peer_of(peer) else {
@@ -159,76 +178,95 @@ fn submit(alloc: Global, text: &[u8]) -> Result<Option<WorldEvent>, AllocError>
     let Some(body) = bytes_of(alloc, body)? else {
         return Ok(None);
     };
-    Ok(Some(WorldEvent::Submit {
-        side,
-        peer,
-        channel,
-        flags,
-        body,
-    }))
+    Ok(Some(host.submit(peer, channel, flags, body)))
 }
 
-fn deliver(text: &[u8]) -> Option<WorldEvent>
+fn deliver(text: &[u8]) -> Option<Line>
     ensures { result ≡ deliver_of (words text.now) }
+{
+    match deliver_side(text) {
+        Some(line) => Some(line),
+        None => deliver_from(text),
+    }
+}
+
+// In a world: the datagram is of the other side.
+fn deliver_side(text: &[u8]) -> Option<Line>
+    ensures { result ≡ deliver_side_of (words text.now) }
 {
     let (side, k) = two(text)?;
     let side = side_named(side)?;
     let k = u64_of(k)?;
-    Some(WorldEvent::Deliver { side, k })
+    Some(Line::InWorld(WorldEvent::Deliver { side, k }))
 }
 
-fn turn(text: &[u8]) -> Option<WorldEvent>
+// In a fleet.
+fn deliver_from(text: &[u8]) -> Option<Line>
+    ensures { result ≡ deliver_from_of (words text.now) }
+{
+    let (to, from, k) = three(text)?;
+    let to = node_named(to)?;
+    let from = node_named(from)?;
+    let k = u64_of(k)?;
+    Some(Line::InFleet(FleetEvent::Deliver { to, from, k }))
+}
+
+fn stranger(alloc: Global, text: &[u8]) -> Result<Option<Line>, AllocError>
+    ensures { IfOk result (λ read. read ≡ stranger_of (words text.now)) }
+{
+    let Some((to, ip, port, bytes)) = four(text) else {
+        return Ok(None);
+    };
+    let Some(to) = node_named(to) else {
+        return Ok(None);
+    };
+    let Some(ip) = ip_of(ip) else {
+        return Ok(None);
+    };
+    let Some(port) = u16_of(port) else {
+        return Ok(None);
+    };
+    let Some(bytes) = bytes_of(alloc, bytes)? else {
+        return Ok(None);
+    };
+    let addr = Addr { ip, port };
+    Ok(Some(Line::InFleet(FleetEvent::Stranger { to, addr, bytes })))
+}
+
+fn turn(text: &[u8]) -> Option<Line>
     ensures { result ≡ turn_of (words text.now) }
 {
-    let side = one(text)?;
-    let side = side_named(side)?;
-    Some(WorldEvent::Turn { side })
+    let host = one(text)?;
+    let host = host_named(host)?;
+    Some(host.turn())
 }
 
-fn tick(text: &[u8]) -> Option<WorldEvent>
+fn tick(text: &[u8]) -> Option<Line>
     ensures { result ≡ tick_of (words text.now) }
 {
-    let (side, ms) = two(text)?;
-    let side = side_named(side)?;
+    let (host, ms) = two(text)?;
+    let host = host_named(host)?;
     let ms = u32_of(ms)?;
-    Some(WorldEvent::Tick { side, ms })
+    Some(host.tick(ms))
 }
 
-fn take(text: &[u8]) -> Option<WorldEvent>
+fn take(text: &[u8]) -> Option<Line>
     ensures { result ≡ take_of (words text.now) }
 {
-    let side = one(text)?;
-    let side = side_named(side)?;
-    Some(WorldEvent::Take { side })
+    let host = one(text)?;
+    let host = host_named(host)?;
+    Some(host.take())
 }
 
-fn disconnect(form: &[u8], text: &[u8]) -> Option<WorldEvent>
+fn disconnect(form: &[u8], text: &[u8]) -> Option<Line>
     ensures { result ≡ disconnect_of form.now (words text.now) }
 {
-    let (side, peer, info) = three(text)?;
+    let (host, peer, info) = three(text)?;
     let how = mode_named(form)?;
-    let side = side_named(side)?;
+    let host = host_named(host)?;
     let peer = peer_of(peer)?;
     let info = u32_of(info)?;
-    Some(WorldEvent::Disconnect {
-        side,
-        peer,
-        how,
-        info,
-    })
-}
-
-// A side: `A` or `B`.
-fn side_named(word: &[u8]) -> Option<Side>
-    ensures { result ≡ side_named word.now }
-{
-    if is(word, b"A") {
-        return Some(Side::A);
-    }
-    if is(word, b"B") {
-        return Some(Side::B);
-    }
-    None
+    Some(host.disconnect(peer, how, info))
 }
 
 // How a connection is ended: `now`, `ask` or `later`.

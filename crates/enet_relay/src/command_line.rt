@@ -82,7 +82,7 @@ fn command<'a>(alloc: Global) -> Result<Command<'a>, AllocError> {
     );
     Command::new(alloc, "enet_relay")
         .about(
-            "Hosts of ENet 1.3: a lab for two of them, a server that relays chat, and a demonstration of it",
+            "Hosts of ENet 1.3: a lab for them, a server that relays chat, and a demonstration of it",
         )
         .disable_help_subcommand(true)
         .subcommand_required(true)

@@ -1,5 +1,5 @@
-//! The program `enet_relay`. `enet_relay lab` runs a script of what happens to two hosts, `enet_relay serve` relays chat between
-//! real ENet clients, and `enet_relay demo` shows a server with clients in one process.
+//! The program `enet_relay`. `enet_relay lab` runs a script of what happens to two hosts or to a fleet, `enet_relay serve` relays chat
+//! between real ENet clients, and `enet_relay demo` shows a server with clients in one process.
 //!
 //! Proved: that it is safe; what a shift of the server did is said by `enet_serve`, what came of each client of the demonstration by
 //! `enet_demo`, and how a script of the lab is answered by `enet_lab`.

@@ -11,12 +11,12 @@ use Rattle.std.proofs.lemmas.List.{take_all, drop_all}
 use Rattle.std.proofs.Math.Seq.{drop-cons}
 use Rattle.std.proofs.lemmas.Grind.{common_steps}
 use Rattle.std.proofs.lemmas.Option.{cond_some}
-use Rattle.std.proofs.lemmas.List.Splits.{slice_split-cons_yes, slice_split-cons_no, slice_split_first}
+use Rattle.std.proofs.lemmas.List.Splits.{slice_split-cons_yes, slice_split-cons_no, slice_split_first, length-slice_split}
 use Rattle.std.proofs.lemmas.List.Sums.{passes_at_first}
 use Rattle.hex.specs.Hex.{decode_of}
 use Rattle.hex.specs.declared.error.FromHexError.{FromHexError}
 use Rattle.hex.specs.declared.error.FromHexError.TheVariants.{OutOfMemory}
-use Rattle.enet_script.specs.Words.{words, number_below, is_number, peer_of, bytes_of}
+use Rattle.enet_script.specs.Words.{words, parts, number_below, is_number, peer_of, bytes_of}
 
 abbrev is_space : ℕ → Bool
 is_space byte = byte == 32
@@ -58,16 +58,16 @@ words-spaces text e =
 kept : (piece : List ℕ) (pieces : List (List ℕ)) → 0 < length piece → filter is_piece (piece ∷ pieces) ≡ piece ∷ filter is_piece pieces
 kept piece pieces h = ap (λ b. cond b (piece ∷ filter is_piece pieces) (filter is_piece pieces)) (lt-ltb 0 (length piece) h)
 
--- a text without spaces is one piece
-unsplit_by : (byte : ℕ) (rest : List ℕ) (b : Bool) → is_space byte ≡ b
-    → (length rest ≤ position_or_len is_space rest → slice_split is_space rest ≡ rest ∷ [])
-    → suc (length rest) ≤ cond (not b) (1 + position_or_len is_space rest) 0 → slice_split is_space (byte ∷ rest) ≡ (byte ∷ rest) ∷ []
-unsplit_by byte rest true e h far = absurd (omega arith)
-unsplit_by byte rest false e h far = slice_split-cons_no is_space byte rest e ∙ ap (onto_first byte) (h (omega arith))
+-- a text without a byte that separates is one piece
+unsplit_by : (p : ℕ → Bool) (byte : ℕ) (rest : List ℕ) (b : Bool) → p byte ≡ b
+    → (length rest ≤ position_or_len p rest → slice_split p rest ≡ rest ∷ [])
+    → suc (length rest) ≤ cond (not b) (1 + position_or_len p rest) 0 → slice_split p (byte ∷ rest) ≡ (byte ∷ rest) ∷ []
+unsplit_by p byte rest true e h far = absurd (omega arith)
+unsplit_by p byte rest false e h far = slice_split-cons_no p byte rest e ∙ ap (onto_first byte) (h (omega arith))
 
-unsplit : (text : List ℕ) → length text ≤ position_or_len is_space text → slice_split is_space text ≡ text ∷ []
-unsplit [] far = refl
-unsplit (byte ∷ rest) far = unsplit_by byte rest (is_space byte) refl (unsplit rest) far
+unsplit : (p : ℕ → Bool) (text : List ℕ) → length text ≤ position_or_len p text → slice_split p text ≡ text ∷ []
+unsplit p [] far = refl
+unsplit p (byte ∷ rest) far = unsplit_by p byte rest (p byte) refl (unsplit p rest) far
 
 -- a text that begins with a word: the word ends at the first space
 ends_inside : (text : List ℕ) → is_space (get_or text 0 0) ≡ false → position_or_len is_space text < length text
@@ -87,7 +87,7 @@ ends_at_end : (text : List ℕ) → 0 < length text → length text ≤ position
     → words text ≡ take (length text) text ∷ words (drop (length text) text)
 unfolding words
 ends_at_end text some far =
-    ap (filter is_piece) (unsplit text far) ∙ kept text [] some
+    ap (filter is_piece) (unsplit is_space text far) ∙ kept text [] some
     ∙ sym (ap (λ piece. piece ∷ words (drop (length text) text)) (take_all (length text) text (omega arith))
     ∙ ap (λ left. text ∷ words left) (drop_all (length text) text (omega arith)))
 
@@ -243,3 +243,22 @@ pub bytes_of-bad : (word : List ℕ) (error : FromHexError) → false ≡ bytes_
     → (error ≡ OutOfMemory) ⊎ (decode_of word ≡ Err error) → None ≡ bytes_of word
 bytes_of-bad word error other room (inl memory) = absurd (room memory)
 bytes_of-bad word error other room (inr bad) = sym (bytes_of-hex word (Err error) other bad)
+
+-- a word without a point is one part
+pub parts-one : (text : List ℕ) → position is_point text ≡ None → parts text ≡ text ∷ []
+unfolding parts
+parts-one text e = unsplit is_point text (ltb-false _ _ (no_place _ _ e))
+
+-- any other begins with the part before its first point
+pub parts-more : (text before after : List ℕ) (point : ℕ) → position is_point text ≡ Some point → before ≡ take point text → after ≡ drop (point + 1) text
+    → parts text ≡ before ∷ parts after
+unfolding parts
+parts-more text before after point e front back =
+    let at = place_of is_point text point e in
+    slice_split_first is_point text 0 (omega (arith, at.0, at.1)) ∙ ap (λ k. take k text ∷ slice_split is_point (drop (k + 1) text)) at.0
+    ∙ ap (λ f. f ∷ slice_split is_point (drop (point + 1) text)) (sym front) ∙ ap (λ r. before ∷ slice_split is_point r) (sym back)
+
+-- each word has a part
+pub parts-some : (text : List ℕ) → 1 ≤ length (parts text)
+unfolding parts
+parts-some text = omega (arith, length-slice_split is_point text)

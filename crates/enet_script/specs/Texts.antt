@@ -1,7 +1,10 @@
 -- The texts of answers, without the line feed that ends a line.
-use Rattle.std.specs.Prelude.{ℕ, List, [], ◌∷◌, ◌++◌, codes, Option, Some, None}
+use Rattle.std.specs.Prelude.{ℕ, List, [], ◌∷◌, ◌++◌, map, codes, Option, Some, None}
 use Rattle.std.specs.Fmt.{decimal}
+use Rattle.std.specs.Int.{to_be_bytes, w32}
+use Rattle.std.specs.List.{join_with_byte}
 use Rattle.hex.specs.Hex.{encode_lower}
+use Rattle.enet_types.specs.declared.address.Addr.{Addr}
 use Rattle.enet_types.specs.declared.event.Event.{Event}
 use Rattle.enet_types.specs.declared.event.Event.TheVariants.{Connect, Receive, Disconnect, Refused}
 use Rattle.enet_types.specs.declared.event.PeerRef.{PeerRef}
@@ -18,6 +21,10 @@ bytes_text (byte ∷ others) = encode_lower (byte ∷ others)
 -- A peer as `slot.generation`.
 abbrev pub peer_text : PeerRef → List ℕ
 peer_text peer = decimal peer.slot ++ codes "." ++ decimal peer.generation
+
+-- An address in dotted decimals, the highest byte first, and a port behind a colon.
+abbrev pub address_text : Addr → List ℕ
+address_text addr = join_with_byte 46 (map decimal (to_be_bytes w32 addr.ip)) ++ codes ":" ++ decimal addr.port
 
 -- How many commands were handled, and the number of the stop, where there was one.
 abbrev pub handled_text : ℕ → Option Stop → List ℕ

@@ -26,12 +26,46 @@ infixl 10 ◌>>=◌
 abbrev pub ◌>>=◌ : {A B : Type 0} → Option A → (A → Option B) → Option B
 value >>= step = option_and_then step value
 
+-- What one word spells, or two to five, where there are just so many.
+abbrev pub of_one : {T : Type 0} → (List ℕ → Option T) → List (List ℕ) → Option T
+of_one spelled (a ∷ []) = spelled a
+of_one spelled _ = None
+
+abbrev pub of_two : {T : Type 0} → (List ℕ → List ℕ → Option T) → List (List ℕ) → Option T
+of_two spelled (a ∷ b ∷ []) = spelled a b
+of_two spelled _ = None
+
+abbrev pub of_three : {T : Type 0} → (List ℕ → List ℕ → List ℕ → Option T) → List (List ℕ) → Option T
+of_three spelled (a ∷ b ∷ c ∷ []) = spelled a b c
+of_three spelled _ = None
+
+abbrev pub of_four : {T : Type 0} → (List ℕ → List ℕ → List ℕ → List ℕ → Option T) → List (List ℕ) → Option T
+of_four spelled (a ∷ b ∷ c ∷ d ∷ []) = spelled a b c d
+of_four spelled _ = None
+
+abbrev pub of_five : {T : Type 0} → (List ℕ → List ℕ → List ℕ → List ℕ → List ℕ → Option T) → List (List ℕ) → Option T
+of_five spelled (a ∷ b ∷ c ∷ d ∷ e ∷ []) = spelled a b c d e
+of_five spelled _ = None
+
 -- The peer that `slot.generation` spells: 16 bits and 32.
 unfoldable pub peer_of : List ℕ → Option PeerRef
 peer_of word = do
   slot ← number_below (2 ^ 16) (before_first (λ byte. byte == 46) word)
   generation ← number_below (2 ^ 32) (after_first (λ byte. byte == 46) word)
   Some (record { slot = slot; generation = generation })
+
+-- The parts of a word: what stands between its points.
+unfoldable pub parts : List ℕ → List (List ℕ)
+parts word = slice_split (λ byte. byte == 46) word
+
+-- The IPv4 address that four numbers of 8 bits with points between them spell, the first the highest.
+abbrev pub ip_of : List ℕ → Option ℕ
+ip_of word = of_four (λ a b c d. do
+  a ← number_below (2 ^ 8) a
+  b ← number_below (2 ^ 8) b
+  c ← number_below (2 ^ 8) c
+  d ← number_below (2 ^ 8) d
+  Some (from_be_bytes w32 (a ∷ b ∷ c ∷ d ∷ []))) (parts word)
 
 -- The bytes that hex of either case spells; `-` spells none.
 unfoldable pub bytes_of : List ℕ → Option (List ℕ)

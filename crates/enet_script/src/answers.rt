@@ -4,9 +4,9 @@ ghost use Rattle.std.specs.Prelude.{◌≡◌, ◌++◌, codes, IfOk};
 ghost use Rattle.std.specs.Fmt.{decimal};
 ghost use Rattle.std.specs.String.{string_bytes};
 ghost use Rattle.enet_types.specs.Refusal.{label_of};
-ghost use Rattle.enet_script.specs.Texts.{bytes_text, event_text, peer_text, received_text};
+ghost use Rattle.enet_script.specs.Texts.{address_text, bytes_text, event_text, peer_text, received_text};
 
-use enet_types::{Event, Packet, PeerRef, Received, Refusal};
+use enet_types::{Addr, Event, Packet, PeerRef, Received, Refusal};
 use std::alloc::{AllocError, Global};
 
 /// A refusal: its number and its name. An error where there is no memory for the text.
@@ -22,6 +22,15 @@ pub fn peer_text(alloc: Global, peer: PeerRef) -> Result<String, AllocError>
 {
     let PeerRef { slot, generation } = peer;
     format!(in alloc; "{slot}.{generation}")
+}
+
+/// An address in dotted decimals, and its port behind a colon. An error where there is no memory for the text.
+pub fn address_text(alloc: Global, addr: Addr) -> Result<String, AllocError>
+    ensures { IfOk result (λ text. string_bytes text ≡ address_text addr) }
+{
+    let [first, second, third, fourth] = addr.ip.to_be_bytes();
+    let port = addr.port;
+    format!(in alloc; "{first}.{second}.{third}.{fourth}:{port}")
 }
 
 /// What came of a datagram: how many commands were handled, and the number of the stop, if there was one. An error

@@ -4,7 +4,7 @@
 ghost use Rattle.std.specs.Prelude.{◌≡◌, ◌≢◌, ◌==◌, ◌<◌, ◌^◌, ◌↔◌, ◌∷◌, [], length, not, position, MatchOption, IfOk, IsSome};
 ghost use Rattle.std.specs.Option.{SomeIff};
 ghost use Rattle.std.specs.Str.Parse.{IsNumeral, digits_value};
-ghost use Rattle.enet_script.specs.Words.{words, number_below, peer_of, bytes_of, id_of, Reads};
+ghost use Rattle.enet_script.specs.Words.{words, parts, number_below, peer_of, ip_of, bytes_of, id_of, Reads};
 
 use bytes::Bytes;
 use enet_types::PeerRef;
@@ -154,6 +154,40 @@ pub fn peer_of(word: &[u8]) -> Option<PeerRef>
     let slot = u16_of(&word[..point])?;
     let generation = u32_of(&word[point + 1..])?;
     Some(PeerRef { slot, generation })
+}
+
+// What stands before the first point and behind it.
+fn at_point(text: &[u8]) -> Option<(&[u8], &[u8])>
+    ensures { MatchOption result (parts text.now ≡ text.now ∷ []) (λ read. parts text.now ≡ read.0.now ∷ parts read.1.now) }
+{
+    let point = point_in(text)?;
+    Some((&text[..point], &text[point + 1..]))
+}
+
+// The four parts of a word with three points.
+fn four_parts(text: &[u8]) -> Option<(&[u8], &[u8], &[u8], &[u8])>
+    ensures { MatchOption result (length (parts text.now) ≢ 4)
+        (λ all. parts text.now ≡ all.0.now ∷ all.1.now ∷ all.2.now ∷ all.3.now ∷ []) }
+{
+    let (first, rest) = at_point(text)?;
+    let (second, rest) = at_point(rest)?;
+    let (third, fourth) = at_point(rest)?;
+    match at_point(fourth) {
+        None => Some((first, second, third, fourth)),
+        Some(_) => None,
+    }
+}
+
+/// The IPv4 address that a word spells in dotted decimals: four numbers of 8 bits, the first the highest.
+pub fn ip_of(word: &[u8]) -> Option<u32>
+    ensures { result ≡ ip_of word.now }
+{
+    let (first, second, third, fourth) = four_parts(word)?;
+    let first = u8_of(first)?;
+    let second = u8_of(second)?;
+    let third = u8_of(third)?;
+    let fourth = u8_of(fourth)?;
+    Some(u32::from_be_bytes([first, second, third, fourth]))
 }
 
 /// The bytes that a word spells: hex of either case, or `-` for none. An error where there is no memory for them.

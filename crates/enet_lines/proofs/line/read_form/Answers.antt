@@ -1,5 +1,6 @@
-use Rattle.std.proofs.Common.{rules}
-use Rattle.enet_lines.specs.Lines.{line_of}
+use Rattle.std.proofs.Common.{◌≡◌, ◌∷◌, IfOk, rules, subst}
+use Rattle.enet_script.specs.Words.{words}
+use Rattle.enet_lines.specs.Lines.{event_of, line_of}
 use Rattle.enet_lines.proofs.line.read_form.Goals as goal
 
 pub returns-then-is : goal.returns-then-is
@@ -10,10 +11,12 @@ pub returns-then-is-2 : goal.returns-then-is-2
 unfolding line_of
 returns-then-is-2 c = search rules
 
-pub returns-in-None : goal.returns-in-None
+pub returns-then-is-3 : goal.returns-then-is-3
 unfolding line_of
-returns-in-None c = search rules
+returns-then-is-3 c = search rules
 
-pub returns-in-Some : goal.returns-in-Some
+pub returns : goal.returns
 unfolding line_of
-returns-in-Some c = search rules
+returns c =
+    let same : event_of c.args.form.now (words c.args.rest.now) ≡ line_of (c.args.form.now ∷ words c.args.rest.now) = search rules in
+    subst (λ spelled. IfOk c.read_event.result (λ read. read ≡ spelled)) same c.read_event.ensures

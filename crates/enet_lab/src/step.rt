@@ -1,0 +1,71 @@
+//! One event of a network, and the text of its answer.
+
+ghost use Rattle.std.specs.Prelude.{◌≡◌, IfOk};
+ghost use Rattle.std.specs.Option.{option_map};
+ghost use Rattle.std.specs.String.{string_bytes};
+ghost use Rattle.enet_lab.specs.Lines.{FleetSteps, StepsTo, WorldSteps, bytes_shown, fleet_text, sent_shown, world_text};
+
+use enet_fleet::{Fleet, FleetEvent, Node, node_of};
+use enet_lines::{Host, Recipient, outcome_text};
+use enet_network::{Answer, Side, WorldEvent};
+use enet_types::{Addr, Refusal};
+use enet_world::{World, side_of};
+use std::alloc::{AllocError, Global};
+
+/// Makes one event happen in a world, and gives the text of its answer.
+pub(crate) fn world_step(
+    alloc: Global,
+    world: &mut World,
+    event: WorldEvent,
+) -> Result<String, AllocError>
+    ensures { IfOk result (λ text. StepsTo WorldSteps world_text world.old event (string_bytes text) world.new) }
+{
+    let side = side_of(&event);
+    let outcome = world.step(event);
+    let bytes = bytes_shown(world, side, &outcome);
+    outcome_text(alloc, Host::OfWorld(side), None, bytes, &outcome)
+}
+
+/// The bytes of the datagram that an answer shows; none where it shows none.
+fn bytes_shown<'a>(world: &'a World, side: Side, outcome: &Result<Answer, Refusal>) -> &'a [u8]
+    ensures { result.now ≡ bytes_shown world.now.world side outcome.now }
+{
+    match outcome {
+        Ok(Answer::Sent(Some(k))) => world.datagram(side, *k).unwrap_or(&[]),
+        _ => &[],
+    }
+}
+
+/// Makes one event happen in a fleet, and gives the text of its answer.
+pub(crate) fn fleet_step(
+    alloc: Global,
+    fleet: &mut Fleet,
+    event: FleetEvent,
+) -> Result<String, AllocError>
+    ensures { IfOk result (λ text. StepsTo FleetSteps fleet_text fleet.old event (string_bytes text) fleet.new) }
+{
+    let node = node_of(&event);
+    let outcome = fleet.step(event);
+    let host = Host::OfFleet(node);
+    match sent_shown(fleet, node, &outcome) {
+        Some((addr, bytes)) => {
+            let to = Recipient::at(fleet.clients(), addr);
+            outcome_text(alloc, host, Some(to), bytes, &outcome)
+        }
+        None => outcome_text(alloc, host, None, &[], &outcome),
+    }
+}
+
+/// Where the datagram went that an answer shows, and its bytes.
+fn sent_shown<'a>(
+    fleet: &'a Fleet,
+    node: Node,
+    outcome: &Result<Answer, Refusal>,
+) -> Option<(Addr, &'a [u8])>
+    ensures { option_map (λ sent. (sent.0, sent.1.now)) result ≡ sent_shown fleet.now node outcome.now }
+{
+    match outcome {
+        Ok(Answer::Sent(Some(k))) => fleet.datagram(node, *k),
+        _ => None,
+    }
+}
