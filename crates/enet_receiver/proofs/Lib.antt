@@ -12,6 +12,7 @@ pub mod Course
 pub mod Foreseen
 pub mod Steps
 pub mod Turns
+pub mod Ordered
 pub mod Taken
 pub mod Answered
 pub mod Sequenced

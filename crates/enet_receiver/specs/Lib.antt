@@ -9,3 +9,4 @@ pub mod Laws
 pub mod Sequenced
 pub mod ReceiverParts
 pub mod Admitted
+pub mod Next

@@ -33,7 +33,7 @@ pub(crate) fn make_room(
 }
 
 /// The packet of which this is the first piece that came.
-fn begun(alloc: Global, arriving: ArrivingData<'_>) -> Result<IncomingPacket, Refusal>
+pub(crate) fn begun(alloc: Global, arriving: ArrivingData<'_>) -> Result<IncomingPacket, Refusal>
     requires short { length arriving.payload.now < 2 ^ 32 }
     requires sound { IsTrue (is_sound (place_in_packet (data_command arriving))) }
     ensures { IfOk result (λ coming. coming ≡ with_more (earlier_or_new None (data_command arriving.entry)) (data_command arriving.entry)) }
