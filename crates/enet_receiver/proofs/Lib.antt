@@ -1,5 +1,6 @@
 pub mod Lists
 pub mod Maps
+pub mod Marks
 pub mod Entries
 pub mod Without
 pub mod Released

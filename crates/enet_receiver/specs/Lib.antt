@@ -10,3 +10,4 @@ pub mod Sequenced
 pub mod ReceiverParts
 pub mod Admitted
 pub mod Next
+pub mod Blocks

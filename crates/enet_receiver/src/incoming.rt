@@ -17,12 +17,13 @@ ghost use Rattle.enet_receiver.specs.Foresight.{new_end, data_if, is_reliable, i
 
 use crate::arriving_data::ArrivingData;
 use crate::foreseeing::{Completed, dispatches};
+use crate::held::Held;
 use crate::releasing::{pass_on, release};
 use crate::storing::{make_room, store};
 use crate::{Foresight, Took};
 use enet_codec::{Command, Packet, Refusal};
 use enet_fragment::Put;
-use enet_packets::{Dispatched, IncomingPacket, Packets, Waiting};
+use enet_packets::{Dispatched, IncomingPacket, Waiting};
 use enet_seq::{acknowledges, after, fragment_in_window, in_window};
 use std::alloc::Global;
 use std::collections::VecDeque;
@@ -41,7 +42,7 @@ pub struct Incoming {
     /// The last unreliable number that was dispatched since.
     unreliable: u16,
     /// Reliable packets past the front, by the number of their first piece.
-    held: Packets,
+    held: Held,
     /// Unreliable packets, by the reliable number for which they wait.
     waiting: Waiting,
     /// What was dispatched and not taken yet, in order.
@@ -97,7 +98,7 @@ impl Incoming {
             max_packet,
             front: 0,
             unreliable: 0,
-            held: Packets::new(alloc),
+            held: Held::new(alloc),
             waiting: Waiting::new(alloc),
             dispatched: VecDeque::new(alloc),
         })

@@ -16,14 +16,15 @@ ghost use Rattle.enet_receiver.specs.ReceiverParts.{receiver_of};
 ghost use Rattle.enet_receiver.specs.Next.{only_packet};
 
 use crate::arriving_data::ArrivingData;
+use crate::held::Held;
 use crate::storing::begun;
-use enet_packets::{Dispatched, IncomingPacket, Packets, Waiting};
+use enet_packets::{Dispatched, IncomingPacket, Waiting};
 use enet_seq::after;
 use std::alloc::Global;
 use std::collections::VecDeque;
 
 /// Takes the packet of this number away, if it is whole.
-fn take_whole(held: &mut Packets, number: u16) -> Option<IncomingPacket>
+fn take_whole(held: &mut Held, number: u16) -> Option<IncomingPacket>
     ensures value { result ≡ next_whole (get held.old number) }
     ensures some { OnSome result (held.new ≡ remove held.old number) }
     ensures none { IfNone result (held.new ≡ held.old) }
@@ -38,7 +39,7 @@ fn take_whole(held: &mut Packets, number: u16) -> Option<IncomingPacket>
 
 /// The number so many past the front, where the front goes: what is held for the numbers up to there goes, and what waits for
 /// a number before that.
-fn pass(front: u16, held: &mut Packets, waiting: &mut Waiting, count: u32) -> u16
+fn pass(front: u16, held: &mut Held, waiting: &mut Waiting, count: u32) -> u16
     ensures front { result ≡ after front count }
     ensures held { held.new ≡ without wire held.old (after front 1) count }
     ensures waiting { waiting.new ≡ without wire waiting.old front count }
@@ -58,7 +59,7 @@ fn pass(front: u16, held: &mut Packets, waiting: &mut Waiting, count: u32) -> u1
 fn dispatch_next(
     front: &mut u16,
     unreliable: &mut u16,
-    held: &mut Packets,
+    held: &mut Held,
     waiting: &mut Waiting,
     dispatched: &mut VecDeque<Dispatched>,
     coming: IncomingPacket,
@@ -82,7 +83,7 @@ fn dispatch_next(
 pub(crate) fn release(
     front: &mut u16,
     unreliable: &mut u16,
-    held: &mut Packets,
+    held: &mut Held,
     waiting: &mut Waiting,
     dispatched: &mut VecDeque<Dispatched>,
 )
@@ -104,7 +105,7 @@ pub(crate) fn pass_on(
     alloc: Global,
     front: &mut u16,
     unreliable: &mut u16,
-    held: &mut Packets,
+    held: &mut Held,
     waiting: &mut Waiting,
     dispatched: &mut VecDeque<Dispatched>,
     arriving: ArrivingData<'_>,
