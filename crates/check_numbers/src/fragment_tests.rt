@@ -66,3 +66,38 @@ fn a_piece_taken_back(rt: HostRuntime) {
     }
     assert!(rt; finishes_as(packet, b"ABcde"));
 }
+
+#[test]
+fn marks_as_words(rt: HostRuntime) {
+    let mut packet = assembly(rt.alloc(), 40, 40).expect(&rt, "memory");
+    for (number, word, want) in [
+        (0u32, 0u32, Some(1u32)),
+        (33, 1, Some(2)),
+        (33, 2, None),
+    ] {
+        let _ = put(&mut packet, (40, 40), number, number, b"x");
+        assert!(rt; packet.word(word) == want);
+    }
+}
+
+/// Whether a packet of so many pieces of one byte each is whole with its first piece, where its last one comes first.
+fn comes_last_first(alloc: Global, count: u32) -> bool {
+    let Some(mut packet) = assembly(alloc, count, count) else {
+        return false;
+    };
+    for back in 1..=count {
+        let number = count - back;
+        let want = if number == 0 { Put::Whole } else { Put::New };
+        if put(&mut packet, (count, count), number, number, b"x") != want {
+            return false;
+        }
+    }
+    packet.is_whole()
+}
+
+#[test]
+fn pieces_that_come_last_first(rt: HostRuntime) {
+    for count in 1..=100u32 {
+        assert!(rt; comes_last_first(rt.alloc(), count));
+    }
+}

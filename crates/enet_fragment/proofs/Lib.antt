@@ -5,3 +5,4 @@ pub mod Cuts
 pub mod Laws
 pub mod Wholes
 pub mod Commands
+pub mod Marked

@@ -5,3 +5,4 @@ pub mod PartialPacket
 pub mod Assembly
 pub mod Whole
 pub mod Gathered
+pub mod Marks

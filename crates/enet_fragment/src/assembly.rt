@@ -1,11 +1,13 @@
 //! A packet that is put together from its fragments.
 
-ghost use Rattle.std.specs.Prelude.{◌≡◌, ◌≤◌, ◌+◌, ◌↔◌, [], IsTrue, IsOk, IfOk, IfErr, is_some, length, replicate};
-ghost use Rattle.std.specs.Vec.{vec_capacity, vec_len};
+ghost use Rattle.std.specs.Prelude.{ℕ, ◌<◌, ◌*◌, ◌==◌, IfSome, IsSome, ◌≡◌, ◌≤◌, ◌+◌, ◌↔◌, [], IsTrue, IsOk, IfOk, IfErr, is_some, length, replicate};
+ghost use Rattle.std.specs.Vec.{vec_len};
+ghost use Rattle.std.specs.Int.{bit_at};
 ghost use Rattle.enet_fragment.specs.Assembly.{written_at};
 ghost use Rattle.enet_fragment.specs.PartialPacket.{is_same_cut};
 
-use crate::Place;
+use crate::filled::filled;
+use crate::{Marks, Place};
 use bytes::Bytes;
 use enet_codec::Refusal;
 use std::alloc::Global;
@@ -29,7 +31,7 @@ pub enum Put {
 #[derive(Drop)]
 pub struct Assembly {
     bytes: Vec<u8>,
-    came: Vec<bool>,
+    came: Marks,
     missing: usize,
     cut: Option<usize>,
 }
@@ -43,9 +45,9 @@ impl Model for Assembly {
 
     ghost use Rattle.enet_fragment.specs.Assembly.{making_of, AreKept};
 
-    ghost view = { λ a. making_of a.bytes.items a.came.items a.cut };
+    ghost view = { λ a. making_of a.bytes.items a.came a.cut };
 
-    ghost invariant = { λ a. AreKept a.bytes.items a.came.items a.missing a.cut };
+    ghost invariant = { λ a. AreKept a.bytes.items a.came a.missing a.cut };
 }
 
 impl Assembly {
@@ -60,8 +62,8 @@ impl Assembly {
         ensures ok { IfOk result (λ made. made ≡ nothing_yet count total) }
         ensures memory { IfErr result (λ why. why ≡ Refusal.Memory) }
     {
-        let came = filled(alloc, false, count)?;
-        let bytes = filled(alloc, 0, total)?;
+        let came = Marks::new(alloc, count)?;
+        let bytes = filled(alloc, 0, total as usize)?;
         Ok(Assembly {
             bytes,
             came,
@@ -80,7 +82,7 @@ impl Assembly {
         if !self.belongs(place) {
             return Put::Bad;
         }
-        if self.came[place.number as usize] {
+        if self.came.has(place.number) {
             Put::Again
         } else if self.missing == 1 {
             Put::Whole
@@ -114,11 +116,19 @@ impl Assembly {
     pub fn unmark(&mut self, number: u32)
         ensures { self.new ≡ without_piece self.old number }
     {
-        let number = number as usize;
-        if number < self.came.len() && self.came[number] {
-            self.came[number] = false;
+        if self.came.has(number) {
+            self.came.unmark(number);
             self.missing += 1;
         }
+    }
+
+    /// Word j of the marks of the pieces that have come: mark i is bit `i % 32` of word `i / 32`, and bits past the last piece
+    /// are 0. None past the last word.
+    pub fn word(&self, j: u32) -> Option<u32>
+        ensures bits { IfSome result (λ w. (i : ℕ) → i < 32 → (bit_at w i == 1) ≡ is_some (piece_at self.now (32 * j + i))) }
+        ensures there { IsSome result ↔ (32 * j < count_of self.now) }
+    {
+        self.came.word(j)
     }
 
     /// Whether every piece has come.
@@ -170,15 +180,14 @@ impl Assembly {
     fn is_of_size(&self, place: Place) -> bool
         ensures { result ≡ is_of_size self.now place }
     {
-        place.is_of_size(self.came.len(), self.bytes.len())
+        place.is_of_size(self.came.len() as usize, self.bytes.len())
     }
 
     /// Whether the piece of this number has come.
     pub(crate) fn has(&self, number: u32) -> bool
         ensures { result ≡ is_some (piece_at self.now number) }
     {
-        let number = number as usize;
-        number < self.came.len() && self.came[number]
+        self.came.has(number)
     }
 
     /// How many pieces the packet has.
@@ -186,7 +195,7 @@ impl Assembly {
         ensures value { result ≡ count_of self.now }
         ensures some { 1 ≤ result }
     {
-        self.came.len() as u32
+        self.came.len()
     }
 
     /// How many bytes the packet has.
@@ -205,7 +214,7 @@ impl Assembly {
     {
         let cut = place.told_piece_len();
         write_at(&mut self.bytes, place.offset as usize, bytes);
-        self.came[place.number as usize] = true;
+        self.came.mark(place.number);
         self.missing -= 1;
         self.cut = Some(cut);
     }
@@ -218,30 +227,6 @@ pub(crate) fn has_same_cut(known: Option<usize>, cut: usize) -> bool
     match known {
         None => true,
         Some(known) => known == cut,
-    }
-}
-
-/// So many copies of a value, in exactly as much room.
-fn filled<T: Copy>(alloc: Global, value: T, len: u32) -> Result<Vec<T>, Refusal>
-    ensures ok { IfOk result (λ items. items.items ≡ replicate len value) }
-    ensures memory { IfErr result (λ why. why ≡ Refusal.Memory) }
-{
-    let mut items = room_for(alloc, len as usize)?;
-    match items.resize(len as usize, value) {
-        Ok(()) => Ok(items),
-        Err(_) => Err(Refusal::Memory),
-    }
-}
-
-/// Room for exactly so many items.
-fn room_for<T>(alloc: Global, len: usize) -> Result<Vec<T>, Refusal>
-    ensures empty { IfOk result (λ items. items.items ≡ []) }
-    ensures exact { IfOk result (λ items. vec_capacity items ≡ len) }
-    ensures memory { IfErr result (λ why. why ≡ Refusal.Memory) }
-{
-    match Vec::with_capacity(alloc, len) {
-        Ok(items) => Ok(items),
-        Err(_) => Err(Refusal::Memory),
     }
 }
 

@@ -1,5 +1,6 @@
 pub mod Lists
 pub mod Maps
+pub mod Marks
 pub mod Entries
 pub mod Without
 pub mod Released
@@ -12,6 +13,7 @@ pub mod Course
 pub mod Foreseen
 pub mod Steps
 pub mod Turns
+pub mod Ordered
 pub mod Taken
 pub mod Answered
 pub mod Sequenced

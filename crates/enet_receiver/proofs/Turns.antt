@@ -1,9 +1,9 @@
 -- One turn of the loop that releases, and its end.
-use Rattle.std.proofs.Common.{◌≡◌, ℕ, zero, suc, ◌+◌, ◌-◌, ◌≤◌, Bool, true, false, cond, List, [], ◌∷◌, ◌++◌, refl, ap, ◌∙◌, arith, Some, None}
+use Rattle.std.proofs.Common.{◌≡◌, ℕ, zero, suc, ◌+◌, ◌-◌, ◌≤◌, Bool, true, false, cond, List, [], ◌∷◌, ◌++◌, refl, sym, ap, ◌∙◌, arith, Some, None}
 use Rattle.std.specs.Ordering.{nat_cmp}
 use Rattle.std.specs.Option.{is_some}
 use Rattle.std.specs.Cmp.{nat_cmp_total}
-use Rattle.std.specs.FinMap.{FinMap, get, remove, len, entries, contains_key, len-remove}
+use Rattle.std.specs.FinMap.{FinMap, get, insert, remove, len, entries, contains_key, len-remove}
 use Rattle.enet_seq.specs.Numbering.{wire}
 use Rattle.enet_seq.specs.Windows.{after}
 use Rattle.enet_fragment.specs.PartialPacket.{count_of}
@@ -11,8 +11,9 @@ use Rattle.enet_packets.specs.declared.incoming_packet.IncomingPacket.{IncomingP
 use Rattle.enet_packets.specs.declared.incoming_packet.Dispatched.{Dispatched}
 use Rattle.enet_packets.specs.Packets.{Lines, line_at, with_line, fresh, last_fresh, still_ahead, handed_out}
 use Rattle.enet_receiver.specs.Receiver.{Receiver, without, next_whole, with_passed, with_dispatched, flushed_from, flushed}
+use Rattle.enet_receiver.specs.Laws.{HavePieces}
 use Rattle.enet_receiver.specs.ReceiverParts.{receiver_of}
-use Rattle.enet_receiver.proofs.Without.{len-without, without-first}
+use Rattle.enet_receiver.proofs.Without.{len-without, without-first, without-added}
 use Rattle.enet_receiver.proofs.Released.{whole_is, wire_begins, nothing_held}
 
 -- what is held once the packet was taken out and its numbers went
@@ -45,6 +46,29 @@ fewer_after held taken passed next count front c whole is goes =
     let most = len-without wire taken (after front 1) count in
     let goes_len : len passed ≡ len (without wire taken (after front 1) count) = ap len goes in
     omega arith
+
+-- a turn is the same where the same is held past it
+turn_of : (r : Receiver) (c : IncomingPacket) (other : FinMap nat_cmp IncomingPacket) → without wire other (after r.front 1) (count_of c.making) ≡ without wire r.held (after r.front 1) (count_of c.making)
+    → with_dispatched wire (record r { held = other }) c ≡ with_dispatched wire r c
+turn_of r c other same =
+    let passed : Receiver = with_passed wire r c in
+    ap (λ m. flushed_from 0 (record passed { held = m })) same
+
+-- where a packet is due, one is held
+pub due_first : (held : FinMap nat_cmp IncomingPacket) (next : ℕ) (c : IncomingPacket) → next_whole (get held next) ≡ Some c → 1 ≤ len held
+due_first held next c whole = none_there held next c (whole_is (get held next) c whole).0
+
+-- a turn is the same where the packet was taken out before
+pub taken_first : (r : Receiver) (c : IncomingPacket) (taken : FinMap nat_cmp IncomingPacket) (next : ℕ) → next ≡ after r.front 1 → taken ≡ remove r.held next → HavePieces r
+    → next_whole (get r.held (after r.front 1)) ≡ Some c → with_dispatched wire (record r { held = taken }) c ≡ with_dispatched wire r c
+taken_first r c taken next at is pieces due =
+    let some_piece : 1 ≤ count_of c.making = pieces (after r.front 1) c (whole_is (get r.held (after r.front 1)) c due).0 in
+    turn_of r c taken (held_after r.held taken (without wire taken (after r.front 1) (count_of c.making)) next (count_of c.making) r.front c at is refl refl some_piece)
+
+-- and where it comes just then
+pub added_first : (r : Receiver) (c : IncomingPacket) → 1 ≤ count_of c.making → with_dispatched wire r c ≡ with_dispatched wire (record r { held = insert r.held (after r.front 1) c }) c
+added_first r c some_piece =
+    sym (turn_of r c (insert r.held (after r.front 1) c) (without-added wire r.held (after r.front 1) (count_of c.making) c (wire_begins r.front) some_piece))
 
 -- the receiver after a turn
 pub turn_is : (r : Receiver) (c : IncomingPacket) (front last : ℕ) (held : FinMap nat_cmp IncomingPacket) (passed flushed_lines : Lines) (pushed out : List Dispatched)

@@ -3,10 +3,10 @@ use Rattle.std.proofs.Common.{◌≡◌, ℕ, ◌+◌, ◌-◌, ◌%◌, ◌<◌
 use Rattle.std.specs.Ordering.{nat_cmp}
 use Rattle.std.specs.Option.{is_some}
 use Rattle.std.specs.Cmp.{nat_cmp_total}
-use Rattle.std.specs.FinMap.{FinMap, get, remove, contains_key, len, len-remove, empty_of_len, get-empty, same_map, nat_cmp-IsAntisymmetric}
+use Rattle.std.specs.FinMap.{FinMap, get, insert, remove, contains_key, len, len-remove, empty_of_len, get-empty, same_map, nat_cmp-IsAntisymmetric}
 use Rattle.enet_seq.specs.Numbering.{Numbering, wire, unbounded}
 use Rattle.enet_receiver.specs.Receiver.{without}
-use Rattle.enet_receiver.proofs.Maps.{get-remove_other, get-remove_same, get_removed, two_numbers}
+use Rattle.enet_receiver.proofs.Maps.{get-insert_other, get-remove_other, get-remove_same, get_removed, two_numbers}
 
 -- without bound: a number among them is gone
 pub get-without_inside : {X : Type 0} (m : FinMap nat_cmp X) (n count q : ℕ) → n ≤ q → q < n + count → get (without unbounded m n count) q ≡ None
@@ -103,3 +103,16 @@ unfolding without
 without-first g m n zero z h = absurd (omega arith)
 without-first g m n (suc zero) z h = ap (remove (remove m n)) z ∙ remove_again m n ∙ sym (ap (remove m) z)
 without-first g m n (suc (suc count)) z h = ap (λ x. remove x (g.after n (suc count))) (without-first g m n (suc count) z (omega arith))
+
+remove_added : {X : Type 0} (m : FinMap nat_cmp X) (k : ℕ) (v : X) → remove (insert m k v) k ≡ remove m k
+remove_added m k v = same_map nat_cmp_total nat_cmp-IsAntisymmetric _ _ (λ q. elim (two_numbers q k) [
+  | inl same ↦ subst (λ x. get (remove (insert m k v) k) x ≡ get (remove m k) x) (sym same) (get-remove_same (insert m k v) k ∙ sym (get-remove_same m k))
+  | inr apart ↦ get-remove_other (insert m k v) k q apart ∙ get-insert_other m k q v apart ∙ sym (get-remove_other m k q apart)
+])
+
+-- what would go goes, too, where it was added just before
+pub without-added : {X : Type 0} (g : Numbering) (m : FinMap nat_cmp X) (n count : ℕ) (v : X) → g.after n 0 ≡ n → 1 ≤ count → without g (insert m n v) n count ≡ without g m n count
+unfolding without
+without-added g m n zero v z h = absurd (omega arith)
+without-added g m n (suc zero) v z h = ap (remove (insert m n v)) z ∙ remove_added m n v ∙ sym (ap (remove m) z)
+without-added g m n (suc (suc count)) v z h = ap (λ x. remove x (g.after n (suc count))) (without-added g m n (suc count) v z (omega arith))

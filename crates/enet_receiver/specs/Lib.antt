@@ -9,3 +9,5 @@ pub mod Laws
 pub mod Sequenced
 pub mod ReceiverParts
 pub mod Admitted
+pub mod Next
+pub mod Blocks

@@ -3,7 +3,8 @@
 ghost use Rattle.std.specs.Prelude.{◌≡◌, ◌≤◌};
 ghost use Rattle.enet_receiver.specs.Walk.{pieces_at, is_fresh, fresh_at, walk, walked};
 
-use enet_packets::{Packets, Waiting};
+use crate::held::Held;
+use enet_packets::Waiting;
 use enet_seq::after;
 
 /// How many packets are held at most, and so in how many turns they are dispatched.
@@ -23,7 +24,7 @@ pub(crate) struct Completed {
 }
 
 /// How many pieces the packet of this number has, if it is whole.
-fn pieces_at(completed: Option<Completed>, held: &Packets, number: u16) -> Option<u32>
+fn pieces_at(completed: Option<Completed>, held: &Held, number: u16) -> Option<u32>
     ensures { result ≡ pieces_at completed held.now number }
 {
     if let Some(packet) = completed
@@ -61,7 +62,7 @@ fn fresh_at(completed: Option<Completed>, waiting: &Waiting, number: u16, first:
 }
 
 /// How many packets the whole ones just past the front are, with the unreliable ones that go with them.
-fn chain_count(completed: Option<Completed>, held: &Packets, waiting: &Waiting, front: u16) -> u32
+fn chain_count(completed: Option<Completed>, held: &Held, waiting: &Waiting, front: u16) -> u32
     ensures { result ≡ walk MOST_TURNS completed held.now waiting.now front }
 {
     let mut count = 0;
@@ -79,7 +80,7 @@ fn chain_count(completed: Option<Completed>, held: &Packets, waiting: &Waiting, 
 /// How many packets are dispatched, once one is made whole.
 pub(crate) fn dispatches(
     completed: Option<Completed>,
-    held: &Packets,
+    held: &Held,
     waiting: &Waiting,
     front: u16,
     unreliable: u16,

@@ -9,6 +9,7 @@ ghost use Rattle.enet_fragment.specs.Whole.{is_whole};
 ghost use Rattle.enet_receiver.specs.ArrivingData.{data_command};
 ghost use Rattle.enet_receiver.specs.Admitted.{Admitted, IsInside};
 ghost use Rattle.enet_receiver.specs.ReceiverParts.{with_first, with_kept, grown_at, answered_with};
+ghost use Rattle.enet_receiver.specs.Next.{IsNext};
 ghost use Rattle.enet_receiver.specs.Walk.{Completes};
 ghost use Rattle.enet_receiver.specs.Receiver.{held_bytes, cleared};
 ghost use Rattle.enet_receiver.specs.DataOutcome.{outcome, outcome_of, place_read, came_at, came_before, is_behind, is_handled, dispatch_count};
@@ -16,13 +17,14 @@ ghost use Rattle.enet_receiver.specs.Foresight.{new_end, data_if, is_reliable, i
 
 use crate::arriving_data::ArrivingData;
 use crate::foreseeing::{Completed, dispatches};
-use crate::releasing::release;
+use crate::held::Held;
+use crate::releasing::{pass_on, release};
 use crate::storing::{make_room, store};
 use crate::{Foresight, Took};
 use enet_codec::{Command, Packet, Refusal};
 use enet_fragment::Put;
-use enet_packets::{Dispatched, IncomingPacket, Packets, Waiting};
-use enet_seq::{acknowledges, fragment_in_window, in_window};
+use enet_packets::{Dispatched, IncomingPacket, Waiting};
+use enet_seq::{acknowledges, after, fragment_in_window, in_window};
 use std::alloc::Global;
 use std::collections::VecDeque;
 use std::marker::Model;
@@ -40,7 +42,7 @@ pub struct Incoming {
     /// The last unreliable number that was dispatched since.
     unreliable: u16,
     /// Reliable packets past the front, by the number of their first piece.
-    held: Packets,
+    held: Held,
     /// Unreliable packets, by the reliable number for which they wait.
     waiting: Waiting,
     /// What was dispatched and not taken yet, in order.
@@ -77,6 +79,13 @@ fn is_handled(took: Took) -> bool
     }
 }
 
+/// Whether a command is a whole reliable packet, and the next one in order.
+fn is_next(front: u16, arriving: ArrivingData<'_>, place: u16) -> bool
+    ensures { IsTrue result → IsNext front (data_command arriving.entry) place }
+{
+    arriving.reliable && arriving.fragment.is_none() && place == after(front, 1)
+}
+
 impl Incoming {
     /// A receiver of `channel` to which nothing came, for packets of at most `max_packet` bytes. It takes no memory, so it
     /// never answers E1.
@@ -89,7 +98,7 @@ impl Incoming {
             max_packet,
             front: 0,
             unreliable: 0,
-            held: Packets::new(alloc),
+            held: Held::new(alloc),
             waiting: Waiting::new(alloc),
             dispatched: VecDeque::new(alloc),
         })
@@ -271,8 +280,8 @@ impl Incoming {
         }
     }
 
-    /// Keeps a command that is taken in, and dispatches what that completes. False, with nothing changed, where memory is
-    /// refused.
+    /// Keeps a command that is taken in, and dispatches what that completes; the next packet in order is dispatched without
+    /// being held. False, with nothing changed, where memory is refused.
     fn keep(&mut self, arriving: ArrivingData<'_>, place: u16) -> bool
         requires short { length arriving.payload.now < 2 ^ 32 }
         requires admitted { Admitted self.old.max_packet self.old.receiver (data_command arriving) place }
@@ -282,6 +291,17 @@ impl Incoming {
     {
         if !make_room(&self.held, &self.waiting, &mut self.dispatched) {
             return false;
+        }
+        if is_next(self.front, arriving, place) {
+            return pass_on(
+                self.alloc,
+                &mut self.front,
+                &mut self.unreliable,
+                &mut self.held,
+                &mut self.waiting,
+                &mut self.dispatched,
+                arriving,
+            );
         }
         if !store(
             self.alloc,

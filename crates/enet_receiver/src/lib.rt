@@ -8,15 +8,19 @@
 //! foreseen to be held is, and is not looked at again), `held`, `pop`, `clear`, `open`; and `ArrivingData::of` (which sequenced
 //! data command a command is). Laws: as many turns as packets are held are enough to dispatch all that is due
 //! (`turns_suffice`), and what was dispatched before makes no difference (`earlier_dispatches_do_not_matter`); what comes in
-//! sequence never has the flags 2 of an unsequenced packet (`sequenced_has_other_flags`).
+//! sequence never has the flags 2 of an unsequenced packet (`sequenced_has_other_flags`). Inside, by the invariants of `Held` and
+//! `Block`: a number is marked exactly where a packet is held under it.
 //! Only tested, in `check_numbers` and `check_peer`: that calls succeed with ample memory, and the worked scripts of one
-//! channel.
+//! channel. Neither: that a block's marks go with the last number that is held of it, and what look-ups the marks save.
 #![tactic(auto)]
 
 mod arriving_data;
+mod block;
 mod foreseeing;
+mod held;
 mod incoming;
 mod laws;
+mod marking;
 mod releasing;
 mod storing;
 mod took;

@@ -1,22 +1,30 @@
 //! What is dispatched once a piece was taken in.
 
-ghost use Rattle.std.specs.Prelude.{◌≡◌, ◌+◌, ◌≤◌, true, IfSome, IfNone, OnSome};
-ghost use Rattle.std.specs.FinMap.{get, remove, len};
+ghost use Rattle.std.specs.Prelude.{◌≡◌, ◌+◌, ◌≤◌, ◌<◌, ◌^◌, true, false, IsTrue, None, IfSome, IfNone, OnSome, length};
+ghost use Rattle.std.specs.FinMap.{get, insert, remove, len};
 ghost use Rattle.std.specs.VecDeque.{deque_len, deque_capacity};
 ghost use Rattle.enet_seq.specs.Windows.{after};
 ghost use Rattle.enet_seq.specs.Numbering.{wire};
+ghost use Rattle.enet_fragment.specs.DataCommand.{place_in_packet};
+ghost use Rattle.enet_fragment.specs.Place.{is_sound};
 ghost use Rattle.enet_fragment.specs.Whole.{is_whole};
 ghost use Rattle.enet_packets.specs.Packets.{packets_in};
-ghost use Rattle.enet_receiver.specs.Receiver.{without, next_whole, all_released};
+ghost use Rattle.enet_receiver.specs.ArrivingData.{data_command};
+ghost use Rattle.enet_receiver.specs.Receiver.{without, next_whole, with_dispatched, all_released};
 ghost use Rattle.enet_receiver.specs.Laws.{HavePieces};
 ghost use Rattle.enet_receiver.specs.ReceiverParts.{receiver_of};
+ghost use Rattle.enet_receiver.specs.Next.{only_packet};
 
-use enet_packets::{Dispatched, IncomingPacket, Packets, Waiting};
+use crate::arriving_data::ArrivingData;
+use crate::held::Held;
+use crate::storing::begun;
+use enet_packets::{Dispatched, IncomingPacket, Waiting};
 use enet_seq::after;
+use std::alloc::Global;
 use std::collections::VecDeque;
 
 /// Takes the packet of this number away, if it is whole.
-fn take_whole(held: &mut Packets, number: u16) -> Option<IncomingPacket>
+fn take_whole(held: &mut Held, number: u16) -> Option<IncomingPacket>
     ensures value { result ≡ next_whole (get held.old number) }
     ensures some { OnSome result (held.new ≡ remove held.old number) }
     ensures none { IfNone result (held.new ≡ held.old) }
@@ -31,7 +39,7 @@ fn take_whole(held: &mut Packets, number: u16) -> Option<IncomingPacket>
 
 /// The number so many past the front, where the front goes: what is held for the numbers up to there goes, and what waits for
 /// a number before that.
-fn pass(front: u16, held: &mut Packets, waiting: &mut Waiting, count: u32) -> u16
+fn pass(front: u16, held: &mut Held, waiting: &mut Waiting, count: u32) -> u16
     ensures front { result ≡ after front count }
     ensures held { held.new ≡ without wire held.old (after front 1) count }
     ensures waiting { waiting.new ≡ without wire waiting.old front count }
@@ -46,12 +54,36 @@ fn pass(front: u16, held: &mut Packets, waiting: &mut Waiting, count: u32) -> u1
     last
 }
 
+/// Dispatches a whole packet that stands just past the front, held or not, with the unreliable ones that waited for it. It makes
+/// room for none of them.
+fn dispatch_next(
+    front: &mut u16,
+    unreliable: &mut u16,
+    held: &mut Held,
+    waiting: &mut Waiting,
+    dispatched: &mut VecDeque<Dispatched>,
+    coming: IncomingPacket,
+)
+    requires whole { IsTrue (is_whole coming.making) }
+    requires room { deque_len dispatched.old + (packets_in waiting.old + 1) ≤ deque_capacity dispatched.old }
+    ensures is { receiver_of front.new unreliable.new held.new waiting.new dispatched.new.items
+        ≡ with_dispatched wire (receiver_of front.old unreliable.old held.old waiting.old dispatched.old.items) coming }
+    ensures fewer { len held.new ≤ len held.old }
+    ensures room { deque_len dispatched.new + packets_in waiting.new ≤ deque_len dispatched.old + (packets_in waiting.old + 1) }
+    ensures capacity { deque_capacity dispatched.new ≡ deque_capacity dispatched.old }
+{
+    *front = pass(*front, held, waiting, coming.making.count());
+    *unreliable = 0;
+    dispatched.push_back_reserved(coming.handed_out());
+    waiting.flush(*front, 0, unreliable, dispatched);
+}
+
 /// Dispatches the whole packets just past the front, each with the unreliable ones that waited for it, and at last those of
 /// the front past the last unreliable number.
 pub(crate) fn release(
     front: &mut u16,
     unreliable: &mut u16,
-    held: &mut Packets,
+    held: &mut Held,
     waiting: &mut Waiting,
     dispatched: &mut VecDeque<Dispatched>,
 )
@@ -61,11 +93,37 @@ pub(crate) fn release(
         ≡ all_released wire (receiver_of front.old unreliable.old held.old waiting.old dispatched.old.items) }
 {
     while let Some(coming) = take_whole(held, after(*front, 1)) {
-        *front = pass(*front, held, waiting, coming.making.count());
-        *unreliable = 0;
-        dispatched.push_back_reserved(coming.handed_out());
-        waiting.flush(*front, 0, unreliable, dispatched);
+        dispatch_next(front, unreliable, held, waiting, dispatched, coming);
     }
     let first = u32::from(*unreliable) + 1;
     waiting.flush(*front, first, unreliable, dispatched);
+}
+
+/// Dispatches a packet of one command that comes just past the front, without holding it, and what is due then. False, with
+/// nothing changed, where memory is refused.
+pub(crate) fn pass_on(
+    alloc: Global,
+    front: &mut u16,
+    unreliable: &mut u16,
+    held: &mut Held,
+    waiting: &mut Waiting,
+    dispatched: &mut VecDeque<Dispatched>,
+    arriving: ArrivingData<'_>,
+) -> bool
+    requires short { length arriving.payload.now < 2 ^ 32 }
+    requires sound { IsTrue (is_sound (place_in_packet (data_command arriving))) }
+    requires single { arriving.fragment ≡ None }
+    requires room { deque_len dispatched.old + (len held.old + packets_in waiting.old + 1) ≤ deque_capacity dispatched.old }
+    requires pieces { HavePieces (receiver_of front.old unreliable.old held.old waiting.old dispatched.old.items) }
+    ensures passed { IsTrue result → receiver_of front.new unreliable.new held.new waiting.new dispatched.new.items
+        ≡ all_released wire (receiver_of front.old unreliable.old (insert held.old (after front.old 1) (only_packet (data_command arriving.entry))) waiting.old dispatched.old.items) }
+    ensures unchanged { result ≡ false → receiver_of front.new unreliable.new held.new waiting.new dispatched.new.items
+        ≡ receiver_of front.old unreliable.old held.old waiting.old dispatched.old.items }
+{
+    let Ok(coming) = begun(alloc, arriving) else {
+        return false;
+    };
+    dispatch_next(front, unreliable, held, waiting, dispatched, coming);
+    release(front, unreliable, held, waiting, dispatched);
+    true
 }

@@ -11,15 +11,16 @@ ghost use Rattle.enet_receiver.specs.DataOutcome.{agrees_with, came, came_at, ea
 ghost use Rattle.enet_receiver.specs.ReceiverParts.{holding, with_stored};
 
 use crate::arriving_data::ArrivingData;
+use crate::held::Held;
 use enet_codec::Refusal;
 use enet_fragment::PartialPacket;
-use enet_packets::{Dispatched, IncomingPacket, Packets, Waiting};
+use enet_packets::{Dispatched, IncomingPacket, Waiting};
 use std::alloc::Global;
 use std::collections::VecDeque;
 
 /// Makes room for all that is held or waits and one packet more to be dispatched.
 pub(crate) fn make_room(
-    held: &Packets,
+    held: &Held,
     waiting: &Waiting,
     dispatched: &mut VecDeque<Dispatched>,
 ) -> bool
@@ -33,7 +34,7 @@ pub(crate) fn make_room(
 }
 
 /// The packet of which this is the first piece that came.
-fn begun(alloc: Global, arriving: ArrivingData<'_>) -> Result<IncomingPacket, Refusal>
+pub(crate) fn begun(alloc: Global, arriving: ArrivingData<'_>) -> Result<IncomingPacket, Refusal>
     requires short { length arriving.payload.now < 2 ^ 32 }
     requires sound { IsTrue (is_sound (place_in_packet (data_command arriving))) }
     ensures { IfOk result (λ coming. coming ≡ with_more (earlier_or_new None (data_command arriving.entry)) (data_command arriving.entry)) }
@@ -48,7 +49,7 @@ fn begun(alloc: Global, arriving: ArrivingData<'_>) -> Result<IncomingPacket, Re
 /// Adds a piece to the reliable packet of this number.
 fn hold(
     alloc: Global,
-    held: &mut Packets,
+    held: &mut Held,
     number: u16,
     arriving: ArrivingData<'_>,
 ) -> Result<(), Refusal>
@@ -97,7 +98,7 @@ fn wait(
 /// Adds a piece to its packet, where memory is not refused.
 pub(crate) fn store(
     alloc: Global,
-    held: &mut Packets,
+    held: &mut Held,
     waiting: &mut Waiting,
     number: u16,
     arriving: ArrivingData<'_>,

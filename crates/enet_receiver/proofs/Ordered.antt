@@ -1,0 +1,92 @@
+-- A whole packet that comes just past the front is dispatched as if it had been held.
+use Rattle.std.proofs.Common.{◌≡◌, ℕ, ◌≤◌, ◌<◌, Bool, true, false, cond, List, inl, inr, refl, sym, ap, subst, ◌∙◌, arith, eqb, Option, Some, None}
+use Rattle.std.specs.Ordering.{nat_cmp}
+use Rattle.std.specs.FinMap.{FinMap, get, insert}
+use Rattle.enet_seq.specs.Numbering.{wire}
+use Rattle.enet_seq.specs.Windows.{after}
+use Rattle.enet_codec.specs.declared.command.Fragment.{Fragment}
+use Rattle.enet_fragment.specs.PartialPacket.{count_of, nothing_yet}
+use Rattle.enet_fragment.specs.Place.{is_sound}
+use Rattle.enet_fragment.specs.Whole.{is_whole}
+use Rattle.enet_fragment.specs.declared.data.DataCommand.{DataCommand}
+use Rattle.enet_fragment.specs.DataCommand.{piece_of, piece_or_only, place_in_packet}
+use Rattle.enet_fragment.proofs.Laws.{count_of-with_piece, count_of-nothing_yet}
+use Rattle.enet_packets.specs.declared.incoming_packet.IncomingPacket.{IncomingPacket}
+use Rattle.enet_packets.specs.declared.incoming_packet.Dispatched.{Dispatched}
+use Rattle.enet_packets.specs.Packets.{Lines, line_at, with_line}
+use Rattle.enet_receiver.specs.Receiver.{Receiver, next_whole, with_dispatched, all_released}
+use Rattle.enet_receiver.specs.Laws.{HavePieces}
+use Rattle.enet_receiver.specs.Admitted.{Admitted, IsInside}
+use Rattle.enet_receiver.specs.Invariant.{Keeps}
+use Rattle.enet_receiver.specs.Next.{only_packet, IsNext}
+use Rattle.enet_receiver.specs.DataOutcome.{came_at, came, earlier_or_new, with_more, with_added}
+use Rattle.enet_receiver.specs.ReceiverParts.{receiver_of, with_stored}
+use Rattle.enet_receiver.proofs.Maps.{get_inserted, get-insert_same}
+use Rattle.enet_receiver.proofs.Admission.{Keeps-stored}
+use Rattle.enet_receiver.proofs.Keeping.{Keeps-all_released}
+use Rattle.enet_receiver.proofs.Foreseen.{whole_first}
+use Rattle.enet_receiver.proofs.Released.{all_released-some, wire_begins}
+use Rattle.enet_receiver.proofs.Turns.{added_first}
+
+one_piece : (c : DataCommand) → c.fragment ≡ None → (piece_of c).count ≡ 1
+one_piece c single = ap (λ (f : Option Fragment). let p : Fragment = piece_or_only f c.number c.body in p.count) single
+
+pub only_count : (c : DataCommand) → c.fragment ≡ None → count_of (only_packet c).making ≡ 1
+only_count c single =
+    count_of-with_piece (nothing_yet (piece_of c).count (piece_of c).total) (place_in_packet c) c.body ∙ count_of-nothing_yet (piece_of c).count (piece_of c).total
+    ∙ one_piece c single
+
+pub only_whole : (c : DataCommand) → c.fragment ≡ None → is_sound (place_in_packet c) ≡ true → is_whole (only_packet c).making ≡ true
+only_whole c single sound = whole_first (place_in_packet c) c.body sound ∙ ap (λ n. eqb n 1) (one_piece c single)
+
+whole_next : (o : Option IncomingPacket) (c : IncomingPacket) → o ≡ Some c → is_whole c.making ≡ true → next_whole o ≡ Some c
+whole_next o c e w = ap next_whole e ∙ ap (λ b. cond b (Some c) None) w
+
+-- what is dispatched at once, and what is due then
+pub released_at_once : (r : Receiver) (c : DataCommand) → c.fragment ≡ None → is_sound (place_in_packet c) ≡ true → HavePieces r
+    → all_released wire (with_dispatched wire r (only_packet c)) ≡ all_released wire (record r { held = insert r.held (after r.front 1) (only_packet c) })
+released_at_once r c single sound pieces =
+    let count = only_count c single in
+    let some_piece : 1 ≤ count_of (only_packet c).making = omega arith in
+    let grown : Receiver = record r { held = insert r.held (after r.front 1) (only_packet c) } in
+    let there : get (insert r.held (after r.front 1) (only_packet c)) (after r.front 1) ≡ Some (only_packet c) = get-insert_same r.held (after r.front 1) (only_packet c) in
+    let kept : HavePieces (record r { held = insert r.held (after r.front 1) (only_packet c) }) = λ q x e. elim (get_inserted r.held (after r.front 1) q (only_packet c) x e) [
+      | inl same ↦ subst (λ (p : IncomingPacket). 1 ≤ count_of p.making) same.1 some_piece
+      | inr other ↦ pieces q x other.1
+    ] in
+    ap (all_released wire) (added_first r (only_packet c) some_piece)
+    ∙ sym (all_released-some wire grown (only_packet c) wire_begins kept (whole_next _ (only_packet c) there (only_whole c single sound)))
+
+nothing_came : (o : Option IncomingPacket) (c : DataCommand) → c.fragment ≡ None → came o c ≡ false → o ≡ None
+nothing_came None c single missing = refl
+nothing_came (Some e) c single missing = absurd (let t : came (Some e) c ≡ true = ap (λ (f : Option Fragment). came (Some e) (record c { fragment = f })) single in cc)
+
+-- such a packet, once it is stored
+pub next_stored : (most : ℕ) (r : Receiver) (c : DataCommand) (place : ℕ) → Admitted most r c place → IsNext r.front c place → record r { held = insert r.held (after r.front 1) (only_packet c) } ≡ with_stored r c place
+next_stored most r c place a next =
+    let none : came_at r c place ≡ None = nothing_came (came_at r c place) c next.single a.missing in
+    sym (ap (λ (o : Option IncomingPacket). with_added r c place (with_more (earlier_or_new o c) c)) none
+    ∙ ap (λ b. record r { held = cond b (insert r.held place (only_packet c)) r.held; waiting = cond b r.waiting (with_line r.waiting place (insert (line_at r.waiting place) c.unreliable (only_packet c))) }) next.reliable
+    ∙ ap (λ n. record r { held = insert r.held n (only_packet c) }) next.at)
+
+-- what is kept, and what comes of it, where room was made for what is dispatched
+pub passed_is : (most front unreliable : ℕ) (held : FinMap nat_cmp IncomingPacket) (waiting : Lines) (out room : List Dispatched) (c : DataCommand) (place : ℕ) (new : Receiver)
+    → Admitted most (receiver_of front unreliable held waiting out) c place → IsNext front c place → room ≡ out
+    → new ≡ all_released wire (receiver_of front unreliable (insert held (after front 1) (only_packet c)) waiting room)
+    → new ≡ all_released wire (with_stored (receiver_of front unreliable held waiting out) c place)
+passed_is most front unreliable held waiting out room c place new a next same is =
+    is ∙ ap (λ items. all_released wire (receiver_of front unreliable (insert held (after front 1) (only_packet c)) waiting items)) same
+    ∙ ap (all_released wire) (next_stored most (receiver_of front unreliable held waiting out) c place a next)
+
+pub kept_on : (taken : Bool) (most front unreliable : ℕ) (held : FinMap nat_cmp IncomingPacket) (waiting : Lines) (out room : List Dispatched) (c : DataCommand) (place : ℕ) (new : Receiver)
+    → Keeps most (receiver_of front unreliable held waiting out) → Admitted most (receiver_of front unreliable held waiting out) c place → IsInside front place → c.unreliable < 65536
+    → IsNext front c place → room ≡ out
+    → (taken ≡ true → new ≡ all_released wire (receiver_of front unreliable (insert held (after front 1) (only_packet c)) waiting room))
+    → (taken ≡ false → new ≡ receiver_of front unreliable held waiting room)
+    → Keeps most new
+kept_on true most front unreliable held waiting out room c place new k a inside count next same is not =
+    let r : Receiver = receiver_of front unreliable held waiting out in
+    subst (Keeps most) (sym (passed_is most front unreliable held waiting out room c place new a next same (is refl)))
+    (Keeps-all_released most (with_stored r c place) (Keeps-stored most r c place k inside count a))
+kept_on false most front unreliable held waiting out room c place new k a inside count next same is not =
+    subst (Keeps most) (sym (not refl ∙ ap (receiver_of front unreliable held waiting) same)) k
