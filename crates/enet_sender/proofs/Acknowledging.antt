@@ -1,19 +1,19 @@
 -- One sent command goes.
-use Rattle.std.proofs.Common.{inl, inr, ◌≡◌, ◌≢◌, ℕ, zero, suc, ◌+◌, ◌-◌, ◌%◌, ◌<◌, ◌≤◌, Bool, true, false, eqb, List, [], ◌∷◌, ◌++◌, length, map, get_or, set, take, drop, Option, Some, None, refl, sym, ap, subst, ◌∙◌, arith, All}
-use Rattle.std.specs.List.{position, slice_get, remove}
+use Rattle.std.proofs.Common.{inl, inr, ◌≡◌, ◌≢◌, ℕ, suc, ◌+◌, ◌-◌, ◌<◌, ◌≤◌, Bool, false, eqb, List, [], ◌∷◌, ◌++◌, length, map, get_or, set, take, drop, Option, Some, None, refl, sym, ap, subst, ◌∙◌, arith, All}
+use Rattle.std.specs.List.{slice_get, remove}
 use Rattle.std.proofs.lemmas.Bool.{cases_eq, eq-eqb, ne_eqb}
-use Rattle.std.proofs.lemmas.List.{length-set, length-take, get_or-take, get_or-set_same, get_or-set_other, get_or_default}
+use Rattle.std.proofs.lemmas.List.{length-set, length-take, get_or-take, get_or-set_same, get_or-set_other}
 use Rattle.std.proofs.lemmas.List.Elements.{All-set, All-get_or}
 use Rattle.enet_seq.specs.Windows.{ahead}
 use Rattle.enet_fragment.specs.declared.data.DataCommand.{DataCommand}
 use Rattle.enet_sender.specs.declared.sent.Sent.{Sent}
-use Rattle.enet_sender.specs.Sender.{Sender, position_of, without_place, after_acknowledgement, acknowledged_bytes, size_at, size_of}
+use Rattle.enet_sender.specs.Sender.{position_of, without_place, size_at, size_of}
 use Rattle.enet_sender.specs.Invariant.{reliable_in}
 use Rattle.enet_sender.specs.Pending.{vacant, named, times, held, Passes}
-use Rattle.enet_sender.specs.Rings.{Rings, KeepsSent, Keeps, GoesOn, at_place, is_due, keys_of, sender_of, commands_at, command_of}
+use Rattle.enet_sender.specs.Rings.{Rings, KeepsSent, Keeps, GoesOn, at_place, is_due, keys_of, commands_at, command_of}
 use Rattle.enet_sender.specs.Trims.{Trims}
 use Rattle.enet_sender.proofs.Lists.{position_at, position_none, get_at, remove_at, split, split_set}
-use Rattle.enet_sender.proofs.Named.{times-cons, times-append, times-here, times-other, times-some, held-some, held-none, named-other, named-append, named-cons, named-skip, named-all}
+use Rattle.enet_sender.proofs.Named.{times-append, times-here, times-other, held-some, held-none, named-other, named-append, named-cons, named-skip, named-all}
 
 -- the distance back from a number, and back again
 pub ahead-ahead : (n c : ℕ) → n < 65536 → c < 65536 → ahead (ahead n c) c ≡ n

@@ -1,15 +1,14 @@
 -- The command under a key of a ring changes how it was sent, and nothing else.
-use Rattle.std.proofs.Common.{inl, inr, ◌≡◌, ◌≢◌, ℕ, zero, suc, ◌+◌, ◌-◌, ◌<◌, ◌≤◌, Bool, true, false, List, [], ◌∷◌, ◌++◌, length, map, get_or, set, take, drop, Option, Some, None, is_some, refl, sym, ap, subst, ◌∙◌, arith, All}
+use Rattle.std.proofs.Common.{inl, inr, ◌≡◌, ◌≢◌, ℕ, suc, ◌+◌, ◌<◌, ◌≤◌, true, false, List, ◌∷◌, ◌++◌, length, map, get_or, take, drop, Option, Some, None, refl, sym, ap, subst, ◌∙◌, arith, All}
 use Rattle.std.specs.List.{position, slice_get, slice_set}
 use Rattle.std.proofs.lemmas.Bool.{cases_eq}
 use Rattle.std.proofs.lemmas.List.{length-take, get_or-take}
 use Rattle.std.proofs.lemmas.List.Elements.{All-get_or}
-use Rattle.enet_seq.specs.Windows.{ahead}
 use Rattle.enet_fragment.specs.declared.data.DataCommand.{DataCommand}
 use Rattle.enet_sender.specs.declared.sent.Sent.{Sent}
 use Rattle.enet_sender.specs.Invariant.{reliable_in}
 use Rattle.enet_sender.specs.Pending.{vacant, named, times, held, Passes}
-use Rattle.enet_sender.specs.Rings.{Rings, KeepsSent, Keeps, GoesOn, at_place, is_due, NoneDue, IsFirstDue, with_due, keys_of, commands_at, command_of}
+use Rattle.enet_sender.specs.Rings.{Rings, Keeps, GoesOn, at_place, is_due, NoneDue, IsFirstDue, with_due, keys_of, commands_at, command_of}
 use Rattle.enet_sender.proofs.Lists.{position_at, position_none, get_at, set_at, split}
 use Rattle.enet_sender.proofs.Named.{times-append, times-here, times-some, held-some, named-other, named-append, named-cons, named-all}
 

@@ -1,6 +1,6 @@
 -- All channels change, one after another.
-use Rattle.std.proofs.Common.{◌≡◌, ℕ, zero, suc, ◌+◌, ◌-◌, ◌<◌, ◌≤◌, Bool, true, ◌&&◌, ◌||◌, List, [], ◌∷◌, ◌++◌, length, map, get_or, set, take, drop, Option, Some, None, Result, Ok, Err, IfErr, refl, sym, ap, ap₂, subst, ◌∙◌, arith}
-use Rattle.std.specs.List.{slice_get, range_with_len, sum_by, list_all, list_any}
+use Rattle.std.proofs.Common.{◌≡◌, ℕ, zero, suc, ◌+◌, ◌<◌, ◌≤◌, Bool, true, ◌&&◌, ◌||◌, List, [], ◌∷◌, ◌++◌, length, map, get_or, set, take, drop, Option, Some, None, Result, Ok, Err, IfErr, refl, sym, ap, ap₂, subst, ◌∙◌, arith}
+use Rattle.std.specs.List.{slice_get, range_with_len, list_all, list_any}
 use Rattle.std.proofs.lemmas.List.{length-append, length-map, length-take, length-drop, length-set, take_all, drop_all, append-nil, get_or_default, map_push, take-map, take-set-le}
 use Rattle.std.proofs.lemmas.List.Edits.{map_over_more}
 use Rattle.std.proofs.lemmas.List.FromFn.{map-range_with_len_more}

@@ -1,20 +1,19 @@
 -- What one channel's call leaves to the others.
-use Rattle.std.proofs.Common.{inl, inr, ◌≡◌, ◌≢◌, ℕ, zero, suc, ◌+◌, ◌<◌, ◌≤◌, Bool, true, false, List, [], ◌∷◌, ◌++◌, length, map, get_or, set, Option, Some, None, is_some, refl, sym, ap, subst, ◌∙◌, arith, All}
+use Rattle.std.proofs.Common.{inl, inr, ◌≡◌, ◌≢◌, ℕ, zero, suc, ◌+◌, ◌<◌, ◌≤◌, List, [], ◌∷◌, length, map, get_or, set, Option, Some, None, refl, sym, ap, subst, ◌∙◌, arith, All}
 use Rattle.std.proofs.lemmas.Bool.{cases_eq, cases_lt}
-use Rattle.std.proofs.lemmas.List.{length-set, get_or-set_same, get_or-set_other, get_or_default, get_or_past, map-set, get_or-append_right, get_or_append_left}
+use Rattle.std.proofs.lemmas.List.{length-set, get_or-set_same, get_or-set_other, get_or_default, get_or_past, map-set}
 use Rattle.std.proofs.lemmas.List.Sums.{sum_by-cons, sum_by-set, get_or-le-sum_by}
 use Rattle.std.specs.List.{sum_by, slice_get}
 use Rattle.std.specs.Option.{option_map}
 use Rattle.std.proofs.lemmas.Option.{slice_get_read, slice_get-map}
 use Rattle.slab.specs.Slab.{Slab, get}
-use Rattle.enet_seq.specs.Windows.{ahead}
 use Rattle.enet_fragment.specs.declared.data.DataCommand.{DataCommand}
 use Rattle.enet_sender.specs.declared.sent.Sent.{Sent}
 use Rattle.enet_sender.specs.Due.{SendingEnd, new_end}
 use Rattle.enet_sender.specs.Invariant.{reliable_in}
 use Rattle.enet_sender.specs.declared.outgoing.Outgoing.{Outgoing}
 use Rattle.enet_sender.specs.Pending.{vacant, named, times, held, Passes}
-use Rattle.enet_sender.specs.Rings.{Rings, no_rings, sender_of, rings_of, KeepsSent, Keeps, GoesOn, at_place, is_due, keys_of, commands_at, command_of, end_of}
+use Rattle.enet_sender.specs.Rings.{Rings, no_rings, sender_of, rings_of, Keeps, GoesOn, at_place, is_due, keys_of, commands_at, command_of, end_of}
 use Rattle.enet_sender.specs.Senders.{ends_of, times_in, HasRoom, KeepsAll}
 use Rattle.std.proofs.lemmas.List.Elements.{All-set, All-get_or, All-nil, All-cons}
 use Rattle.enet_sender.proofs.Named.{times-append, times-some, held-some, some-held, named-same}

@@ -1,16 +1,16 @@
 -- A command is queued under a new key.
-use Rattle.std.proofs.Common.{inl, inr, ◌≡◌, ◌≢◌, ℕ, zero, suc, ◌+◌, ◌<◌, ◌≤◌, Bool, true, false, cond, List, [], ◌∷◌, ◌++◌, length, map, get_or, Option, Some, None, refl, sym, ap, subst, ◌∙◌, arith, All}
+use Rattle.std.proofs.Common.{inl, inr, ◌≡◌, ◌≢◌, ℕ, ◌+◌, ◌<◌, ◌≤◌, true, cond, List, [], ◌∷◌, ◌++◌, length, map, get_or, Option, Some, None, sym, ap, subst, ◌∙◌, arith}
 use Rattle.std.proofs.lemmas.Bool.{cases_eq, cases_lt}
 use Rattle.std.proofs.lemmas.List.{get_or_past, map_push}
 use Rattle.std.proofs.lemmas.List.Sums.{sum_by_push}
 use Rattle.std.proofs.lemmas.List.Elements.{All-push}
-use Rattle.enet_seq.specs.Windows.{ahead, after}
+use Rattle.enet_seq.specs.Windows.{after}
 use Rattle.enet_fragment.specs.declared.data.DataCommand.{DataCommand}
 use Rattle.enet_sender.specs.declared.sent.Sent.{Sent}
 use Rattle.enet_sender.specs.Invariant.{reliable_in}
 use Rattle.enet_sender.specs.Pending.{vacant, named, times, held, Passes}
-use Rattle.enet_sender.specs.Rings.{Rings, KeepsSent, Keeps, GoesOn, at_place, is_due, keys_of, commands_at, command_of}
-use Rattle.enet_sender.proofs.Named.{times-cons, times-append, times-here, times-other, times-some, held-some, held-none, named-other, named-append, named-cons}
+use Rattle.enet_sender.specs.Rings.{Rings, Keeps, GoesOn, at_place, is_due, keys_of, commands_at, command_of}
+use Rattle.enet_sender.proofs.Named.{times-append, times-here, times-other, times-some, held-some, held-none, named-other, named-append, named-cons}
 
 -- what is known where the command p has just come under a key that nothing had
 pub record Comes (at later : ℕ → Option Sent) (r : Rings) (key : ℕ) (p : Sent) : Type 0 where

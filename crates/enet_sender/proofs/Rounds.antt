@@ -1,5 +1,5 @@
 -- What a ring names changes, one command after another.
-use Rattle.std.proofs.Common.{inl, inr, ◌≡◌, ◌≢◌, ℕ, zero, suc, ◌+◌, ◌-◌, ◌<◌, ◌≤◌, Bool, true, false, cond, not, ◌&&◌, ◌||◌, ltb, List, [], ◌∷◌, ◌++◌, length, map, get_or, take, Option, Some, None, is_some, refl, sym, ap, ap₂, subst, ◌∙◌, arith, All}
+use Rattle.std.proofs.Common.{inl, inr, ◌≡◌, ◌≢◌, ℕ, zero, suc, ◌+◌, ◌%◌, ◌<◌, ◌≤◌, Bool, true, false, cond, not, ◌&&◌, ◌||◌, ltb, List, [], ◌∷◌, ◌++◌, length, map, get_or, take, Option, Some, None, is_some, refl, sym, ap, ap₂, subst, ◌∙◌, arith}
 use Rattle.std.specs.List.{cons_option, list_any, position, position_or_len}
 use Rattle.std.specs.Option.{option_map}
 use Rattle.std.proofs.lemmas.Bool.{cases_eq, lt-ltb}
@@ -20,9 +20,9 @@ use Rattle.enet_sender.specs.Sender.{Sender, marked, is_late, ends, lateness}
 use Rattle.enet_sender.specs.Invariant.{reliable_in}
 use Rattle.enet_sender.specs.Pending.{vacant, named, times, held, Passes}
 use Rattle.enet_sender.specs.Rounds.{changed_at, marked_at, taken_at, test_at, without_keys}
-use Rattle.enet_sender.specs.Rings.{Rings, KeepsSent, Keeps, GoesOn, at_place, is_due, with_due, keys_of, commands_at, command_of}
+use Rattle.enet_sender.specs.Rings.{Rings, Keeps, GoesOn, is_due, with_due, keys_of, commands_at, command_of}
 use Rattle.enet_sender.proofs.Counting.{is_some-cond}
-use Rattle.enet_sender.proofs.Named.{times-cons, times-append, times-here, times-other, times-some, held-some, named-same}
+use Rattle.enet_sender.proofs.Named.{times-append, times-here, times-other, times-some, named-same}
 
 abbrev one_if : Bool → ℕ
 one_if b = cond b 1 0
@@ -178,10 +178,18 @@ taken-had : (n : ℕ) (o : Option Sent) (q : Sent) → taken_at n o ≡ Some q �
 taken-had zero o q e = e
 taken-had (suc n) o q e = cc
 
+-- the last number given is a wire number
+goes_on-low : (passed : ℕ) (cs : List DataCommand) (number : ℕ) → passed < 65536 → GoesOn passed cs number → number < 65536
+goes_on-low passed [] number low e = subst (λ n. n < 65536) e low
+goes_on-low passed (c ∷ cs) number low e = goes_on-low (cond c.reliable c.number passed) cs number (by c.reliable refl) e.1
+  where
+    by : (b : Bool) → c.reliable ≡ b → cond b c.number passed < 65536
+    by true r = let f : c.number ≡ (passed + 1) % 65536 = e.0 r in omega arith
+    by false r = low
+
 -- what is known where all commands of a channel have just been taken out
 pub record Leaves (at after : ℕ → Option Sent) (r : Rings) : Type 0 where
   pub keeps : Keeps at r
-  pub low : r.number < 65536
   pub changed : (key : ℕ) → after key ≡ taken_at (times key (keys_of r)) (at key)
 
 leaves-nothing : {at after : ℕ → Option Sent} {r : Rings} → Leaves at after r → after vacant ≡ None
@@ -203,7 +211,7 @@ leaves-passes {at} {after} {r} h = record {
 }
   where
     left : (n : ℕ) (o : Option Sent) → n ≤ one_if (is_some o) → one_if (is_some o) ≡ n + one_if (is_some (taken_at n o))
-    left zero o most = refl
+    left zero o most = omega arith
     left (suc n) None most = absurd (omega arith)
     left (suc n) (Some p) most = omega arith
 
@@ -220,7 +228,7 @@ leaves-keeps {at} {after} {r} h = record {
     fits = All-nil (λ (key : ℕ). key ≤ vacant);
   };
   first = λ key e. absurd (cc);
-  passed = h.low;
+  passed = goes_on-low r.passed (commands_at at r.queued) r.number h.keeps.passed h.keeps.goes_on;
   goes_on = refl;
   counted = refl;
 }
@@ -262,7 +270,7 @@ ends-weaker now patience p e = ap (λ b. b && gives_up patience (elapsed_time no
 pub no-end : (now : ℕ) (patience : Patience) (sent : List Sent) → list_any (is_late now) sent ≡ false → list_any (ends now patience) sent ≡ false
 no-end now patience sent none = any-weaker (ends now patience) (is_late now) (λ p e. ends-weaker now patience p e) sent none
 
-expiry_by : Bool → Bool → Expiry
+abbrev pub expiry_by : Bool → Bool → Expiry
 expiry_by ends late = cond ends End (cond late Resend No)
 
 pub lateness-by : (now : ℕ) (patience : Patience) (s : Sender) (ending late : Bool) → list_any (ends now patience) s.sent ≡ ending → list_any (is_late now) s.sent ≡ late → expiry_by ending late ≡ lateness now patience s

@@ -1,18 +1,18 @@
 -- The head of the queue goes.
-use Rattle.std.proofs.Common.{not, ◌&&◌, ◌||◌, leb, inl, inr, ◌≡◌, ◌≢◌, ℕ, zero, suc, ◌+◌, ◌-◌, ◌<◌, ◌≤◌, Bool, true, false, cond, ltb, List, [], ◌∷◌, ◌++◌, length, map, get_or, set, take, drop, Option, Some, None, is_some, refl, sym, ap, subst, ◌∙◌, arith, All}
-use Rattle.std.specs.List.{position, slice_get, slice_set}
+use Rattle.std.proofs.Common.{not, ◌&&◌, ◌||◌, leb, inl, inr, ◌≡◌, ◌≢◌, ℕ, suc, ◌+◌, ◌-◌, ◌<◌, ◌≤◌, true, false, cond, ltb, List, [], ◌∷◌, ◌++◌, length, map, get_or, drop, Option, Some, None, refl, sym, ap, subst, ◌∙◌, arith, All}
+use Rattle.std.specs.List.{slice_get}
 use Rattle.std.proofs.lemmas.Bool.{cases_eq, cases_lt}
-use Rattle.std.proofs.lemmas.List.{length-append, get_or_append_left, get_or_past, get_or_at, map-append, append_assoc, length_push}
+use Rattle.std.proofs.lemmas.List.{get_or_append_left, get_or_past, get_or_at, length_push}
 use Rattle.std.proofs.lemmas.List.Elements.{All-push, All-tail, All-head}
 use Rattle.enet_seq.specs.Windows.{ahead, after}
 use Rattle.enet_seq.specs.Numbering.{wire}
 use Rattle.enet_fragment.specs.declared.data.DataCommand.{DataCommand}
 use Rattle.enet_sender.specs.declared.sent.Sent.{Sent}
-use Rattle.enet_sender.specs.Sender.{Sender, Next, begun, is_in_span, next_queued, first_sent, may_go}
+use Rattle.enet_sender.specs.Sender.{is_in_span, may_go}
 use Rattle.enet_sender.specs.Invariant.{reliable_in}
 use Rattle.enet_sender.proofs.Counting.{counted-less, counted-same}
 use Rattle.enet_sender.specs.Pending.{vacant, named, times, held, Passes}
-use Rattle.enet_sender.specs.Rings.{Rings, KeepsSent, Keeps, GoesOn, at_place, is_due, NoneDue, keys_of, commands_at, command_of, sender_of}
+use Rattle.enet_sender.specs.Rings.{Rings, KeepsSent, Keeps, GoesOn, at_place, is_due, keys_of, commands_at, command_of}
 use Rattle.enet_sender.proofs.Named.{times-cons, times-append, times-here, times-other, times-some, held-some, held-none, some-held, named-other, named-append, named-cons}
 
 -- what is known of the head of the queue, whose command p has just changed

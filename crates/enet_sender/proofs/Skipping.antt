@@ -1,14 +1,13 @@
 -- The rest of an unreliable packet is dropped, and what is left.
-use Rattle.std.proofs.Common.{inl, inr, ◌≡◌, ℕ, zero, suc, ◌+◌, ◌<◌, ◌≤◌, Bool, true, false, cond, ltb, not, ◌&&◌, List, [], ◌∷◌, ◌++◌, length, map, drop, Option, Some, None, refl, sym, ap, subst, ◌∙◌, arith}
-use Rattle.std.specs.List.{slice_get, cons_option}
-use Rattle.std.proofs.lemmas.Bool.{and_parts, lt-ltb, le-ltb}
-use Rattle.std.proofs.lemmas.List.{length-map}
+use Rattle.std.proofs.Common.{◌≡◌, ℕ, suc, ◌<◌, Bool, true, false, cond, ltb, not, List, [], ◌∷◌, ◌++◌, length, Option, Some, refl, sym, ap, ◌∙◌, arith}
+use Rattle.std.specs.List.{slice_get}
+use Rattle.std.proofs.lemmas.Bool.{and_parts, lt-ltb}
 use Rattle.enet_fragment.specs.declared.data.DataCommand.{DataCommand}
 use Rattle.enet_sender.specs.declared.sent.Sent.{Sent}
-use Rattle.enet_sender.specs.Sender.{Sender, is_more, is_after_first, skipped, begun, first_sent}
-use Rattle.enet_sender.specs.Pending.{vacant, named, times, held}
-use Rattle.enet_sender.specs.Rings.{Rings, Keeps, keys_of, commands_at, command_of}
-use Rattle.enet_sender.proofs.Named.{times-append, times-here, some-held, named-cons, named-length}
+use Rattle.enet_sender.specs.Sender.{is_more, is_after_first, skipped}
+use Rattle.enet_sender.specs.Pending.{vacant, named, times}
+use Rattle.enet_sender.specs.Rings.{Rings, Keeps, keys_of}
+use Rattle.enet_sender.proofs.Named.{times-append, times-here, some-held, named-cons}
 
 -- a further command is unreliable
 pub more-unreliable : (c : DataCommand) → is_more c ≡ true → c.reliable ≡ false

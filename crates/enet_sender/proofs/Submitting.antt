@@ -1,18 +1,16 @@
 -- A short packet is submitted.
-use Rattle.std.proofs.Common.{inl, inr, ◌≡◌, ◌≢◌, ℕ, ◌+◌, ◌<◌, ◌≤◌, Bool, true, false, cond, List, [], ◌∷◌, ◌++◌, length, get_or, Option, Some, None, refl, sym, ap, subst, ◌∙◌, arith}
-use Rattle.slab.specs.Slab.{Slab, get}
+use Rattle.std.proofs.Common.{◌≡◌, ℕ, ◌+◌, ◌≤◌, Bool, true, false, cond, List, [], ◌∷◌, ◌++◌, length, Option, None, refl, sym, ap, ◌∙◌, arith}
 use Rattle.enet_seq.specs.Windows.{after}
 use Rattle.enet_seq.specs.Numbering.{wire}
-use Rattle.enet_fragment.specs.Cutting.{piece_length, piece_count}
+use Rattle.enet_fragment.specs.Cutting.{piece_length}
 use Rattle.enet_fragment.specs.declared.data.DataCommand.{DataCommand}
 use Rattle.enet_sender.specs.declared.sent.Sent.{Sent}
 use Rattle.enet_sender.specs.declared.course.Course.{Course}
 use Rattle.enet_sender.specs.Sender.{Sender, submitted}
-use Rattle.enet_sender.specs.Course.{command_of, course_commands, packet_course}
+use Rattle.enet_sender.specs.Course.{command_of, packet_course}
 use Rattle.enet_sender.proofs.Courses.{piece_count-one, single}
-use Rattle.enet_sender.specs.Pending.{vacant, named, times, held, Passes}
-use Rattle.enet_sender.specs.Rings.{Rings, Keeps, sender_of, keys_of}
-use Rattle.enet_sender.proofs.Named.{held-some, some-held}
+use Rattle.enet_sender.specs.Pending.{vacant, times, held, Passes}
+use Rattle.enet_sender.proofs.Named.{held-some}
 
 -- a sender after its one command
 abbrev pub with_command : Sender → Course → List ℕ → Sender

@@ -1,10 +1,10 @@
 -- A ring loses a vacant place at its front.
-use Rattle.std.proofs.Common.{◌≡◌, ◌≢◌, ℕ, zero, suc, ◌+◌, ◌-◌, ◌<◌, ◌≤◌, List, [], ◌∷◌, length, get_or, drop, Option, Some, None, refl, sym, ap, ◌∙◌, arith, All}
+use Rattle.std.proofs.Common.{◌≡◌, ℕ, suc, ◌+◌, ◌-◌, ◌≤◌, List, [], ◌∷◌, length, drop, Option, Some, refl, sym, ap, ◌∙◌, arith}
 use Rattle.std.specs.List.{slice_get}
 use Rattle.std.proofs.lemmas.List.Elements.{All-tail}
 use Rattle.enet_seq.specs.Windows.{ahead}
 use Rattle.enet_sender.specs.declared.sent.Sent.{Sent}
-use Rattle.enet_sender.specs.Pending.{vacant, named, times}
+use Rattle.enet_sender.specs.Pending.{vacant}
 use Rattle.enet_sender.specs.Rings.{KeepsSent}
 use Rattle.enet_sender.specs.Trims.{Trims}
 use Rattle.enet_sender.proofs.Named.{times-other, named-skip}

@@ -1,5 +1,5 @@
 -- The first pieces of a long packet are queued.
-use Rattle.std.specs.Prelude.{◌≡◌, ℕ, ◌+◌, ◌≤◌, Bool, true, false, if◌then◌else◌, List, ◌++◌, map, Option}
+use Rattle.std.specs.Prelude.{◌≡◌, ℕ, ◌+◌, ◌≤◌, true, false, if◌then◌else◌, List, ◌++◌, map, Option}
 use Rattle.std.specs.List.{range_with_len}
 use Rattle.enet_seq.specs.Windows.{after}
 use Rattle.enet_sender.specs.declared.course.Course.{Course}

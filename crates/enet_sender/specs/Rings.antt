@@ -1,5 +1,5 @@
 -- One channel's rings of keys, and the sender that they name.
-use Rattle.std.specs.Prelude.{◌≡◌, ◌≢◌, ℕ, ◌+◌, ◌-◌, ◌<◌, ◌≤◌, Bool, true, false, if◌then◌else◌, List, [], ◌∷◌, ◌++◌, length, map, All, Option, Some, None, slice_index_or, slice_get}
+use Rattle.std.specs.Prelude.{◌≡◌, ℕ, ◌+◌, ◌-◌, ◌<◌, ◌≤◌, Bool, true, false, if◌then◌else◌, List, [], ◌∷◌, ◌++◌, length, map, All, Option, Some, None, slice_index_or, slice_get}
 use Rattle.slab.specs.Slab.{Slab, get}
 use Rattle.enet_seq.specs.Windows.{ahead, after}
 use Rattle.enet_fragment.specs.declared.data.DataCommand.{DataCommand}

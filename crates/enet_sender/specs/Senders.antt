@@ -1,7 +1,7 @@
 -- The channels of a peer: each key of theirs stands in one ring once.
 use Rattle.std.specs.VecDeque.{deque_len, deque_capacity}
-use Rattle.std.specs.Prelude.{◌≡◌, ℕ, ◌+◌, ◌<◌, ◌≤◌, List, length, map, All, sum_by, Option, Some, None}
-use Rattle.slab.specs.Slab.{Slab, get}
+use Rattle.std.specs.Prelude.{◌≡◌, ℕ, ◌+◌, ◌<◌, ◌≤◌, List, map, All, sum_by, Option, None}
+use Rattle.slab.specs.Slab.{Slab}
 use Rattle.enet_sender.specs.declared.sent.Sent.{Sent}
 use Rattle.enet_sender.specs.Sender.{with_marked, cleared}
 use Rattle.enet_sender.specs.Due.{SendingEnd}

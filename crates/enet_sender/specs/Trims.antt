@@ -1,5 +1,5 @@
 -- A ring without the vacant places before its first command.
-use Rattle.std.specs.Prelude.{◌≡◌, ℕ, ◌<◌, ◌≤◌, List, length, Option, None}
+use Rattle.std.specs.Prelude.{◌≡◌, ℕ, ◌<◌, List, Option, None}
 use Rattle.enet_sender.specs.declared.sent.Sent.{Sent}
 use Rattle.enet_sender.specs.Pending.{vacant, named, times}
 use Rattle.enet_sender.specs.Rings.{KeepsSent}

@@ -1,6 +1,6 @@
 //! The commands of a peer, each under a key.
 
-ghost use Rattle.std.specs.Prelude.{◌≡◌, ℕ, ◌+◌, ◌<◌, ◌≤◌, Some, None, [], IfOk, IfNone, IsTrue, option_copied};
+ghost use Rattle.std.specs.Prelude.{◌≡◌, ℕ, ◌+◌, ◌<◌, ◌≤◌, Some, None, [], IsOk, IfOk, IfNone, IsTrue, option_copied};
 ghost use Rattle.slab.specs.Slab.{get, slab_len, Updates, HasRoomFor};
 ghost use Rattle.enet_sender.specs.Pending.{vacant, queued};
 ghost use Rattle.enet_sender.specs.Rounds.{test_at};
@@ -27,7 +27,8 @@ pub struct Pending {
 impl Pending {
     /// No commands. It takes no memory, so it never answers E1.
     pub fn open(alloc: Global) -> Result<Pending, Refusal>
-        ensures { IfOk result (λ p. p.slab.slots ≡ []) }
+        ensures empty { IfOk result (λ p. p.slab.slots ≡ []) }
+        ensures never { IsOk result }
     {
         Ok(Pending {
             slab: Slab::new(alloc),

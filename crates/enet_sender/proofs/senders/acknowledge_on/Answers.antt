@@ -1,4 +1,4 @@
-use Rattle.std.proofs.Common.{◌<◌, length, sym, arith}
+use Rattle.std.proofs.Common.{sym, arith}
 use Rattle.enet_sender.specs.Due.{SendingEnd}
 use Rattle.enet_sender.specs.Sender.{after_acknowledgement}
 use Rattle.enet_sender.proofs.Frames.{Framed, framed, framed-write, room-there}

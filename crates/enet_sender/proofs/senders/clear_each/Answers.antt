@@ -1,4 +1,4 @@
-use Rattle.std.proofs.Common.{◌≡◌, ◌<◌, length, sym, ◌∙◌, arith}
+use Rattle.std.proofs.Common.{◌<◌, length, sym, ◌∙◌, arith}
 use Rattle.enet_sender.specs.Senders.{ends_of, cleared_end}
 use Rattle.enet_sender.proofs.Each.{partly-length, partly-more, partly-all, ends-length}
 use Rattle.enet_sender.proofs.senders.clear_each.Goals as goal

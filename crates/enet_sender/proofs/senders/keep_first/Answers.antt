@@ -1,4 +1,4 @@
-use Rattle.std.proofs.Common.{◌≡◌, ◌<◌, ◌≤◌, length, sym, ap, ◌∙◌, arith}
+use Rattle.std.proofs.Common.{◌<◌, length, sym, ap, ◌∙◌, arith}
 use Rattle.slab.specs.Slab.{get}
 use Rattle.enet_sender.specs.Senders.{ends_of, cleared_end}
 use Rattle.enet_sender.proofs.Each.{ends-length, front-stays, ends-take, keeps-take}

@@ -1,11 +1,10 @@
-use Rattle.std.proofs.Common.{set, ◌<◌, length, sym, ap, subst, ◌∙◌, arith, slice_get}
-use Rattle.slab.specs.Slab.{get}
+use Rattle.std.proofs.Common.{set, sym, ap, subst, ◌∙◌, arith, slice_get}
 use Rattle.enet_seq.specs.Numbering.{wire}
 use Rattle.enet_sender.specs.Sender.{next}
 use Rattle.enet_sender.specs.Due.{SendingEnd, Did}
 use Rattle.enet_sender.specs.Rings.{end_of}
 use Rattle.enet_sender.specs.Senders.{ends_of}
-use Rattle.enet_sender.proofs.Frames.{Framed, framed, end-there, room-there}
+use Rattle.enet_sender.proofs.Frames.{Framed, framed, end-there}
 use Rattle.enet_sender.proofs.senders.next_due_on.Goals.{After-next_due}
 use Rattle.enet_sender.proofs.senders.next_due_on.Goals as goal
 

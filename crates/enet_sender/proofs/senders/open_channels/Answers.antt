@@ -1,6 +1,4 @@
-use Rattle.std.proofs.Common.{[], List, ◌≡◌, ap, ◌∙◌, sym, arith}
-use Rattle.slab.specs.Slab.{get}
-use Rattle.enet_sender.specs.declared.outgoing.Outgoing.{Outgoing}
+use Rattle.std.proofs.Common.{ap, ◌∙◌, arith}
 use Rattle.enet_sender.specs.Senders.{ends_of}
 use Rattle.enet_sender.proofs.Each.{keeps-nil, keeps-push, ends-push}
 use Rattle.enet_sender.proofs.senders.open_channels.Goals as goal

@@ -1,4 +1,4 @@
-use Rattle.std.proofs.Common.{◌<◌, length, sym, arith}
+use Rattle.std.proofs.Common.{sym, arith}
 use Rattle.std.proofs.lemmas.Result.{on_ok_weaker}
 use Rattle.enet_sender.specs.Due.{SendingEnd, with_submitted}
 use Rattle.enet_sender.proofs.Frames.{Framed, framed, framed-write}

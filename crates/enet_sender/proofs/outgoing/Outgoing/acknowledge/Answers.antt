@@ -1,14 +1,12 @@
-use Rattle.std.proofs.Common.{◌≡◌, ℕ, ◌+◌, ◌<◌, length, map, Option, Some, None, refl, sym, ap, ◌∙◌, arith}
+use Rattle.std.proofs.Common.{◌≡◌, ℕ, ◌+◌, ◌<◌, length, map, Option, Some, None, sym, ap, ◌∙◌, arith}
 use Rattle.std.proofs.lemmas.List.{get_or_read}
 use Rattle.slab.specs.Slab.{Slab, get}
 use Rattle.enet_seq.specs.Windows.{ahead}
-use Rattle.enet_fragment.specs.declared.data.DataCommand.{DataCommand}
 use Rattle.enet_sender.specs.declared.sent.Sent.{Sent}
-use Rattle.enet_sender.specs.Due.{SendingEnd}
-use Rattle.enet_sender.specs.Sender.{position_of, without_place, size_at, acknowledged_bytes}
+use Rattle.enet_sender.specs.Sender.{position_of, without_place, size_at}
 use Rattle.enet_sender.specs.declared.outgoing.Outgoing.{Outgoing}
 use Rattle.enet_sender.specs.Pending.{named}
-use Rattle.enet_sender.specs.Rings.{rings_of, sender_of, end_of, command_of, commands_at, at_place}
+use Rattle.enet_sender.specs.Rings.{rings_of, sender_of, end_of, command_of, at_place}
 use Rattle.enet_sender.proofs.Acknowledging.{Goes, acknowledges-none, vacant-after, goes-sent, goes-bytes, goes-queued, goes-passes, goes-keeps}
 use Rattle.enet_sender.proofs.outgoing.Outgoing.acknowledge.Goals.{Joined-sent, After-from_residual-in_err-sent}
 use Rattle.enet_sender.proofs.outgoing.Outgoing.acknowledge.Goals as goal

@@ -1,4 +1,4 @@
-use Rattle.std.proofs.Common.{◌≡◌, ◌+◌, List, map, sym, ap, ◌∙◌, arith}
+use Rattle.std.proofs.Common.{sym, ap, ◌∙◌}
 use Rattle.slab.specs.Slab.{get}
 use Rattle.enet_sender.specs.Pending.{times, named}
 use Rattle.enet_sender.specs.Rounds.{taken_at}
@@ -14,7 +14,6 @@ leaves c =
     let o = c.args.self.now in
     record {
       keeps = c.requires;
-      low = omega (arith, c.ranges.self.number.fits);
       changed = λ key.
           c.take_all-2.ensures key ∙ ap (λ p. taken_at (times key o.sent.items) p) (c.take_all.ensures key)
           ∙ taken-both (times key o.sent.items) (times key o.queued.items) (at key)

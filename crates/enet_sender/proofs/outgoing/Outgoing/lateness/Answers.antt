@@ -1,4 +1,4 @@
-use Rattle.std.proofs.Common.{true, false, refl, sym, ◌∙◌}
+use Rattle.std.proofs.Common.{true, false, sym, ◌∙◌}
 use Rattle.slab.specs.Slab.{get}
 use Rattle.enet_sender.specs.Rings.{rings_of, sender_of}
 use Rattle.enet_sender.proofs.Rounds.{no-end, lateness-by}

@@ -1,4 +1,4 @@
-use Rattle.std.proofs.Common.{◌≡◌, map, ap}
+use Rattle.std.proofs.Common.{map, ap}
 use Rattle.slab.specs.Slab.{get}
 use Rattle.enet_sender.specs.Rings.{rings_of, command_of}
 use Rattle.enet_sender.proofs.Rounds.{Marks, marks-sent, marks-queued, marks-keeps, marks-passes}

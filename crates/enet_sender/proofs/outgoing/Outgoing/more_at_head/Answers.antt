@@ -1,4 +1,4 @@
-use Rattle.std.proofs.Common.{◌≡◌, drop, sym, ◌∙◌}
+use Rattle.std.proofs.Common.{drop, sym, ◌∙◌}
 use Rattle.slab.specs.Slab.{get}
 use Rattle.enet_sender.specs.Rings.{rings_of, commands_at}
 use Rattle.enet_sender.proofs.Sending.{head-there, by_first, head-queued}

@@ -1,4 +1,4 @@
-use Rattle.std.proofs.Common.{◌≡◌, ℕ, length, take, Option, Some, None, refl, sym, ap, subst, ◌∙◌, arith}
+use Rattle.std.proofs.Common.{ℕ, length, take, Option, sym, subst}
 use Rattle.std.specs.List.{slice_get}
 use Rattle.slab.specs.Slab.{get}
 use Rattle.enet_seq.specs.Numbering.{wire}

@@ -1,13 +1,10 @@
-use Rattle.std.proofs.Common.{◌≡◌, ℕ, List, [], ◌∷◌, length, drop, true, Option, Some, None, refl, sym, ap, subst, ◌∙◌, arith}
+use Rattle.std.proofs.Common.{◌≡◌, [], length, drop, true, Option, Some, refl, sym, ap, subst, ◌∙◌}
 use Rattle.slab.specs.Slab.{get}
 use Rattle.enet_seq.specs.Numbering.{wire}
-use Rattle.enet_fragment.specs.declared.data.DataCommand.{DataCommand}
-use Rattle.enet_sender.specs.declared.sent.Sent.{Sent}
 use Rattle.enet_sender.specs.declared.outgoing.Due.TheVariants as due
-use Rattle.enet_sender.specs.Sender.{Next, next_queued, first_sent, may_go}
+use Rattle.enet_sender.specs.Sender.{Next, next_queued, first_sent}
 use Rattle.enet_sender.specs.Due.{Did, SendingEnd}
 use Rattle.enet_sender.proofs.NextLemmas.{next_queued-goes, next_queued-empty, next_queued-blocked}
-use Rattle.enet_sender.specs.Pending.{named}
 use Rattle.enet_sender.specs.Rings.{rings_of, sender_of, end_of, commands_at}
 use Rattle.enet_sender.proofs.Sending.{head-there, by_first, by_none, head-queued, head-number}
 use Rattle.enet_sender.proofs.outgoing.Outgoing.send_first.Goals.{After-put}

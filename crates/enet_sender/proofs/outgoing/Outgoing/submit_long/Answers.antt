@@ -7,7 +7,6 @@ use Rattle.enet_sender.specs.Course.{course_commands}
 use Rattle.enet_sender.specs.Due.{SendingEnd}
 use Rattle.enet_sender.specs.Pending.{named}
 use Rattle.enet_sender.specs.Rings.{Rings, rings_of, commands_at}
-use Rattle.enet_sender.specs.Queues.{Queues}
 use Rattle.enet_sender.proofs.outgoing.Outgoing.submit_long.Goals as goal
 
 -- the end with all commands of a course
