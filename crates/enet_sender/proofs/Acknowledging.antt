@@ -115,10 +115,10 @@ goes-found {at} {after} {r} {number} {place} {key} {p} h =
     h.keeps.sent.numbered place p here ∙ ap (λ n. ahead n r.passed) (let same : length r.sent - (place + 1) ≡ ahead number r.passed = omega arith in same) ∙ ahead-ahead number r.passed h.low h.keeps.passed in
     let none : All (λ q. has_number number q ≡ false) (named at fs) =
     named-all (λ q. has_number number q ≡ false) at fs vacant (λ i q inside there.
-      let short = length-take place r.sent in
-      let less : i < place = omega arith in
-      let at_i : at_place at r.sent i ≡ Some q = ap at (sym (get_or-take place r.sent i vacant less)) ∙ there in
-      ne_eqb q.command.number number (λ same. let f = number-place at r.passed r.due_from r.sent number i q h.keeps.sent h.keeps.passed h.low at_i (omega arith) same in omega arith)) in
+    let short = length-take place r.sent in
+    let less : i < place = omega arith in
+    let at_i : at_place at r.sent i ≡ Some q = ap at (sym (get_or-take place r.sent i vacant less)) ∙ there in
+    ne_eqb q.command.number number (λ same. let f = number-place at r.passed r.due_from r.sent number i q h.keeps.sent h.keeps.passed h.low at_i (omega arith) same in omega arith)) in
     (is, ap (position_of number) is ∙ position_at (has_number number) (named at fs) (named at bs) p none (eq-eqb p.command.number number number_is))
 
 -- what is sent is so without it
@@ -205,12 +205,12 @@ pub goes-passes : {at after : ℕ → Option Sent} {r : Rings} {number place key
 goes-passes {at} {after} {r} {number} {place} {key} {p} h sent due trims = record {
   others = λ k q low none e.
       h.others k (λ same.
-        let o = once h in
-        let all = times-append k r.queued r.sent in
-        let was = ap (times k) o.is ∙ times-append k (front place r.sent) (key ∷ back place r.sent) in
-        let here = times-here key (back place r.sent) in
-        let as_one : times k (key ∷ back place r.sent) ≡ times key (key ∷ back place r.sent) = ap (λ j. times j (key ∷ back place r.sent)) same in
-        omega arith) ∙ e;
+      let o = once h in
+      let all = times-append k r.queued r.sent in
+      let was = ap (times k) o.is ∙ times-append k (front place r.sent) (key ∷ back place r.sent) in
+      let here = times-here key (back place r.sent) in
+      let as_one : times k (key ∷ back place r.sent) ≡ times key (key ∷ back place r.sent) = ap (λ j. times j (key ∷ back place r.sent)) same in
+      omega arith) ∙ e;
   balanced = λ k low.
       let was = times-append k r.queued r.sent in
       let now = times-append k r.queued sent in

@@ -103,10 +103,10 @@ pub change-passes : {at after : ℕ → Option Sent} {r : Rings} {place key : �
 change-passes {at} {after} {r} {place} {key} {p} {q} h due = record {
   others = λ k x low none e.
       h.others k (λ same.
-        let some = times-some r.sent place vacant h.inside in
-        let all = times-append k r.queued r.sent in
-        let is = ap (λ j. times j r.sent) (h.key_is ∙ sym same) in
-        omega arith) ∙ e;
+      let some = times-some r.sent place vacant h.inside in
+      let all = times-append k r.queued r.sent in
+      let is = ap (λ j. times j r.sent) (h.key_is ∙ sym same) in
+      omega arith) ∙ e;
   balanced = λ k low. let one = same_held h k in omega arith;
   nothing = let low = change-low h in h.others vacant (λ e. omega arith) ∙ h.keeps.nothing;
 }

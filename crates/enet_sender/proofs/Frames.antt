@@ -151,12 +151,12 @@ framed s t channels i old new inside is all kept passes room = record {
     other_keeps j within other =
         keeps-other at after (rings_of (get_or channels j old)) (all.each j old within) passes.nothing kept.short (agrees_queued j within other) (agrees_sent j within other)
         (λ key low.
-          let e = get_or-set_other channels i j new old other in
-          let same = ap (times_in key) e in
-          let len = length-set channels i new in
-          let part = get_or-le-sum_by (times_in key) (set channels i new) j old (omega arith) in
-          let most = names key low in
-          omega arith)
+        let e = get_or-set_other channels i j new old other in
+        let same = ap (times_in key) e in
+        let len = length-set channels i new in
+        let part = get_or-le-sum_by (times_in key) (set channels i new) j old (omega arith) in
+        let most = names key low in
+        omega arith)
 
     each : All (λ (o : Outgoing). Keeps after (rings_of o)) (set channels i new)
     each j d within =

@@ -54,9 +54,9 @@ named-same at after (k ∷ keys) d same =
 pub named-other : (at after : ℕ → Option Sent) (key : ℕ) (keys : List ℕ) → times key keys ≡ 0 → ((k : ℕ) → k ≢ key → after k ≡ at k) → named after keys ≡ named at keys
 named-other at after key keys none others =
     named-same at after keys vacant (λ i inside. others (get_or keys i vacant) (λ same.
-      let some = times-some keys i vacant inside in
-      let e = ap (λ j. times j keys) same in
-      omega arith))
+    let some = times-some keys i vacant inside in
+    let e = ap (λ j. times j keys) same in
+    omega arith))
 
 pub named-append : (at : ℕ → Option Sent) (fs bs : List ℕ) → named at (fs ++ bs) ≡ named at fs ++ named at bs
 named-append at fs bs = filter_map-append at fs bs

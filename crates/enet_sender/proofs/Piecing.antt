@@ -36,7 +36,7 @@ queues-more course body i before old s t mid new c h is number_is kept passes en
     let reliable : c.reliable ≡ course.reliable = ap (λ (d : DataCommand). d.reliable) is in
     let number : c.number ≡ cond course.reliable (after course.number (i + 1)) course.number = ap (λ (d : DataCommand). d.number) is in
     let goes : course.reliable ≡ true → new.number ≡ after old.number (i + 1) = λ r.
-        n ∙ ap (λ b. cond b c.number mid.number) (reliable ∙ r) ∙ number ∙ ap (λ b. cond b (after course.number (i + 1)) course.number) r ∙ ap (λ k. after k (i + 1)) number_is in
+    n ∙ ap (λ b. cond b c.number mid.number) (reliable ∙ r) ∙ number ∙ ap (λ b. cond b (after course.number (i + 1)) course.number) r ∙ ap (λ k. after k (i + 1)) number_is in
     let stays : course.reliable ≡ false → new.number ≡ old.number = λ r. n ∙ ap (λ b. cond b c.number mid.number) (reliable ∙ r) ∙ h.plain r in
     record {
       kept = kept;

@@ -62,10 +62,10 @@ same-place {at} {later} {r} {key} {p} h i =
     elim (cases_lt i (length r.sent)) [
       | inl inside ↦
           h.others (get_or r.sent i vacant) (λ same.
-            let none = (absent h).1 in
-            let some = times-some r.sent i vacant inside in
-            let e = ap (λ k. times k r.sent) same in
-            omega arith)
+          let none = (absent h).1 in
+          let some = times-some r.sent i vacant inside in
+          let e = ap (λ k. times k r.sent) same in
+          omega arith)
       | inr past ↦ let e = get_or_past r.sent i vacant past in ap later e ∙ nothing-later h ∙ sym (ap at e ∙ h.keeps.nothing)
     ]
 

@@ -114,8 +114,8 @@ pub record Marks (now : ℕ) (at after : ℕ → Option Sent) (r : Rings) : Type
 pub marks-sent : {now : ℕ} {at after : ℕ → Option Sent} {r : Rings} → Marks now at after r → named after r.sent ≡ map (marked now) (named at r.sent)
 marks-sent {now} {at} {after} {r} h =
     named-map (marked now) at after r.sent vacant (λ i inside.
-      let key = get_or r.sent i vacant in
-      h.changed key ∙ changed-some (option_map (marked now)) (times key r.sent) (at key) (times-some r.sent i vacant inside))
+    let key = get_or r.sent i vacant in
+    h.changed key ∙ changed-some (option_map (marked now)) (times key r.sent) (at key) (times-some r.sent i vacant inside))
 
 at-most-one : (b : Bool) → one_if b ≤ 1
 at-most-one true = omega arith
@@ -124,13 +124,13 @@ at-most-one false = omega arith
 pub marks-queued : {now : ℕ} {at after : ℕ → Option Sent} {r : Rings} → Marks now at after r → named after r.queued ≡ named at r.queued
 marks-queued {now} {at} {after} {r} h =
     named-same at after r.queued vacant (λ i inside.
-      let key = get_or r.queued i vacant in
-      let low : key < vacant = h.keeps.keys i vacant inside in
-      let some = times-some r.queued i vacant inside in
-      let most = h.keeps.names key low in
-      let one = at-most-one (is_some (at key)) in
-      let all = times-append key r.queued r.sent in
-      h.changed key ∙ changed-none (option_map (marked now)) (times key r.sent) (at key) (omega arith))
+    let key = get_or r.queued i vacant in
+    let low : key < vacant = h.keeps.keys i vacant inside in
+    let some = times-some r.queued i vacant inside in
+    let most = h.keeps.names key low in
+    let one = at-most-one (is_some (at key)) in
+    let all = times-append key r.queued r.sent in
+    h.changed key ∙ changed-none (option_map (marked now)) (times key r.sent) (at key) (omega arith))
 
 marks-had : {now : ℕ} {at after : ℕ → Option Sent} {r : Rings} → Marks now at after r → (key : ℕ) (q : Sent) → after key ≡ Some q → (p : Sent) × (at key ≡ Some p) × (q.command ≡ p.command)
 marks-had {now} {at} {after} {r} h key q e = marked-had now (times key r.sent) (at key) q (sym (h.changed key) ∙ e)

@@ -41,10 +41,11 @@ alone {at} {later} {r} {key} {rest} {p} h =
 pub head-named : {at later : ℕ → Option Sent} {r : Rings} {key : ℕ} {rest : List ℕ} {p : Sent} → Heads at later r key rest p
     → (commands_at at r.queued ≡ p.command ∷ commands_at at rest) × (commands_at later rest ≡ commands_at at rest) × (named later r.sent ≡ named at r.sent)
 head-named {at} {later} {r} {key} {rest} {p} h =
-    let a = alone h in
-    (ap (commands_at at) h.queued ∙ ap (map command_of) (named-cons at key rest p h.there),
-     ap (map command_of) (named-other at later key rest a.behind h.others),
-     named-other at later key r.sent a.sent h.others)
+    let a = alone h in (
+      ap (commands_at at) h.queued ∙ ap (map command_of) (named-cons at key rest p h.there),
+      ap (map command_of) (named-other at later key rest a.behind h.others),
+      named-other at later key r.sent a.sent h.others,
+    )
 
 nothing-later : {at later : ℕ → Option Sent} {r : Rings} {key : ℕ} {rest : List ℕ} {p : Sent} → Heads at later r key rest p → later vacant ≡ None
 nothing-later {at} {later} {r} {key} {rest} {p} h = let low = head-low h in h.others vacant (λ same. omega arith) ∙ h.keeps.nothing
@@ -53,10 +54,10 @@ nothing-later {at} {later} {r} {key} {rest} {p} h = let low = head-low h in h.ot
 same_place : {at later : ℕ → Option Sent} {r : Rings} {key : ℕ} {rest : List ℕ} {p : Sent} → Heads at later r key rest p → (i : ℕ) → i < length r.sent → at_place later r.sent i ≡ at_place at r.sent i
 same_place {at} {later} {r} {key} {rest} {p} h i inside =
     h.others (get_or r.sent i vacant) (λ same.
-      let a = alone h in
-      let some = times-some r.sent i vacant inside in
-      let e = ap (λ k. times k r.sent) same in
-      omega arith)
+    let a = alone h in
+    let some = times-some r.sent i vacant inside in
+    let e = ap (λ k. times k r.sent) same in
+    omega arith)
 
 -- the rings once a reliable head is sent
 abbrev pub passed_on : Rings → ℕ → List ℕ → ℕ → Rings
@@ -101,22 +102,22 @@ begin-kept {at} {later} {r} {key} {rest} {p} q h now same fresh reliable few =
             h.keeps.sent.numbered i x was ∙ ahead-more (length r.sent - (i + 1)) r.passed (omega arith) h.keeps.passed
             ∙ ap (λ m. ahead m (after r.passed 1)) (sym back) ∙ ap (λ m. ahead (length (r.sent ++ key ∷ []) - (i + 1)) m) (sym n.0)
         | inr past ↦ elim (cases_eq i (length r.sent)) [
-            | inl last ↦
-                let is : q ≡ x = let f = ap later (ap (λ j. get_or (r.sent ++ key ∷ []) j vacant) last ∙ at_end) in cc in
-                let back : length (r.sent ++ key ∷ []) - (i + 1) ≡ 0 = omega arith in
-                ap (λ (z : Sent). z.command.number) (sym is) ∙ ap (λ (c : DataCommand). c.number) same ∙ n.0 ∙ sym (ahead-none r.passed)
-                ∙ ap (λ m. ahead m (after r.passed 1)) (sym back) ∙ ap (λ m. ahead (length (r.sent ++ key ∷ []) - (i + 1)) m) (sym n.0)
-            | inr beyond ↦ absurd (
-                let f = ap later (get_or_past (r.sent ++ key ∷ []) i vacant (omega arith)) in
-                let none = nothing-later h in cc)
-          ]
+          | inl last ↦
+              let is : q ≡ x = let f = ap later (ap (λ j. get_or (r.sent ++ key ∷ []) j vacant) last ∙ at_end) in cc in
+              let back : length (r.sent ++ key ∷ []) - (i + 1) ≡ 0 = omega arith in
+              ap (λ (z : Sent). z.command.number) (sym is) ∙ ap (λ (c : DataCommand). c.number) same ∙ n.0 ∙ sym (ahead-none r.passed)
+              ∙ ap (λ m. ahead m (after r.passed 1)) (sym back) ∙ ap (λ m. ahead (length (r.sent ++ key ∷ []) - (i + 1)) m) (sym n.0)
+          | inr beyond ↦ absurd (
+              let f = ap later (get_or_past (r.sent ++ key ∷ []) i vacant (omega arith)) in
+              let none = nothing-later h in cc)
+        ]
       ];
       not_due = λ i from low. elim (cases_lt i (length r.sent)) [
         | inl inside ↦ ap is_due (ap later (get_or_append_left r.sent (key ∷ []) vacant i inside) ∙ same_place h i inside) ∙ h.keeps.sent.not_due i from low
         | inr past ↦ elim (cases_eq i (length r.sent)) [
-            | inl last ↦ ap is_due (ap later (ap (λ j. get_or (r.sent ++ key ∷ []) j vacant) last ∙ at_end) ∙ now) ∙ fresh
-            | inr beyond ↦ ap is_due (ap later (get_or_past (r.sent ++ key ∷ []) i vacant (omega arith)) ∙ nothing-later h)
-          ]
+          | inl last ↦ ap is_due (ap later (ap (λ j. get_or (r.sent ++ key ∷ []) j vacant) last ∙ at_end) ∙ now) ∙ fresh
+          | inr beyond ↦ ap is_due (ap later (get_or_past (r.sent ++ key ∷ []) i vacant (omega arith)) ∙ nothing-later h)
+        ]
       ];
       fits = All-push (λ (k : ℕ). k ≤ vacant) r.sent key h.keeps.sent.fits (let low = head-low h in omega arith);
     }
@@ -212,10 +213,10 @@ pub leave-passes : {at later : ℕ → Option Sent} {r : Rings} {key : ℕ} {res
 leave-passes {at} {later} {r} {key} {rest} {p} h gone = record {
   others = λ k x low none e.
       h.others k (λ same.
-        let all = times-append key r.queued r.sent in
-        let queued = ap (times key) h.queued ∙ times-here key rest in
-        let e = ap (λ j. times j (keys_of r)) same in
-        omega arith) ∙ e;
+      let all = times-append key r.queued r.sent in
+      let queued = ap (times key) h.queued ∙ times-here key rest in
+      let e = ap (λ j. times j (keys_of r)) same in
+      omega arith) ∙ e;
   balanced = λ k low. leave-times h gone k;
   nothing = nothing-later h;
 }

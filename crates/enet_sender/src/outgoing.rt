@@ -412,9 +412,12 @@ impl Outgoing {
         requires sent_place { deque_len self.old.sent + (deque_len self.old.queued + 1) ≤ deque_capacity self.old.sent }
         requires short { IsShort command }
         requires next { command.reliable ≡ true → command.number ≡ number_after self.old.number 1 }
-        ensures queued { end_of pending.new.slab self.new ≡ record (end_of pending.old.slab self.old) { sender = record (sender_of (get pending.old.slab) (rings_of self.old)) {
+        ensures queued { end_of pending.new.slab self.new ≡ record (end_of pending.old.slab self.old) {
+          sender = record (sender_of (get pending.old.slab) (rings_of self.old)) {
             number = (if command.reliable then command.number else self.old.number);
-            queued = commands_at (get pending.old.slab) self.old.queued.items ++ command ∷ [] } } }
+            queued = commands_at (get pending.old.slab) self.old.queued.items ++ command ∷ [];
+          };
+        } }
         ensures kept { Keeps (get pending.new.slab) (rings_of self.new) }
         ensures passes { Passes (get pending.old.slab) (get pending.new.slab) (keys_of (rings_of self.old)) (keys_of (rings_of self.new)) }
         ensures room { deque_len self.new.sent + deque_len self.new.queued ≤ deque_capacity self.new.sent }

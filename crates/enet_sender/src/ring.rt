@@ -32,7 +32,11 @@ pub(crate) fn place_of(sent: &VecDeque<u32>, passed: u16, number: u16) -> Option
 {
     let back = usize::from(ahead(number, passed));
     let len = sent.len();
-    if back < len { Some(len - 1 - back) } else { None }
+    if back < len {
+        Some(len - 1 - back)
+    } else {
+        None
+    }
 }
 
 /// The first place from `from` on whose command is due to go again.

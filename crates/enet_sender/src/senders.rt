@@ -96,7 +96,7 @@ fn next_due_on(
     requires inside { channel < length channels.old.items }
     ensures did { (s : SendingEnd) → slice_get (ends_of pending.old.slab channels.old.items) channel ≡ Some s
         → (t : SendingEnd) × ((ends_of pending.new.slab channels.new.items ≡ slice_set (ends_of pending.old.slab channels.old.items) channel t)
-            × Did (next wire now timeout transit most s.sender) result s t buf.old at buf.new) }
+        × Did (next wire now timeout transit most s.sender) result s t buf.old at buf.new) }
     ensures kept { KeepsAll (get pending.new.slab) channels.new.items }
 {
     channels[usize::from(channel)].next_due(pending, now, timeout, transit, most, buf, at)
@@ -182,9 +182,7 @@ fn any_ends(channels: &[Outgoing], pending: &Pending, now: u32, patience: &Patie
 fn any_late(channels: &[Outgoing], pending: &Pending, now: u32) -> bool
     ensures { result ≡ list_any (λ (o : Outgoing). list_any (is_late now) (end_of pending.now.slab o).sender.sent) channels.now }
 {
-    channels
-        .iter()
-        .any(|channel| channel.is_late(pending, now))
+    channels.iter().any(|channel| channel.is_late(pending, now))
 }
 
 /// Whether no channel has a packet queued.

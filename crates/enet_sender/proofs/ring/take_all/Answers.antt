@@ -22,4 +22,4 @@ pub returns : goal.returns
 returns c = λ key.
     c.loop-place.invariant.changed key
     ∙ ap (λ keys. taken_at (times key keys) (get c.args.pending.now.slab key))
-      (take_all c.loop-place.place c.args.ring.now.items (omega (arith, c.loop-place-test.false, c.loop-place.invariant.end, c.args.ring.now.ok.0)))
+    (take_all c.loop-place.place c.args.ring.now.items (omega (arith, c.loop-place-test.false, c.loop-place.invariant.end, c.args.ring.now.ok.0)))

@@ -15,7 +15,7 @@ pub returns-clause-queued : goal.returns-clause-queued
 returns-clause-queued c = λ s there.
     on_ok_weaker c.submit.result
     (λ queued. framed-write (frame (goal.at.returns-clause-queued c).After-submit) (λ (e : SendingEnd). with_submitted c.args.mtu e c.args.flags c.args.body) c.index_mut.result.now
-      (omega (arith, c.from.ensures, c.requires.inside)) (sym c.index_mut.ensures.value) queued c.args.channel c.from.ensures s there)
+    (omega (arith, c.from.ensures, c.requires.inside)) (sym c.index_mut.ensures.value) queued c.args.channel c.from.ensures s there)
     c.submit.ensures.queued
 
 pub returns-clause-refused : goal.returns-clause-refused

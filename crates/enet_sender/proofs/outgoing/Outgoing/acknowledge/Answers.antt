@@ -56,8 +56,8 @@ none-there c =
     let inside : c.in_ok-place.place < length sent = omega arith in
     let key_is = sym (get_or_read sent c.in_ok-place.place c.index-key.result.now inside c.index-key.ensures 4294967295) in
     acknowledges-none at (rings_of c.args.self.now) c.args.number c.requires (omega (arith, c.ranges.number.fits)) (λ place e.
-      let same : place ≡ c.in_ok-place.place = omega arith in
-      ap (at_place at sent) same ∙ ap at key_is ∙ sym c.in_err-sent.ensures.value)
+    let same : place ≡ c.in_ok-place.place = omega arith in
+    ap (at_place at sent) same ∙ ap at key_is ∙ sym c.in_err-sent.ensures.value)
 
 pub returns-in_err-sent-clause-bytes : goal.returns-in_err-sent-clause-bytes
 returns-in_err-sent-clause-bytes c = c.from_residual-in_err-sent.ensures ∙ sym (ap (size_at (named (get c.args.pending.now.slab) c.args.self.now.sent.items)) (none-there c))
