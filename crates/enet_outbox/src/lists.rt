@@ -11,7 +11,7 @@ ghost use Rattle.enet_outbox.specs.Invariant.{KeepsOutbox, with_accepted};
 use crate::{Acknowledgement, Matched};
 use bytes::Bytes;
 use enet_codec::Refusal;
-use enet_sender::Senders;
+use enet_senders::Senders;
 use std::collections::VecDeque;
 
 /// Makes room for one acknowledgement more; whether there is. A full list doubles. Where memory is refused, nothing

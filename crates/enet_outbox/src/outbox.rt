@@ -16,7 +16,7 @@ use enet_codec::Refusal;
 use enet_control::{Control, ControlChannel};
 use enet_fragment::FRAGMENT_OVERHEAD;
 use enet_rtt::{Expiry, Patience};
-use enet_sender::Senders;
+use enet_senders::Senders;
 use enet_seq::after;
 use enet_throttle::Throttle;
 use std::alloc::Global;

@@ -12,6 +12,4 @@ pub mod Queueing
 pub mod Submitting
 pub mod Piecing
 pub mod Skipping
-pub mod Frames
 pub mod Rounds
-pub mod Each

@@ -6,6 +6,5 @@ pub mod Course
 pub mod Pending
 pub mod Rings
 pub mod Trims
-pub mod Senders
 pub mod Queues
 pub mod Rounds

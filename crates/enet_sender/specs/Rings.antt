@@ -1,5 +1,6 @@
 -- One channel's rings of keys, and the sender that they name.
 use Rattle.std.specs.Prelude.{◌≡◌, ℕ, ◌+◌, ◌-◌, ◌<◌, ◌≤◌, Bool, true, false, if◌then◌else◌, List, [], ◌∷◌, ◌++◌, length, map, All, Option, Some, None, slice_index_or, slice_get}
+use Rattle.std.specs.VecDeque.{deque_len, deque_capacity}
 use Rattle.slab.specs.Slab.{Slab, get}
 use Rattle.enet_seq.specs.Windows.{ahead, after}
 use Rattle.enet_fragment.specs.declared.data.DataCommand.{DataCommand}
@@ -8,7 +9,8 @@ use Rattle.enet_sender.specs.Sender.{Sender}
 use Rattle.enet_sender.specs.Due.{SendingEnd}
 use Rattle.enet_sender.specs.Invariant.{reliable_in}
 use Rattle.enet_sender.specs.declared.outgoing.Outgoing.{Outgoing}
-use Rattle.enet_sender.specs.Pending.{vacant, named, times, held}
+use Rattle.enet_sender.specs.declared.pending.Pending.{Pending}
+use Rattle.enet_sender.specs.Pending.{vacant, named, times, held, Passes}
 
 -- what the fields of a channel say
 pub record Rings : Type 0 where
@@ -98,3 +100,24 @@ pub record Keeps (at : ℕ → Option Sent) (r : Rings) : Type 0 where
   pub passed : r.passed < 65536
   pub goes_on : GoesOn r.passed (commands_at at r.queued) r.number
   pub counted : r.reliable ≡ reliable_in (commands_at at r.queued)
+
+-- What clauses show of a channel and of the commands of its peer: the sender, that its rings and they fit, that a call leaves what stands under the keys
+-- of others, and that all that is queued has a place among what is sent.
+abbrev pub end_in : Pending → Outgoing → SendingEnd
+end_in p o = end_of p.slab o
+
+abbrev pub sender_in : Pending → Outgoing → Sender
+sender_in p o = sender_of (get p.slab) (rings_of o)
+
+abbrev pub KeepsIn : Pending → Outgoing → Type 0
+KeepsIn p o = Keeps (get p.slab) (rings_of o)
+
+abbrev pub PassesIn : Pending → Outgoing → Pending → Outgoing → Type 0
+PassesIn p old q new = Passes (get p.slab) (get q.slab) (keys_of (rings_of old)) (keys_of (rings_of new))
+
+abbrev pub HasRoom : Outgoing → Type 0
+HasRoom o = deque_len o.sent + deque_len o.queued ≤ deque_capacity o.sent
+
+-- nothing is kept
+abbrev pub IsEmpty : Pending → Type 0
+IsEmpty p = p.slab.slots ≡ []

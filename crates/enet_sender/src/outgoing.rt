@@ -2,10 +2,11 @@
 
 ghost use Rattle.std.specs.Prelude.{◌≡◌, ℕ, ◌+◌, ◌<◌, ◌≤◌, ◌∷◌, ◌++◌, [], if◌then◌else◌, IsTrue, IsOk, IfOk, OnOk, IfErr, IsErrAnd, ◌⊎◌, ◌↔◌, List, Option, Some, None, IfSome, IfNone, length, map, take, drop, slice_get, true, false};
 ghost use Rattle.std.specs.VecDeque.{deque_len, deque_capacity};
-ghost use Rattle.slab.specs.Slab.{Slab, get, slab_len, HasRoomFor};
+ghost use Rattle.slab.specs.Slab.{get, slab_len, HasRoomFor};
 ghost use Rattle.enet_seq.specs.Numbering.{wire};
 ghost use Rattle.enet_seq.specs.Windows.{after as number_after};
 ghost use Rattle.enet_fragment.specs.declared.data.DataCommand.{DataCommand};
+ghost use Rattle.enet_sender.specs.declared.pending.Pending.{Pending};
 ghost use Rattle.enet_sender.specs.declared.sent.Sent.{Sent};
 ghost use Rattle.enet_sender.specs.Sender.{with_marked, lateness, after_lateness, ends, is_late, cleared, after_acknowledgement, acknowledged_bytes, next, next_queued, next_resent, first_sent, may_go, piece_of_body, is_more, skipped, with_skipped, left};
 ghost use Rattle.enet_sender.specs.Due.{Did, new_end, with_submitted};
@@ -15,8 +16,8 @@ ghost use Rattle.enet_sender.specs.Invariant.{IsShort};
 ghost use Rattle.enet_sender.specs.Course.{IsCourse};
 ghost use Rattle.std.specs.List.{range_with_len, list_any};
 ghost use Rattle.enet_sender.specs.Queues.{Queues};
-ghost use Rattle.enet_sender.specs.Pending.{vacant, Passes, named};
-ghost use Rattle.enet_sender.specs.Rings.{Keeps, no_rings, rings_of, keys_of, sender_of, end_of, commands_at, IsFirstDue, NoneDue};
+ghost use Rattle.enet_sender.specs.Pending.{vacant, named};
+ghost use Rattle.enet_sender.specs.Rings.{Keeps, KeepsIn, PassesIn, HasRoom, no_rings, rings_of, sender_in, end_in, commands_at, IsFirstDue, NoneDue};
 
 use crate::course::{Course, cut};
 use crate::pending::{Pending, VACANT};
@@ -87,12 +88,12 @@ impl Outgoing {
     /// Takes out the one sent command of this number, and answers the bytes of its payload. None, with nothing changed,
     /// where no sent command has it.
     pub fn acknowledge(&mut self, pending: &mut Pending, number: u16) -> Option<u32>
-        requires { Keeps (get pending.old.slab) (rings_of self.old) }
-        ensures bytes { result ≡ acknowledged_bytes (sender_of (get pending.old.slab) (rings_of self.old)) number }
-        ensures removed { end_of pending.new.slab self.new ≡ record (end_of pending.old.slab self.old) { sender = after_acknowledgement (sender_of (get pending.old.slab) (rings_of self.old)) number } }
-        ensures kept { Keeps (get pending.new.slab) (rings_of self.new) }
-        ensures passes { Passes (get pending.old.slab) (get pending.new.slab) (keys_of (rings_of self.old)) (keys_of (rings_of self.new)) }
-        ensures room { deque_len self.old.sent + deque_len self.old.queued ≤ deque_capacity self.old.sent → deque_len self.new.sent + deque_len self.new.queued ≤ deque_capacity self.new.sent }
+        requires { KeepsIn pending.old self.old }
+        ensures bytes { result ≡ acknowledged_bytes (sender_in pending.old self.old) number }
+        ensures removed { end_in pending.new self.new ≡ record (end_in pending.old self.old) { sender = after_acknowledgement (sender_in pending.old self.old) number } }
+        ensures kept { KeepsIn pending.new self.new }
+        ensures passes { PassesIn pending.old self.old pending.new self.new }
+        ensures room { HasRoom self.old → HasRoom self.new }
     {
         let place = place_of(&self.sent, self.passed, number)?;
         let key = self.sent[place];
@@ -122,13 +123,13 @@ impl Outgoing {
         buf: &mut [u8],
         at: usize,
     ) -> Due
-        requires kept { Keeps (get pending.old.slab) (rings_of self.old) }
-        requires room { deque_len self.old.sent + deque_len self.old.queued ≤ deque_capacity self.old.sent }
-        ensures did { Did (next wire now timeout transit most (sender_of (get pending.old.slab) (rings_of self.old))) result
-            (end_of pending.old.slab self.old) (end_of pending.new.slab self.new) buf.old at buf.new }
-        ensures kept { Keeps (get pending.new.slab) (rings_of self.new) }
-        ensures passes { Passes (get pending.old.slab) (get pending.new.slab) (keys_of (rings_of self.old)) (keys_of (rings_of self.new)) }
-        ensures room { deque_len self.new.sent + deque_len self.new.queued ≤ deque_capacity self.new.sent }
+        requires kept { KeepsIn pending.old self.old }
+        requires room { HasRoom self.old }
+        ensures did { Did (next wire now timeout transit most (sender_in pending.old self.old)) result
+            (end_in pending.old self.old) (end_in pending.new self.new) buf.old at buf.new }
+        ensures kept { KeepsIn pending.new self.new }
+        ensures passes { PassesIn pending.old self.old pending.new self.new }
+        ensures room { HasRoom self.new }
     {
         match self.next_resend(pending) {
             Some(place) => self.resend(pending, place, now, buf, at),
@@ -138,11 +139,11 @@ impl Outgoing {
 
     /// The place of the first sent command that is due to go again.
     fn next_resend(&mut self, pending: &Pending) -> Option<usize>
-        requires { Keeps (get pending.now.slab) (rings_of self.old) }
+        requires { KeepsIn pending.now self.old }
         ensures some { IfSome result (λ place. IsFirstDue (get pending.now.slab) self.old.sent.items place) }
         ensures none { IfNone result (NoneDue (get pending.now.slab) self.old.sent.items 0 (length self.old.sent.items)) }
         ensures rings { self.new ≡ record self.old { due_from = self.new.due_from } }
-        ensures kept { Keeps (get pending.now.slab) (rings_of self.new) }
+        ensures kept { KeepsIn pending.now self.new }
     {
         match first_due(&self.sent, self.due_from, pending) {
             Some(place) => {
@@ -165,14 +166,14 @@ impl Outgoing {
         buf: &mut [u8],
         at: usize,
     ) -> Due
-        requires kept { Keeps (get pending.old.slab) (rings_of self.old) }
+        requires kept { KeepsIn pending.old self.old }
         requires first { IsFirstDue (get pending.old.slab) self.old.sent.items place }
-        ensures did { Did (next_resent now (sender_of (get pending.old.slab) (rings_of self.old)) (length (named (get pending.old.slab) (take place self.old.sent.items)))
+        ensures did { Did (next_resent now (sender_in pending.old self.old) (length (named (get pending.old.slab) (take place self.old.sent.items)))
             (slice_get (named (get pending.old.slab) self.old.sent.items) (length (named (get pending.old.slab) (take place self.old.sent.items))))) result
-            (end_of pending.old.slab self.old) (end_of pending.new.slab self.new) buf.old at buf.new }
+            (end_in pending.old self.old) (end_in pending.new self.new) buf.old at buf.new }
         ensures rings { self.new ≡ record self.old { due_from = self.new.due_from } }
-        ensures kept { Keeps (get pending.new.slab) (rings_of self.new) }
-        ensures passes { Passes (get pending.old.slab) (get pending.new.slab) (keys_of (rings_of self.old)) (keys_of (rings_of self.new)) }
+        ensures kept { KeepsIn pending.new self.new }
+        ensures passes { PassesIn pending.old self.old pending.new self.new }
     {
         let key = self.sent[place];
         let Some(sent) = pending.get(key) else {
@@ -215,13 +216,13 @@ impl Outgoing {
         buf: &mut [u8],
         at: usize,
     ) -> Due
-        requires kept { Keeps (get pending.old.slab) (rings_of self.old) }
-        requires room { deque_len self.old.sent + deque_len self.old.queued ≤ deque_capacity self.old.sent }
-        ensures did { Did (next_queued wire now timeout transit most (sender_of (get pending.old.slab) (rings_of self.old)) (sender_of (get pending.old.slab) (rings_of self.old)).queued) result
-            (end_of pending.old.slab self.old) (end_of pending.new.slab self.new) buf.old at buf.new }
-        ensures kept { Keeps (get pending.new.slab) (rings_of self.new) }
-        ensures passes { Passes (get pending.old.slab) (get pending.new.slab) (keys_of (rings_of self.old)) (keys_of (rings_of self.new)) }
-        ensures room { deque_len self.new.sent + deque_len self.new.queued ≤ deque_capacity self.new.sent }
+        requires kept { KeepsIn pending.old self.old }
+        requires room { HasRoom self.old }
+        ensures did { Did (next_queued wire now timeout transit most (sender_in pending.old self.old) (sender_in pending.old self.old).queued) result
+            (end_in pending.old self.old) (end_in pending.new self.new) buf.old at buf.new }
+        ensures kept { KeepsIn pending.new self.new }
+        ensures passes { PassesIn pending.old self.old pending.new self.new }
+        ensures room { HasRoom self.new }
     {
         let Some(key) = first(&self.queued) else {
             return Due::Nothing;
@@ -250,11 +251,11 @@ impl Outgoing {
     /// Drops the rest of the unreliable packet whose first command was written last: its further commands at the head of the
     /// queue. No other command goes; the numbers stay used.
     pub fn skip(&mut self, pending: &mut Pending)
-        requires { Keeps (get pending.old.slab) (rings_of self.old) }
-        ensures skipped { end_of pending.new.slab self.new ≡ record (end_of pending.old.slab self.old) { sender = with_skipped (sender_of (get pending.old.slab) (rings_of self.old)) } }
-        ensures kept { Keeps (get pending.new.slab) (rings_of self.new) }
-        ensures passes { Passes (get pending.old.slab) (get pending.new.slab) (keys_of (rings_of self.old)) (keys_of (rings_of self.new)) }
-        ensures room { deque_len self.old.sent + deque_len self.old.queued ≤ deque_capacity self.old.sent → deque_len self.new.sent + deque_len self.new.queued ≤ deque_capacity self.new.sent }
+        requires { KeepsIn pending.old self.old }
+        ensures skipped { end_in pending.new self.new ≡ record (end_in pending.old self.old) { sender = with_skipped (sender_in pending.old self.old) } }
+        ensures kept { KeepsIn pending.new self.new }
+        ensures passes { PassesIn pending.old self.old pending.new self.new }
+        ensures room { HasRoom self.old → HasRoom self.new }
     {
         'further: while let Some(key) = self.more_at_head(pending) {
             self.leave(pending, key);
@@ -263,7 +264,7 @@ impl Outgoing {
 
     /// The key of the head of the queue, if that is a further command of an unreliable packet.
     fn more_at_head(&self, pending: &Pending) -> Option<u32>
-        requires { Keeps (get pending.now.slab) (rings_of self.now) }
+        requires { KeepsIn pending.now self.now }
         ensures head { IfSome result (λ key. slice_get self.now.queued.items 0 ≡ Some key) }
         ensures more { IfSome result (λ key. IfSome (get pending.now.slab key) (λ p. is_more p.command ≡ true)) }
         ensures none { IfNone result (skipped (commands_at (get pending.now.slab) self.now.queued.items) ≡ commands_at (get pending.now.slab) self.now.queued.items) }
@@ -283,12 +284,12 @@ impl Outgoing {
     /// it by `patience`, which changes nothing; else `Resend` where a sent command has waited out its timeout: each such
     /// one is then due to go again, and waits twice as long; else `No` (our profile).
     pub fn late(&mut self, pending: &mut Pending, now: u32, patience: &Patience) -> Expiry
-        requires { Keeps (get pending.old.slab) (rings_of self.old) }
-        ensures found { result ≡ lateness now patience.now (sender_of (get pending.old.slab) (rings_of self.old)) }
-        ensures after { end_of pending.new.slab self.new ≡ record (end_of pending.old.slab self.old) { sender = after_lateness result now (sender_of (get pending.old.slab) (rings_of self.old)) } }
-        ensures kept { Keeps (get pending.new.slab) (rings_of self.new) }
-        ensures passes { Passes (get pending.old.slab) (get pending.new.slab) (keys_of (rings_of self.old)) (keys_of (rings_of self.new)) }
-        ensures room { deque_len self.old.sent + deque_len self.old.queued ≤ deque_capacity self.old.sent → deque_len self.new.sent + deque_len self.new.queued ≤ deque_capacity self.new.sent }
+        requires { KeepsIn pending.old self.old }
+        ensures found { result ≡ lateness now patience.now (sender_in pending.old self.old) }
+        ensures after { end_in pending.new self.new ≡ record (end_in pending.old self.old) { sender = after_lateness result now (sender_in pending.old self.old) } }
+        ensures kept { KeepsIn pending.new self.new }
+        ensures passes { PassesIn pending.old self.old pending.new self.new }
+        ensures room { HasRoom self.old → HasRoom self.new }
     {
         let expiry = self.lateness(pending, now, patience);
         if expiry == Expiry::Resend {
@@ -299,7 +300,7 @@ impl Outgoing {
 
     /// What a moment brings. A command over which the peer has timed out is late too.
     fn lateness(&self, pending: &Pending, now: u32, patience: &Patience) -> Expiry
-        ensures { result ≡ lateness now patience.now (sender_of (get pending.now.slab) (rings_of self.now)) }
+        ensures { result ≡ lateness now patience.now (sender_in pending.now self.now) }
     {
         if !self.is_late(pending, now) {
             return Expiry::No;
@@ -314,14 +315,14 @@ impl Outgoing {
     /// Whether at the moment `now` a sent command has waited out its timeout, and its peer has timed out over it by
     /// `patience` (our profile).
     pub fn ends(&self, pending: &Pending, now: u32, patience: &Patience) -> bool
-        ensures { result ≡ list_any (ends now patience.now) (sender_of (get pending.now.slab) (rings_of self.now)).sent }
+        ensures { result ≡ list_any (ends now patience.now) (sender_in pending.now self.now).sent }
     {
         any_ends(&self.sent, pending, now, patience)
     }
 
     /// Whether at the moment `now` a sent command has waited out its timeout, and is not due to go again already.
     pub fn is_late(&self, pending: &Pending, now: u32) -> bool
-        ensures { result ≡ list_any (is_late now) (sender_of (get pending.now.slab) (rings_of self.now)).sent }
+        ensures { result ≡ list_any (is_late now) (sender_in pending.now self.now).sent }
     {
         any_late(&self.sent, pending, now)
     }
@@ -329,11 +330,11 @@ impl Outgoing {
     /// Each sent command that has waited out its timeout at the moment `now` is due to go again, and waits twice as long
     /// then (our profile).
     pub fn mark(&mut self, pending: &mut Pending, now: u32)
-        requires { Keeps (get pending.old.slab) (rings_of self.old) }
-        ensures marked { end_of pending.new.slab self.new ≡ record (end_of pending.old.slab self.old) { sender = with_marked now (sender_of (get pending.old.slab) (rings_of self.old)) } }
-        ensures kept { Keeps (get pending.new.slab) (rings_of self.new) }
-        ensures passes { Passes (get pending.old.slab) (get pending.new.slab) (keys_of (rings_of self.old)) (keys_of (rings_of self.new)) }
-        ensures room { deque_len self.old.sent + deque_len self.old.queued ≤ deque_capacity self.old.sent → deque_len self.new.sent + deque_len self.new.queued ≤ deque_capacity self.new.sent }
+        requires { KeepsIn pending.old self.old }
+        ensures marked { end_in pending.new self.new ≡ record (end_in pending.old self.old) { sender = with_marked now (sender_in pending.old self.old) } }
+        ensures kept { KeepsIn pending.new self.new }
+        ensures passes { PassesIn pending.old self.old pending.new self.new }
+        ensures room { HasRoom self.old → HasRoom self.new }
     {
         mark_all(&self.sent, pending, now);
         self.due_from = 0;
@@ -341,11 +342,11 @@ impl Outgoing {
 
     /// Drops all that is queued or sent. The numbers go on from where they stand.
     pub fn clear(&mut self, pending: &mut Pending)
-        requires { Keeps (get pending.old.slab) (rings_of self.old) }
-        ensures cleared { end_of pending.new.slab self.new ≡ record (end_of pending.old.slab self.old) { sender = cleared (sender_of (get pending.old.slab) (rings_of self.old)) } }
-        ensures kept { Keeps (get pending.new.slab) (rings_of self.new) }
-        ensures passes { Passes (get pending.old.slab) (get pending.new.slab) (keys_of (rings_of self.old)) (keys_of (rings_of self.new)) }
-        ensures room { deque_len self.new.sent + deque_len self.new.queued ≤ deque_capacity self.new.sent }
+        requires { KeepsIn pending.old self.old }
+        ensures cleared { end_in pending.new self.new ≡ record (end_in pending.old self.old) { sender = cleared (sender_in pending.old self.old) } }
+        ensures kept { KeepsIn pending.new self.new }
+        ensures passes { PassesIn pending.old self.old pending.new self.new }
+        ensures room { HasRoom self.new }
     {
         take_all(&self.queued, pending);
         take_all(&self.sent, pending);
@@ -358,8 +359,8 @@ impl Outgoing {
 
     /// Whether a packet is queued, and whether a reliable command is queued or unacknowledged.
     pub fn left(&self, _pending: &Pending) -> Left
-        requires { Keeps (get _pending.now.slab) (rings_of self.now) }
-        ensures { result ≡ left (sender_of (get _pending.now.slab) (rings_of self.now)) }
+        requires { KeepsIn _pending.now self.now }
+        ensures { result ≡ left (sender_in _pending.now self.now) }
     {
         Left {
             packets: self.queued.len() > 0,
@@ -369,16 +370,16 @@ impl Outgoing {
 
     /// The reliable head of the queue was written, and is sent.
     fn begin(&mut self, pending: &mut Pending, key: u32, number: u16, now: u32, timeout: u32)
-        requires kept { Keeps (get pending.old.slab) (rings_of self.old) }
-        requires room { deque_len self.old.sent + deque_len self.old.queued ≤ deque_capacity self.old.sent }
+        requires kept { KeepsIn pending.old self.old }
+        requires room { HasRoom self.old }
         requires head { self.old.queued.items ≡ key ∷ drop 1 self.old.queued.items }
         requires reliable { IfSome (get pending.old.slab key) (λ p. (p.command.reliable ≡ true) × (p.command.number ≡ number)) }
         requires few { length self.old.sent.items < 8192 }
         ensures sends { (p : Sent) (rest : List DataCommand) → get pending.old.slab key ≡ Some p → commands_at (get pending.old.slab) self.old.queued.items ≡ p.command ∷ rest
-            → end_of pending.new.slab self.new ≡ record (end_of pending.old.slab self.old) { sender = (first_sent now timeout (sender_of (get pending.old.slab) (rings_of self.old)) p.command rest).sender } }
-        ensures kept { Keeps (get pending.new.slab) (rings_of self.new) }
-        ensures passes { Passes (get pending.old.slab) (get pending.new.slab) (keys_of (rings_of self.old)) (keys_of (rings_of self.new)) }
-        ensures room { deque_len self.new.sent + deque_len self.new.queued ≤ deque_capacity self.new.sent }
+            → end_in pending.new self.new ≡ record (end_in pending.old self.old) { sender = (first_sent now timeout (sender_in pending.old self.old) p.command rest).sender } }
+        ensures kept { KeepsIn pending.new self.new }
+        ensures passes { PassesIn pending.old self.old pending.new self.new }
+        ensures room { HasRoom self.new }
     {
         let _ = self.queued.pop_front();
         pending.begin(key, now, timeout);
@@ -389,14 +390,14 @@ impl Outgoing {
 
     /// The unreliable head of the queue was written, and goes.
     fn leave(&mut self, pending: &mut Pending, key: u32)
-        requires kept { Keeps (get pending.old.slab) (rings_of self.old) }
+        requires kept { KeepsIn pending.old self.old }
         requires head { self.old.queued.items ≡ key ∷ drop 1 self.old.queued.items }
         requires unreliable { IfSome (get pending.old.slab key) (λ p. p.command.reliable ≡ false) }
         ensures sends { (now timeout : ℕ) (p : Sent) (rest : List DataCommand) → get pending.old.slab key ≡ Some p → commands_at (get pending.old.slab) self.old.queued.items ≡ p.command ∷ rest
-            → end_of pending.new.slab self.new ≡ record (end_of pending.old.slab self.old) { sender = (first_sent now timeout (sender_of (get pending.old.slab) (rings_of self.old)) p.command rest).sender } }
-        ensures kept { Keeps (get pending.new.slab) (rings_of self.new) }
-        ensures passes { Passes (get pending.old.slab) (get pending.new.slab) (keys_of (rings_of self.old)) (keys_of (rings_of self.new)) }
-        ensures room { deque_len self.old.sent + deque_len self.old.queued ≤ deque_capacity self.old.sent → deque_len self.new.sent + deque_len self.new.queued ≤ deque_capacity self.new.sent }
+            → end_in pending.new self.new ≡ record (end_in pending.old self.old) { sender = (first_sent now timeout (sender_in pending.old self.old) p.command rest).sender } }
+        ensures kept { KeepsIn pending.new self.new }
+        ensures passes { PassesIn pending.old self.old pending.new self.new }
+        ensures room { HasRoom self.old → HasRoom self.new }
         ensures less { deque_len self.new.queued < deque_len self.old.queued }
     {
         let _ = self.queued.pop_front();
@@ -405,22 +406,22 @@ impl Outgoing {
 
     /// Queues a command, numbered; there must be room for it.
     fn queue(&mut self, pending: &mut Pending, command: DataCommand)
-        requires kept { Keeps (get pending.old.slab) (rings_of self.old) }
+        requires kept { KeepsIn pending.old self.old }
         requires room { HasRoomFor pending.old.slab 1 }
         requires keys { pending.old.slab.capacity ≤ vacant }
         requires place { deque_len self.old.queued < deque_capacity self.old.queued }
         requires sent_place { deque_len self.old.sent + (deque_len self.old.queued + 1) ≤ deque_capacity self.old.sent }
         requires short { IsShort command }
         requires next { command.reliable ≡ true → command.number ≡ number_after self.old.number 1 }
-        ensures queued { end_of pending.new.slab self.new ≡ record (end_of pending.old.slab self.old) {
-          sender = record (sender_of (get pending.old.slab) (rings_of self.old)) {
+        ensures queued { end_in pending.new self.new ≡ record (end_in pending.old self.old) {
+          sender = record (sender_in pending.old self.old) {
             number = (if command.reliable then command.number else self.old.number);
             queued = commands_at (get pending.old.slab) self.old.queued.items ++ command ∷ [];
           };
         } }
-        ensures kept { Keeps (get pending.new.slab) (rings_of self.new) }
-        ensures passes { Passes (get pending.old.slab) (get pending.new.slab) (keys_of (rings_of self.old)) (keys_of (rings_of self.new)) }
-        ensures room { deque_len self.new.sent + deque_len self.new.queued ≤ deque_capacity self.new.sent }
+        ensures kept { KeepsIn pending.new self.new }
+        ensures passes { PassesIn pending.old self.old pending.new self.new }
+        ensures room { HasRoom self.new }
         ensures slab_room { slab_len pending.new.slab ≡ slab_len pending.old.slab + 1 }
         ensures slab_capacity { pending.new.slab.capacity ≡ pending.old.slab.capacity }
         ensures places { deque_len self.new.queued ≡ deque_len self.old.queued + 1 }
@@ -442,7 +443,7 @@ impl Outgoing {
         ensures rings { rings_of self.new ≡ rings_of self.old }
         ensures channel { self.new.channel ≡ self.old.channel }
         ensures slots { pending.new.slab.slots ≡ pending.old.slab.slots }
-        ensures room { deque_len self.old.sent + deque_len self.old.queued ≤ deque_capacity self.old.sent → deque_len self.new.sent + deque_len self.new.queued ≤ deque_capacity self.new.sent }
+        ensures room { HasRoom self.old → HasRoom self.new }
         ensures slab_room { IsTrue result → HasRoomFor pending.new.slab more }
         ensures keys { IsTrue result → pending.new.slab.capacity ≤ vacant }
         ensures place { IsTrue result → deque_len self.new.queued + more ≤ deque_capacity self.new.queued }
@@ -457,9 +458,9 @@ impl Outgoing {
     /// A sender of `channel` to which nothing was submitted. It takes no memory, so it never answers E1.
     pub fn open(alloc: Global, channel: u8) -> Result<Outgoing, Refusal>
         ensures never { IsOk result }
-        ensures end { IfOk result (λ o. (s : Slab Sent) → end_of s o ≡ new_end channel) }
+        ensures end { IfOk result (λ o. (p : Pending) → end_in p o ≡ new_end channel) }
         ensures rings { IfOk result (λ o. rings_of o ≡ no_rings) }
-        ensures room { IfOk result (λ o. deque_len o.sent + deque_len o.queued ≤ deque_capacity o.sent) }
+        ensures room { IfOk result (λ o. HasRoom o) }
     {
         Ok(Outgoing::new(alloc, channel))
     }
@@ -468,7 +469,7 @@ impl Outgoing {
     pub(crate) fn new(alloc: Global, channel: u8) -> Outgoing
         ensures channel { result.channel ≡ channel }
         ensures rings { rings_of result ≡ no_rings }
-        ensures room { deque_len result.sent + deque_len result.queued ≤ deque_capacity result.sent }
+        ensures room { HasRoom result }
     {
         Outgoing {
             channel,
@@ -493,15 +494,15 @@ impl Outgoing {
         requires low { 576 ≤ mtu }
         requires high { mtu ≤ 4096 }
         requires short { length body ≤ piece_length mtu }
-        requires kept { Keeps (get pending.old.slab) (rings_of self.old) }
-        requires room { deque_len self.old.sent + deque_len self.old.queued ≤ deque_capacity self.old.sent }
-        ensures queued { OnOk result (end_of pending.new.slab self.new ≡ with_submitted mtu (end_of pending.old.slab self.old) flags body) }
-        ensures refused { IfErr result (λ e. (end_of pending.new.slab self.new ≡ end_of pending.old.slab self.old) × (e.1 ≡ body)) }
+        requires kept { KeepsIn pending.old self.old }
+        requires room { HasRoom self.old }
+        ensures queued { OnOk result (end_in pending.new self.new ≡ with_submitted mtu (end_in pending.old self.old) flags body) }
+        ensures refused { IfErr result (λ e. (end_in pending.new self.new ≡ end_in pending.old self.old) × (e.1 ≡ body)) }
         ensures too_large { IsErrAnd result (λ e. e.0 ≡ Refusal.TooLarge) ↔ (fragment_limit < piece_count (length body) mtu) }
         ensures only { IfErr result (λ e. (e.0 ≡ Refusal.TooLarge) ⊎ (e.0 ≡ Refusal.Memory)) }
-        ensures kept { Keeps (get pending.new.slab) (rings_of self.new) }
-        ensures passes { Passes (get pending.old.slab) (get pending.new.slab) (keys_of (rings_of self.old)) (keys_of (rings_of self.new)) }
-        ensures room { deque_len self.new.sent + deque_len self.new.queued ≤ deque_capacity self.new.sent }
+        ensures kept { KeepsIn pending.new self.new }
+        ensures passes { PassesIn pending.old self.old pending.new self.new }
+        ensures room { HasRoom self.new }
     {
         let Some(course) = Course::plan(flags, &body, mtu, self.number, self.unreliable) else {
             return Err((Refusal::TooLarge, body));
@@ -523,7 +524,7 @@ impl Outgoing {
         mut pieces: VecDeque<Bytes>,
     )
         requires course { IsCourse course }
-        requires kept { Keeps (get pending.old.slab) (rings_of self.old) }
+        requires kept { KeepsIn pending.old self.old }
         requires slab_room { HasRoomFor pending.old.slab course.pieces }
         requires keys { pending.old.slab.capacity ≤ vacant }
         requires place { deque_len self.old.queued + course.pieces ≤ deque_capacity self.old.queued }
@@ -531,7 +532,7 @@ impl Outgoing {
         requires number { course.number ≡ self.old.number }
         requires pieces { pieces.items ≡ map (piece_of_body (piece_length course.mtu) _body.now) (range_with_len 0 course.pieces) }
         ensures queues { Queues course _body.now course.pieces (get pending.old.slab) self.old (get pending.new.slab) self.new }
-        ensures room { deque_len self.new.sent + deque_len self.new.queued ≤ deque_capacity self.new.sent }
+        ensures room { HasRoom self.new }
     {
         for i in 0..course.pieces {
             let Some(piece) = pieces.pop_front() else {
@@ -557,15 +558,15 @@ impl Outgoing {
     ) -> Result<(), (Refusal, Bytes)>
         requires low { 576 ≤ mtu }
         requires high { mtu ≤ 4096 }
-        requires kept { Keeps (get pending.old.slab) (rings_of self.old) }
-        requires room { deque_len self.old.sent + deque_len self.old.queued ≤ deque_capacity self.old.sent }
-        ensures queued { OnOk result (end_of pending.new.slab self.new ≡ with_submitted mtu (end_of pending.old.slab self.old) flags body) }
+        requires kept { KeepsIn pending.old self.old }
+        requires room { HasRoom self.old }
+        ensures queued { OnOk result (end_in pending.new self.new ≡ with_submitted mtu (end_in pending.old self.old) flags body) }
         ensures too_large { IsErrAnd result (λ e. e.0 ≡ Refusal.TooLarge) ↔ (fragment_limit < piece_count (length body) mtu) }
-        ensures refused { IfErr result (λ e. (end_of pending.new.slab self.new ≡ end_of pending.old.slab self.old) × (e.1 ≡ body)) }
+        ensures refused { IfErr result (λ e. (end_in pending.new self.new ≡ end_in pending.old self.old) × (e.1 ≡ body)) }
         ensures only { IfErr result (λ e. (e.0 ≡ Refusal.TooLarge) ⊎ (e.0 ≡ Refusal.Memory)) }
-        ensures kept { Keeps (get pending.new.slab) (rings_of self.new) }
-        ensures passes { Passes (get pending.old.slab) (get pending.new.slab) (keys_of (rings_of self.old)) (keys_of (rings_of self.new)) }
-        ensures room { deque_len self.new.sent + deque_len self.new.queued ≤ deque_capacity self.new.sent }
+        ensures kept { KeepsIn pending.new self.new }
+        ensures passes { PassesIn pending.old self.old pending.new self.new }
+        ensures room { HasRoom self.new }
     {
         if body.len() > (mtu - FRAGMENT_OVERHEAD) as usize {
             self.submit_long(pending, flags, body, mtu)
@@ -584,15 +585,15 @@ impl Outgoing {
     ) -> Result<(), (Refusal, Bytes)>
         requires low { 576 ≤ mtu }
         requires high { mtu ≤ 4096 }
-        requires kept { Keeps (get pending.old.slab) (rings_of self.old) }
-        requires room { deque_len self.old.sent + deque_len self.old.queued ≤ deque_capacity self.old.sent }
-        ensures queued { OnOk result (end_of pending.new.slab self.new ≡ with_submitted mtu (end_of pending.old.slab self.old) flags body) }
+        requires kept { KeepsIn pending.old self.old }
+        requires room { HasRoom self.old }
+        ensures queued { OnOk result (end_in pending.new self.new ≡ with_submitted mtu (end_in pending.old self.old) flags body) }
         ensures too_large { IsErrAnd result (λ e. e.0 ≡ Refusal.TooLarge) ↔ (fragment_limit < piece_count (length body) mtu) }
-        ensures refused { IfErr result (λ e. (end_of pending.new.slab self.new ≡ end_of pending.old.slab self.old) × (e.1 ≡ body)) }
+        ensures refused { IfErr result (λ e. (end_in pending.new self.new ≡ end_in pending.old self.old) × (e.1 ≡ body)) }
         ensures only { IfErr result (λ e. (e.0 ≡ Refusal.TooLarge) ⊎ (e.0 ≡ Refusal.Memory)) }
-        ensures kept { Keeps (get pending.new.slab) (rings_of self.new) }
-        ensures passes { Passes (get pending.old.slab) (get pending.new.slab) (keys_of (rings_of self.old)) (keys_of (rings_of self.new)) }
-        ensures room { deque_len self.new.sent + deque_len self.new.queued ≤ deque_capacity self.new.sent }
+        ensures kept { KeepsIn pending.new self.new }
+        ensures passes { PassesIn pending.old self.old pending.new self.new }
+        ensures room { HasRoom self.new }
     {
         let Some(course) = Course::plan(flags, &body, mtu, self.number, self.unreliable) else {
             return Err((Refusal::TooLarge, body));

@@ -6,7 +6,7 @@ ghost use Rattle.enet_sender.specs.Pending.{vacant, queued};
 ghost use Rattle.enet_sender.specs.Rounds.{test_at};
 ghost use Rattle.enet_sender.specs.declared.sent.Sent.{Sent};
 ghost use Rattle.enet_sender.specs.Sender.{again, begun, ends, is_late, marked};
-ghost use Rattle.enet_sender.specs.Rings.{is_due};
+ghost use Rattle.enet_sender.specs.Rings.{is_due, IsEmpty};
 
 use crate::Sent;
 use enet_codec::Refusal;
@@ -27,7 +27,7 @@ pub struct Pending {
 impl Pending {
     /// No commands. It takes no memory, so it never answers E1.
     pub fn open(alloc: Global) -> Result<Pending, Refusal>
-        ensures empty { IfOk result (λ p. p.slab.slots ≡ []) }
+        ensures empty { IfOk result IsEmpty }
         ensures never { IsOk result }
     {
         Ok(Pending {
