@@ -1,5 +1,5 @@
 -- The channels' senders, and the bytes that they have in transit.
-use Rattle.std.proofs.Common.{◌≡◌, ℕ, zero, suc, ◌+◌, ◌<◌, ◌≤◌, List, [], ◌∷◌, ◌++◌, length, map, set, get_or, take, drop, refl, sym, ap, subst, ◌∙◌, arith, Option, Some, unwrap_or, Result, Ok, Err, OnOk, IfErr}
+use Rattle.std.proofs.Common.{◌≡◌, ℕ, zero, suc, ◌+◌, ◌<◌, ◌≤◌, List, [], ◌∷◌, length, map, set, get_or, take, refl, sym, ap, subst, ◌∙◌, arith, Option, Some, unwrap_or, Result, Ok, Err, OnOk, IfErr}
 use Rattle.std.specs.List.{range_with_len, slice_get}
 use Rattle.std.proofs.lemmas.List.{length-set, length-map, length-take, get_or_default}
 use Rattle.std.proofs.lemmas.Option.{slice_get-get_or}

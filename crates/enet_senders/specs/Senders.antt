@@ -1,5 +1,5 @@
 -- The channels of a peer: each key of theirs stands in one ring once.
-use Rattle.std.specs.Prelude.{◌≡◌, ℕ, ◌+◌, ◌<◌, ◌≤◌, List, map, All, sum_by, Option, None}
+use Rattle.std.specs.Prelude.{◌≡◌, ℕ, ◌<◌, ◌≤◌, List, map, All, sum_by, Option, None}
 use Rattle.slab.specs.Slab.{Slab, get}
 use Rattle.enet_sender.specs.declared.sent.Sent.{Sent}
 use Rattle.enet_sender.specs.Sender.{with_marked, cleared}
