@@ -65,7 +65,8 @@ pub struct Left {
     pub reliable: bool,
 }
 
-/// One channel's sender: the keys of its commands, which stand in its peer's `Pending`.
+/// One channel's sender: the keys of its commands, which stand in its peer's `Pending`. Each call is handed that one, and
+/// leaves what other channels have there.
 #[derive(Drop)]
 pub struct Outgoing {
     channel: u8,

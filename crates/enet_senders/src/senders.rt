@@ -245,7 +245,7 @@ impl Senders {
         self.channels.len()
     }
 
-    /// Submits a packet on a channel.
+    /// Queues the commands of a packet on a channel, numbered, as `Outgoing::submit` does; `mtu` is the peer's, in bytes.
     ///
     /// E5 exactly where it would be cut into more than 16,384 pieces (our profile), then E1 where memory is refused. After
     /// either nothing has changed, and the body comes back.
@@ -273,7 +273,11 @@ impl Senders {
         )
     }
 
-    /// Writes the next command of a channel at `at`, where one may go.
+    /// Writes the next command of a channel at `at`, where one may go, and keeps it as sent if it is reliable, as
+    /// `Outgoing::next_due` does. Neither `NoRoom` nor `Nothing` changes anything, and the buffer stays.
+    ///
+    /// `now` is the clock and `timeout` how long to wait for the acknowledgement, in milliseconds; `transit` are the
+    /// payload bytes of the peer that are sent and unacknowledged, and `most` is how many may be. It takes no memory.
     pub fn next_due(
         &mut self,
         channel: u8,
@@ -301,7 +305,7 @@ impl Senders {
         )
     }
 
-    /// Drops the rest of the unreliable packet of a channel whose first command was written last.
+    /// Drops the rest of the unreliable packet of a channel whose first command was written last. The numbers stay used.
     pub fn skip(&mut self, channel: u8)
         requires { channel < length self.old }
         ensures { (s : SendingEnd) → slice_get self.old channel ≡ Some s → self.new ≡ slice_set self.old channel (record s { sender = with_skipped s.sender }) }
@@ -309,7 +313,8 @@ impl Senders {
         skip_on(&mut self.channels, &mut self.pending, channel);
     }
 
-    /// Takes out the one sent command of a channel with this number, and answers the bytes of its payload.
+    /// Takes out the one sent command of a channel with this number, and answers the bytes of its payload. None, with
+    /// nothing changed, where no sent command has it.
     pub fn acknowledge(&mut self, channel: u8, number: u16) -> Option<u32>
         requires { channel < length self.old }
         ensures bytes { (s : SendingEnd) → slice_get self.old channel ≡ Some s → result ≡ acknowledged_bytes s.sender number }
@@ -318,21 +323,23 @@ impl Senders {
         acknowledge_on(&mut self.channels, &mut self.pending, channel, number)
     }
 
-    /// Whether the peer has timed out over a sent command of a channel.
+    /// Whether at the moment `now`, in milliseconds, a sent command of a channel has waited out its timeout, and its peer
+    /// has timed out over it by `patience`.
     pub fn any_ends(&self, now: u32, patience: &Patience) -> bool
         ensures { result ≡ list_any (λ (s : SendingEnd). list_any (ends now patience.now) s.sender.sent) self.now }
     {
         any_ends(&self.channels, &self.pending, now, patience)
     }
 
-    /// Whether a sent command of a channel is late.
+    /// Whether at the moment `now`, in milliseconds, a sent command of a channel has waited out its timeout, and is not due
+    /// to go again already.
     pub fn any_late(&self, now: u32) -> bool
         ensures { result ≡ list_any (λ (s : SendingEnd). list_any (is_late now) s.sender.sent) self.now }
     {
         any_late(&self.channels, &self.pending, now)
     }
 
-    /// Marks all that is late as due to go again.
+    /// All that is late at the moment `now`, in milliseconds, is due to go again, and waits twice as long then.
     pub fn mark(&mut self, now: u32)
         ensures { self.new ≡ map (marked_end now) self.old }
     {
@@ -360,7 +367,7 @@ impl Senders {
         clear_each(&mut self.channels, &mut self.pending);
     }
 
-    /// Keeps so many channels, the first ones.
+    /// Keeps so many channels, the first ones. The commands of the others are dropped.
     pub fn narrow(&mut self, count: usize)
         ensures { self.new ≡ take count self.old }
     {
