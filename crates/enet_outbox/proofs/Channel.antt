@@ -164,7 +164,7 @@ channel-begin {pace} {channel} {f} {s} {w} {p} {buf} h opened there e = record {
 }
 
 -- what the code finds due
-abbrev due_by : Pace → SendingEnd → Flow → Option Next
+abbrev pub due_by : Pace → SendingEnd → Flow → Option Next
 due_by pace s w = next wire pace.now pace.timeout w.transit (transit w.throttle pace.window pace.mtu) s.sender
 
 here : {pace : Pace} {channel : ℕ} {f : Filling} {s : SendingEnd} {w : Flow} {p : Progress} {buf : List ℕ} (a : ChannelAt pace channel f s w p buf) → due_next pace a.g.outbox s ≡ due_by pace s w

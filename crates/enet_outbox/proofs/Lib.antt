@@ -12,3 +12,4 @@ pub mod Spelled
 pub mod Stages
 pub mod Submitting
 pub mod Turns
+pub mod ChannelTurns

@@ -1,16 +1,14 @@
 -- The channels' senders, and the bytes that they have in transit.
-use Rattle.std.proofs.Common.{◌≡◌, ℕ, zero, suc, ◌+◌, ◌<◌, ◌≤◌, List, [], ◌∷◌, ◌++◌, length, map, set, get_or, take, drop, refl, sym, ap, ◌∙◌, arith, Option, unwrap_or, Result, Ok, ap₂}
-use Rattle.std.specs.List.{range_with_len}
-use Rattle.std.proofs.lemmas.List.{length-set, length-map, length-take, take_all, drop_all, append-nil}
-use Rattle.std.proofs.lemmas.List.FromFn.{map-range_with_len_more}
-use Rattle.enet_types.specs.declared.refusal.Refusal.{Refusal}
-use Rattle.std.proofs.lemmas.List.Edits.{map_over_more}
+use Rattle.std.proofs.Common.{◌≡◌, ℕ, zero, suc, ◌+◌, ◌<◌, ◌≤◌, List, [], ◌∷◌, length, map, set, get_or, take, refl, sym, ap, subst, ◌∙◌, arith, Option, Some, unwrap_or, Result, Ok, Err, OnOk, IfErr}
+use Rattle.std.specs.List.{range_with_len, slice_get}
+use Rattle.std.proofs.lemmas.List.{length-set, length-map, length-take, get_or_default}
+use Rattle.std.proofs.lemmas.Option.{slice_get-get_or}
 use Rattle.std.proofs.lemmas.List.Sums.{sum_by-cons, sum_by-set, sum_by-take-le, get_or-le-sum_by}
 use Rattle.enet_sender.specs.Sender.{bytes_in_transit, after_acknowledgement, acknowledged_bytes}
-use Rattle.enet_sender.specs.Due.{SendingEnd, new_end}
+use Rattle.enet_sender.specs.Due.{SendingEnd, new_end, with_submitted}
 use Rattle.enet_sender.proofs.Transit.{transit-acknowledged, transit-marked}
-use Rattle.enet_outbox.specs.Outbox.{cleared_sender, marked_sender}
-use Rattle.enet_outbox.specs.Invariant.{KeepsOutbox, transit_over}
+use Rattle.enet_outbox.specs.Outbox.{as_data, cleared_sender, marked_sender, matched_on}
+use Rattle.enet_outbox.specs.Invariant.{KeepsOutbox, transit_over, with_accepted}
 
 abbrev transit_at : SendingEnd → ℕ
 transit_at s = bytes_in_transit s.sender
@@ -26,6 +24,17 @@ keeps-set transit after senders i s t inside is change keeps = record {
       let counted = keeps.counted in
       omega arith;
 }
+
+-- a packet is submitted to a sender, or refused
+pub keeps-submitted : {E U : Type 0} (transit channel mtu flags : ℕ) (body : List ℕ) (senders new : List SendingEnd) (result : Result U (E × List ℕ)) → channel < length senders
+    → ((s : SendingEnd) → slice_get senders channel ≡ Some s → OnOk result (new ≡ set senders channel (with_submitted mtu s flags body)))
+    → IfErr result (λ e. (new ≡ senders) × (e.1 ≡ body)) → KeepsOutbox transit senders → KeepsOutbox transit new
+keeps-submitted transit channel mtu flags body senders new (Ok x) inside queued refused keeps =
+    let s : SendingEnd = get_or senders channel (new_end 0) in
+    let there : slice_get senders channel ≡ Some s = slice_get-get_or senders channel (new_end 0) inside in
+    let is : s ≡ get_or senders channel s = get_or_default senders channel (new_end 0) s inside in
+    subst (λ (ss : List SendingEnd). KeepsOutbox transit ss) (sym (queued s there)) (keeps-set transit transit senders channel s (with_submitted mtu s flags body) inside is refl keeps)
+keeps-submitted transit channel mtu flags body senders new (Err e) inside queued refused keeps = subst (λ (ss : List SendingEnd). KeepsOutbox transit ss) (sym refused.0) keeps
 
 transit-map : (f : SendingEnd → SendingEnd) → ((s : SendingEnd) → transit_at (f s) ≡ transit_at s) → (senders : List SendingEnd) → transit_over (map f senders) ≡ transit_over senders
 transit-map f same [] = refl
@@ -84,15 +93,6 @@ keeps-take transit channels senders none keeps = record {
   counted = let e = sum_by-take-le transit_at senders channels in let counted = keeps.counted in omega arith;
 }
 
--- senders are marked or cleared one by one
-pub map_marked : (now : ℕ) (xs ys : List SendingEnd) (i : ℕ) (x : SendingEnd) → i < length xs → ys ≡ map (marked_sender now) (take i xs) ++ drop i xs → x ≡ get_or ys i x
-    → set ys i (marked_sender now x) ≡ map (marked_sender now) (take (i + 1) xs) ++ drop (i + 1) xs
-map_marked now xs ys i x = map_over_more (marked_sender now) xs ys i x
-
-pub map_cleared : (xs ys : List SendingEnd) (i : ℕ) (x : SendingEnd) → i < length xs → ys ≡ map cleared_sender (take i xs) ++ drop i xs → x ≡ get_or ys i x
-    → set ys i (cleared_sender x) ≡ map cleared_sender (take (i + 1) xs) ++ drop (i + 1) xs
-map_cleared xs ys i x = map_over_more cleared_sender xs ys i x
-
 -- an acknowledgement is taken in by a sender
 pub acknowledged-on : (s t : SendingEnd) (number : ℕ) (bytes : Option ℕ) → bytes ≡ acknowledged_bytes s.sender number → t ≡ record s { sender = after_acknowledgement s.sender number }
     → transit_at t + unwrap_or bytes 0 ≡ transit_at s
@@ -115,12 +115,26 @@ pub keeps-accepted : (transit after bytes : ℕ) (senders : List SendingEnd) (i 
     → transit_at t + bytes ≡ transit_at s → after + bytes ≡ transit → KeepsOutbox transit senders → KeepsOutbox after (set senders i t)
 keeps-accepted transit after bytes senders i s t inside is taken less keeps = keeps-set transit after senders i s t inside is (omega arith) keeps
 
-pub all_cleared : (xs ys : List SendingEnd) (n : ℕ) → length xs ≤ n → ys ≡ map cleared_sender (take n xs) ++ drop n xs → ys ≡ map cleared_sender xs
-all_cleared xs ys n all is = is ∙ ap₂ (λ a b. map cleared_sender a ++ b) (take_all n xs all) (drop_all n xs all) ∙ append-nil (map cleared_sender xs)
+-- what an acknowledgement does to the senders, where there is its channel
+pub record Accepts (transit channel number : ℕ) (senders new : List SendingEnd) (bytes : Option ℕ) : Type 0 where
+  pub found : as_data bytes ≡ matched_on (slice_get senders channel) number
+  pub accepted : new ≡ with_accepted senders channel number (slice_get senders channel)
+  pub enough : unwrap_or bytes 0 ≤ transit
+  pub kept : (after : ℕ) → after + unwrap_or bytes 0 ≡ transit → KeepsOutbox after new
 
--- one channel more is opened
-pub one_more_opened : (xs ys : List SendingEnd) (channel : ℕ) (x : SendingEnd) (r : Result SendingEnd Refusal) → xs ≡ map new_end (range_with_len 0 channel)
-    → r ≡ Ok (new_end channel) → r ≡ Ok x → ys ≡ xs ++ x ∷ [] → ys ≡ map new_end (range_with_len 0 (channel + 1))
-one_more_opened xs ys channel x r so_far opened is pushed =
-    let same : x ≡ new_end channel = cc in
-    pushed ∙ ap₂ (λ a b. a ++ b ∷ []) so_far same ∙ sym (map-range_with_len_more new_end 0 channel channel (omega arith))
+pub accepts : (transit channel number : ℕ) (senders new : List SendingEnd) (bytes : Option ℕ) → channel < length senders → KeepsOutbox transit senders
+    → ((s : SendingEnd) → slice_get senders channel ≡ Some s → bytes ≡ acknowledged_bytes s.sender number)
+    → ((s : SendingEnd) → slice_get senders channel ≡ Some s → new ≡ set senders channel (record s { sender = after_acknowledgement s.sender number })) → Accepts transit channel number senders new bytes
+accepts transit channel number senders new bytes inside keeps found ends =
+    let s : SendingEnd = get_or senders channel (new_end 0) in
+    let t : SendingEnd = record s { sender = after_acknowledgement s.sender number } in
+    let there : slice_get senders channel ≡ Some s = slice_get-get_or senders channel (new_end 0) inside in
+    let is : s ≡ get_or senders channel s = get_or_default senders channel (new_end 0) s inside in
+    let taken = acknowledged-on s t number bytes (found s there) refl in
+    record {
+      found = ap as_data (found s there) ∙ sym (ap (λ (o : Option SendingEnd). matched_on o number) there);
+      accepted = ends s there ∙ sym (ap (with_accepted senders channel number) there);
+      enough = enough transit (unwrap_or bytes 0) senders channel s t inside is taken keeps;
+      kept = λ after less.
+          subst (λ (ss : List SendingEnd). KeepsOutbox after ss) (sym (ends s there)) (keeps-accepted transit after (unwrap_or bytes 0) senders channel s t inside is taken less keeps);
+    }

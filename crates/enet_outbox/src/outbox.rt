@@ -16,7 +16,7 @@ use enet_codec::Refusal;
 use enet_control::{Control, ControlChannel};
 use enet_fragment::FRAGMENT_OVERHEAD;
 use enet_rtt::{Expiry, Patience};
-use enet_sender::Outgoing;
+use enet_senders::Senders;
 use enet_seq::after;
 use enet_throttle::Throttle;
 use std::alloc::Global;
@@ -35,7 +35,7 @@ pub struct Outbox {
     pub(crate) control: ControlChannel,
     pub(crate) unsequenced: VecDeque<Unsequenced>,
     pub(crate) group: u16,
-    pub(crate) senders: Vec<Outgoing>,
+    pub(crate) senders: Senders,
     pub(crate) throttle: Throttle,
     pub(crate) last: Option<u8>,
     /// The payload bytes of what is sent and not acknowledged.
@@ -59,7 +59,7 @@ impl Model for Outbox {
         control = o.control.commands;
         unsequenced = o.unsequenced.items;
         group = o.group;
-        senders = o.senders.items;
+        senders = o.senders;
         throttle = o.throttle;
         last = o.last;
       };
@@ -67,7 +67,7 @@ impl Model for Outbox {
       control_room = o.control.room;
     } };
 
-    ghost invariant = { λ o. KeepsOutbox o.transit o.senders.items × KeepsIdle o.idle o.senders.items };
+    ghost invariant = { λ o. KeepsOutbox o.transit o.senders × KeepsIdle o.idle o.senders };
 }
 
 impl Outbox {
@@ -84,7 +84,7 @@ impl Outbox {
         ensures memory { IfErr result (λ why. why ≡ Refusal.Memory) }
     {
         let control = ControlChannel::open(alloc, number)?;
-        let senders = lists::open_senders(alloc, channels)?;
+        let senders = Senders::open(alloc, channels)?;
         Ok(Outbox {
             acknowledgements: VecDeque::new(alloc),
             control,
@@ -293,14 +293,14 @@ impl Outbox {
     fn any_ends(&self, now: u32, patience: &Patience) -> bool
         ensures { result ≡ list_any (λ (s : SendingEnd). list_any (sender.ends now patience.now) s.sender.sent) self.now.outbox.senders }
     {
-        !self.idle && lists::any_ends(&self.senders, now, patience)
+        !self.idle && self.senders.any_ends(now, patience)
     }
 
     /// Whether a sent command of a channel is late.
     fn any_late(&self, now: u32) -> bool
         ensures { result ≡ list_any (λ (s : SendingEnd). list_any (sender.is_late now) s.sender.sent) self.now.outbox.senders }
     {
-        !self.idle && lists::any_late(&self.senders, now)
+        !self.idle && self.senders.any_late(now)
     }
 
     /// Marks all that is late as due to go again.
@@ -320,7 +320,7 @@ impl Outbox {
         ensures quiet { result ≡ is_quiet self.now.outbox }
         ensures room { IsTrue result → 1 ≤ self.now.control_room }
     {
-        self.control.is_idle() && (self.idle || lists::have_no_reliable(&self.senders))
+        self.control.is_idle() && (self.idle || self.senders.have_no_reliable())
     }
 
     /// Whether no reliable command is queued or unacknowledged, and no packet is queued. Then there is room for one command
@@ -329,7 +329,7 @@ impl Outbox {
         ensures done { result ≡ is_done self.now.outbox }
         ensures room { IsTrue result → 1 ≤ self.now.control_room }
     {
-        self.is_quiet() && lists::have_no_packet(&self.senders) && self.unsequenced.is_empty()
+        self.is_quiet() && self.senders.have_no_packet() && self.unsequenced.is_empty()
     }
 
     /// Whether an acknowledgement waits to be put out.
@@ -370,7 +370,7 @@ impl Outbox {
         ensures control_room { self.new.control_room ≡ self.old.control_room }
     {
         self.idle = false;
-        self.senders.truncate(usize::from(channels));
+        self.senders.narrow(usize::from(channels));
     }
 }
 

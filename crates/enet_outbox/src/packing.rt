@@ -2,10 +2,11 @@
 //! unsequenced packets, and the channels (our profile). The commands stand in the buffer from 4 on, and the header is
 //! written before them in the end.
 
-ghost use Rattle.std.specs.Prelude.{◌≡◌, true, IsTrue, ◌≤◌, ◌+◌, ◌-◌, ◌<◌, ◌^◌, ◌++◌, length, take, drop, slice_get, slice_range, unwrap_or};
+ghost use Rattle.std.specs.Prelude.{◌≡◌, true, IsTrue, ◌≤◌, ◌+◌, ◌-◌, ◌<◌, ◌^◌, ◌++◌, length, take, drop, slice_get, slice_set, Some, slice_range, unwrap_or};
 ghost use Rattle.std.specs.Option.{option_map};
 ghost use Rattle.std.specs.VecDeque.{deque_len, deque_capacity};
 ghost use Rattle.enet_codec.specs.Header.{header_text};
+ghost use Rattle.enet_sender.specs.Due.{SendingEnd};
 ghost use Rattle.enet_codec.specs.Message.{view, payload_of};
 ghost use Rattle.enet_outbox.specs.Emission.{acknowledgement_of, unsequenced_of, filled, Emits};
 ghost use Rattle.enet_outbox.specs.Invariant.{HasNothing};
@@ -14,7 +15,8 @@ ghost use Rattle.enet_outbox.specs.Packing.{header_asking, Leads, taken_in, plac
 use crate::{Acknowledgement, Destination, Outbox, Pace, Unsequenced, lists};
 use enet_codec::{Command, Head, Header, write_command, write_header};
 use enet_control::{ControlChannel, Written};
-use enet_sender::{Due, Kind, Outgoing};
+use enet_sender::{Due, Kind};
+use enet_senders::Senders;
 use enet_throttle::Throttle;
 use std::collections::VecDeque;
 
@@ -241,24 +243,34 @@ fn refuses(throttle: &mut Throttle, kind: Kind) -> bool
 /// Puts what is due on a channel into the datagram, as far as it fits. The throttle is asked of the first command of each
 /// unreliable packet that fits, and may drop the packet.
 fn pack_channel(
-    sender: &mut Outgoing,
+    senders: &mut Senders,
     flow: &mut Flow,
     channel: u8,
     pace: Pace,
     buf: &mut [u8],
     from: Progress,
 ) -> Progress
-    ensures { PacksChannel pace channel (record { sender = sender.old; flow = flow.old }) (record { sender = sender.new; flow = flow.new })
-        (record { progress = from; buf = buf.old }) (record { progress = result; buf = buf.new }) }
+    requires { channel < length senders.old }
+    ensures { (s : SendingEnd) → slice_get senders.old channel ≡ Some s → (t : SendingEnd) × ((senders.new ≡ slice_set senders.old channel t)
+        × PacksChannel pace channel (record { sender = s; flow = flow.old }) (record { sender = t; flow = flow.new })
+        (record { progress = from; buf = buf.old }) (record { progress = result; buf = buf.new })) }
 {
     let mut progress = from;
     'turns: loop {
         let place = progress.place(buf);
         let most = flow.throttle.transit_limit(pace.window, pace.mtu);
-        match sender.next_due(pace.now, pace.timeout, flow.transit, most, buf, place) {
+        match senders.next_due(
+            channel,
+            pace.now,
+            pace.timeout,
+            flow.transit,
+            most,
+            buf,
+            place,
+        ) {
             Due::Sent { past, added, kind } => {
                 if refuses(&mut flow.throttle, kind) {
-                    sender.skip();
+                    senders.skip(channel);
                 } else {
                     flow.transit += added;
                     flow.last = Some(channel);
@@ -274,7 +286,7 @@ fn pack_channel(
 /// Puts what is due on the channels into the datagram, cyclically from the channel `first` on, as far as it fits. A closed
 /// datagram stays as it is.
 pub(crate) fn pack_channels(
-    senders: &mut [Outgoing],
+    senders: &mut Senders,
     flow: &mut Flow,
     first: usize,
     pace: Pace,
@@ -283,8 +295,9 @@ pub(crate) fn pack_channels(
 ) -> Progress
     requires few { length senders.old ≤ 255 }
     requires first { first ≤ 256 }
-    ensures { PacksChannels pace first (record { senders = senders.old; flow = flow.old }) (record { senders = senders.new; flow = flow.new })
+    ensures packs { PacksChannels pace first (record { senders = senders.old; flow = flow.old }) (record { senders = senders.new; flow = flow.new })
         (record { progress = from; buf = buf.old }) (record { progress = result; buf = buf.new }) }
+    ensures kept { length senders.new ≡ length senders.old }
 {
     let channels = senders.len();
     let mut progress = from;
@@ -293,35 +306,9 @@ pub(crate) fn pack_channels(
             return progress;
         }
         let channel = (first + turn) % channels;
-        progress = pack_channel(
-            &mut senders[channel],
-            flow,
-            channel as u8,
-            pace,
-            buf,
-            progress,
-        );
+        progress = pack_channel(senders, flow, channel as u8, pace, buf, progress);
     }
     progress
-}
-
-/// The same for a peer's senders.
-fn pack_senders(
-    senders: &mut Vec<Outgoing>,
-    flow: &mut Flow,
-    first: usize,
-    pace: Pace,
-    buf: &mut [u8],
-    from: Progress,
-) -> Progress
-    requires few { length senders.old.items ≤ 255 }
-    requires first { first ≤ 256 }
-    ensures packs { PacksChannels pace first (record { senders = senders.old.items; flow = flow.old }) (record { senders = senders.new.items; flow = flow.new })
-        (record { progress = from; buf = buf.old }) (record { progress = result; buf = buf.new }) }
-    ensures kept { length senders.new.items ≡ length senders.old.items }
-{
-    let senders = senders.as_mut_slice();
-    pack_channels(senders, flow, first, pace, buf, from)
 }
 
 /// The channel after the last one that had a data command.
@@ -408,7 +395,7 @@ impl Outbox {
             transit: self.transit,
             last: self.last,
         };
-        let sent = pack_senders(&mut self.senders, &mut flow, first, pace, buf, unsequenced);
+        let sent = pack_channels(&mut self.senders, &mut flow, first, pace, buf, unsequenced);
         self.idle = false;
         self.throttle = flow.throttle;
         self.transit = flow.transit;
@@ -474,6 +461,6 @@ impl Outbox {
     fn look_for_idle(&mut self)
         ensures { self.new ≡ self.old }
     {
-        self.idle = lists::have_no_packet(&self.senders) && lists::have_no_reliable(&self.senders);
+        self.idle = self.senders.have_no_packet() && self.senders.have_no_reliable();
     }
 }

@@ -1,18 +1,14 @@
 -- The commands of a course.
-use Rattle.std.proofs.Common.{◌≡◌, ℕ, suc, zero, ◌+◌, ◌-◌, ◌*◌, ◌/◌, ◌≤◌, ◌<◌, Bool, true, false, cond, eqb, ltb, List, [], ◌∷◌, ◌++◌, length, map, take, drop, refl, sym, ap, ◌∙◌, arith, All, append_assoc}
+use Rattle.std.proofs.Common.{◌≡◌, ℕ, ◌+◌, ◌-◌, ◌*◌, ◌/◌, ◌≤◌, ◌<◌, Bool, true, false, cond, eqb, ltb, List, [], ◌∷◌, ◌++◌, length, map, take, drop, refl, sym, ap, ◌∙◌, arith, append_assoc}
 use Rattle.std.specs.List.{range_with_len}
 use Rattle.std.proofs.Math.Nat.{div-eq_of_lt}
 use Rattle.std.proofs.lemmas.Bool.Decides.{nat_tests}
 use Rattle.std.proofs.lemmas.List.FromFn.{map-range_with_len_more}
-use Rattle.std.proofs.lemmas.List.{take_all, length-take}
-use Rattle.std.proofs.lemmas.List.Elements.{All-append, All-cons, All-nil}
+use Rattle.std.proofs.lemmas.List.{take_all}
 use Rattle.enet_fragment.specs.Cutting.{piece_count, piece_length}
 use Rattle.enet_fragment.specs.declared.data.DataCommand.{DataCommand}
 use Rattle.enet_sender.specs.declared.course.Course.{Course}
-use Rattle.enet_sender.specs.declared.sent.Sent.{Sent}
 use Rattle.enet_sender.specs.Course.{command_of, piece_command, course_commands}
-use Rattle.enet_sender.specs.Invariant.{IsShort, IsShortSent, reliable_in, KeepsSender}
-use Rattle.enet_sender.proofs.Counting.{counted-queued}
 
 one_if : (empty : Bool) (n : ℕ) → n ≡ 0 → cond empty 1 (n + 1) ≡ 1
 one_if true n e = refl
@@ -44,26 +40,6 @@ whole size body short =
 pub single : (s : Course) (body : List ℕ) → s.pieces ≡ 1 → length body ≤ piece_length s.mtu → command_of s 0 body ∷ [] ≡ course_commands s body
 single s body one short =
     sym (ap (λ n. map (piece_command s body) (range_with_len 0 n)) one ∙ ap (λ b. command_of s 0 b ∷ []) (whole (piece_length s.mtu) body short))
-
-short_piece : (s : Course) (body : List ℕ) (i : ℕ) → s.mtu ≤ 4096 → IsShort (piece_command s body i)
-short_piece s body i high =
-    let e = length-take (piece_length s.mtu) (drop (i * piece_length s.mtu) body) in
-    omega arith
-
-short_from : (s : Course) (body : List ℕ) (high : s.mtu ≤ 4096) (a n : ℕ) → All IsShort (map (piece_command s body) (range_with_len a n))
-short_from s body high a zero = All-nil IsShort
-short_from s body high a (suc n) = All-cons IsShort _ _ (short_piece s body a high) (short_from s body high (a + 1) n)
-
--- a packet's commands are kept, and counted
-pub keeps-queued : (s : Course) (body : List ℕ) (sent_len queued_len capacity reliable : ℕ) (sent : List Sent) (queued : List DataCommand)
-    → s.mtu ≤ 4096 → sent_len + queued_len ≤ capacity → reliable ≡ reliable_in queued + cond s.reliable s.pieces 0 → All IsShortSent sent → All IsShort queued
-    → KeepsSender sent_len queued_len capacity reliable sent (queued ++ course_commands s body)
-keeps-queued s body sent_len queued_len capacity reliable sent queued high room counted sent_short queued_short = record {
-  room = room;
-  counted = counted ∙ sym (counted-queued s body queued);
-  sent_short = sent_short;
-  queued_short = All-append IsShort queued (course_commands s body) queued_short (short_from s body high 0 s.pieces);
-}
 
 -- one piece more is queued
 pub one_more_queued : (s : Course) (body : List ℕ) (i : ℕ) (before now after : List DataCommand) (c : DataCommand)

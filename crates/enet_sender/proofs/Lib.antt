@@ -1,6 +1,15 @@
 pub mod Counting
-pub mod Keeping
 pub mod Courses
 pub mod NextLemmas
 pub mod Transit
-pub mod DueLemmas
+pub mod Lists
+pub mod Named
+pub mod Trimming
+pub mod Acknowledging
+pub mod Changing
+pub mod Sending
+pub mod Queueing
+pub mod Submitting
+pub mod Piecing
+pub mod Skipping
+pub mod Rounds

@@ -3,3 +3,8 @@ pub mod Sender
 pub mod Due
 pub mod Invariant
 pub mod Course
+pub mod Pending
+pub mod Rings
+pub mod Trims
+pub mod Queues
+pub mod Rounds

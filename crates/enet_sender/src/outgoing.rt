@@ -1,27 +1,37 @@
-//! One channel's sender.
+//! One channel's sender over the commands of its peer.
 
-ghost use Rattle.std.specs.Prelude.{◌≡◌, ◌⊎◌, ◌↔◌, ◌<◌, ◌≤◌, Ok, OnOk, IfErr, IfSome, IsErrAnd, length, slice_get};
-ghost use Rattle.std.specs.List.{position, list_any};
-ghost use Rattle.enet_sender.specs.declared.sent.Sent.{Sent};
-ghost use Rattle.enet_fragment.specs.Cutting.{piece_count};
+ghost use Rattle.std.specs.Prelude.{◌≡◌, ℕ, ◌+◌, ◌<◌, ◌≤◌, ◌∷◌, ◌++◌, [], if◌then◌else◌, IsTrue, IsOk, IfOk, OnOk, IfErr, IsErrAnd, ◌⊎◌, ◌↔◌, List, Option, Some, None, IfSome, IfNone, length, map, take, drop, slice_get, true, false};
+ghost use Rattle.std.specs.VecDeque.{deque_len, deque_capacity};
+ghost use Rattle.slab.specs.Slab.{get, slab_len, HasRoomFor};
 ghost use Rattle.enet_seq.specs.Numbering.{wire};
+ghost use Rattle.enet_seq.specs.Windows.{after as number_after};
+ghost use Rattle.enet_fragment.specs.declared.data.DataCommand.{DataCommand};
+ghost use Rattle.enet_sender.specs.declared.pending.Pending.{Pending};
+ghost use Rattle.enet_sender.specs.declared.sent.Sent.{Sent};
+ghost use Rattle.enet_sender.specs.Sender.{with_marked, lateness, after_lateness, ends, is_late, cleared, after_acknowledgement, acknowledged_bytes, next, next_queued, next_resent, first_sent, may_go, piece_of_body, is_more, skipped, with_skipped, left};
+ghost use Rattle.enet_sender.specs.Due.{Did, new_end, with_submitted};
+ghost use Rattle.enet_fragment.specs.Cutting.{piece_length, piece_count};
 ghost use Rattle.enet_sender.specs.CommandChoice.{fragment_limit};
-ghost use Rattle.enet_sender.specs.Sender.{next, next_queued, next_resent, after_acknowledgement, acknowledged_bytes, with_skipped, with_marked, lateness, after_lateness, ends, is_late, cleared, left};
-ghost use Rattle.enet_sender.specs.Due.{new_end, with_submitted, Did};
+ghost use Rattle.enet_sender.specs.Invariant.{IsShort};
+ghost use Rattle.enet_sender.specs.Course.{IsCourse};
+ghost use Rattle.std.specs.List.{range_with_len, list_any};
+ghost use Rattle.enet_sender.specs.Queues.{Queues};
+ghost use Rattle.enet_sender.specs.Pending.{vacant, named};
+ghost use Rattle.enet_sender.specs.Rings.{Keeps, KeepsIn, PassesIn, HasRoom, no_rings, rings_of, sender_in, end_in, commands_at, IsFirstDue, NoneDue};
 
-use crate::Sent;
-use crate::course::Course;
-use crate::queue::{
-    any_ends, any_late, bytes_of, due_kind, lateness, make_room, mark, may_go, position_of,
-    position_of_due, push_packet, put, send_again, send_head, skip_more,
-};
+use crate::course::{Course, cut};
+use crate::pending::{Pending, VACANT};
+use crate::ring::{any_ends, any_late, first, first_due, mark_all, place_of, take_all, trim};
+use crate::writing::{bytes_of, due_kind, is_more, put};
 use bytes::Bytes;
 use enet_codec::Refusal;
-use enet_fragment::DataCommand;
+use enet_fragment::{DataCommand, FRAGMENT_OVERHEAD};
 use enet_rtt::{Expiry, Patience};
 use std::alloc::Global;
 use std::collections::VecDeque;
-use std::marker::Model;
+
+/// How many numbers may be unacknowledged at a time (our profile).
+const SPAN: usize = 8192;
 
 /// How a written command is carried.
 #[derive(Clone, Copy)]
@@ -55,81 +65,43 @@ pub struct Left {
     pub reliable: bool,
 }
 
-/// One channel's sender: it numbers commands in the order of submission, modulo 65536 and from 1 on, sends them in that
-/// order, and keeps each reliable one until it is acknowledged. Contracts see it as a `SendingEnd`: its channel, the last
-/// numbers given, what is queued, and what is sent and not acknowledged.
+/// One channel's sender: the keys of its commands, which stand in its peer's `Pending`. Each call is handed that one, and
+/// leaves what other channels have there.
 #[derive(Drop)]
 pub struct Outgoing {
     channel: u8,
+    /// The last reliable number given, and the last unreliable number given since.
     number: u16,
     unreliable: u16,
-    queued: VecDeque<DataCommand>,
-    sent: VecDeque<Sent>,
+    /// What is queued, in the order of submission.
+    queued: VecDeque<u32>,
+    /// What is sent: a place for each number up to `passed`, vacant once it is acknowledged. The first place is not vacant.
+    sent: VecDeque<u32>,
+    /// The last reliable number that went for the first time.
+    passed: u16,
     /// How many reliable commands are queued.
     reliable_queued: usize,
-    /// Whether a sent command may be due to go again; where not, none is.
-    may_be_due: bool,
-}
-
-impl Model for Outgoing {
-    ghost use Rattle.enet_sender.specs.Due.{SendingEnd};
-
-    ghost Value = { SendingEnd };
-
-    ghost use Rattle.std.specs.VecDeque.{deque_len, deque_capacity};
-    ghost use Rattle.enet_sender.specs.Invariant.{KeepsEnd};
-
-    ghost view = { λ s. record {
-      channel = s.channel;
-      sender = record { number = s.number; unreliable = s.unreliable; queued = s.queued.items; sent = s.sent.items };
-    } };
-
-    ghost invariant = { λ s. KeepsEnd (deque_len s.sent) (deque_len s.queued) (deque_capacity s.sent) s.reliable_queued s.may_be_due s.sent.items s.queued.items };
+    /// No place of `sent` before this one is due to go again.
+    due_from: usize,
 }
 
 impl Outgoing {
-    /// A sender of `channel` to which nothing was submitted. It takes no memory, so it never answers E1.
-    pub fn open(alloc: Global, channel: u8) -> Result<Outgoing, Refusal>
-        ensures { result ≡ Ok (new_end channel) }
+    /// Takes out the one sent command of this number, and answers the bytes of its payload. None, with nothing changed,
+    /// where no sent command has it.
+    pub fn acknowledge(&mut self, pending: &mut Pending, number: u16) -> Option<u32>
+        requires { KeepsIn pending.old self.old }
+        ensures bytes { result ≡ acknowledged_bytes (sender_in pending.old self.old) number }
+        ensures removed { end_in pending.new self.new ≡ record (end_in pending.old self.old) { sender = after_acknowledgement (sender_in pending.old self.old) number } }
+        ensures kept { KeepsIn pending.new self.new }
+        ensures passes { PassesIn pending.old self.old pending.new self.new }
+        ensures room { HasRoom self.old → HasRoom self.new }
     {
-        Ok(Outgoing {
-            channel,
-            number: 0,
-            unreliable: 0,
-            queued: VecDeque::new(alloc),
-            sent: VecDeque::new(alloc),
-            reliable_queued: 0,
-            may_be_due: false,
-        })
-    }
-
-    /// Queues the commands of a packet, numbered; `flags` are its flags (RELIABLE 1, UNRELIABLE_FRAGMENT 8; others are
-    /// ignored, so a short packet that is to go unsequenced is not for this call), and `mtu` is the peer's, in bytes. A
-    /// packet of more than `mtu - 28` bytes is cut into fragments. It goes reliable where it asks for it, where the
-    /// unreliable numbers are used up, and where it is long and does not ask for unreliable fragments (ENet 1.3).
-    ///
-    /// E5 exactly where it would be cut into more than 16,384 pieces (our profile), then E1 where memory is refused. After
-    /// either nothing has changed, and the body comes back.
-    pub fn submit(&mut self, flags: u8, body: Bytes, mtu: u32) -> Result<(), (Refusal, Bytes)>
-        requires { (576 ≤ mtu) × (mtu ≤ 4096) }
-        ensures queued { OnOk result (self.new ≡ with_submitted mtu self.old flags body) }
-        ensures too_large { IsErrAnd result (λ e. e.0 ≡ Refusal.TooLarge) ↔ (fragment_limit < piece_count (length body) mtu) }
-        ensures refused { IfErr result (λ e. (self.new ≡ self.old) × (e.1 ≡ body)) }
-        ensures only { IfErr result (λ e. (e.0 ≡ Refusal.TooLarge) ⊎ (e.0 ≡ Refusal.Memory)) }
-    {
-        let Some(course) = Course::plan(flags, &body, mtu, self.number, self.unreliable) else {
-            return Err((Refusal::TooLarge, body));
-        };
-        if !make_room(&mut self.queued, &mut self.sent, course.pieces as usize) {
-            return Err((Refusal::Memory, body));
-        }
-        if let Err(body) = push_packet(&mut self.queued, course, body) {
-            return Err((Refusal::Memory, body));
-        }
-        self.reliable_queued += course.reliable_commands();
-        self.number = course.last_number();
-        self.unreliable = course.unreliable_number();
-        Ok(())
+        let place = place_of(&self.sent, self.passed, number)?;
+        let key = self.sent[place];
+        let sent = pending.take(key)?;
+        self.sent[place] = VACANT;
+        trim(&mut self.sent, &mut self.due_from);
+        Some(sent.command.body.len() as u32)
     }
 
     /// Writes the next command at `at`, where one may go, and keeps it as sent if it is reliable: the first sent one that is
@@ -144,6 +116,7 @@ impl Outgoing {
     /// payload bytes of the peer that are sent and unacknowledged. It takes no memory.
     pub fn next_due(
         &mut self,
+        pending: &mut Pending,
         now: u32,
         timeout: u32,
         transit: u32,
@@ -151,41 +124,68 @@ impl Outgoing {
         buf: &mut [u8],
         at: usize,
     ) -> Due
-        ensures { Did (next wire now timeout transit most self.old.sender) result self.old self.new buf.old at buf.new }
+        requires kept { KeepsIn pending.old self.old }
+        requires room { HasRoom self.old }
+        ensures did { Did (next wire now timeout transit most (sender_in pending.old self.old)) result
+            (end_in pending.old self.old) (end_in pending.new self.new) buf.old at buf.new }
+        ensures kept { KeepsIn pending.new self.new }
+        ensures passes { PassesIn pending.old self.old pending.new self.new }
+        ensures room { HasRoom self.new }
     {
-        match self.next_resend() {
-            Some(place) => self.resend(place, now, buf, at),
-            None => self.send_first(now, timeout, transit, most, buf, at),
+        match self.next_resend(pending) {
+            Some(place) => self.resend(pending, place, now, buf, at),
+            None => self.send_first(pending, now, timeout, transit, most, buf, at),
         }
     }
 
     /// The place of the first sent command that is due to go again.
-    fn next_resend(&mut self) -> Option<usize>
-        ensures place { result ≡ position (λ (p : Sent). p.transmission.due) self.old.sender.sent }
-        ensures bound { IfSome result (λ place. place < length self.old.sender.sent) }
-        ensures unchanged { self.new ≡ self.old }
+    fn next_resend(&mut self, pending: &Pending) -> Option<usize>
+        requires { KeepsIn pending.now self.old }
+        ensures some { IfSome result (λ place. IsFirstDue (get pending.now.slab) self.old.sent.items place) }
+        ensures none { IfNone result (NoneDue (get pending.now.slab) self.old.sent.items 0 (length self.old.sent.items)) }
+        ensures rings { self.new ≡ record self.old { due_from = self.new.due_from } }
+        ensures kept { KeepsIn pending.now self.new }
     {
-        if !self.may_be_due {
-            return None;
+        match first_due(&self.sent, self.due_from, pending) {
+            Some(place) => {
+                self.due_from = place;
+                Some(place)
+            }
+            None => {
+                self.due_from = self.sent.len();
+                None
+            }
         }
-        let place = position_of_due(&self.sent);
-        self.may_be_due = place.is_some();
-        place
     }
 
-    /// Writes the sent command at a place once more, where it fits.
-    fn resend(&mut self, place: usize, now: u32, buf: &mut [u8], at: usize) -> Due
-        requires { place < length self.old.sender.sent }
-        ensures { Did (next_resent now self.old.sender place (slice_get self.old.sender.sent place)) result self.old self.new buf.old at buf.new }
+    /// Writes the sent command of a place once more, where it fits.
+    fn resend(
+        &mut self,
+        pending: &mut Pending,
+        place: usize,
+        now: u32,
+        buf: &mut [u8],
+        at: usize,
+    ) -> Due
+        requires kept { KeepsIn pending.old self.old }
+        requires first { IsFirstDue (get pending.old.slab) self.old.sent.items place }
+        ensures did { Did (next_resent now (sender_in pending.old self.old) (length (named (get pending.old.slab) (take place self.old.sent.items)))
+            (slice_get (named (get pending.old.slab) self.old.sent.items) (length (named (get pending.old.slab) (take place self.old.sent.items))))) result
+            (end_in pending.old self.old) (end_in pending.new self.new) buf.old at buf.new }
+        ensures rings { self.new ≡ record self.old { due_from = self.new.due_from } }
+        ensures kept { KeepsIn pending.new self.new }
+        ensures passes { PassesIn pending.old self.old pending.new self.new }
     {
-        let Some(sent) = self.sent.get(place) else {
+        let key = self.sent[place];
+        let Some(sent) = pending.get(key) else {
             unreachable!()
         };
         let kind = due_kind(&sent.command);
         let Some(past) = put(buf, at, self.channel, &sent.command) else {
             return Due::NoRoom;
         };
-        send_again(&mut self.sent, place, now);
+        pending.send_again(key, now);
+        self.due_from = place + 1;
         Due::Sent {
             past,
             added: 0,
@@ -193,9 +193,23 @@ impl Outgoing {
         }
     }
 
+    /// Whether the head of the queue may go for the first time. Its number is the one after `passed` if it is reliable, so
+    /// the span is kept where the places of what is sent are fewer.
+    fn may_go(&self, command: &DataCommand, transit: u32, most: u32) -> bool
+        requires short { IsShort command.now }
+        requires few { length self.now.sent.items ≤ 8192 }
+        ensures reliable { result ≡ true → command.now.reliable ≡ true → length self.now.sent.items < 8192 }
+        ensures value { (at : ℕ → Option Sent) → Keeps at (rings_of self.now) → (command.now.reliable ≡ true → command.now.number ≡ number_after self.now.passed 1)
+            → result ≡ may_go wire (named at self.now.sent.items) transit most command.now }
+    {
+        let after = u64::from(transit) + command.body.len() as u64;
+        !command.reliable || (self.sent.len() < SPAN && after <= u64::from(most))
+    }
+
     /// Writes the head of the queue, where it may go and fits.
     fn send_first(
         &mut self,
+        pending: &mut Pending,
         now: u32,
         timeout: u32,
         transit: u32,
@@ -203,104 +217,408 @@ impl Outgoing {
         buf: &mut [u8],
         at: usize,
     ) -> Due
-        ensures { Did (next_queued wire now timeout transit most self.old.sender self.old.sender.queued) result self.old self.new buf.old at buf.new }
+        requires kept { KeepsIn pending.old self.old }
+        requires room { HasRoom self.old }
+        ensures did { Did (next_queued wire now timeout transit most (sender_in pending.old self.old) (sender_in pending.old self.old).queued) result
+            (end_in pending.old self.old) (end_in pending.new self.new) buf.old at buf.new }
+        ensures kept { KeepsIn pending.new self.new }
+        ensures passes { PassesIn pending.old self.old pending.new self.new }
+        ensures room { HasRoom self.new }
     {
-        let Some(head) = self.queued.front() else {
+        let Some(key) = first(&self.queued) else {
             return Due::Nothing;
         };
-        if !may_go(&self.sent, head, transit, most) {
+        let Some(head) = pending.get(key) else {
+            unreachable!()
+        };
+        let command = &head.command;
+        if !self.may_go(command, transit, most) {
             return Due::Nothing;
         }
-        let kind = due_kind(head);
-        let added = bytes_of(head);
-        let Some(past) = put(buf, at, self.channel, head) else {
+        let kind = due_kind(command);
+        let added = bytes_of(command);
+        let (reliable, number) = (command.reliable, command.number);
+        let Some(past) = put(buf, at, self.channel, command) else {
             return Due::NoRoom;
         };
-        send_head(
-            &mut self.queued,
-            &mut self.sent,
-            &mut self.reliable_queued,
-            now,
-            timeout,
-        );
+        if reliable {
+            self.begin(pending, key, number, now, timeout);
+        } else {
+            self.leave(pending, key);
+        }
         Due::Sent { past, added, kind }
     }
 
-    /// Drops the rest of the unreliable packet whose first command was written last: its further commands at the head of
-    /// the queue. No other command goes; the numbers stay used.
-    pub fn skip(&mut self)
-        ensures { self.new ≡ record self.old { sender = with_skipped self.old.sender } }
+    /// Drops the rest of the unreliable packet whose first command was written last: its further commands at the head of the
+    /// queue. No other command goes; the numbers stay used.
+    pub fn skip(&mut self, pending: &mut Pending)
+        requires { KeepsIn pending.old self.old }
+        ensures skipped { end_in pending.new self.new ≡ record (end_in pending.old self.old) { sender = with_skipped (sender_in pending.old self.old) } }
+        ensures kept { KeepsIn pending.new self.new }
+        ensures passes { PassesIn pending.old self.old pending.new self.new }
+        ensures room { HasRoom self.old → HasRoom self.new }
     {
-        skip_more(&mut self.queued);
+        'further: while let Some(key) = self.more_at_head(pending) {
+            self.leave(pending, key);
+        }
     }
 
-    /// Takes out the one sent command of this number, and answers the bytes of its payload. None, with nothing changed,
-    /// where no sent command has it.
-    pub fn acknowledge(&mut self, number: u16) -> Option<u32>
-        ensures bytes { result ≡ acknowledged_bytes self.old.sender number }
-        ensures removed { self.new ≡ record self.old { sender = after_acknowledgement self.old.sender number } }
+    /// The key of the head of the queue, if that is a further command of an unreliable packet.
+    fn more_at_head(&self, pending: &Pending) -> Option<u32>
+        requires { KeepsIn pending.now self.now }
+        ensures head { IfSome result (λ key. slice_get self.now.queued.items 0 ≡ Some key) }
+        ensures more { IfSome result (λ key. IfSome (get pending.now.slab key) (λ p. is_more p.command ≡ true)) }
+        ensures none { IfNone result (skipped (commands_at (get pending.now.slab) self.now.queued.items) ≡ commands_at (get pending.now.slab) self.now.queued.items) }
     {
-        let place = position_of(&self.sent, number)?;
-        let sent = self.sent.remove(place)?;
-        Some(sent.command.body.len() as u32)
+        let key = first(&self.queued)?;
+        let Some(head) = pending.get(key) else {
+            unreachable!()
+        };
+        if is_more(&head.command) {
+            Some(key)
+        } else {
+            None
+        }
     }
 
     /// What the moment `now` brings: `End` where a sent command has waited out its timeout and its peer has timed out over
     /// it by `patience`, which changes nothing; else `Resend` where a sent command has waited out its timeout: each such
     /// one is then due to go again, and waits twice as long; else `No` (our profile).
-    pub fn late(&mut self, now: u32, patience: &Patience) -> Expiry
-        ensures found { result ≡ lateness now patience.now self.old.sender }
-        ensures after { self.new ≡ record self.old { sender = after_lateness result now self.old.sender } }
+    pub fn late(&mut self, pending: &mut Pending, now: u32, patience: &Patience) -> Expiry
+        requires { KeepsIn pending.old self.old }
+        ensures found { result ≡ lateness now patience.now (sender_in pending.old self.old) }
+        ensures after { end_in pending.new self.new ≡ record (end_in pending.old self.old) { sender = after_lateness result now (sender_in pending.old self.old) } }
+        ensures kept { KeepsIn pending.new self.new }
+        ensures passes { PassesIn pending.old self.old pending.new self.new }
+        ensures room { HasRoom self.old → HasRoom self.new }
     {
-        let expiry = lateness(&self.sent, now, patience);
+        let expiry = self.lateness(pending, now, patience);
         if expiry == Expiry::Resend {
-            mark(&mut self.sent, now);
-            self.may_be_due = true;
+            self.mark(pending, now);
         }
         expiry
     }
 
+    /// What a moment brings. A command over which the peer has timed out is late too.
+    fn lateness(&self, pending: &Pending, now: u32, patience: &Patience) -> Expiry
+        ensures { result ≡ lateness now patience.now (sender_in pending.now self.now) }
+    {
+        if !self.is_late(pending, now) {
+            return Expiry::No;
+        }
+        if self.ends(pending, now, patience) {
+            Expiry::End
+        } else {
+            Expiry::Resend
+        }
+    }
+
     /// Whether at the moment `now` a sent command has waited out its timeout, and its peer has timed out over it by
     /// `patience` (our profile).
-    pub fn ends(&self, now: u32, patience: &Patience) -> bool
-        ensures { result ≡ list_any (ends now patience.now) self.now.sender.sent }
+    pub fn ends(&self, pending: &Pending, now: u32, patience: &Patience) -> bool
+        ensures { result ≡ list_any (ends now patience.now) (sender_in pending.now self.now).sent }
     {
-        any_ends(&self.sent, now, patience)
+        any_ends(&self.sent, pending, now, patience)
     }
 
     /// Whether at the moment `now` a sent command has waited out its timeout, and is not due to go again already.
-    pub fn is_late(&self, now: u32) -> bool
-        ensures { result ≡ list_any (is_late now) self.now.sender.sent }
+    pub fn is_late(&self, pending: &Pending, now: u32) -> bool
+        ensures { result ≡ list_any (is_late now) (sender_in pending.now self.now).sent }
     {
-        any_late(&self.sent, now)
+        any_late(&self.sent, pending, now)
     }
 
     /// Each sent command that has waited out its timeout at the moment `now` is due to go again, and waits twice as long
     /// then (our profile).
-    pub fn mark(&mut self, now: u32)
-        ensures { self.new ≡ record self.old { sender = with_marked now self.old.sender } }
+    pub fn mark(&mut self, pending: &mut Pending, now: u32)
+        requires { KeepsIn pending.old self.old }
+        ensures marked { end_in pending.new self.new ≡ record (end_in pending.old self.old) { sender = with_marked now (sender_in pending.old self.old) } }
+        ensures kept { KeepsIn pending.new self.new }
+        ensures passes { PassesIn pending.old self.old pending.new self.new }
+        ensures room { HasRoom self.old → HasRoom self.new }
     {
-        mark(&mut self.sent, now);
-        self.may_be_due = true;
+        mark_all(&self.sent, pending, now);
+        self.due_from = 0;
     }
 
     /// Drops all that is queued or sent. The numbers go on from where they stand.
-    pub fn clear(&mut self)
-        ensures { self.new ≡ record self.old { sender = cleared self.old.sender } }
+    pub fn clear(&mut self, pending: &mut Pending)
+        requires { KeepsIn pending.old self.old }
+        ensures cleared { end_in pending.new self.new ≡ record (end_in pending.old self.old) { sender = cleared (sender_in pending.old self.old) } }
+        ensures kept { KeepsIn pending.new self.new }
+        ensures passes { PassesIn pending.old self.old pending.new self.new }
+        ensures room { HasRoom self.new }
     {
+        take_all(&self.queued, pending);
+        take_all(&self.sent, pending);
         self.queued.clear();
         self.sent.clear();
+        self.passed = self.number;
         self.reliable_queued = 0;
-        self.may_be_due = false;
+        self.due_from = 0;
     }
 
     /// Whether a packet is queued, and whether a reliable command is queued or unacknowledged.
-    pub fn left(&self) -> Left
-        ensures { result ≡ left self.now.sender }
+    pub fn left(&self, _pending: &Pending) -> Left
+        requires { KeepsIn _pending.now self.now }
+        ensures { result ≡ left (sender_in _pending.now self.now) }
     {
         Left {
             packets: self.queued.len() > 0,
             reliable: self.reliable_queued > 0 || self.sent.len() > 0,
         }
     }
+
+    /// The reliable head of the queue was written, and is sent.
+    fn begin(&mut self, pending: &mut Pending, key: u32, number: u16, now: u32, timeout: u32)
+        requires kept { KeepsIn pending.old self.old }
+        requires room { HasRoom self.old }
+        requires head { self.old.queued.items ≡ key ∷ drop 1 self.old.queued.items }
+        requires reliable { IfSome (get pending.old.slab key) (λ p. (p.command.reliable ≡ true) × (p.command.number ≡ number)) }
+        requires few { length self.old.sent.items < 8192 }
+        ensures sends { (p : Sent) (rest : List DataCommand) → get pending.old.slab key ≡ Some p → commands_at (get pending.old.slab) self.old.queued.items ≡ p.command ∷ rest
+            → end_in pending.new self.new ≡ record (end_in pending.old self.old) { sender = (first_sent now timeout (sender_in pending.old self.old) p.command rest).sender } }
+        ensures kept { KeepsIn pending.new self.new }
+        ensures passes { PassesIn pending.old self.old pending.new self.new }
+        ensures room { HasRoom self.new }
+    {
+        let _ = self.queued.pop_front();
+        pending.begin(key, now, timeout);
+        self.sent.push_back_reserved(key);
+        self.passed = number;
+        self.reliable_queued -= 1;
+    }
+
+    /// The unreliable head of the queue was written, and goes.
+    fn leave(&mut self, pending: &mut Pending, key: u32)
+        requires kept { KeepsIn pending.old self.old }
+        requires head { self.old.queued.items ≡ key ∷ drop 1 self.old.queued.items }
+        requires unreliable { IfSome (get pending.old.slab key) (λ p. p.command.reliable ≡ false) }
+        ensures sends { (now timeout : ℕ) (p : Sent) (rest : List DataCommand) → get pending.old.slab key ≡ Some p → commands_at (get pending.old.slab) self.old.queued.items ≡ p.command ∷ rest
+            → end_in pending.new self.new ≡ record (end_in pending.old self.old) { sender = (first_sent now timeout (sender_in pending.old self.old) p.command rest).sender } }
+        ensures kept { KeepsIn pending.new self.new }
+        ensures passes { PassesIn pending.old self.old pending.new self.new }
+        ensures room { HasRoom self.old → HasRoom self.new }
+        ensures less { deque_len self.new.queued < deque_len self.old.queued }
+    {
+        let _ = self.queued.pop_front();
+        let _ = pending.take(key);
+    }
+
+    /// Queues a command, numbered; there must be room for it.
+    fn queue(&mut self, pending: &mut Pending, command: DataCommand)
+        requires kept { KeepsIn pending.old self.old }
+        requires room { HasRoomFor pending.old.slab 1 }
+        requires keys { pending.old.slab.capacity ≤ vacant }
+        requires place { deque_len self.old.queued < deque_capacity self.old.queued }
+        requires sent_place { deque_len self.old.sent + (deque_len self.old.queued + 1) ≤ deque_capacity self.old.sent }
+        requires short { IsShort command }
+        requires next { command.reliable ≡ true → command.number ≡ number_after self.old.number 1 }
+        ensures queued { end_in pending.new self.new ≡ record (end_in pending.old self.old) {
+          sender = record (sender_in pending.old self.old) {
+            number = (if command.reliable then command.number else self.old.number);
+            queued = commands_at (get pending.old.slab) self.old.queued.items ++ command ∷ [];
+          };
+        } }
+        ensures kept { KeepsIn pending.new self.new }
+        ensures passes { PassesIn pending.old self.old pending.new self.new }
+        ensures room { HasRoom self.new }
+        ensures slab_room { slab_len pending.new.slab ≡ slab_len pending.old.slab + 1 }
+        ensures slab_capacity { pending.new.slab.capacity ≡ pending.old.slab.capacity }
+        ensures places { deque_len self.new.queued ≡ deque_len self.old.queued + 1 }
+        ensures capacity { deque_capacity self.new.queued ≡ deque_capacity self.old.queued }
+        ensures sent { self.new.sent ≡ self.old.sent }
+    {
+        let (reliable, number) = (command.reliable, command.number);
+        let key = pending.insert(command);
+        self.queued.push_back_reserved(key);
+        if reliable {
+            self.number = number;
+            self.reliable_queued += 1;
+        }
+    }
+
+    /// Makes room for so many commands more, and for all that is queued then to be sent; whether there is.
+    fn make_room(&mut self, pending: &mut Pending, more: usize) -> bool
+        requires { more ≤ 16384 }
+        ensures rings { rings_of self.new ≡ rings_of self.old }
+        ensures channel { self.new.channel ≡ self.old.channel }
+        ensures slots { pending.new.slab.slots ≡ pending.old.slab.slots }
+        ensures room { HasRoom self.old → HasRoom self.new }
+        ensures slab_room { IsTrue result → HasRoomFor pending.new.slab more }
+        ensures keys { IsTrue result → pending.new.slab.capacity ≤ vacant }
+        ensures place { IsTrue result → deque_len self.new.queued + more ≤ deque_capacity self.new.queued }
+        ensures sent_place { IsTrue result → deque_len self.new.sent + (deque_len self.new.queued + more) ≤ deque_capacity self.new.sent }
+    {
+        if !pending.reserve(more) || self.queued.reserve(more).is_err() {
+            return false;
+        }
+        self.sent.reserve(self.queued.len() + more).is_ok()
+    }
+
+    /// A sender of `channel` to which nothing was submitted. It takes no memory, so it never answers E1.
+    pub fn open(alloc: Global, channel: u8) -> Result<Outgoing, Refusal>
+        ensures never { IsOk result }
+        ensures end { IfOk result (λ o. (p : Pending) → end_in p o ≡ new_end channel) }
+        ensures rings { IfOk result (λ o. rings_of o ≡ no_rings) }
+        ensures room { IfOk result (λ o. HasRoom o) }
+    {
+        Ok(Outgoing::new(alloc, channel))
+    }
+
+    /// A sender to which nothing was submitted.
+    pub(crate) fn new(alloc: Global, channel: u8) -> Outgoing
+        ensures channel { result.channel ≡ channel }
+        ensures rings { rings_of result ≡ no_rings }
+        ensures room { HasRoom result }
+    {
+        Outgoing {
+            channel,
+            number: 0,
+            unreliable: 0,
+            queued: VecDeque::new(alloc),
+            sent: VecDeque::new(alloc),
+            passed: 0,
+            reliable_queued: 0,
+            due_from: 0,
+        }
+    }
+
+    /// Queues the command of a packet of at most `mtu - 28` bytes.
+    fn submit_short(
+        &mut self,
+        pending: &mut Pending,
+        flags: u8,
+        body: Bytes,
+        mtu: u32,
+    ) -> Result<(), (Refusal, Bytes)>
+        requires low { 576 ≤ mtu }
+        requires high { mtu ≤ 4096 }
+        requires short { length body ≤ piece_length mtu }
+        requires kept { KeepsIn pending.old self.old }
+        requires room { HasRoom self.old }
+        ensures queued { OnOk result (end_in pending.new self.new ≡ with_submitted mtu (end_in pending.old self.old) flags body) }
+        ensures refused { IfErr result (λ e. (end_in pending.new self.new ≡ end_in pending.old self.old) × (e.1 ≡ body)) }
+        ensures too_large { IsErrAnd result (λ e. e.0 ≡ Refusal.TooLarge) ↔ (fragment_limit < piece_count (length body) mtu) }
+        ensures only { IfErr result (λ e. (e.0 ≡ Refusal.TooLarge) ⊎ (e.0 ≡ Refusal.Memory)) }
+        ensures kept { KeepsIn pending.new self.new }
+        ensures passes { PassesIn pending.old self.old pending.new self.new }
+        ensures room { HasRoom self.new }
+    {
+        let Some(course) = Course::plan(flags, &body, mtu, self.number, self.unreliable) else {
+            return Err((Refusal::TooLarge, body));
+        };
+        if !self.make_room(pending, 1) {
+            return Err((Refusal::Memory, body));
+        }
+        self.queue(pending, course.command(0, body));
+        self.unreliable = course.unreliable_number();
+        Ok(())
+    }
+
+    /// Queues the pieces of a long packet in their order; there must be room for them.
+    fn queue_pieces(
+        &mut self,
+        pending: &mut Pending,
+        course: Course,
+        _body: &Bytes,
+        mut pieces: VecDeque<Bytes>,
+    )
+        requires course { IsCourse course }
+        requires kept { KeepsIn pending.old self.old }
+        requires slab_room { HasRoomFor pending.old.slab course.pieces }
+        requires keys { pending.old.slab.capacity ≤ vacant }
+        requires place { deque_len self.old.queued + course.pieces ≤ deque_capacity self.old.queued }
+        requires sent_place { deque_len self.old.sent + (deque_len self.old.queued + course.pieces) ≤ deque_capacity self.old.sent }
+        requires number { course.number ≡ self.old.number }
+        requires pieces { pieces.items ≡ map (piece_of_body (piece_length course.mtu) _body.now) (range_with_len 0 course.pieces) }
+        ensures queues { Queues course _body.now course.pieces (get pending.old.slab) self.old (get pending.new.slab) self.new }
+        ensures room { HasRoom self.new }
+    {
+        for i in 0..course.pieces {
+            let Some(piece) = pieces.pop_front() else {
+                unreachable!()
+            };
+            self.queue(pending, course.command(i, piece));
+        }
+    }
+
+    /// Queues the commands of a packet, numbered; `flags` are its flags (RELIABLE 1, UNRELIABLE_FRAGMENT 8; others are
+    /// ignored, so a short packet that is to go unsequenced is not for this call), and `mtu` is the peer's, in bytes. A
+    /// packet of more than `mtu - 28` bytes is cut into fragments. It goes reliable where it asks for it, where the
+    /// unreliable numbers are used up, and where it is long and does not ask for unreliable fragments (ENet 1.3).
+    ///
+    /// E5 exactly where it would be cut into more than 16,384 pieces (our profile), then E1 where memory is refused. After
+    /// either nothing has changed, and the body comes back.
+    pub fn submit(
+        &mut self,
+        pending: &mut Pending,
+        flags: u8,
+        body: Bytes,
+        mtu: u32,
+    ) -> Result<(), (Refusal, Bytes)>
+        requires low { 576 ≤ mtu }
+        requires high { mtu ≤ 4096 }
+        requires kept { KeepsIn pending.old self.old }
+        requires room { HasRoom self.old }
+        ensures queued { OnOk result (end_in pending.new self.new ≡ with_submitted mtu (end_in pending.old self.old) flags body) }
+        ensures too_large { IsErrAnd result (λ e. e.0 ≡ Refusal.TooLarge) ↔ (fragment_limit < piece_count (length body) mtu) }
+        ensures refused { IfErr result (λ e. (end_in pending.new self.new ≡ end_in pending.old self.old) × (e.1 ≡ body)) }
+        ensures only { IfErr result (λ e. (e.0 ≡ Refusal.TooLarge) ⊎ (e.0 ≡ Refusal.Memory)) }
+        ensures kept { KeepsIn pending.new self.new }
+        ensures passes { PassesIn pending.old self.old pending.new self.new }
+        ensures room { HasRoom self.new }
+    {
+        if body.len() > (mtu - FRAGMENT_OVERHEAD) as usize {
+            self.submit_long(pending, flags, body, mtu)
+        } else {
+            self.submit_short(pending, flags, body, mtu)
+        }
+    }
+
+    /// Queues the commands of a packet that is cut into pieces.
+    fn submit_long(
+        &mut self,
+        pending: &mut Pending,
+        flags: u8,
+        body: Bytes,
+        mtu: u32,
+    ) -> Result<(), (Refusal, Bytes)>
+        requires low { 576 ≤ mtu }
+        requires high { mtu ≤ 4096 }
+        requires kept { KeepsIn pending.old self.old }
+        requires room { HasRoom self.old }
+        ensures queued { OnOk result (end_in pending.new self.new ≡ with_submitted mtu (end_in pending.old self.old) flags body) }
+        ensures too_large { IsErrAnd result (λ e. e.0 ≡ Refusal.TooLarge) ↔ (fragment_limit < piece_count (length body) mtu) }
+        ensures refused { IfErr result (λ e. (end_in pending.new self.new ≡ end_in pending.old self.old) × (e.1 ≡ body)) }
+        ensures only { IfErr result (λ e. (e.0 ≡ Refusal.TooLarge) ⊎ (e.0 ≡ Refusal.Memory)) }
+        ensures kept { KeepsIn pending.new self.new }
+        ensures passes { PassesIn pending.old self.old pending.new self.new }
+        ensures room { HasRoom self.new }
+    {
+        let Some(course) = Course::plan(flags, &body, mtu, self.number, self.unreliable) else {
+            return Err((Refusal::TooLarge, body));
+        };
+        if !self.make_room(pending, course.pieces as usize) {
+            return Err((Refusal::Memory, body));
+        }
+        let Some(pieces) = cut_all(*self.queued.allocator(), &body, course) else {
+            return Err((Refusal::Memory, body));
+        };
+        self.queue_pieces(pending, course, &body, pieces);
+        self.unreliable = course.unreliable_number();
+        Ok(())
+    }
+}
+
+/// All pieces of a body, each sharing its bytes; None for want of memory.
+fn cut_all(alloc: Global, body: &Bytes, course: Course) -> Option<VecDeque<Bytes>>
+    requires { IsCourse course }
+    ensures { IfSome result (λ pieces. pieces.items ≡ map (piece_of_body (piece_length course.mtu) body.now) (range_with_len 0 course.pieces)) }
+{
+    let mut pieces = VecDeque::with_capacity(alloc, course.pieces as usize).ok()?;
+    for i in 0..course.pieces {
+        pieces.push_back_reserved(cut(body, i, course.mtu)?);
+    }
+    Some(pieces)
 }

@@ -3,8 +3,9 @@
 //! `time` it also prints how many orders went through in a second.
 //!
 //! `enet_bench peer`: has peers receive 100,000 commands of each kind of which nothing is taken, others submit as many packets
-//! of each kind that are not put out, and others again take the acknowledgements of 8,192 sent commands in, in three orders;
-//! prints for each how long the first 1,000 and the last 1,000 took.
+//! of each kind that are not put out, and others again take the acknowledgements of 8,192 sent commands in, in three orders,
+//! and send 100,000 packets that are acknowledged in order; prints for each how long the first 1,000 and the last 1,000 took.
+//! At last it has 8,192 packets sent again that are late at once, and prints how long that took.
 #![tactic(auto)]
 
 mod coming;
@@ -107,6 +108,19 @@ fn pile_up<R: Clock + Print>(rt: &R, alloc: Global) -> Result<()> {
     for order in [Order::FirstToLast, Order::LastToFirst, Order::Drawn] {
         acknowledge(rt, alloc, order)?;
     }
+    send_all_in_order(rt, alloc)?;
+    send_again(rt, alloc)
+}
+
+fn send_all_in_order<R: Clock + Print>(rt: &R, alloc: Global) -> Result<()> {
+    let times = peer::time_in_order(rt, alloc, THOUSANDS)?;
+    println!(rt; "{times}: sent and acknowledged in order")?;
+    Ok(())
+}
+
+fn send_again<R: Clock + Print>(rt: &R, alloc: Global) -> Result<()> {
+    let nanos = peer::time_resends(rt, alloc)?;
+    println!(rt; "{nanos} ns: 8192 sent again")?;
     Ok(())
 }
 

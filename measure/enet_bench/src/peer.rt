@@ -17,6 +17,9 @@ const BATCH: u32 = 1000;
 /// How many sent commands wait for their acknowledgement at most.
 const SPAN: u32 = 8192;
 
+/// A moment at which what was sent at 0 has waited out its timeout, and the peer is not given up, in milliseconds.
+const LATER: u32 = 1000;
+
 /// How long the first thousand took, and the last, in nanoseconds.
 #[derive(Clone, Copy)]
 pub struct Times {
@@ -169,6 +172,38 @@ fn acknowledge_timed<R: Clock>(rt: &R, peer: &mut Peer, order: Order, from: u32)
     Ok(start.elapsed(rt)?.as_nanos())
 }
 
+/// The times of so many thousands of empty reliable packets, each thousand submitted, put out and acknowledged in order.
+pub fn time_in_order<R: Clock>(rt: &R, alloc: Global, thousands: u32) -> Result<Times> {
+    let mut peer = joined(alloc)?;
+    let mut times = Times::none();
+    for batch in 0..thousands {
+        times.add(batch, pass_timed(rt, &mut peer, batch)?);
+    }
+    Ok(times)
+}
+
+/// How long a thousand empty reliable packets take from their submission to their acknowledgement, in nanoseconds.
+fn pass_timed<R: Clock>(rt: &R, peer: &mut Peer, batch: u32) -> Result<u128> {
+    let start = Instant::now(rt)?;
+    pass(peer, batch)?;
+    Ok(start.elapsed(rt)?.as_nanos())
+}
+
+/// How long it takes to put 8,192 empty reliable packets out once more, which all waited out their timeout at once, in
+/// nanoseconds. An error where there were none.
+pub fn time_resends<R: Clock>(rt: &R, alloc: Global) -> Result<u128> {
+    let mut peer = joined(alloc)?;
+    send_all(&mut peer)?;
+    peer.tick(LATER);
+    let start = Instant::now(rt)?;
+    let datagrams = put_out(&mut peer, LATER);
+    let nanos = start.elapsed(rt)?.as_nanos();
+    if datagrams == 0 {
+        bail!("nothing is sent again");
+    }
+    Ok(nanos)
+}
+
 /// A connected peer of one channel with ample limits.
 fn joined(alloc: Global) -> Result<Peer> {
     let terms = Terms {
@@ -237,21 +272,37 @@ fn submit(peer: &mut Peer, flags: u8, body: &Bytes) -> Result<()> {
 
 /// Sends as many empty reliable packets as may wait for their acknowledgement.
 fn send_all(peer: &mut Peer) -> Result<()> {
-    for _ in 0..SPAN {
+    send(peer, SPAN)
+}
+
+/// Sends so many empty reliable packets.
+fn send(peer: &mut Peer, count: u32) -> Result<()> {
+    for _ in 0..count {
         submit_one(peer, 1, Bytes::new())?;
     }
-    put_out(peer);
+    put_out(peer, 0);
     Ok(())
 }
 
-/// Puts out all that waits, at most so many datagrams.
-fn put_out(peer: &mut Peer) {
+/// Puts out all that waits at the moment `now`, at most 8,192 datagrams; how many there were.
+fn put_out(peer: &mut Peer, now: u32) -> u32 {
     let mut buf = [0; 4096];
-    for _ in 0..SPAN {
-        if peer.emit(0, &mut buf).is_none() {
-            return;
+    for datagrams in 0..SPAN {
+        if peer.emit(now, &mut buf).is_none() {
+            return datagrams;
         }
     }
+    SPAN
+}
+
+/// A thousand empty reliable packets are sent, and acknowledged in order.
+fn pass(peer: &mut Peer, batch: u32) -> Result<()> {
+    send(peer, BATCH)?;
+    for i in 0..BATCH {
+        let number = batch.saturating_mul(BATCH).saturating_add(i) % 65536;
+        receive_one(peer, &acknowledgement((number as u16).wrapping_add(1)))?;
+    }
+    Ok(())
 }
 
 /// The acknowledgements of these places in the order come.

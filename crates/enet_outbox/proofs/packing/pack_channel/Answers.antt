@@ -1,60 +1,96 @@
-use Rattle.std.proofs.Common.{◌≡◌, ◌≤◌, ◌<◌, ℕ, ◌∙◌, sym, subst, arith, true, false}
-use Rattle.enet_seq.specs.Numbering.{wire}
-use Rattle.enet_throttle.specs.Throttle.{transit}
-use Rattle.enet_sender.specs.Sender.{next, with_skipped}
-use Rattle.enet_sender.specs.Due.{SendingEnd, Did}
+use Rattle.std.proofs.Common.{◌≡◌, ◌<◌, ◌∙◌, sym, ap, arith, length, List, Some}
+use Rattle.std.specs.List.{slice_get}
+use Rattle.std.proofs.lemmas.List.{length-set}
+use Rattle.enet_sender.specs.Due.{SendingEnd}
+use Rattle.enet_outbox.proofs.Channel.{get-set}
 use Rattle.enet_sender.specs.declared.outgoing.Due.TheVariants as due
-use Rattle.enet_outbox.specs.Packing.{place_in, refuses}
-use Rattle.enet_outbox.proofs.Channel.{did-sent, channel-begin, channel-put, channel-drop, channel-full, channel-none}
-use Rattle.enet_outbox.proofs.Turns.{left_of, left-falls, left-skipped}
+use Rattle.enet_outbox.proofs.ChannelTurns.{called, some-sender, turn-begin, turn-put, turn-drop, turn-full, turn-none, turn-falls, skip-falls, turn-length, called-room, called-adds}
 use Rattle.enet_outbox.proofs.packing.pack_channel.Goals as goal
 
 pub turns-init : goal.turns-init
-turns-init c = λ f h opened there e. channel-begin h opened there e
+turns-init c = λ s there. turn-begin s there
+
+pub next_due-requires : goal.next_due-requires
+next_due-requires c =
+    let first = some-sender c.args.senders.now c.args.channel c.requires in
+    let same = turn-length (c.turns.invariant first.0 first.1) in
+    omega (arith, c.requires)
+
+pub turns-preserved : goal.turns-preserved
+turns-preserved c = λ s there.
+    let did = called c.args.pace c.args.channel c.turns.flow c.turns.progress c.turns.senders c.next_due.new.self c.turns.buf c.next_due.new.buf (due.Sent c.in-Sent.past c.in-Sent.added c.in-Sent.kind)
+    c.transit_limit-most.result c.place-place.result c.transit_limit-most.ensures c.place-place.ensures c.in-Sent.ensures in
+    rw (c.refuses.ensures.asked, c.with-progress.ensures) (turn-put c.in-Sent.added c.in-Sent.kind (c.turns.invariant s there) did (sym c.refuses.ensures.answer ∙ c.if-refuses.false))
+
+pub turns-preserved-then-refuses : goal.turns-preserved-then-refuses
+turns-preserved-then-refuses c = λ s there.
+    let did = called c.args.pace c.args.channel c.turns.flow c.turns.progress c.turns.senders c.next_due.new.self c.turns.buf c.next_due.new.buf (due.Sent c.in-Sent.past c.in-Sent.added c.in-Sent.kind)
+    c.transit_limit-most.result c.place-place.result c.transit_limit-most.ensures c.place-place.ensures c.in-Sent.ensures in
+    rw c.refuses.ensures.asked (turn-drop c.in-Sent.past c.in-Sent.added c.in-Sent.kind (c.turns.invariant s there) did (sym c.refuses.ensures.answer ∙ c.if-refuses.true) c.skip.ensures)
 
 pub turns-smaller : goal.turns-smaller
 turns-smaller c =
-    let s = did-sent (next wire c.args.pace.now c.args.pace.timeout c.turns.flow.transit c.transit_limit-most.result c.turns.sender.sender) c.in-Sent.past c.in-Sent.added c.in-Sent.kind
-    c.turns.sender c.next_due.new.self c.turns.buf c.place-place.result c.next_due.new.buf c.in-Sent.ensures in
-    let P : SendingEnd → Type 0 = λ new. left_of new.sender < left_of c.turns.sender.sender in
-    subst P (sym s.5) (left-falls wire c.args.pace.now c.args.pace.timeout c.turns.flow.transit c.transit_limit-most.result c.turns.sender.sender s.0 s.1)
+    let first = some-sender c.args.senders.now c.args.channel c.requires in
+    let a = c.turns.invariant first.0 first.1 in
+    turn-falls c.args.pace c.args.channel c.turns.flow c.turns.progress c.turns.senders c.next_due.new.self c.turns.buf c.next_due.new.buf c.in-Sent.past c.in-Sent.added c.in-Sent.kind a.s a.there
+    (called c.args.pace c.args.channel c.turns.flow c.turns.progress c.turns.senders c.next_due.new.self c.turns.buf c.next_due.new.buf (due.Sent c.in-Sent.past c.in-Sent.added c.in-Sent.kind)
+    c.transit_limit-most.result c.place-place.result c.transit_limit-most.ensures c.place-place.ensures c.in-Sent.ensures)
+
+pub skip-requires : goal.skip-requires
+skip-requires c =
+    let first = some-sender c.args.senders.now c.args.channel c.requires in
+    let a = c.turns.invariant first.0 first.1 in
+    let same = turn-length a in
+    let r = c.in-Sent.ensures a.s a.there in
+    let len : length c.next_due.new.self ≡ length c.turns.senders = ap (λ (xs : List SendingEnd). length xs) r.1.0 ∙ length-set c.turns.senders c.args.channel r.0 in
+    omega (arith, c.requires)
 
 pub turns-smaller-then-refuses : goal.turns-smaller-then-refuses
 turns-smaller-then-refuses c =
-    let s = did-sent (next wire c.args.pace.now c.args.pace.timeout c.turns.flow.transit c.transit_limit-most.result c.turns.sender.sender) c.in-Sent.past c.in-Sent.added c.in-Sent.kind
-    c.turns.sender c.next_due.new.self c.turns.buf c.place-place.result c.next_due.new.buf c.in-Sent.ensures in
-    let P : SendingEnd → Type 0 = λ new. left_of new.sender < left_of c.turns.sender.sender in
-    let falls : P c.next_due.new.self = subst P (sym s.5) (left-falls wire c.args.pace.now c.args.pace.timeout c.turns.flow.transit c.transit_limit-most.result c.turns.sender.sender s.0 s.1) in
-    let skip : left_of (with_skipped c.next_due.new.self.sender) ≤ left_of c.next_due.new.self.sender = left-skipped c.next_due.new.self.sender in
-    let skipped : P (record c.next_due.new.self { sender = with_skipped c.next_due.new.self.sender }) = omega arith in
-    subst P (sym c.skip.ensures) skipped
+    let first = some-sender c.args.senders.now c.args.channel c.requires in
+    let a = c.turns.invariant first.0 first.1 in
+    let did = called c.args.pace c.args.channel c.turns.flow c.turns.progress c.turns.senders c.next_due.new.self c.turns.buf c.next_due.new.buf (due.Sent c.in-Sent.past c.in-Sent.added c.in-Sent.kind)
+    c.transit_limit-most.result c.place-place.result c.transit_limit-most.ensures c.place-place.ensures c.in-Sent.ensures in
+    let falls = turn-falls c.args.pace c.args.channel c.turns.flow c.turns.progress c.turns.senders c.next_due.new.self c.turns.buf c.next_due.new.buf c.in-Sent.past c.in-Sent.added c.in-Sent.kind a.s a.there did in
+    let r = did a.s a.there in
+    let there : slice_get c.next_due.new.self c.args.channel ≡ Some r.0 = ap (λ (xs : List SendingEnd). slice_get xs c.args.channel) r.1.0 ∙ get-set c.turns.senders c.args.channel a.s r.0 a.there in
+    let skip = skip-falls c.args.channel c.next_due.new.self c.skip.new.self r.0 there c.skip.ensures in
+    omega arith
 
-pub turns-preserved : goal.turns-preserved
-turns-preserved c = λ f h opened there e.
-    let P : ℕ → ℕ → Type 0 = λ most at. Did (next wire c.args.pace.now c.args.pace.timeout c.turns.flow.transit most c.turns.sender.sender) (due.Sent c.in-Sent.past c.in-Sent.added c.in-Sent.kind) c.turns.sender c.next_due.new.self c.turns.buf at c.next_due.new.buf in
-    let d1 : P (transit c.turns.flow.throttle c.args.pace.window c.args.pace.mtu) c.place-place.result = subst (λ (most : ℕ). P most c.place-place.result) c.transit_limit-most.ensures c.in-Sent.ensures in
-    let d : P (transit c.turns.flow.throttle c.args.pace.window c.args.pace.mtu) (place_in c.turns.progress c.turns.buf) = subst (P (transit c.turns.flow.throttle c.args.pace.window c.args.pace.mtu)) c.place-place.ensures d1 in
-    let admitted : refuses c.in-Sent.kind c.turns.flow.throttle ≡ false = sym c.refuses.ensures.answer ∙ c.if-refuses.false in
-    rw (c.refuses.ensures.asked, c.with-progress.ensures) (channel-put c.in-Sent.added c.in-Sent.kind (c.turns.invariant f h opened there e) d admitted)
+pub overflow_add-flow : goal.overflow_add-flow
+overflow_add-flow c =
+    let first = some-sender c.args.senders.now c.args.channel c.requires in
+    let a = c.turns.invariant first.0 first.1 in
+    let low : c.turns.flow.transit < 4294967296 = omega arith in
+    let most : c.transit_limit-most.result < 4294967296 = omega arith in
+    let fits = called-adds c.args.pace c.args.channel c.turns.flow c.transit_limit-most.result c.place-place.result c.turns.senders c.next_due.new.self c.turns.buf c.next_due.new.buf c.in-Sent.past c.in-Sent.added c.in-Sent.kind a.s a.there
+    c.in-Sent.ensures 4294967296 low most in
+    omega arith
 
-pub turns-preserved-then-refuses : goal.turns-preserved-then-refuses
-turns-preserved-then-refuses c = λ f h opened there e.
-    let P : ℕ → ℕ → Type 0 = λ most at. Did (next wire c.args.pace.now c.args.pace.timeout c.turns.flow.transit most c.turns.sender.sender) (due.Sent c.in-Sent.past c.in-Sent.added c.in-Sent.kind) c.turns.sender c.next_due.new.self c.turns.buf at c.next_due.new.buf in
-    let d1 : P (transit c.turns.flow.throttle c.args.pace.window c.args.pace.mtu) c.place-place.result = subst (λ (most : ℕ). P most c.place-place.result) c.transit_limit-most.ensures c.in-Sent.ensures in
-    let d : P (transit c.turns.flow.throttle c.args.pace.window c.args.pace.mtu) (place_in c.turns.progress c.turns.buf) = subst (P (transit c.turns.flow.throttle c.args.pace.window c.args.pace.mtu)) c.place-place.ensures d1 in
-    let refused : refuses c.in-Sent.kind c.turns.flow.throttle ≡ true = sym c.refuses.ensures.answer ∙ c.if-refuses.true in
-    rw (c.skip.ensures, c.refuses.ensures.asked) (channel-drop c.next_due.new.self c.in-Sent.past c.in-Sent.added c.in-Sent.kind (c.turns.invariant f h opened there e) d refused)
+pub with-progress-requires-clause-within : goal.with-progress-requires-clause-within
+with-progress-requires-clause-within c =
+    let first = some-sender c.args.senders.now c.args.channel c.requires in
+    let a = c.turns.invariant first.0 first.1 in
+    (called-room c.args.pace c.args.channel c.turns.flow c.turns.progress c.turns.senders c.next_due.new.self c.turns.buf c.next_due.new.buf c.in-Sent.past c.in-Sent.added c.in-Sent.kind a.s a.there
+    (called c.args.pace c.args.channel c.turns.flow c.turns.progress c.turns.senders c.next_due.new.self c.turns.buf c.next_due.new.buf (due.Sent c.in-Sent.past c.in-Sent.added c.in-Sent.kind)
+    c.transit_limit-most.result c.place-place.result c.transit_limit-most.ensures c.place-place.ensures c.in-Sent.ensures)).1
+
+pub with-progress-requires-clause-more : goal.with-progress-requires-clause-more
+with-progress-requires-clause-more c =
+    let first = some-sender c.args.senders.now c.args.channel c.requires in
+    let a = c.turns.invariant first.0 first.1 in
+    (called-room c.args.pace c.args.channel c.turns.flow c.turns.progress c.turns.senders c.next_due.new.self c.turns.buf c.next_due.new.buf c.in-Sent.past c.in-Sent.added c.in-Sent.kind a.s a.there
+    (called c.args.pace c.args.channel c.turns.flow c.turns.progress c.turns.senders c.next_due.new.self c.turns.buf c.next_due.new.buf (due.Sent c.in-Sent.past c.in-Sent.added c.in-Sent.kind)
+    c.transit_limit-most.result c.place-place.result c.transit_limit-most.ensures c.place-place.ensures c.in-Sent.ensures)).0
 
 pub returns-in-NoRoom : goal.returns-in-NoRoom
-returns-in-NoRoom c = λ f h opened there e.
-    let P : ℕ → ℕ → Type 0 = λ most at. Did (next wire c.args.pace.now c.args.pace.timeout c.turns.flow.transit most c.turns.sender.sender) due.NoRoom c.turns.sender c.next_due.new.self c.turns.buf at c.next_due.new.buf in
-    let d1 : P (transit c.turns.flow.throttle c.args.pace.window c.args.pace.mtu) c.place-place.result = subst (λ (most : ℕ). P most c.place-place.result) c.transit_limit-most.ensures c.in-NoRoom.ensures in
-    let d : P (transit c.turns.flow.throttle c.args.pace.window c.args.pace.mtu) (place_in c.turns.progress c.turns.buf) = subst (P (transit c.turns.flow.throttle c.args.pace.window c.args.pace.mtu)) c.place-place.ensures d1 in
-    rw c.shut.ensures (channel-full c.next_due.new.self (c.turns.invariant f h opened there e) d)
+returns-in-NoRoom c = λ s there.
+    rw c.shut.ensures (turn-full (c.turns.invariant s there)
+    (called c.args.pace c.args.channel c.turns.flow c.turns.progress c.turns.senders c.next_due.new.self c.turns.buf c.next_due.new.buf due.NoRoom
+    c.transit_limit-most.result c.place-place.result c.transit_limit-most.ensures c.place-place.ensures c.in-NoRoom.ensures))
 
 pub returns-in-Nothing : goal.returns-in-Nothing
-returns-in-Nothing c = λ f h opened there e.
-    let P : ℕ → ℕ → Type 0 = λ most at. Did (next wire c.args.pace.now c.args.pace.timeout c.turns.flow.transit most c.turns.sender.sender) due.Nothing c.turns.sender c.next_due.new.self c.turns.buf at c.next_due.new.buf in
-    let d1 : P (transit c.turns.flow.throttle c.args.pace.window c.args.pace.mtu) c.place-place.result = subst (λ (most : ℕ). P most c.place-place.result) c.transit_limit-most.ensures c.in-Nothing.ensures in
-    let d : P (transit c.turns.flow.throttle c.args.pace.window c.args.pace.mtu) (place_in c.turns.progress c.turns.buf) = subst (P (transit c.turns.flow.throttle c.args.pace.window c.args.pace.mtu)) c.place-place.ensures d1 in
-    channel-none c.next_due.new.self (c.turns.invariant f h opened there e) d
+returns-in-Nothing c = λ s there.
+    turn-none (c.turns.invariant s there)
+    (called c.args.pace c.args.channel c.turns.flow c.turns.progress c.turns.senders c.next_due.new.self c.turns.buf c.next_due.new.buf due.Nothing
+    c.transit_limit-most.result c.place-place.result c.transit_limit-most.ensures c.place-place.ensures c.in-Nothing.ensures)

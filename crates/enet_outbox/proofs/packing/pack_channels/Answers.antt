@@ -1,23 +1,38 @@
-use Rattle.std.proofs.Common.{◌≡◌, ◌<◌, ◌+◌, ◌%◌, ℕ, refl, arith, length, get_or, Some}
-use Rattle.std.specs.List.{slice_get}
-use Rattle.std.proofs.lemmas.Option.{slice_get-get_or}
+use Rattle.std.proofs.Common.{◌≡◌, ◌<◌, ◌≤◌, ◌+◌, ◌%◌, ℕ, List, refl, sym, ap, subst, ◌∙◌, arith, length}
+use Rattle.std.proofs.Math.Nat.{mod-lt}
+use Rattle.std.proofs.lemmas.List.{length-set}
 use Rattle.enet_sender.specs.Due.{SendingEnd}
-use Rattle.enet_outbox.proofs.Channels.{channels-begin, channels-turn, channels-end, channels-shut}
+use Rattle.enet_outbox.proofs.Channels.{ChannelsAt, channels-begin, channels-turn, channels-end, channels-shut}
+use Rattle.enet_outbox.proofs.ChannelTurns.{some-sender}
 use Rattle.enet_outbox.proofs.packing.pack_channels.Goals as goal
 
 pub turns-init : goal.turns-init
-turns-init c = λ f h is e. channels-begin h is e
+turns-init c = record { len = refl; stage = λ f h is e. channels-begin h is e }
 
 pub turns-preserved : goal.turns-preserved
-turns-preserved c = λ f h is e.
-    let i : ℕ = (c.args.first + c.turns.turn) % length c.args.senders.now in
+turns-preserved c =
+    let n : ℕ = length c.args.senders.now in
+    let count : c.len-channels.result ≡ n = c.len-channels.ensures in
+    let k : ℕ = c.args.first + c.turns.turn in
+    let i : ℕ = k % c.len-channels.result in
+    let low : c.turns.turn < c.len-channels.result = c.turns-test.true in
+    let below : i < c.len-channels.result = mod-lt k (omega arith) in
+    let same : length c.turns.senders ≡ n = c.turns.invariant.len in
     let inside : i < length c.turns.senders = omega arith in
-    let s : SendingEnd = get_or c.turns.senders i c.index-senders-channel.result in
-    let there : slice_get c.turns.senders i ≡ Some s = slice_get-get_or c.turns.senders i c.index-senders-channel.result inside in
-    channels-turn i s c.pack_channel-progress.new.sender (c.turns.invariant f h is e) c.turns-test.true refl there c.if-progress.false c.pack_channel-progress.ensures
+    let s = some-sender c.turns.senders i inside in
+    let r = c.pack_channel-progress.ensures s.0 s.1 in
+    record {
+      len = ap (λ (xs : List SendingEnd). length xs) r.1.0 ∙ length-set c.turns.senders i r.0 ∙ same;
+      stage = λ f h is e.
+          subst (λ (ss : List SendingEnd). ChannelsAt c.args.pace c.args.first n (c.turns.turn + 1) f ss c.pack_channel-progress.new.flow c.pack_channel-progress.result c.pack_channel-progress.new.buf) (sym r.1.0)
+          (channels-turn i s.0 r.0 (c.turns.invariant.stage f h is e) (omega arith) (ap (λ m. k % m) count) s.1 c.if-progress.false r.1.1);
+    }
 
-pub returns : goal.returns
-returns c = λ f h is e. channels-end (c.turns.invariant f h is e) (omega arith)
+pub returns-clause-packs : goal.returns-clause-packs
+returns-clause-packs c =
+    let count : c.len-channels.result ≡ length c.args.senders.now = c.len-channels.ensures in
+    let past : length c.args.senders.now ≤ c.turns.turn = omega (arith, count, c.turns-test.false) in
+    λ f h is e. channels-end (c.turns.invariant.stage f h is e) past
 
-pub returns-then-progress : goal.returns-then-progress
-returns-then-progress c = λ f h is e. channels-shut (c.turns.invariant f h is e) c.if-progress.true
+pub returns-then-progress-clause-packs : goal.returns-then-progress-clause-packs
+returns-then-progress-clause-packs c = λ f h is e. channels-shut (c.turns.invariant.stage f h is e) c.if-progress.true

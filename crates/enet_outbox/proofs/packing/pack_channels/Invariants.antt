@@ -1,10 +1,12 @@
-use Rattle.std.proofs.Common.{◌≡◌}
+use Rattle.std.proofs.Common.{◌≡◌, length}
 use Rattle.enet_outbox.specs.Emission.{Filling}
 use Rattle.enet_outbox.specs.Packing.{Holds, Shares}
 use Rattle.enet_outbox.proofs.Channels.{ChannelsAt}
 use Rattle.enet_outbox.proofs.packing.pack_channels.Given as goal
 
 abbrev pub invariant-turns : goal.invariant-turns
-invariant-turns l =
-    (f : Filling) → Holds f l.initial.progress l.initial.buf → f.outbox.senders ≡ l.initial.senders → Shares f.outbox l.initial.flow →
-    ChannelsAt l.pace l.first l.channels l.turn f l.senders l.flow l.progress l.buf
+invariant-turns l = record {
+  len : length l.senders ≡ length l.initial.senders;
+  stage : (f : Filling) → Holds f l.initial.progress l.initial.buf → f.outbox.senders ≡ l.initial.senders → Shares f.outbox l.initial.flow →
+      ChannelsAt l.pace l.first (length l.initial.senders) l.turn f l.senders l.flow l.progress l.buf;
+}

@@ -15,7 +15,7 @@ returns-then-not-is_unsequenced-clause-submitted c =
     let found = there o.senders c.args.channel inside in
     let plain : is_unsequenced c.args.mtu q ≡ false = rw (← c.len.ensures.value) (sym c.is_unsequenced.ensures ∙ c.if-not-is_unsequenced.true) in
     on_ok_weaker c.submit_on.result
-    (λ queued. submitted-on o c.args.mtu c.args.channel q found.0 c.submit_on.new.senders.items plain found.1 queued
+    (λ queued. submitted-on o c.args.mtu c.args.channel q found.0 c.submit_on.new.senders plain found.1 queued
     ∙ ap (λ (v : Sending). submitted v.outbox c.args.mtu c.args.channel q) c.self.view_is)
     (c.submit_on.ensures.queued found.0 found.1)
 

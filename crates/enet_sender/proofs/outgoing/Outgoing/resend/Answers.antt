@@ -1,25 +1,65 @@
-use Rattle.std.proofs.Common.{◌≡◌, ◌<◌, length, refl, sym, subst, Some, slice_get}
-use Rattle.enet_sender.specs.contracts.outgoing.Outgoing.{the_view}
-use Rattle.enet_sender.specs.Due.{SendingEnd}
-use Rattle.enet_sender.proofs.NextLemmas.{slice_get-inside}
+use Rattle.std.proofs.Common.{◌+◌, length, map, take, refl, sym, ap, subst, ◌∙◌, Option}
+use Rattle.std.proofs.lemmas.List.{get_or_read}
+use Rattle.slab.specs.Slab.{get}
+use Rattle.enet_sender.specs.declared.sent.Sent.{Sent}
+use Rattle.enet_sender.specs.declared.outgoing.Due.TheVariants as due
+use Rattle.enet_sender.specs.Sender.{next_resent, again}
+use Rattle.enet_sender.specs.Due.{Did, SendingEnd}
+use Rattle.enet_sender.specs.Pending.{named}
+use Rattle.enet_sender.specs.Rings.{rings_of, sender_of, end_of, command_of}
+use Rattle.enet_sender.proofs.Changing.{Changes, place-read, change-sent, change-named, change-keeps, change-passes, none-due-after}
+use Rattle.enet_sender.proofs.outgoing.Outgoing.resend.Goals.{After-send_again}
 use Rattle.enet_sender.proofs.outgoing.Outgoing.resend.Goals as goal
 
-pub invariant_of-self : goal.invariant_of-self
-invariant_of-self c = record { lists = c.send_again.ensures.kept _ _ _ c.self.invariant.lists; due = c.send_again.ensures.due _ c.self.invariant.due }
+changes : (c : After-send_again) → Changes (get c.args.pending.now.slab) (get c.send_again.new.self.slab) (rings_of c.args.self.now) c.args.place c.index-key.result.now c.in-Some.sent.now (again c.args.now c.in-Some.sent.now)
+changes c =
+    let there = sym c.in-Some.ensures in
+    let updates = c.send_again.ensures c.in-Some.sent.now there in
+    record {
+      keeps = c.requires.kept;
+      inside = c.requires.first.inside;
+      key_is = sym (get_or_read c.args.self.now.sent.items c.args.place c.index-key.result.now c.requires.first.inside c.index-key.ensures 4294967295);
+      there = there;
+      now = updates.changed;
+      others = updates.others;
+      same = refl;
+    }
 
-pub returns : goal.returns
-returns c =
-    let old : SendingEnd = the_view c.self.inside in
-    let p = c.in-Some.sent.now in
-    let inside : c.args.place < length old.sender.sent = subst (λ (e : SendingEnd). c.args.place < length e.sender.sent) (sym c.self.view_is) c.requires in
-    let there : slice_get old.sender.sent c.args.place ≡ Some p = slice_get-inside old.sender.sent c.args.place p inside c.in-Some.ensures.lookup in
-    rw (← c.self.view_is, there) (
+pub returns-in_default-put-clause-did : goal.returns-in_default-put-clause-did
+returns-in_default-put-clause-did c =
+    let at = get c.args.pending.now.slab in
+    let sent = c.args.self.now.sent.items in
+    let old : SendingEnd = end_of c.args.pending.now.slab c.args.self.now in
+    let key_is = sym (get_or_read sent c.args.place c.index-key.result.now c.requires.first.inside c.index-key.ensures 4294967295) in
+    let read = place-read at sent c.args.place c.in-Some.sent.now c.requires.first.inside (ap at key_is ∙ sym c.in-Some.ensures) in
+    let P : Option Sent → Type 0 = λ o. Did (next_resent c.args.now (sender_of at (rings_of c.args.self.now)) (length (named at (take c.args.place sent))) o) due.NoRoom old old c.args.buf.now c.args.at c.put.new.buf in
+    subst P (sym read) (c.in_default-put.ensures.room, refl, c.in_default-put.ensures.none)
+
+pub returns-clause-did : goal.returns-clause-did
+returns-clause-did c =
+    let at = get c.args.pending.now.slab in
+    let sent = c.args.self.now.sent.items in
+    let old : SendingEnd = end_of c.args.pending.now.slab c.args.self.now in
+    let new : SendingEnd = end_of c.send_again.new.self.slab c.args.self.now in
+    let g = changes (goal.at.returns-clause-did c).After-send_again in
+    let changed = change-sent g in
+    let queued = ap (map command_of) (change-named g).2 in
+    let P : Option Sent → Type 0 = λ o. Did (next_resent c.args.now (sender_of at (rings_of c.args.self.now)) (length (named at (take c.args.place sent))) o) (due.Sent c.in-Some-put.past 0 c.due_kind-kind.result) old new c.args.buf.now c.args.at c.put.new.buf in
+    subst P (sym changed.0) (
       c.in-Some-put.ensures.some,
       refl,
       c.due_kind-kind.ensures,
       λ i. record {
-        channel = c.self.inside.channel;
-        sender = record { number = c.self.inside.number; unreliable = c.self.inside.unreliable; queued = c.self.inside.queued.items; sent = c.send_again.ensures.sent p there i };
+        channel = c.args.self.now.channel;
+        sender = record { number = c.args.self.now.number; unreliable = c.args.self.now.unreliable; queued = queued i; sent = changed.1 i };
       },
       c.in-Some-put.ensures.message,
     )
+
+pub returns-clause-kept : goal.returns-clause-kept
+returns-clause-kept c =
+    let g = changes (goal.at.returns-clause-kept c).After-send_again in
+    change-keeps g (c.args.place + 1) (none-due-after g c.requires.first refl)
+
+pub returns-clause-passes : goal.returns-clause-passes
+returns-clause-passes c = change-passes (changes (goal.at.returns-clause-passes c).After-send_again) (c.args.place + 1)

@@ -1,0 +1,59 @@
+//! How a command is written.
+
+ghost use Rattle.std.specs.Prelude.{◌≡◌, ◌+◌, ◌<◌, IfSome, IfNone, if◌then◌else◌, length};
+ghost use Rattle.enet_codec.specs.Message.{IsMessage, canonical};
+ghost use Rattle.enet_codec.specs.Writing.{Puts};
+ghost use Rattle.enet_fragment.specs.DataCommand.{message_of};
+ghost use Rattle.enet_sender.specs.Sender.{is_more};
+ghost use Rattle.enet_sender.specs.Due.{due_kind};
+ghost use Rattle.enet_sender.specs.Invariant.{IsShort};
+
+use crate::Kind;
+use enet_codec::write_command;
+use enet_fragment::DataCommand;
+
+/// Whether a command is a further one of an unreliable packet.
+pub(crate) fn is_more(command: &DataCommand) -> bool
+    ensures { result ≡ is_more command.now }
+{
+    match command.fragment {
+        None => false,
+        Some(fragment) => !command.reliable && fragment.number > 0,
+    }
+}
+
+/// How a command is carried.
+pub(crate) fn due_kind(command: &DataCommand) -> Kind
+    ensures { result ≡ due_kind command.now }
+{
+    if command.reliable {
+        Kind::Reliable
+    } else if is_more(command) {
+        Kind::More
+    } else {
+        Kind::Begins
+    }
+}
+
+/// The bytes that a command adds to those in transit at its first send.
+pub(crate) fn bytes_of(command: &DataCommand) -> u32
+    requires { IsShort command.now }
+    ensures { result ≡ (if command.now.reliable then length command.now.body else 0) }
+{
+    if command.reliable {
+        command.body.len() as u32
+    } else {
+        0
+    }
+}
+
+/// Writes a command at a place, where it fits.
+pub(crate) fn put(buf: &mut [u8], at: usize, channel: u8, command: &DataCommand) -> Option<usize>
+    requires { IsShort command.now }
+    ensures some { IfSome result (λ past. Puts buf.old at (canonical (message_of channel command.now)) buf.new past) }
+    ensures message { IfSome result (λ past. IsMessage (message_of channel command.now)) }
+    ensures none { IfNone result (buf.new ≡ buf.old) }
+    ensures room { IfNone result (length buf.old < at + length (canonical (message_of channel command.now))) }
+{
+    write_command(buf, at, &command.command(channel))
+}

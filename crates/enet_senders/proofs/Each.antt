@@ -1,0 +1,125 @@
+-- All channels change, one after another.
+use Rattle.std.proofs.Common.{◌≡◌, ℕ, zero, suc, ◌+◌, ◌<◌, ◌≤◌, Bool, true, ◌&&◌, ◌||◌, List, [], ◌∷◌, ◌++◌, length, map, get_or, set, take, drop, Option, Some, None, Result, Ok, Err, IfErr, refl, sym, ap, ap₂, subst, ◌∙◌, arith}
+use Rattle.std.specs.List.{slice_get, range_with_len, list_all, list_any}
+use Rattle.std.proofs.lemmas.List.{length-append, length-map, length-take, length-drop, length-set, take_all, drop_all, append-nil, get_or_default, map_push, take-map, take-set-le}
+use Rattle.std.proofs.lemmas.List.Edits.{map_over_more}
+use Rattle.std.proofs.lemmas.List.FromFn.{map-range_with_len_more}
+use Rattle.std.proofs.lemmas.List.Folds.{list_all_more}
+use Rattle.std.proofs.lemmas.List.Sums.{sum_by_push, sum_by-take-le}
+use Rattle.std.proofs.lemmas.List.Elements.{All-push, All-take, All-nil}
+use Rattle.std.proofs.lemmas.Option.{slice_get-get_or, slice_get_read, slice_get-map}
+use Rattle.std.specs.Option.{option_map}
+use Rattle.slab.specs.Slab.{Slab, get}
+use Rattle.enet_sender.specs.declared.sent.Sent.{Sent}
+use Rattle.enet_sender.specs.declared.outgoing.Outgoing.{Outgoing}
+use Rattle.enet_sender.specs.Due.{SendingEnd, new_end}
+use Rattle.enet_sender.specs.Pending.{vacant, times}
+use Rattle.enet_sender.specs.Rings.{HasRoom, Rings, Keeps, no_rings, rings_of, keys_of, sender_of, end_of}
+use Rattle.enet_senders.specs.Senders.{ends_of, times_in, KeepsAll}
+use Rattle.enet_senders.proofs.Frames.{Framed, keeps-none}
+
+-- so far the first i have changed
+abbrev pub partly : (SendingEnd → SendingEnd) → ℕ → List SendingEnd → List SendingEnd
+partly f i es = map f (take i es) ++ drop i es
+
+pub partly-length : (f : SendingEnd → SendingEnd) (i : ℕ) (es ys : List SendingEnd) → ys ≡ partly f i es → length ys ≡ length es
+partly-length f i es ys is =
+    let e : length ys ≡ length (partly f i es) = ap (λ (xs : List SendingEnd). length xs) is in
+    let both = length-append (map f (take i es)) (drop i es) in
+    let front = length-map (take i es) f in
+    let taken = length-take i es in
+    let back = length-drop i es in
+    omega arith
+
+pub partly-more : (f : SendingEnd → SendingEnd) (es ys zs : List SendingEnd) (i : ℕ) → i < length es → ys ≡ partly f i es
+    → ((s : SendingEnd) → slice_get ys i ≡ Some s → zs ≡ set ys i (f s)) → zs ≡ partly f (i + 1) es
+partly-more f es ys zs i inside is changed =
+    let len = partly-length f i es ys is in
+    let s = get_or ys i (new_end 0) in
+    let there : slice_get ys i ≡ Some s = slice_get-get_or ys i (new_end 0) (omega arith) in
+    changed s there ∙ map_over_more f es ys i s inside is (get_or_default ys i (new_end 0) s (omega arith))
+
+pub partly-all : (f : SendingEnd → SendingEnd) (es ys : List SendingEnd) (n : ℕ) → length es ≤ n → ys ≡ partly f n es → ys ≡ map f es
+partly-all f es ys n all is = is ∙ ap₂ (λ a b. map f a ++ b) (take_all n es all) (drop_all n es all) ∙ append-nil (map f es)
+
+-- there are as many channels as ends
+pub ends-length : (s : Slab Sent) (channels : List Outgoing) → length (ends_of s channels) ≡ length channels
+ends-length s channels = length-map channels (end_of s)
+
+-- one of the last channels changes
+pub front-stays : (count i : ℕ) (ys zs : List SendingEnd) (f : SendingEnd → SendingEnd) → count ≤ i → i < length ys
+    → ((s : SendingEnd) → slice_get ys i ≡ Some s → zs ≡ set ys i (f s)) → (take count zs ≡ take count ys) × (length zs ≡ length ys)
+front-stays count i ys zs f behind inside changed =
+    let s = get_or ys i (new_end 0) in
+    let is : zs ≡ set ys i (f s) = changed s (slice_get-get_or ys i (new_end 0) inside) in
+    (ap (take count) is ∙ take-set-le count ys i (f s) behind, ap (λ (xs : List SendingEnd). length xs) is ∙ length-set ys i (f s))
+
+-- only the first channels stay
+pub ends-take : (s : Slab Sent) (n : ℕ) (channels : List Outgoing) → ends_of s (take n channels) ≡ take n (ends_of s channels)
+ends-take s n channels = sym (take-map (end_of s) n channels)
+
+pub keeps-take : (at : ℕ → Option Sent) (n : ℕ) (channels : List Outgoing) → KeepsAll at channels → KeepsAll at (take n channels)
+keeps-take at n channels all = record {
+  each = All-take (λ (o : Outgoing). Keeps at (rings_of o)) n channels all.each;
+  nothing = all.nothing;
+  names = λ key low. let most = all.names key low in let less = sum_by-take-le (times_in key) channels n in omega arith;
+  room = All-take HasRoom n channels all.room;
+}
+
+-- no channel yet, and one more to which nothing was submitted
+pub keeps-nil : (s : Slab Sent) → s.slots ≡ [] → KeepsAll (get s) []
+keeps-nil s empty = record {
+  each = All-nil (λ (o : Outgoing). Keeps (get s) (rings_of o));
+  nothing = ap (λ (slots : List (Option Sent)). get_or slots vacant None) empty;
+  names = λ key low. omega arith;
+  room = All-nil HasRoom;
+}
+
+pub keeps-push : (s : Slab Sent) (os : List Outgoing) (o : Outgoing) → s.slots ≡ [] → rings_of o ≡ no_rings → HasRoom o → KeepsAll (get s) os → KeepsAll (get s) (os ++ o ∷ [])
+keeps-push s os o empty is room all =
+    let none : (k : ℕ) → get s k ≡ None = λ k. ap (λ (slots : List (Option Sent)). get_or slots k None) empty in
+    let kept : Keeps (get s) (rings_of o) = subst (λ (r : Rings). Keeps (get s) r) (sym is) (keeps-none (get s) none) in record {
+      each = All-push (λ (o : Outgoing). Keeps (get s) (rings_of o)) os o all.each kept;
+      nothing = none vacant;
+      names = λ key low.
+          let e = ap (λ (r : Rings). times key (keys_of r)) is in
+          let h = sum_by_push (times_in key) os o in
+          let most = all.names key low in
+          omega arith;
+      room = All-push HasRoom os o all.room room;
+    }
+
+pub ends-push : (s : Slab Sent) (os : List Outgoing) (o : Outgoing) (n : ℕ) → ends_of s os ≡ map new_end (range_with_len 0 n) → rings_of o ≡ no_rings → o.channel ≡ n
+    → ends_of s (os ++ o ∷ []) ≡ map new_end (range_with_len 0 (n + 1))
+ends-push s os o n so_far is channel =
+    let new : end_of s o ≡ new_end n = λ i. record { channel = channel i; sender = sender_of (get s) (is i) } in
+    map_push (end_of s) os o ∙ ap₂ (λ a b. a ++ b ∷ []) so_far new ∙ sym (map-range_with_len_more new_end 0 n n (omega arith))
+
+-- a list written at one place with what stands there
+set-there : {X : Type 0} (xs : List X) (i : ℕ) (x : X) → slice_get xs i ≡ Some x → set xs i x ≡ xs
+set-there [] i x there = refl
+set-there (y ∷ xs) zero x there = let is : y ≡ x = cc in ap (λ z. z ∷ xs) (sym is)
+set-there (y ∷ xs) (suc i) x there = ap (λ ys. y ∷ ys) (set-there xs i x there)
+
+-- where a packet is refused, all ends are as they were
+pub refused-frame : (s t : Slab Sent) (channels : List Outgoing) (i : ℕ) (old new : Outgoing) {E U : Type 0} (result : Result U (E × List ℕ)) (body : List ℕ) → Framed s t channels i new → i < length channels → get_or channels i old ≡ old
+    → IfErr result (λ e. (end_of t new ≡ end_of s old) × (e.1 ≡ body)) → IfErr result (λ e. (ends_of t (set channels i new) ≡ ends_of s channels) × (e.1 ≡ body))
+refused-frame s t channels i old new (Ok x) body h inside is refused = refused
+refused-frame s t channels i old new (Err e) body h inside is refused =
+    let one : slice_get channels i ≡ Some old = slice_get_read channels (length channels) i old refl inside (sym is) in
+    let there : slice_get (ends_of s channels) i ≡ Some (end_of s old) = slice_get-map (end_of s) channels i ∙ ap (λ o. option_map (end_of s) o) one in
+    (h.ends ∙ ap (λ x. set (ends_of s channels) i x) refused.0 ∙ set-there (ends_of s channels) i (end_of s old) there, refused.1)
+
+-- the end of a channel of the list
+pub end-at : (s : Slab Sent) (channels : List Outgoing) (i : ℕ) (o : Outgoing) → i < length channels → get_or channels i o ≡ o → get_or (ends_of s channels) i (end_of s o) ≡ end_of s o
+end-at s [] i o inside is = absurd (omega arith)
+end-at s (c ∷ channels) zero o inside is = ap (end_of s) is
+end-at s (c ∷ channels) (suc i) o inside is = end-at s channels i o (omega arith) is
+
+pub all-more : (p : SendingEnd → Bool) (es : List SendingEnd) (i : ℕ) (e : SendingEnd) → i < length es → get_or es i e ≡ e → list_all p (take i es) ≡ true → p e ≡ true → list_all p (take (i + 1) es) ≡ true
+all-more p es i e inside is so_far passes = list_all_more p es i e inside ∙ ap (λ b. b && p (get_or es i e)) so_far ∙ ap p is ∙ passes
+
+-- a test of what each is made into
+pub any-map : {X Y : Type 0} (f : Y → Bool) (g : X → Y) (xs : List X) → list_any (λ x. f (g x)) xs ≡ list_any f (map g xs)
+any-map f g [] = refl
+any-map f g (x ∷ xs) = ap (λ b. f (g x) || b) (any-map f g xs)

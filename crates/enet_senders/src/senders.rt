@@ -1,0 +1,376 @@
+//! The channels of a peer over its commands.
+
+ghost use Rattle.std.specs.Prelude.{◌≡◌, ◌⊎◌, ◌↔◌, ◌<◌, ◌≤◌, OnOk, IfOk, IfErr, IsErrAnd, Some, [], not, length, map, take, slice_get, slice_set};
+ghost use Rattle.std.specs.List.{range_with_len, list_all, list_any};
+ghost use Rattle.enet_seq.specs.Numbering.{wire};
+ghost use Rattle.enet_fragment.specs.Cutting.{piece_count};
+ghost use Rattle.enet_sender.specs.CommandChoice.{fragment_limit};
+ghost use Rattle.enet_sender.specs.Sender.{after_acknowledgement, acknowledged_bytes, next, with_skipped, ends, is_late, left};
+ghost use Rattle.enet_sender.specs.Due.{SendingEnd, Did, with_submitted, new_end};
+ghost use Rattle.enet_sender.specs.declared.outgoing.Outgoing.{Outgoing};
+ghost use Rattle.enet_sender.specs.Rings.{end_in, IsEmpty};
+ghost use Rattle.enet_senders.specs.Senders.{ends_in, KeepsAllIn, marked_end, cleared_end};
+
+use bytes::Bytes;
+use enet_codec::Refusal;
+use enet_rtt::Patience;
+use enet_sender::{Due, Outgoing, Pending};
+use std::alloc::Global;
+use std::marker::Model;
+
+/// The senders of a peer's channels, with all their commands. Contracts see the list of their ends, by channel.
+#[derive(Drop)]
+pub struct Senders {
+    channels: Vec<Outgoing>,
+    pending: Pending,
+}
+
+impl Model for Senders {
+    ghost use Rattle.std.specs.Prelude.{List};
+    ghost use Rattle.enet_sender.specs.Due.{SendingEnd};
+
+    ghost Value = { List SendingEnd };
+
+    ghost use Rattle.enet_senders.specs.Senders.{ends_in, KeepsAllIn};
+
+    ghost view = { λ s. ends_in s.pending s.channels.items };
+
+    ghost invariant = { λ s. KeepsAllIn s.pending s.channels.items };
+}
+
+/// An acknowledgement of a channel's command comes: the other channels stay as they were.
+fn acknowledge_on(
+    channels: &mut Vec<Outgoing>,
+    pending: &mut Pending,
+    channel: u8,
+    number: u16,
+) -> Option<u32>
+    requires kept { KeepsAllIn pending.old channels.old.items }
+    requires inside { channel < length channels.old.items }
+    ensures bytes { (s : SendingEnd) → slice_get (ends_in pending.old channels.old.items) channel ≡ Some s → result ≡ acknowledged_bytes s.sender number }
+    ensures ends { (s : SendingEnd) → slice_get (ends_in pending.old channels.old.items) channel ≡ Some s
+        → ends_in pending.new channels.new.items ≡ slice_set (ends_in pending.old channels.old.items) channel (record s { sender = after_acknowledgement s.sender number }) }
+    ensures kept { KeepsAllIn pending.new channels.new.items }
+{
+    channels[usize::from(channel)].acknowledge(pending, number)
+}
+
+/// A packet is submitted on a channel: the other channels stay as they were.
+fn submit_on(
+    channels: &mut Vec<Outgoing>,
+    pending: &mut Pending,
+    channel: u8,
+    flags: u8,
+    body: Bytes,
+    mtu: u32,
+) -> Result<(), (Refusal, Bytes)>
+    requires low { 576 ≤ mtu }
+    requires high { mtu ≤ 4096 }
+    requires kept { KeepsAllIn pending.old channels.old.items }
+    requires inside { channel < length channels.old.items }
+    ensures queued { (s : SendingEnd) → slice_get (ends_in pending.old channels.old.items) channel ≡ Some s
+        → OnOk result (ends_in pending.new channels.new.items ≡ slice_set (ends_in pending.old channels.old.items) channel (with_submitted mtu s flags body)) }
+    ensures too_large { IsErrAnd result (λ e. e.0 ≡ Refusal.TooLarge) ↔ (fragment_limit < piece_count (length body) mtu) }
+    ensures refused { IfErr result (λ e. (ends_in pending.new channels.new.items ≡ ends_in pending.old channels.old.items) × (e.1 ≡ body)) }
+    ensures only { IfErr result (λ e. (e.0 ≡ Refusal.TooLarge) ⊎ (e.0 ≡ Refusal.Memory)) }
+    ensures kept { KeepsAllIn pending.new channels.new.items }
+{
+    channels[usize::from(channel)].submit(pending, flags, body, mtu)
+}
+
+/// The next command of a channel is written: the other channels stay as they were.
+fn next_due_on(
+    channels: &mut Vec<Outgoing>,
+    pending: &mut Pending,
+    channel: u8,
+    now: u32,
+    timeout: u32,
+    transit: u32,
+    most: u32,
+    buf: &mut [u8],
+    at: usize,
+) -> Due
+    requires kept { KeepsAllIn pending.old channels.old.items }
+    requires inside { channel < length channels.old.items }
+    ensures did { (s : SendingEnd) → slice_get (ends_in pending.old channels.old.items) channel ≡ Some s
+        → (t : SendingEnd) × ((ends_in pending.new channels.new.items ≡ slice_set (ends_in pending.old channels.old.items) channel t)
+        × Did (next wire now timeout transit most s.sender) result s t buf.old at buf.new) }
+    ensures kept { KeepsAllIn pending.new channels.new.items }
+{
+    channels[usize::from(channel)].next_due(pending, now, timeout, transit, most, buf, at)
+}
+
+/// The rest of a channel's unreliable packet is dropped: the other channels stay as they were.
+fn skip_on(channels: &mut Vec<Outgoing>, pending: &mut Pending, channel: u8)
+    requires kept { KeepsAllIn pending.old channels.old.items }
+    requires inside { channel < length channels.old.items }
+    ensures ends { (s : SendingEnd) → slice_get (ends_in pending.old channels.old.items) channel ≡ Some s
+        → ends_in pending.new channels.new.items ≡ slice_set (ends_in pending.old channels.old.items) channel (record s { sender = with_skipped s.sender }) }
+    ensures kept { KeepsAllIn pending.new channels.new.items }
+{
+    channels[usize::from(channel)].skip(pending);
+}
+
+/// What is late on a channel is due to go again: the other channels stay as they were.
+fn mark_on(channels: &mut Vec<Outgoing>, pending: &mut Pending, channel: usize, now: u32)
+    requires kept { KeepsAllIn pending.old channels.old.items }
+    requires inside { channel < length channels.old.items }
+    ensures ends { (s : SendingEnd) → slice_get (ends_in pending.old channels.old.items) channel ≡ Some s
+        → ends_in pending.new channels.new.items ≡ slice_set (ends_in pending.old channels.old.items) channel (marked_end now s) }
+    ensures kept { KeepsAllIn pending.new channels.new.items }
+{
+    channels[channel].mark(pending, now);
+}
+
+/// All that is queued or sent on a channel is dropped: the other channels stay as they were.
+fn clear_on(channels: &mut Vec<Outgoing>, pending: &mut Pending, channel: usize)
+    requires kept { KeepsAllIn pending.old channels.old.items }
+    requires inside { channel < length channels.old.items }
+    ensures ends { (s : SendingEnd) → slice_get (ends_in pending.old channels.old.items) channel ≡ Some s
+        → ends_in pending.new channels.new.items ≡ slice_set (ends_in pending.old channels.old.items) channel (cleared_end s) }
+    ensures kept { KeepsAllIn pending.new channels.new.items }
+{
+    channels[channel].clear(pending);
+}
+
+/// What is late on any channel is due to go again.
+fn mark_each(channels: &mut Vec<Outgoing>, pending: &mut Pending, now: u32)
+    requires { KeepsAllIn pending.old channels.old.items }
+    ensures ends { ends_in pending.new channels.new.items ≡ map (marked_end now) (ends_in pending.old channels.old.items) }
+    ensures kept { KeepsAllIn pending.new channels.new.items }
+{
+    for channel in 0..channels.len() {
+        mark_on(channels, pending, channel, now);
+    }
+}
+
+/// All that is queued or sent on any channel is dropped.
+fn clear_each(channels: &mut Vec<Outgoing>, pending: &mut Pending)
+    requires { KeepsAllIn pending.old channels.old.items }
+    ensures ends { ends_in pending.new channels.new.items ≡ map cleared_end (ends_in pending.old channels.old.items) }
+    ensures kept { KeepsAllIn pending.new channels.new.items }
+{
+    for channel in 0..channels.len() {
+        clear_on(channels, pending, channel);
+    }
+}
+
+/// Keeps so many channels, the first ones. The commands of the others are dropped.
+fn keep_first(channels: &mut Vec<Outgoing>, pending: &mut Pending, count: usize)
+    requires { KeepsAllIn pending.old channels.old.items }
+    ensures ends { ends_in pending.new channels.new.items ≡ take count (ends_in pending.old channels.old.items) }
+    ensures kept { KeepsAllIn pending.new channels.new.items }
+{
+    for channel in count..channels.len() {
+        clear_on(channels, pending, channel);
+    }
+    channels.truncate(count);
+}
+
+/// Whether the peer has timed out over a sent command of a channel.
+fn any_ends(channels: &[Outgoing], pending: &Pending, now: u32, patience: &Patience) -> bool
+    ensures { result ≡ list_any (λ (o : Outgoing). list_any (ends now patience.now) (end_in pending.now o).sender.sent) channels.now }
+{
+    channels
+        .iter()
+        .any(|channel| channel.ends(pending, now, patience))
+}
+
+/// Whether a sent command of a channel is late.
+fn any_late(channels: &[Outgoing], pending: &Pending, now: u32) -> bool
+    ensures { result ≡ list_any (λ (o : Outgoing). list_any (is_late now) (end_in pending.now o).sender.sent) channels.now }
+{
+    channels.iter().any(|channel| channel.is_late(pending, now))
+}
+
+/// Whether no channel has a packet queued.
+fn have_no_packet(channels: &[Outgoing], pending: &Pending) -> bool
+    requires { KeepsAllIn pending.now channels.now }
+    ensures { result ≡ list_all (λ (s : SendingEnd). not (left s.sender).packets) (ends_in pending.now channels.now) }
+{
+    for place in 0..channels.len() {
+        let channel = &channels[place];
+        if channel.left(pending).packets {
+            return false;
+        }
+    }
+    true
+}
+
+/// Whether no channel has a reliable command queued or unacknowledged.
+fn have_no_reliable(channels: &[Outgoing], pending: &Pending) -> bool
+    requires { KeepsAllIn pending.now channels.now }
+    ensures { result ≡ list_all (λ (s : SendingEnd). not (left s.sender).reliable) (ends_in pending.now channels.now) }
+{
+    for place in 0..channels.len() {
+        let channel = &channels[place];
+        if channel.left(pending).reliable {
+            return false;
+        }
+    }
+    true
+}
+
+/// So many channels to which nothing was submitted, no command being kept.
+fn open_channels(alloc: Global, channels: u8, _pending: &Pending) -> Result<Vec<Outgoing>, Refusal>
+    requires { IsEmpty _pending.now }
+    ensures ends { IfOk result (λ opened. ends_in _pending.now opened.items ≡ map new_end (range_with_len 0 channels)) }
+    ensures kept { IfOk result (λ opened. KeepsAllIn _pending.now opened.items) }
+    ensures memory { IfErr result (λ why. why ≡ Refusal.Memory) }
+{
+    let Ok(mut opened) = Vec::with_capacity(alloc, usize::from(channels)) else {
+        return Err(Refusal::Memory);
+    };
+    for channel in 0..channels {
+        opened.push_reserved(Outgoing::open(alloc, channel)?);
+    }
+    Ok(opened)
+}
+
+impl Senders {
+    /// So many channels to which nothing was submitted. E1 where memory is refused.
+    pub fn open(alloc: Global, channels: u8) -> Result<Senders, Refusal>
+        ensures senders { IfOk result (λ s. s ≡ map new_end (range_with_len 0 channels)) }
+        ensures memory { IfErr result (λ why. why ≡ Refusal.Memory) }
+    {
+        let pending = Pending::open(alloc)?;
+        let channels = open_channels(alloc, channels, &pending)?;
+        Ok(Senders { channels, pending })
+    }
+
+    /// How many channels there are.
+    pub fn len(&self) -> usize
+        ensures { result ≡ length self.now }
+    {
+        self.channels.len()
+    }
+
+    /// Queues the commands of a packet on a channel, numbered, as `Outgoing::submit` does; `mtu` is the peer's, in bytes.
+    ///
+    /// E5 exactly where it would be cut into more than 16,384 pieces (our profile), then E1 where memory is refused. After
+    /// either nothing has changed, and the body comes back.
+    pub fn submit(
+        &mut self,
+        channel: u8,
+        flags: u8,
+        body: Bytes,
+        mtu: u32,
+    ) -> Result<(), (Refusal, Bytes)>
+        requires mtu { (576 ≤ mtu) × (mtu ≤ 4096) }
+        requires channel { channel < length self.old }
+        ensures queued { (s : SendingEnd) → slice_get self.old channel ≡ Some s → OnOk result (self.new ≡ slice_set self.old channel (with_submitted mtu s flags body)) }
+        ensures too_large { IsErrAnd result (λ e. e.0 ≡ Refusal.TooLarge) ↔ (fragment_limit < piece_count (length body) mtu) }
+        ensures refused { IfErr result (λ e. (self.new ≡ self.old) × (e.1 ≡ body)) }
+        ensures only { IfErr result (λ e. (e.0 ≡ Refusal.TooLarge) ⊎ (e.0 ≡ Refusal.Memory)) }
+    {
+        submit_on(
+            &mut self.channels,
+            &mut self.pending,
+            channel,
+            flags,
+            body,
+            mtu,
+        )
+    }
+
+    /// Writes the next command of a channel at `at`, where one may go, and keeps it as sent if it is reliable, as
+    /// `Outgoing::next_due` does. Neither `NoRoom` nor `Nothing` changes anything, and the buffer stays.
+    ///
+    /// `now` is the clock and `timeout` how long to wait for the acknowledgement, in milliseconds; `transit` are the
+    /// payload bytes of the peer that are sent and unacknowledged, and `most` is how many may be. It takes no memory.
+    pub fn next_due(
+        &mut self,
+        channel: u8,
+        now: u32,
+        timeout: u32,
+        transit: u32,
+        most: u32,
+        buf: &mut [u8],
+        at: usize,
+    ) -> Due
+        requires { channel < length self.old }
+        ensures { (s : SendingEnd) → slice_get self.old channel ≡ Some s
+            → (t : SendingEnd) × ((self.new ≡ slice_set self.old channel t) × Did (next wire now timeout transit most s.sender) result s t buf.old at buf.new) }
+    {
+        next_due_on(
+            &mut self.channels,
+            &mut self.pending,
+            channel,
+            now,
+            timeout,
+            transit,
+            most,
+            buf,
+            at,
+        )
+    }
+
+    /// Drops the rest of the unreliable packet of a channel whose first command was written last. The numbers stay used.
+    pub fn skip(&mut self, channel: u8)
+        requires { channel < length self.old }
+        ensures { (s : SendingEnd) → slice_get self.old channel ≡ Some s → self.new ≡ slice_set self.old channel (record s { sender = with_skipped s.sender }) }
+    {
+        skip_on(&mut self.channels, &mut self.pending, channel);
+    }
+
+    /// Takes out the one sent command of a channel with this number, and answers the bytes of its payload. None, with
+    /// nothing changed, where no sent command has it.
+    pub fn acknowledge(&mut self, channel: u8, number: u16) -> Option<u32>
+        requires { channel < length self.old }
+        ensures bytes { (s : SendingEnd) → slice_get self.old channel ≡ Some s → result ≡ acknowledged_bytes s.sender number }
+        ensures ends { (s : SendingEnd) → slice_get self.old channel ≡ Some s → self.new ≡ slice_set self.old channel (record s { sender = after_acknowledgement s.sender number }) }
+    {
+        acknowledge_on(&mut self.channels, &mut self.pending, channel, number)
+    }
+
+    /// Whether at the moment `now`, in milliseconds, a sent command of a channel has waited out its timeout, and its peer
+    /// has timed out over it by `patience`.
+    pub fn any_ends(&self, now: u32, patience: &Patience) -> bool
+        ensures { result ≡ list_any (λ (s : SendingEnd). list_any (ends now patience.now) s.sender.sent) self.now }
+    {
+        any_ends(&self.channels, &self.pending, now, patience)
+    }
+
+    /// Whether at the moment `now`, in milliseconds, a sent command of a channel has waited out its timeout, and is not due
+    /// to go again already.
+    pub fn any_late(&self, now: u32) -> bool
+        ensures { result ≡ list_any (λ (s : SendingEnd). list_any (is_late now) s.sender.sent) self.now }
+    {
+        any_late(&self.channels, &self.pending, now)
+    }
+
+    /// All that is late at the moment `now`, in milliseconds, is due to go again, and waits twice as long then.
+    pub fn mark(&mut self, now: u32)
+        ensures { self.new ≡ map (marked_end now) self.old }
+    {
+        mark_each(&mut self.channels, &mut self.pending, now);
+    }
+
+    /// Whether no channel has a packet queued.
+    pub fn have_no_packet(&self) -> bool
+        ensures { result ≡ list_all (λ (s : SendingEnd). not (left s.sender).packets) self.now }
+    {
+        have_no_packet(&self.channels, &self.pending)
+    }
+
+    /// Whether no channel has a reliable command queued or unacknowledged.
+    pub fn have_no_reliable(&self) -> bool
+        ensures { result ≡ list_all (λ (s : SendingEnd). not (left s.sender).reliable) self.now }
+    {
+        have_no_reliable(&self.channels, &self.pending)
+    }
+
+    /// Drops all that is queued or sent. The numbers go on from where they stand.
+    pub fn clear(&mut self)
+        ensures { self.new ≡ map cleared_end self.old }
+    {
+        clear_each(&mut self.channels, &mut self.pending);
+    }
+
+    /// Keeps so many channels, the first ones. The commands of the others are dropped.
+    pub fn narrow(&mut self, count: usize)
+        ensures { self.new ≡ take count self.old }
+    {
+        keep_first(&mut self.channels, &mut self.pending, count);
+    }
+}
