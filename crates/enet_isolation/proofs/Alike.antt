@@ -61,8 +61,8 @@ does-once_memory (Ok done) outcome p q r a b = same-ok q r outcome a b
 does-once_memory (Err why) outcome p q r a b = a.1 ∙ sym b.1
 
 sets-once : (s : Setting) (answer : Result (Unit {0}) Refusal) (p q r : Peering) → Sets s answer p q → Sets s answer p r → q ≡ r
-sets-once (setting.Bandwidth incoming outgoing) answer p q r a b = does-once_memory answer _ p q r a b
-sets-once (setting.Throttle interval acceleration deceleration) answer p q r a b = does-once_memory answer _ p q r a b
+sets-once (setting.Bandwidth incoming outgoing) answer p q r a b = does-once_memory answer _ p q r a.0 b.0
+sets-once (setting.Throttle interval acceleration deceleration) answer p q r a b = does-once_memory answer _ p q r a.0 b.0
 sets-once (setting.ThrottleLimit limit) answer p q r a b = does-once answer _ p q r a b
 sets-once (setting.PingInterval ms) answer p q r a b = does-once answer _ p q r a b
 sets-once (setting.Timeout limit minimum maximum) answer p q r a b = does-once answer _ p q r a b
@@ -161,8 +161,8 @@ same-does_memory s outcome (Err why) (Ok done) p r t n m x y = ok-err outcome t 
 same-does_memory s outcome (Err why) (Err other) p r t n m x y = ap (λ (w : Refusal). Err w) (same-err outcome why other (refused-outcome why outcome n x.0) (refused-outcome other outcome m y.0))
 
 same-sets : (s : Setting) (a b : Done) (p r t : Peering) → is_wanting (deed.Set s a) ≡ false → is_wanting (deed.Set s b) ≡ false → Sets s a p r → Sets s b p t → a ≡ b
-same-sets (setting.Bandwidth incoming outgoing) a b p r t n m x y = same-does_memory (setting.Bandwidth incoming outgoing) _ a b p r t n m x y
-same-sets (setting.Throttle interval acceleration deceleration) a b p r t n m x y = same-does_memory (setting.Throttle interval acceleration deceleration) _ a b p r t n m x y
+same-sets (setting.Bandwidth incoming outgoing) a b p r t n m x y = same-does_memory (setting.Bandwidth incoming outgoing) _ a b p r t n m x.0 y.0
+same-sets (setting.Throttle interval acceleration deceleration) a b p r t n m x y = same-does_memory (setting.Throttle interval acceleration deceleration) _ a b p r t n m x.0 y.0
 same-sets (setting.ThrottleLimit limit) a b p r t n m x y = same-does _ a b p r t x y
 same-sets (setting.PingInterval ms) a b p r t n m x y = same-does _ a b p r t x y
 same-sets (setting.Timeout limit minimum maximum) a b p r t n m x y = same-does _ a b p r t x y
@@ -346,7 +346,8 @@ fell-once (call.Submit name channel q answer) h i s p ds es low a b = a ∙ sym 
 fell-once (call.Service answer buf) h i s p ds es low a b = a ∙ sym b
 fell-once (call.Tick ms) h i s p ds es low a b = a ∙ sym b
 fell-once (call.Disconnect mode name info answer) h i s p ds es low a b = a ∙ sym b
-fell-once (call.SetBandwidth incoming outgoing answer) h i s p ds es low a b = a ∙ sym b
+fell-once (call.SetBandwidth incoming outgoing (Ok done)) h i s p ds es low a b = a ∙ sym b
+fell-once (call.SetBandwidth incoming outgoing (Err why)) h i s p ds es low a b = a ∙ sym b
 fell-once (call.ConfigureThrottle name interval acceleration deceleration answer) h i s p ds es low a b = a ∙ sym b
 fell-once (call.SetPingInterval name ms answer) h i s p ds es low a b = a ∙ sym b
 fell-once (call.SetTimeout name limit minimum maximum answer) h i s p ds es low a b = a ∙ sym b

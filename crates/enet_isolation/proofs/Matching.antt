@@ -29,15 +29,15 @@ throttled interval acceleration deceleration old new true e h = (e, ok-same (wit
 throttled interval acceleration deceleration old new false e h = absurd (cc)
 
 pub was-set : (s : Setting) (done : Unit {0}) (old new : Peering) → Sets s (Ok done) old new → MaySet s old × (new ≡ with_setting s old)
-was-set (setting.Bandwidth incoming outgoing) done old new h = (tt, ok-same (with_setting (setting.Bandwidth incoming outgoing) old) new h)
-was-set (setting.Throttle interval acceleration deceleration) done old new h = throttled interval acceleration deceleration old new (is_connected old.state) refl h
+was-set (setting.Bandwidth incoming outgoing) done old new h = (tt, ok-same (with_setting (setting.Bandwidth incoming outgoing) old) new h.0)
+was-set (setting.Throttle interval acceleration deceleration) done old new h = throttled interval acceleration deceleration old new (is_connected old.state) refl h.0
 was-set (setting.ThrottleLimit limit) done old new h = (tt, ok-same (with_setting (setting.ThrottleLimit limit) old) new h)
 was-set (setting.PingInterval ms) done old new h = (tt, ok-same (with_setting (setting.PingInterval ms) old) new h)
 was-set (setting.Timeout limit minimum maximum) done old new h = (tt, ok-same (with_setting (setting.Timeout limit minimum maximum) old) new h)
 
 not-set : (s : Setting) (why : Refusal) (old new : Peering) → Sets s (Err why) old new → new ≡ old
-not-set (setting.Bandwidth incoming outgoing) why old new h = h.1
-not-set (setting.Throttle interval acceleration deceleration) why old new h = h.1
+not-set (setting.Bandwidth incoming outgoing) why old new h = h.0.1
+not-set (setting.Throttle interval acceleration deceleration) why old new h = h.0.1
 not-set (setting.ThrottleLimit limit) why old new h = h.1
 not-set (setting.PingInterval ms) why old new h = h.1
 not-set (setting.Timeout limit minimum maximum) why old new h = h.1

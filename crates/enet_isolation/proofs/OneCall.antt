@@ -1,5 +1,5 @@
 -- Each call, slot by slot.
-use Rattle.std.proofs.Common.{◌≡◌, ℕ, List, [], ◌∷◌, length, refl, sym, ap, subst, ◌∙◌, Option, Some, None, Result, Ok, Err}
+use Rattle.std.proofs.Common.{◌≡◌, ℕ, List, length, refl, sym, ap, subst, ◌∙◌, Option, Some, None, Result, Ok, Err}
 use Rattle.enet_types.specs.declared.event.DisconnectMode.{DisconnectMode}
 use Rattle.enet_types.specs.declared.event.DisconnectMode.TheVariants as mode
 use Rattle.enet_types.specs.declared.refusal.Refusal.{Refusal}
@@ -8,16 +8,18 @@ use Rattle.enet_sender.specs.CommandChoice.{Packet}
 use Rattle.enet_peer.specs.Peering.{Peering}
 use Rattle.enet_peer.specs.Calls.{Refuses, submission_refusal, submitted, left}
 use Rattle.enet_peer.specs.Calls as peers
-use Rattle.enet_host.specs.Host.{Host}
+use Rattle.enet_host.specs.Host.{Host, peer_in}
 use Rattle.enet_slot.specs.Calls.{IsRefusedBy, submission, submitted_unless, leaving, left_by, or_not_connected, throttling, pinging, waiting}
+use Rattle.enet_slot.specs.Sharing.{wants_room_in}
 use Rattle.enet_connection.specs.Steps.{leave_by}
 use Rattle.enet_connection.specs.Steps as setting
 use Rattle.enet_isolation.specs.Calls.{Call, Acts}
 use Rattle.enet_isolation.specs.Calls as call
+use Rattle.enet_isolation.specs.Common.{common_of}
 use Rattle.enet_isolation.specs.Deeds.{Deed, Alone, Submit, Disconnect, Set}
 use Rattle.enet_isolation.specs.Falling.{way_of}
 use Rattle.enet_isolation.specs.Law.{OneCall}
-use Rattle.enet_isolation.proofs.Single.{Each, begins-not, each-none, each-named, each-refused, peer-refused, peer-refused_memory}
+use Rattle.enet_isolation.proofs.Single.{Each, idle, begins-not, each-none, each-named, each-refused, peer-refused, peer-refused_memory}
 use Rattle.enet_isolation.proofs.Receiving.{each-connects, each-arrives}
 use Rattle.enet_isolation.proofs.Serving.{each-passed, each-given, each-gave, each-mute}
 use Rattle.enet_isolation.proofs.Ticking.{each-changed, each-ticked}
@@ -81,21 +83,21 @@ each-call (call.Disconnect m name info (Err why)) old new acts =
     (λ s p named held. alone-staying m info p why (peer-refused old.slots name (leaving m info) s p why named held acts.0.0)) (λ i s p ds e. e) (λ i s. refl) refl
 each-call (call.SetBandwidth incoming outgoing (Ok done)) old new acts =
     subst (λ (h : Host). Each (call.SetBandwidth incoming outgoing (Ok done)) old h.slots) (sym acts)
-    (each-changed (call.SetBandwidth incoming outgoing (Ok done)) old (λ p. peers.with_bandwidth p incoming outgoing) (Set (setting.Bandwidth incoming outgoing) (Ok done)) (λ p. refl) (λ i s p. refl) (λ i s. refl) refl)
+    (each-changed (call.SetBandwidth incoming outgoing (Ok done)) old (λ p. peers.with_bandwidth p incoming outgoing) (Set (setting.Bandwidth incoming outgoing) (Ok done)) (λ p. (refl, tt)) (λ i s p. refl) (λ i s. refl) refl)
 each-call (call.SetBandwidth incoming outgoing (Err why)) old new acts =
     each-none (call.SetBandwidth incoming outgoing (Err why)) old new.slots (λ i s. refl) (ap (λ (h : Host). h.slots) acts.1)
-    (λ i s p there held. record {
-      deeds = Set (setting.Bandwidth incoming outgoing) (Err why) ∷ [];
-      fell = refl;
-      alone = (p, subst (λ (w : Refusal). Alone (Set (setting.Bandwidth incoming outgoing) (Err w)) p p) (sym acts.0) (refl, refl), refl);
-    })
+    (λ i s p there held. idle (call.SetBandwidth incoming outgoing (Err why)) (common_of old) i s p refl)
     (λ i. begins-not (call.SetBandwidth incoming outgoing (Err why)) old i refl)
 each-call (call.ConfigureThrottle name interval acceleration deceleration (Ok done)) old new acts =
     each-named (call.ConfigureThrottle name interval acceleration deceleration (Ok done)) old name (throttling interval acceleration deceleration) (Set (setting.Throttle interval acceleration deceleration) (Ok done)) new.slots acts.0
-    (λ p r e. e) (λ i s p ds e. e) (λ i s. refl) refl
+    (λ p r e. (e, tt)) (λ i s p ds e. e) (λ i s. refl) refl
 each-call (call.ConfigureThrottle name interval acceleration deceleration (Err why)) old new acts =
     each-refused (call.ConfigureThrottle name interval acceleration deceleration (Err why)) old name (Set (setting.Throttle interval acceleration deceleration) (Err why)) new.slots acts.0.1
-    (λ s p named held. (peer-refused_memory old.slots name (throttling interval acceleration deceleration) s p why named held acts.0.0, refl)) (λ i s p ds e. e) (λ i s. refl) refl
+    (λ s p named held. (
+      (peer-refused_memory old.slots name (throttling interval acceleration deceleration) s p why named held acts.0.0, refl),
+      λ memory. ap wants_room_in (sym (ap peer_in named ∙ held)) ∙ acts.2 memory,
+    ))
+    (λ i s p ds e. e) (λ i s. refl) refl
 each-call (call.SetPingInterval name ms (Ok done)) old new acts =
     each-named (call.SetPingInterval name ms (Ok done)) old name (pinging ms) (Set (setting.PingInterval ms) (Ok done)) new.slots acts.0 (λ p r e. e) (λ i s p ds e. e) (λ i s. refl) refl
 each-call (call.SetPingInterval name ms (Err why)) old new acts =

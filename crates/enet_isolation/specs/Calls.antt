@@ -1,5 +1,6 @@
 -- A host through a list of calls, each of which does what its contract says.
-use Rattle.std.specs.Prelude.{◌≡◌, ℕ, List, [], ◌∷◌, Option, Result, Ok, Err}
+use Rattle.std.specs.Prelude.{◌≡◌, ℕ, Bool, true, List, [], ◌∷◌, Option, Result, Ok, Err, IfErr}
+use Rattle.std.specs.List.{list_any}
 use Rattle.enet_types.specs.declared.address.Addr.{Addr}
 use Rattle.enet_types.specs.declared.event.DisconnectMode.{DisconnectMode}
 use Rattle.enet_types.specs.declared.event.Event.{Event}
@@ -8,12 +9,13 @@ use Rattle.enet_types.specs.declared.event.Received.{Received}
 use Rattle.enet_types.specs.declared.refusal.Refusal.{Refusal}
 use Rattle.enet_types.specs.declared.refusal.Refusal.TheVariants as refusal
 use Rattle.enet_sender.specs.CommandChoice.{Packet}
-use Rattle.enet_host.specs.Host.{Host, KeepsRest}
+use Rattle.enet_host.specs.Host.{Host, KeepsRest, named}
 use Rattle.enet_host.specs.Opening.{Connects}
 use Rattle.enet_host.specs.Receiving.{Receives}
 use Rattle.enet_host.specs.Serving.{Serves}
 use Rattle.enet_host.specs.Ticking.{ticked}
 use Rattle.enet_slot.specs.Calls.{Submits, Does, DoesWithMemory, submission, leaving, throttling, pinging, waiting}
+use Rattle.enet_slot.specs.Sharing.{wants_room, wants_room_in}
 use Rattle.enet_host.specs.Calls.{Takes, on_named, with_bandwidth}
 
 -- whether a call without a result was refused, and why
@@ -34,10 +36,15 @@ pub data Call : Type 0 where
   SetTimeout : (name : PeerRef) (limit minimum maximum : ℕ) (answer : Done) → Call
   NextEvent : (answer : Option Event) → Call
 
--- what a call of set_bandwidth did: want of memory changes nothing
+-- memory is only refused where this says that it may be wanted
+abbrev pub IsWanted : Done → Bool → Type 0
+IsWanted answer wants = IfErr answer (λ why. why ≡ refusal.Memory → wants ≡ true)
+
+-- what a call of set_bandwidth did: want of memory changes nothing, and comes only where some connected peer has a command of
+-- channel 0xFF queued or unacknowledged
 abbrev pub Sets : Done → Host → Host → Host → Type 0
 Sets (Ok done) after old new = new ≡ after
-Sets (Err why) after old new = (why ≡ refusal.Memory) × (new ≡ old)
+Sets (Err why) after old new = (why ≡ refusal.Memory) × (new ≡ old) × (list_any wants_room old.slots ≡ true)
 
 -- what a call did, by the contract of `HostCore`
 abbrev pub Acts : Call → Host → Host → Type 0
@@ -50,6 +57,7 @@ Acts (Disconnect mode name info answer) old new = Does answer (on_named old.slot
 Acts (SetBandwidth incoming outgoing answer) old new = Sets answer (with_bandwidth old incoming outgoing) old new
 Acts (ConfigureThrottle name interval acceleration deceleration answer) old new =
     DoesWithMemory answer (on_named old.slots name (throttling interval acceleration deceleration)) old.slots new.slots × KeepsRest old new
+    × IsWanted answer (wants_room_in (named old.slots name))
 Acts (SetPingInterval name ms answer) old new = Does answer (on_named old.slots name (pinging ms)) old.slots new.slots × KeepsRest old new
 Acts (SetTimeout name limit minimum maximum answer) old new =
     Does answer (on_named old.slots name (waiting limit minimum maximum)) old.slots new.slots × KeepsRest old new

@@ -10,9 +10,10 @@ use Rattle.enet_peer.specs.Peering.{Peering}
 use Rattle.enet_peer.specs.CommandEffect.{Obeys, wants_memory, obeyed}
 use Rattle.enet_peer.specs.Calls.{Submits, Leaves, Takes, pace_of, destination_of, gone_on, left, ticked, next_event, with_bandwidth, with_throttle_limit}
 use Rattle.enet_slot.specs.Calls.{Does, DoesWithMemory, throttling, pinging, waiting}
+use Rattle.enet_slot.specs.Sharing.{wants_room_in}
 use Rattle.enet_connection.specs.Steps.{Way, leave_by, Setting}
 use Rattle.enet_connection.specs.Steps as setting
-use Rattle.enet_isolation.specs.Calls.{Done}
+use Rattle.enet_isolation.specs.Calls.{Done, IsWanted}
 
 -- what a peer is asked, with what it answers, also where it refuses or where memory is wanting
 pub data Deed : Type 0 where
@@ -36,10 +37,15 @@ bytes_of p now (m ∷ ms) = Some (datagram now (destination_of p) (m ∷ ms))
 abbrev pub put_out : Peering → ℕ → Option (List ℕ)
 put_out p now = bytes_of p now (filled (pace_of p now) p.outbox).messages
 
+-- something of which the other end is told is set, or refused: memory may be wanted where the peer is connected and has an earlier
+-- command of channel 0xFF queued or unacknowledged
+abbrev pub SetsAndTells : Done → Result Peering Refusal → Peering → Peering → Type 0
+SetsAndTells answer outcome old new = DoesWithMemory answer outcome old new × IsWanted answer (wants_room_in (Some old))
+
 -- something is set, or refused: by the peer's state the throttle's numbers alone, for want of memory what the other end is told
 abbrev pub Sets : Setting → Done → Peering → Peering → Type 0
-Sets (setting.Bandwidth incoming outgoing) answer old new = DoesWithMemory {S = Peering} answer (Ok (with_bandwidth old incoming outgoing)) old new
-Sets (setting.Throttle interval acceleration deceleration) answer old new = DoesWithMemory answer (throttling interval acceleration deceleration old) old new
+Sets (setting.Bandwidth incoming outgoing) answer old new = SetsAndTells answer (Ok (with_bandwidth old incoming outgoing)) old new
+Sets (setting.Throttle interval acceleration deceleration) answer old new = SetsAndTells answer (throttling interval acceleration deceleration old) old new
 Sets (setting.ThrottleLimit limit) answer old new = Does {S = Peering} answer (Ok (with_throttle_limit old limit)) old new
 Sets (setting.PingInterval ms) answer old new = Does answer (pinging ms old) old new
 Sets (setting.Timeout limit minimum maximum) answer old new = Does answer (waiting limit minimum maximum old) old new

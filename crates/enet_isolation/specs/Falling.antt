@@ -91,7 +91,8 @@ taken_from h i (Some (event.Receive name packet)) = taken_up_to h i name (told.R
 taken_from h i (Some (event.Disconnect name info)) = taken_up_to h i name (told.Disconnect info)
 taken_from h i (Some (event.Refused seat number why)) = []
 
--- the deeds by which a call on a host fell to the peer p of its slot i, which is s
+-- the deeds by which a call on a host fell to the peer p of its slot i, which is s. A refused call of the whole host falls to nobody: the
+-- memory that it wanted may be another peer's
 abbrev pub Fell : Common → ℕ → SlotState → Peering → Call → List Deed → Type 0
 Fell h i s p (call.Connect address channels info word answer) ds = ds ≡ []
 Fell h i s p (call.Submit name channel q answer) ds =
@@ -101,7 +102,8 @@ Fell h i s p (call.Service answer buf) ds = ds ≡ asked_for h i answer buf
 Fell h i s p (call.Tick ms) ds =
     ds ≡ Tick (clock_after h.clock ms) ∷ share_of h (clock_after h.clock ms) s.emitted (peers.ticked p (clock_after h.clock ms))
 Fell h i s p (call.Disconnect mode name info answer) ds = ds ≡ deeds_if (is_meant name i s) (Disconnect (way_of mode) info answer)
-Fell h i s p (call.SetBandwidth incoming outgoing answer) ds = ds ≡ Set (setting.Bandwidth incoming outgoing) answer ∷ []
+Fell h i s p (call.SetBandwidth incoming outgoing (Ok done)) ds = ds ≡ Set (setting.Bandwidth incoming outgoing) (Ok done) ∷ []
+Fell h i s p (call.SetBandwidth incoming outgoing (Err why)) ds = ds ≡ []
 Fell h i s p (call.ConfigureThrottle name interval acceleration deceleration answer) ds =
     ds ≡ deeds_if (is_meant name i s) (Set (setting.Throttle interval acceleration deceleration) answer)
 Fell h i s p (call.SetPingInterval name ms answer) ds = ds ≡ deeds_if (is_meant name i s) (Set (setting.PingInterval ms) answer)

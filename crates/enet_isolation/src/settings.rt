@@ -7,15 +7,15 @@ use enet_host::HostCore;
 use enet_types::{PeerRef, Refusal};
 
 /// Sets the host's bandwidths, in bytes per second, as `HostCore::set_bandwidth`. E1 where memory is refused, with nothing
-/// changed.
+/// changed; only where some connected peer has a command of channel 0xFF queued or unacknowledged.
 pub fn set_bandwidth(host: &mut HostCore, incoming: u32, outgoing: u32) -> Result<(), Refusal>
     ensures { Acts (SetBandwidth incoming outgoing result) host.old host.new }
 {
     host.set_bandwidth(incoming, outgoing)
 }
 
-/// Sets the throttle of a peer, as `HostCore::throttle_configure`. E2; E3 where the peer is not connected; E1: then nothing has
-/// changed.
+/// Sets the throttle of a peer, as `HostCore::throttle_configure`. E2; E3 where the peer is not connected; E1, only where it has a
+/// command of channel 0xFF queued or unacknowledged: then nothing has changed.
 pub fn throttle_configure(
     host: &mut HostCore,
     peer: PeerRef,
