@@ -32,8 +32,27 @@ const BUSY: u32 = 8;
 
 const LOOKS: u32 = 5;
 
-/// How many bytes of datagrams the system is asked to keep until they are received.
-const RECEIVE_BUFFER: u32 = 4_194_304;
+/// How many bytes of datagrams the system is asked to keep until they are received, and as many until they are sent.
+const BUFFER: u32 = 4_194_304;
+
+/// Why there is no socket.
+#[derive(Clone, Copy)]
+pub struct Unopened {
+    /// E14 or E1.
+    pub why: Refusal,
+    /// What the system said, where it is the system that refused.
+    pub reason: Option<io::Error>,
+}
+
+impl From<Refusal> for Unopened {
+    ghost use Rattle.std.specs.Prelude.{◌≡◌, None};
+
+    ghost from_gives = { λ why unopened. unopened ≡ record { why = why; reason = None } };
+
+    fn from(why: Refusal) -> Unopened {
+        Unopened { why, reason: None }
+    }
+}
 
 /// A UDP socket, whose wait other threads can end. It doesn't tell what its calls did, since only the system knows that.
 #[derive(Drop)]
@@ -45,7 +64,10 @@ pub struct MioWire {
     // The moment up to which milliseconds were told.
     told_to: Option<Instant>,
     failures: u64,
-    // The socket was seen empty since the last datagram. The system tells readiness once, where it changes.
+    // What the system said of the last failure.
+    reason: Option<io::Error>,
+    // Since the last datagram the socket was seen empty, or a reception failed that can be repeated. The system tells readiness
+    // once, where it changes.
     drained: bool,
     // A send would have blocked since the last wait.
     blocked: bool,
@@ -57,21 +79,38 @@ pub struct MioWire {
 }
 
 impl MioWire {
-    /// A socket at this address, with a receive buffer of 4 MB where the system grants that.
+    /// A socket at this address, with a receive buffer and a send buffer of 4 MB each where the system grants that.
     ///
     /// E14 where the address can't be had, or the system grants nothing to wait by; E1 for want of memory.
     pub fn bind<R: Net + AllocGlobal>(rt: &R, addr: Addr) -> Result<MioWire, Refusal>
         ensures new { IfOk result (λ wire. failures_of wire ≡ 0) }
         ensures refused { IfErr result (λ why. (why ≡ Refusal.WireFault) ⊎ (why ≡ Refusal.Memory)) }
     {
+        match MioWire::open(rt, addr) {
+            Ok(wire) => Ok(wire),
+            Err(unopened) => Err(unopened.why),
+        }
+    }
+
+    /// As [`MioWire::bind`], and beside E14 what the system said.
+    pub fn open<R: Net + AllocGlobal>(rt: &R, addr: Addr) -> Result<MioWire, Unopened>
+        ensures new { IfOk result (λ wire. failures_of wire ≡ 0) }
+        ensures refused { IfErr result (λ unopened. (unopened.why ≡ Refusal.WireFault) ⊎ (unopened.why ≡ Refusal.Memory)) }
+    {
         let Ok(events) = Events::with_capacity(rt.alloc(), 4) else {
-            return Err(Refusal::Memory);
+            return Err(Unopened::from(Refusal::Memory));
         };
-        let Some((socket, poll, bell)) = opened(rt, addr) else {
-            return Err(Refusal::WireFault);
+        let (socket, poll, bell) = match opened(rt, addr) {
+            Ok(opened) => opened,
+            Err(reason) => {
+                return Err(Unopened {
+                    why: Refusal::WireFault,
+                    reason: Some(reason),
+                });
+            }
         };
         let Ok(bell) = Arc::new(rt.alloc(), bell) else {
-            return Err(Refusal::Memory);
+            return Err(Unopened::from(Refusal::Memory));
         };
         Ok(MioWire {
             socket,
@@ -80,6 +119,7 @@ impl MioWire {
             bell,
             told_to: None,
             failures: 0,
+            reason: None,
             drained: true,
             blocked: false,
             lost: false,
@@ -98,11 +138,30 @@ impl MioWire {
         }
     }
 
-    fn fault<T>(&mut self) -> Result<T, Refusal>
+    /// How many bytes of datagrams the system keeps until they are received, as it tells: Linux tells twice as many as it granted,
+    /// for what it needs beside them. None where it doesn't tell.
+    pub fn receive_buffer(&self) -> Option<u32> {
+        let mut value = [0u8; 16];
+        let mut len = 4u32;
+        let fd = self.socket.as_raw_fd();
+        let told = unsafe { c::getsockopt(fd, c::SOL_SOCKET, c::SO_RCVBUF, &mut value, &mut len) };
+        if told != 0 {
+            return None;
+        }
+        Some(u32::from_ne_bytes([value[0], value[1], value[2], value[3]]))
+    }
+
+    /// What the system said at the last call that answered E14.
+    pub fn reason(&self) -> Option<io::Error> {
+        self.reason
+    }
+
+    fn fault<T>(&mut self, reason: io::Error) -> Result<T, Refusal>
         requires { failures_of self.old < 18446744073709551615 }
         ensures answer { result ≡ Err Refusal.WireFault }
         ensures count { failures_of self.new ≡ failures_of self.old + 1 }
     {
+        self.reason = Some(reason);
         self.failures += 1;
         Err(Refusal::WireFault)
     }
@@ -130,8 +189,8 @@ impl MioWire {
         false
     }
 
-    // Sleeps until a datagram comes, the bell is rung or the time is over. False where the system can't wait.
-    fn sleep(&mut self) -> bool
+    // Sleeps until a datagram comes, the bell is rung or the time is over. An error where the system can't wait.
+    fn sleep(&mut self) -> io::Result<()>
         ensures { failures_of self.new ≡ failures_of self.old }
     {
         let longest = if self.blocked {
@@ -146,8 +205,8 @@ impl MioWire {
         let polled = self.poll.poll(&mut self.events, limit);
         self.bell.get_up();
         match polled {
-            Ok(()) => true,
-            Err(why) => why.kind() == ErrorKind::Interrupted,
+            Err(why) if why.kind() == ErrorKind::Interrupted => Ok(()),
+            polled => polled,
         }
     }
 
@@ -170,23 +229,23 @@ impl MioWire {
     }
 }
 
-fn opened<R: Net>(rt: &R, addr: Addr) -> Option<(UdpSocket, Poll, Bell)> {
-    let poll = Poll::new(rt).ok()?;
-    let mut socket = UdpSocket::bind(rt, socket_addr(addr)).ok()?;
+fn opened<R: Net>(rt: &R, addr: Addr) -> io::Result<(UdpSocket, Poll, Bell)> {
+    let poll = Poll::new(rt)?;
+    let mut socket = UdpSocket::bind(rt, socket_addr(addr))?;
     widen(&socket);
     poll.registry()
-        .register(&mut socket, SOCKET, Interest::READABLE)
-        .ok()?;
-    let bell = Bell::new(poll.registry()).ok()?;
-    Some((socket, poll, bell))
+        .register(&mut socket, SOCKET, Interest::READABLE)?;
+    let bell = Bell::new(poll.registry())?;
+    Ok((socket, poll, bell))
 }
 
-// Asks the system to keep more datagrams that weren't received yet. It may keep fewer, which is no fault.
+// Asks the system to keep more datagrams that weren't received yet, or didn't leave yet. It may keep fewer, which is no fault.
 fn widen(socket: &UdpSocket) {
     let mut value = [0u8; 16];
-    value[..4].copy_from_slice(&RECEIVE_BUFFER.to_ne_bytes());
+    value[..4].copy_from_slice(&BUFFER.to_ne_bytes());
     let fd = socket.as_raw_fd();
     let _ = unsafe { c::setsockopt(fd, c::SOL_SOCKET, c::SO_RCVBUF, &value, 4) };
+    let _ = unsafe { c::setsockopt(fd, c::SOL_SOCKET, c::SO_SNDBUF, &value, 4) };
 }
 
 fn socket_addr(addr: Addr) -> SocketAddr {
@@ -204,11 +263,9 @@ fn plain_addr(addr: SocketAddr) -> Option<Addr> {
     }
 }
 
-// What became of a datagram that was to be sent.
+// Why a datagram didn't leave.
 #[derive(Clone, Copy)]
-enum Sending {
-    // It left.
-    Over,
+enum Unsent {
     // An error of its destination or of its length lost it.
     Lost,
     // There is no room at the moment.
@@ -223,15 +280,24 @@ const TOO_LONG: i32 = 90;
 /// ENOBUFS of Linux.
 const NO_BUFFERS: i32 = 105;
 
-fn outcome_of(why: &io::Error) -> Sending {
+/// ENONET, EPROTO, ENOPROTOOPT and EHOSTDOWN of Linux, which it makes of the network's words on a datagram that was sent.
+const NO_NETWORK: i32 = 64;
+
+const BAD_PROTOCOL: i32 = 71;
+
+const NO_SUCH_PROTOCOL: i32 = 92;
+
+const HOST_DOWN: i32 = 112;
+
+fn why_unsent(why: &io::Error) -> Unsent {
     match why.raw_os_error() {
-        Some(TOO_LONG) => return Sending::Lost,
-        Some(NO_BUFFERS) => return Sending::Blocked,
+        Some(TOO_LONG) => return Unsent::Lost,
+        Some(NO_BUFFERS) => return Unsent::Blocked,
         _ => {}
     }
     match why.kind() {
         ErrorKind::WouldBlock | ErrorKind::Interrupted | ErrorKind::OutOfMemory => {
-            Sending::Blocked
+            Unsent::Blocked
         }
         ErrorKind::InvalidInput
         | ErrorKind::PermissionDenied
@@ -239,9 +305,33 @@ fn outcome_of(why: &io::Error) -> Sending {
         | ErrorKind::ConnectionRefused
         | ErrorKind::HostUnreachable
         | ErrorKind::NetworkUnreachable
-        | ErrorKind::NetworkDown => Sending::Lost,
-        _ => Sending::Failed,
+        | ErrorKind::NetworkDown => Unsent::Lost,
+        _ => Unsent::Failed,
     }
+}
+
+// Whether a reception that failed so need not fail again: it was interrupted, memory was wanting, or the network said that a
+// datagram that was sent before didn't arrive.
+fn can_be_repeated(why: &io::Error) -> bool {
+    if let Some(
+        TOO_LONG | NO_BUFFERS | NO_NETWORK | BAD_PROTOCOL | NO_SUCH_PROTOCOL | HOST_DOWN,
+    ) = why.raw_os_error()
+    {
+        return true;
+    }
+    matches!(
+        why.kind(),
+        ErrorKind::WouldBlock
+            | ErrorKind::Interrupted
+            | ErrorKind::OutOfMemory
+            | ErrorKind::TimedOut
+            | ErrorKind::ConnectionRefused
+            | ErrorKind::ConnectionReset
+            | ErrorKind::ConnectionAborted
+            | ErrorKind::HostUnreachable
+            | ErrorKind::NetworkUnreachable
+            | ErrorKind::NetworkDown
+    )
 }
 
 impl Wire for MioWire {
@@ -249,6 +339,8 @@ impl Wire for MioWire {
 
     ghost faults = { λ w. failures_of w };
 
+    /// None, too, where the reception failed in a way that need not come again: that is no fault. The next wait sleeps then as
+    /// after an empty socket, so that it isn't tried without a pause.
     fn recv(&mut self, buf: &mut [u8; 4096]) -> Result<Option<(Addr, usize)>, Refusal> {
         if self.failures == u64::MAX {
             return Ok(None);
@@ -262,16 +354,11 @@ impl Wire for MioWire {
                     None => Ok(None),
                 }
             }
-            Err(why) if why.kind() == ErrorKind::WouldBlock => {
+            Err(why) if can_be_repeated(&why) => {
                 self.drained = true;
                 Ok(None)
             }
-            // The network says that an earlier datagram didn't arrive.
-            Err(why) if why.kind() == ErrorKind::ConnectionRefused => {
-                self.drained = false;
-                Ok(None)
-            }
-            Err(_) => self.fault(),
+            Err(why) => self.fault(why),
         }
     }
 
@@ -281,26 +368,24 @@ impl Wire for MioWire {
         if self.failures == u64::MAX {
             return Ok(false);
         }
-        let sent = self.socket.send_to(bytes, socket_addr(to));
-        let outcome = match sent {
-            Ok(_) => Sending::Over,
-            Err(why) => outcome_of(&why),
+        let why = match self.socket.send_to(bytes, socket_addr(to)) {
+            Ok(_) => {
+                self.sent = self.sent.saturating_add(1);
+                self.done = self.done.saturating_add(1);
+                return Ok(true);
+            }
+            Err(why) => why,
         };
-        match outcome {
-            Sending::Blocked => {
+        match why_unsent(&why) {
+            Unsent::Blocked => {
                 self.blocked = true;
                 Ok(false)
             }
-            Sending::Lost => {
+            Unsent::Lost => {
                 self.lost = true;
                 Ok(false)
             }
-            Sending::Over => {
-                self.sent = self.sent.saturating_add(1);
-                self.done = self.done.saturating_add(1);
-                Ok(true)
-            }
-            Sending::Failed => self.fault(),
+            Unsent::Failed => self.fault(why),
         }
     }
 
@@ -308,8 +393,10 @@ impl Wire for MioWire {
         if self.failures == u64::MAX {
             return Ok(0);
         }
-        if !self.is_wanted() && !self.sleep() {
-            return self.fault();
+        if !self.is_wanted() {
+            if let Err(why) = self.sleep() {
+                return self.fault(why);
+            }
         }
         Ok(self.passed(rt))
     }

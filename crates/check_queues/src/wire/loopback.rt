@@ -1,7 +1,7 @@
 //! A socket's wire and a UDP socket of std on 127.0.0.1.
 
 use enet_types::{Addr, Refusal};
-use enet_wire::{Bell, MioWire, Wire};
+use enet_wire::{Bell, MioWire, Unopened, Wire};
 use std::io;
 use std::net::{Ipv4Addr, Net, SocketAddr, UdpSocket};
 use std::sync::Wait;
@@ -83,10 +83,40 @@ fn why_not_bound<R: Net + AllocGlobal>(rt: &R, there: &UdpSocket) -> io::Result<
     Ok(MioWire::bind(rt, Addr { ip: HERE, port }).err())
 }
 
+// What the system says of a wire that isn't opened at this address.
+fn why_not_opened<R: Net + AllocGlobal>(rt: &R, addr: Addr) -> Option<(Refusal, io::ErrorKind)> {
+    match MioWire::open(rt, addr) {
+        Ok(_) => None,
+        Err(Unopened { why, reason }) => Some((why, reason?.kind())),
+    }
+}
+
 #[test]
 fn an_address_that_is_taken(rt: HostRuntime) -> Result<(), Fail> {
     let there = far_socket(&rt)?;
+    let port = there.local_addr()?.port();
     assert!(rt; why_not_bound(&rt, &there)? == Some(Refusal::WireFault));
+    let taken = Some((Refusal::WireFault, io::ErrorKind::AddrInUse));
+    assert!(rt; why_not_opened(&rt, Addr { ip: HERE, port }) == taken);
+    Ok(())
+}
+
+#[test]
+fn an_address_that_is_not_here(rt: HostRuntime) -> Result<(), Fail> {
+    let elsewhere = Addr {
+        ip: 0xc000_0201,
+        port: 47001,
+    };
+    let absent = Some((Refusal::WireFault, io::ErrorKind::AddrNotAvailable));
+    assert!(rt; why_not_opened(&rt, elsewhere) == absent);
+    Ok(())
+}
+
+#[test]
+fn the_receive_buffer_is_told(rt: HostRuntime) -> Result<(), Fail> {
+    let wire = bound(&rt)?;
+    assert!(rt; matches!(wire.receive_buffer(), Some(1..)));
+    assert!(rt; wire.reason().is_none());
     Ok(())
 }
 
