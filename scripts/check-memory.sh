@@ -1,5 +1,6 @@
 #!/usr/bin/env bash
-# Refuses each growth of six worked rows in turn, and prints what came of it.
+# Refuses each growth of six worked rows and of a fleet's row in turn, and prints what came of it. The fleet's row is run with calls
+# behind it, too, that take no memory: it may have no more growths then.
 # The program is built once, by `rt try`, in which the growth number LAST fails; case k of a row is told to make LAST - k growths
 # before its calls, so that the refused one is growth k of what follows. It ends with status 4 where there are fewer than k.
 # LAST is the argument, 128 where none is given; it must be above the number of a row's growths. The last line is 'N growths
@@ -9,12 +10,15 @@ last=${1:-128}
 rows=../../scripts/rows
 names='one-reliable-packet reliable-out-of-order unreliable-waits-for-reliable
 long-reliable-packet-goes-as-reliable-fragments ask-to-disconnect-with-packets-untaken
-connect-handshake'
+connect-handshake fleet fleet-and-on'
 room=$(mktemp -d) || exit 1
 trap 'rm -rf "$room"' EXIT
 mkdir "$room/cases"
 for name in $names; do
-    { cat "$rows/$name.lab"; echo =; cat "$rows/$name.out"; } > "$room/input"
+    case $name in
+        fleet*) echo "${name//-/ }" ;;
+        *) cat "$rows/$name.lab"; echo =; cat "$rows/$name.out" ;;
+    esac > "$room/input"
     for ((k = 1; k <= last; k++)); do
         { printf '%05d\n' $((last - k)); cat "$room/input"; } > "$room/cases/$name.$(printf '%05d' "$k")"
     done
@@ -48,9 +52,11 @@ awk -v last="$last" -v names="$names" '
                 else silent++
             }
             printf "%s: %d refused calls repeated\n", rows[i], told
+            growths[rows[i]] = k - 1
             if (over && k == 1) { print rows[i] " has no growths"; wrong++ }
             if (!over) { print rows[i] " has more growths than " last - 1; wrong++ }
         }
+        if (growths["fleet"] != growths["fleet-and-on"]) { print "calls that take no memory of a fleet have growths"; wrong++ }
         printf "%d growths refused in turn: %d answered by a refusal and repeated, %d that no answer needs, %d of the program itself, %d wrong\n", tried, answered, silent, own, wrong
         exit (wrong > 0)
     }

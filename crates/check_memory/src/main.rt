@@ -7,10 +7,14 @@
 //! answer is another. Status 2: a growth of the program's own was refused. Status 3: input or output failed. Status 4: the growth
 //! behind the last call's was refused, so that the calls have no more.
 //!
+//! In place of the script may stand `fleet`, a row of a fleet that stands in fleet.rt with its answers, or `fleet and on`, where calls
+//! follow that take no memory, so that both have as many growths. A line of that row is told by its number, the making being line 1.
+//!
 //! What no script of the lab can say, bandwidths and the throttle's numbers, `check_hosts` has a script of.
 #![tactic(auto)]
 
 mod fault;
+mod fleet;
 mod row;
 mod seen;
 
@@ -40,7 +44,11 @@ fn run_input(alloc: Global, number: &str, input: &str) -> Result<u32, Fault> {
         return Err(Fault::Io);
     };
     grow(alloc, count, Fault::OwnMemory)?;
-    row::run(alloc, script, answers)
+    match script.trim_end() {
+        "fleet" => fleet::run(alloc, false),
+        "fleet and on" => fleet::run(alloc, true),
+        _ => row::run(alloc, script, answers),
+    }
 }
 
 fn run<R: Print + Input + AllocGlobal>(rt: &R) -> Result<(), Fault> {

@@ -1,17 +1,21 @@
-//! What the reading calls of a world tell, as one number.
+//! What the reading calls of a world or a fleet tell, as one number.
 
+use enet_fleet::{End, Fleet, Node};
 use enet_types::{Event, Packet};
 use enet_world::{Side, World};
 
-/// How many connections, channels and datagrams of a side are read. No row has more.
+/// How many connections, channels and datagrams of a host are read. No row has more.
 const CONNECTIONS: u64 = 2;
 
 const CHANNELS: u8 = 2;
 
 const DATAGRAMS: u64 = 4;
 
-/// A sum over all that the reading calls of a world tell: each list with its length and each packet, event and datagram with
-/// its bytes. What tells the same has the same sum, and what differs hardly ever has.
+/// The hosts of a fleet that are read.
+const NODES: [Node; 3] = [Node::Server, Node::Client(0), Node::Client(1)];
+
+/// A sum over all that the reading calls of a world or a fleet tell: each list with its length and each packet, event and
+/// datagram with its bytes. What tells the same has the same sum, and what differs hardly ever has.
 #[derive(Drop)]
 pub(crate) struct Seen {
     sum: u64,
@@ -23,6 +27,19 @@ impl Seen {
         let mut seen = Seen { sum: 0 };
         seen.add_side(world, Side::A);
         seen.add_side(world, Side::B);
+        seen.sum
+    }
+
+    /// The sum of what a fleet tells now.
+    pub(crate) fn of_fleet(fleet: &Fleet) -> u64 {
+        let mut seen = Seen { sum: 0 };
+        for connection in 0..CONNECTIONS {
+            seen.add_end(fleet, connection, End::Client);
+            seen.add_end(fleet, connection, End::Server);
+        }
+        for node in NODES {
+            seen.add_node(fleet, node);
+        }
         seen.sum
     }
 
@@ -105,5 +122,26 @@ impl Seen {
             self.add_connection(world, connection, side);
         }
         self.add_datagrams(world, side);
+    }
+
+    fn add_end(&mut self, fleet: &Fleet, connection: u64, end: End) {
+        for channel in 0..CHANNELS {
+            self.add_packets(fleet.submitted(connection, end, channel));
+            self.add_packets(fleet.dispatched(connection, end, channel));
+        }
+        self.add_events(fleet.events(connection, end));
+    }
+
+    fn add_node(&mut self, fleet: &Fleet, node: Node) {
+        for k in 0..DATAGRAMS {
+            match fleet.datagram(node, k) {
+                Some((to, bytes)) => {
+                    self.add(u64::from(to.ip));
+                    self.add(u64::from(to.port));
+                    self.add_bytes(bytes);
+                }
+                None => self.add(u64::MAX),
+            }
+        }
     }
 }

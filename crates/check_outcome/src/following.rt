@@ -48,7 +48,7 @@ fn goes_reliable(mtu: u32, unreliable: u32, packet: &Packet) -> bool
 }
 
 /// Whether a packet that was taken is of this channel and came in sequence.
-pub fn came_in_sequence(channel: u8, packet: &Packet) -> bool
+fn came_in_sequence(channel: u8, packet: &Packet) -> bool
     ensures { result ≡ came_in_sequence channel packet.now }
 {
     packet.channel == channel && packet.flags != UNSEQUENCED

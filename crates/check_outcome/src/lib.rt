@@ -1,16 +1,19 @@
-//! Whether what happened in a world of two hosts is what the headline promises: tests whose contracts are built of the network's
-//! own definitions, for a given mtu, over the lists that the world lends. By these drawn lists are judged.
+//! Whether what happened in a world of two hosts, or in a fleet, is what the headline promises: tests whose contracts are built of the
+//! network's own definitions, for a given mtu, over the lists that the world or the fleet lends. By these drawn lists are judged.
 //!
 //! Proved: `follows` is true exactly where the packets that were taken of a channel follow those that were submitted on it
 //! (`FollowsFrom`, which from the first packet on is `Follows`), `is_life` exactly where a user's events are one life of some peer
-//! (`IsSomeLife`), and `is_sound` exactly where both hold at each connection, side and channel (`IsSound`).
+//! (`IsSomeLife`), and `is_sound` exactly where both hold at each connection, side and channel (`IsSound`), as does `is_fleet_sound` of a
+//! fleet's connections and ends (`IsFleetSound`).
 //! Only tested, by `check_lists`: that worked cases are judged as by hand.
 #![tactic(auto)]
 
+mod fleet;
 mod following;
 mod life;
 mod sound;
 
-pub use following::{came_in_sequence, follows};
+pub use fleet::{is_end_sound, is_fleet_sound};
+pub use following::follows;
 pub use life::is_life;
 pub use sound::{is_side_sound, is_sound};

@@ -1,8 +1,9 @@
-//! What is tested once a list has happened.
+//! What is tested once a list has happened in a world of two hosts.
 
 ghost use Rattle.std.specs.Prelude.{◌<◌, ◌≤◌, ◌↔◌, ℕ, IsTrue};
-ghost use Rattle.enet_network.specs.Headline.{AreOn};
-ghost use Rattle.check_outcome.specs.Sound.{AreInOrder, IsInOrderAt, IsSideSound, IsSound};
+ghost use Rattle.enet_network.specs.Headline.{AreOn, end_at};
+ghost use Rattle.enet_network.specs.World.{other};
+ghost use Rattle.check_outcome.specs.Sound.{AreInOrder, IsFollowed, IsSideSound, IsSound};
 
 use crate::following::follows;
 use crate::life::is_life;
@@ -20,7 +21,7 @@ fn are_on(channel: u8, packets: &[Packet]) -> bool
 }
 
 /// Whether what was taken of a channel follows what was submitted on it, and both lists have packets of that channel alone.
-fn are_in_order(mtu: u32, channel: u8, submitted: &[Packet], taken: &[Packet]) -> bool
+pub(crate) fn are_in_order(mtu: u32, channel: u8, submitted: &[Packet], taken: &[Packet]) -> bool
     requires { 576 ≤ mtu }
     ensures { IsTrue result ↔ AreInOrder mtu channel submitted.now taken.now }
 {
@@ -32,7 +33,7 @@ fn are_in_order(mtu: u32, channel: u8, submitted: &[Packet], taken: &[Packet]) -
 /// Whether what a side submitted on so many channels of a connection is followed.
 fn is_in_order(world: &World, mtu: u32, channels: u8, connection: u64, side: Side) -> bool
     requires { 576 ≤ mtu }
-    ensures { IsTrue result ↔ ((channel : ℕ) → channel < channels → IsInOrderAt world.now.world mtu connection side channel) }
+    ensures { IsTrue result ↔ ((channel : ℕ) → channel < channels → IsFollowed mtu (end_at world.now.world connection side) (end_at world.now.world connection (other side)) channel) }
 {
     for channel in 0..channels {
         let submitted = world.submitted(connection, side, channel);
