@@ -185,6 +185,55 @@ fn pieces_past_the_window(rt: HostRuntime) {
     assert!(rt; receiver.held() == 700);
 }
 
+/// Whether the second of two packets is held until the first comes, and both are dispatched then.
+fn comes_second_first(receiver: &mut Incoming, first: u16) -> bool {
+    let second = first.wrapping_add(1);
+    let rows = [
+        (reliable(0, second, b"b"), false, Took::Held),
+        (reliable(0, second, b"b"), false, Took::Again),
+        (reliable(0, first, b"a"), false, Took::Held),
+        (reliable(0, second, b"b"), false, Took::Again),
+    ];
+    receives(receiver, &rows)
+        && pops(receiver, &[(1, b"a"), (1, b"b")])
+        && receiver.pop().is_none()
+        && receiver.held() == 0
+}
+
+// Every second number is held when it comes, and twice when all come round again.
+#[test]
+fn numbers_come_round_again(rt: HostRuntime) {
+    let mut receiver = Incoming::open(rt.alloc(), 0, 10).ok().expect(&rt, "open");
+    let mut first = 1u16;
+    for _pair in 0..70_000u32 {
+        assert!(rt; comes_second_first(&mut receiver, first));
+        first = first.wrapping_add(2);
+    }
+}
+
+// A packet that stands far past the front, in another block of numbers, stays held while those before it come.
+#[test]
+fn held_in_a_block_far_ahead(rt: HostRuntime) {
+    let mut receiver = Incoming::open(rt.alloc(), 0, 10).ok().expect(&rt, "open");
+    assert!(rt;
+        receives(
+            &mut receiver,
+            &[(reliable(0, 20_000, b"z"), false, Took::Held)]
+        )
+    );
+    for number in 1..20_000u16 {
+        assert!(rt;
+            receives(
+                &mut receiver,
+                &[(reliable(0, number, b"a"), false, Took::Held)]
+            )
+        );
+        assert!(rt; pops(&mut receiver, &[(1, b"a")]));
+    }
+    assert!(rt; pops(&mut receiver, &[(1, b"z")]));
+    assert!(rt; receiver.pop().is_none());
+}
+
 fn open(alloc: Global, channels: u8, max_packet: u32, max_waiting: u32) -> Option<Inbox> {
     Inbox::open(alloc, channels, max_packet, max_waiting).ok()
 }

@@ -70,11 +70,7 @@ fn a_piece_taken_back(rt: HostRuntime) {
 #[test]
 fn marks_as_words(rt: HostRuntime) {
     let mut packet = assembly(rt.alloc(), 40, 40).expect(&rt, "memory");
-    for (number, word, want) in [
-        (0u32, 0u32, Some(1u32)),
-        (33, 1, Some(2)),
-        (33, 2, None),
-    ] {
+    for (number, word, want) in [(0u32, 0u32, Some(1u32)), (33, 1, Some(2)), (33, 2, None)] {
         let _ = put(&mut packet, (40, 40), number, number, b"x");
         assert!(rt; packet.word(word) == want);
     }

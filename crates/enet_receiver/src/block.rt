@@ -8,7 +8,7 @@ use std::alloc::Global;
 use std::marker::Model;
 
 /// How many numbers a block has.
-const NUMBERS: u16 = 4_096;
+pub(crate) const NUMBERS: u16 = 4_096;
 
 /// Marks of a block's 4,096 numbers, in 128 words. Contracts see them as a list.
 #[derive(Drop)]

@@ -4,14 +4,11 @@ ghost use Rattle.std.specs.Prelude.{◌≡◌, ◌≤◌, ◌<◌, ◌/◌, ◌=
 ghost use Rattle.std.specs.Vec.{vec_len};
 ghost use Rattle.enet_receiver.specs.Blocks.{marked_in};
 
-use crate::block::Block;
+use crate::block::{Block, NUMBERS};
 use std::alloc::Global;
 
 /// How many blocks all numbers make.
 const BLOCKS: usize = 16;
-
-/// How many numbers a block has.
-const NUMBERS: u16 = 4_096;
 
 /// Whether a number is marked.
 pub(crate) fn is_marked(blocks: &Vec<Option<Block>>, number: u16) -> bool
