@@ -1,9 +1,11 @@
 //! One list of events in a world of two hosts that know nothing of each other.
 
-use crate::counting::Told;
-use crate::drawing::{Draw, Known, Setting};
+use crate::counting::told_of;
+use crate::drawing;
+use crate::drawing::{Hosts, nothing_known};
 use anyhow::bail;
-use enet_types::{Config, Event, Refusal, Stop};
+use check_drawing::{Draw, Known, Setting, Told};
+use enet_types::{Refusal, Stop};
 use enet_world::{Answer, Side, World, WorldEvent};
 use std::alloc::Global;
 
@@ -41,8 +43,8 @@ impl Happened {
             refused: 0,
             stopped: 0,
             undrawn: 0,
-            a: Known::nothing(),
-            b: Known::nothing(),
+            a: nothing_known(),
+            b: nothing_known(),
         }
     }
 
@@ -64,17 +66,15 @@ impl Happened {
     /// A side has put out so many datagrams, to the other.
     fn put_out(&mut self, side: Side, sent: u64) {
         match side {
-            Side::A => self.b.sent = sent,
-            Side::B => self.a.sent = sent,
+            Side::A => self.b.way.sent = sent,
+            Side::B => self.a.way.sent = sent,
         }
     }
 
     /// Datagram `k` comes to a side, if it was put out.
     fn comes(&mut self, side: Side, k: u64) {
         let mut known = self.known(side);
-        if k < known.sent {
-            known.first = known.first.max(k.saturating_add(1));
-        }
+        known.way.comes(k);
         self.set_known(side, known);
     }
 
@@ -83,18 +83,13 @@ impl Happened {
             Answer::Peer(name) => {
                 self.connections = self.connections.saturating_add(1);
                 let mut known = self.known(side);
-                known.has_peer(*name);
+                known.peers.has_peer(*name);
                 self.set_known(side, known);
             }
             Answer::Sent(Some(number)) => self.put_out(side, number.saturating_add(1)),
-            Answer::Taken(Some(Event::Connect { peer, .. })) => {
+            Answer::Taken(Some(event)) => {
                 let mut known = self.known(side);
-                known.connects(*peer);
-                self.set_known(side, known);
-            }
-            Answer::Taken(Some(Event::Disconnect { peer, .. })) => {
-                let mut known = self.known(side);
-                known.disconnects(*peer);
+                known.peers.told(event);
                 self.set_known(side, known);
             }
             _ => {}
@@ -111,21 +106,10 @@ impl Happened {
     }
 }
 
-/// The settings of a host with so many slots.
-fn config(setting: Setting, peers: u16) -> Config {
-    Config {
-        mtu: setting.mtu,
-        outgoing: setting.outgoing,
-        max_waiting: setting.max_waiting,
-        clock: setting.clock,
-        ..Config::standard(peers, setting.channels)
-    }
-}
-
 /// The world before its list, or None for want of memory. No clause says what: callers would carry it along.
-pub fn open(alloc: Global, setting: Setting) -> Option<World> {
-    let first = config(setting, setting.peers_a);
-    let second = config(setting, setting.peers_b);
+pub fn open(alloc: Global, hosts: Hosts) -> Option<World> {
+    let first = hosts.setting.config(hosts.slots_a);
+    let second = hosts.setting.config(hosts.slots_b);
     World::open(alloc, first, second).ok()
 }
 
@@ -143,8 +127,8 @@ pub fn happens(
 ) -> anyhow::Result<Happened> {
     let mut happened = Happened::nothing();
     for number in 0..EVENTS {
-        let side = draw.side();
-        match draw.event(alloc, number, setting, side, happened.known(side)) {
+        let side = drawing::side(draw);
+        match drawing::event(draw, alloc, number, setting, side, happened.known(side)) {
             Ok(event) => happen(world, &mut happened, side, event)?,
             Err(_) => happened.undrawn = happened.undrawn.saturating_add(1),
         }
@@ -162,7 +146,7 @@ fn happen(
     if let WorldEvent::Deliver { k, .. } = event {
         happened.comes(side, k);
     }
-    let before = Told::of(world, happened.connections);
+    let before = told_of(world, happened.connections);
     match stepped(world, event) {
         Err(Refusal::Memory) => {
             happened.refused = happened.refused.saturating_add(1);
@@ -185,9 +169,9 @@ fn happen(
 
 /// An error where the world tells something else than before of its connections, or has one more datagram.
 fn is_as_before(world: &World, happened: &Happened, before: Told) -> anyhow::Result<()> {
-    let is_one_more = world.datagram(Side::A, happened.b.sent).is_some()
-        || world.datagram(Side::B, happened.a.sent).is_some();
-    if is_one_more || Told::of(world, happened.connections) != before {
+    let is_one_more = world.datagram(Side::A, happened.b.way.sent).is_some()
+        || world.datagram(Side::B, happened.a.way.sent).is_some();
+    if is_one_more || told_of(world, happened.connections) != before {
         bail!("a call that was refused for want of memory changed something");
     }
     Ok(())

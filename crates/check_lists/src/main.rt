@@ -20,9 +20,9 @@ mod list;
 mod settings;
 
 use anyhow::{Result, bail};
+use check_drawing::{CHANNELS, Draw, Setting};
 use check_outcome::{is_side_sound, is_sound};
 use counting::Counts;
-use drawing::{CHANNELS, Draw, Setting};
 use enet_world::{Side, World};
 use input::Alone;
 use std::alloc::Global;
@@ -77,12 +77,12 @@ fn run_alone<R: Print>(rt: &R, alloc: Global, alone: Alone) -> Result<()> {
 /// Draws a setting, and a list in a world of it.
 fn one_list(alloc: Global, number: u32, counts: &mut Counts) -> Result<()> {
     let mut draw = Draw::new(u64::from(number));
-    let setting = draw.setting();
-    let Some(mut world) = list::open(alloc, setting) else {
+    let hosts = drawing::next_hosts(&mut draw);
+    let Some(mut world) = list::open(alloc, hosts) else {
         counts.add_unopened();
         return Ok(());
     };
-    let outcome = list_in(alloc, number, &mut world, &mut draw, setting, counts);
+    let outcome = list_in(alloc, number, &mut world, &mut draw, hosts.setting, counts);
     world.close();
     outcome
 }
