@@ -9,11 +9,13 @@
 //! returns.
 #![tactic(auto)]
 
+mod gauge;
 mod laws;
 mod relay;
 mod relaying;
 mod table;
 
+pub use gauge::Gauge;
 pub use laws::each_other_peer_once;
 pub use relay::relay_step;
 pub use relaying::{Relay, RelayParts};

@@ -3,6 +3,7 @@ ghost use Rattle.std.specs.Prelude.{◌≡◌, ◌++◌, OnOk, OnErr, IfErr};
 ghost use Rattle.enet_bridge.specs.Holding.{asked, desk_queue};
 ghost use Rattle.enet_chat.specs.Chat.{noted, relayed};
 
+use crate::gauge::Gauge;
 use crate::relay::relay_step;
 use crate::table::Table;
 use enet_bridge::{Desk, Inbox, Pumped, TakerBell};
@@ -12,8 +13,8 @@ use enet_types::{Event, Refusal};
 use std::alloc::Global;
 use std::collections::VecDeque;
 use std::sync::Wait;
+use std::sync::atomic::AtomicBool;
 use std::sync::atomic::Ordering::SeqCst;
-use std::sync::atomic::{AtomicBool, AtomicUsize};
 use std::thread;
 
 /// A turn of the service takes at most so many orders, so after so many it is told.
@@ -23,6 +24,9 @@ const MOST_ORDERS: usize = 256;
 const BUSY: u32 = 8;
 
 const LOOKS: u32 = 5;
+
+/// While it doesn't rest it shows itself once in so many events.
+const BETWEEN_SHOWS: u32 = 64;
 
 /// The connected peers, the events that were taken and not yet expanded into orders, and the orders that wait for room.
 ///
@@ -37,6 +41,9 @@ pub struct Relay<'a> {
     backlog: VecDeque<Event>,
     // Orders since the service was last told.
     untold: usize,
+    // Events expanded and orders asked for, by it and those that showed themselves at the same gauge before.
+    expanded: u64,
+    orders: u64,
 }
 
 /// What a relay leaves.
@@ -92,6 +99,8 @@ impl<'a> Relay<'a> {
             inbox,
             backlog,
             untold: 0,
+            expanded: 0,
+            orders: 0,
         }
     }
 
@@ -116,7 +125,7 @@ impl<'a> Relay<'a> {
 
     /// Takes events, expands them by the rule of the relay and submits their orders, until the service has ended and no event
     /// is left; those that it took are expanded then, unless orders wait for room. It never waits for room while the service holds
-    /// an event back. Meanwhile `present` shows how many peers are connected.
+    /// an event back. Meanwhile `gauge` shows how many peers are connected, and how far it has come.
     ///
     /// E1 for want of memory, E10 where the seat has submitted as many orders as it may; the relay is then as after all that it
     /// did before.
@@ -125,7 +134,7 @@ impl<'a> Relay<'a> {
         rt: &R,
         bell: &TakerBell,
         ended: &AtomicBool,
-        present: &AtomicUsize,
+        gauge: &Gauge,
     ) -> Result<(), Refusal>
         ensures relays { Relays self.old self.new }
         ensures none_left { OnOk result (FoundNone (inbox_of self.new)) }
@@ -133,9 +142,11 @@ impl<'a> Relay<'a> {
         ensures why { IfErr result (λ why. (why ≡ Refusal.Memory) ⊎ (why ≡ Refusal.SeatSpent)) }
     {
         let mut pace = Pace::new();
+        self.expanded = gauge.expanded();
+        self.orders = gauge.asked();
+        self.show(gauge);
         for _ in rt.forever() {
-            present.store(self.table.len(), SeqCst);
-            if self.round(rt, bell, ended, &mut pace)? {
+            if self.round(rt, bell, ended, &mut pace, gauge)? {
                 return Ok(());
             }
         }
@@ -149,6 +160,7 @@ impl<'a> Relay<'a> {
         bell: &TakerBell,
         ended: &AtomicBool,
         pace: &mut Pace,
+        gauge: &Gauge,
     ) -> Result<bool, Refusal>
         ensures relays { Relays self.old self.new }
         ensures none { IfOk result (λ over. over ≡ true → FoundNone (inbox_of self.new)) }
@@ -158,16 +170,23 @@ impl<'a> Relay<'a> {
         let over = ended.load(SeqCst);
         match self.step(rt, bell, over)? {
             Found::Work => {
-                pace.work();
+                if pace.work() {
+                    self.show(gauge);
+                }
                 Ok(false)
             }
             Found::NoRoom => {
+                self.show(gauge);
                 bell.wait_a_moment(rt);
                 Ok(false)
             }
-            Found::Nothing if over => Ok(true),
+            Found::Nothing if over => {
+                self.show(gauge);
+                Ok(true)
+            }
             Found::Nothing => {
                 self.tell();
+                self.show(gauge);
                 pace.rest(rt, bell);
                 Ok(false)
             }
@@ -241,6 +260,8 @@ impl<'a> Relay<'a> {
         match relay_event(self.alloc, &mut self.table, &mut self.desk, &event) {
             Ok(orders) => {
                 self.untold = self.untold.saturating_add(orders);
+                self.expanded = self.expanded.saturating_add(1);
+                self.orders = self.orders.saturating_add(orders as u64);
                 Ok(true)
             }
             Err(why) => {
@@ -248,6 +269,10 @@ impl<'a> Relay<'a> {
                 Err(why)
             }
         }
+    }
+
+    fn show(&self, gauge: &Gauge) {
+        gauge.show(self.table.len(), self.expanded, self.orders);
     }
 
     // Tells the service that there are orders.
@@ -292,9 +317,11 @@ impl Pace {
         Pace { done: 0, looks: 0 }
     }
 
-    fn work(&mut self) {
+    // True once in `BETWEEN_SHOWS` times.
+    fn work(&mut self) -> bool {
         self.done = self.done.saturating_add(1);
         self.looks = 0;
+        self.done % BETWEEN_SHOWS == 0
     }
 
     fn rest<R: Wait>(&mut self, rt: &R, bell: &TakerBell) {

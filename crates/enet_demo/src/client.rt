@@ -9,7 +9,9 @@ use crate::orders::{CHANNELS, Plan};
 use crate::player::{Company, Played, Player, Visit};
 use enet_events::Poster;
 use enet_service::{Desk, Inbox, MioWire, QueueSink, QueueSource};
-use enet_shift::{Ends, Queues, Returned, Shared, Shift, Signals, Station, beside_turns, settle};
+use enet_shift::{
+    Ends, Queues, Returned, Shared, Shift, Signals, Station, Unwatched, beside_turns, settle,
+};
 use enet_submit::Drain;
 use enet_types::{Addr, Config, Refusal};
 use std::alloc::Global;
@@ -117,6 +119,7 @@ fn run_client<R: Threads + Wait + Clock + Sync>(
         &mut sink,
         Shift::Turns(part.turns),
         signals,
+        &mut Unwatched,
         &mut || -> Result<(), Refusal>
             requires { IsFresh player }
             ensures played { OnOk result (HasPlayed player.exit) }

@@ -9,7 +9,7 @@ ghost use Rattle.enet_demo.specs.Playing.{AreGuests};
 use crate::client::{Guest, visit};
 use crate::orders::{CHANNELS, Plan};
 use crate::player::{Company, Visit};
-use enet_serve::{Server, Settings};
+use enet_serve::{Gauge, Server, Settings, Unwatched};
 use enet_service::Report;
 use enet_shift::Shift;
 use enet_types::{Addr, Refusal};
@@ -76,7 +76,10 @@ where
         room: ROOM,
     };
     let guests = open_guests(rt, shown)?;
-    let mut server = Server::open(rt, settings)?;
+    let mut server = match Server::open(rt, settings) {
+        Ok(server) => server,
+        Err(unopened) => return Err(unopened.why),
+    };
     let visits = run_all(rt, rt.alloc(), &mut server, guests, shown);
     server.close();
     visits
@@ -139,18 +142,25 @@ fn run_all<R: Threads + Wait + Clock + Sync>(
     ensures visits { IfOk result (λ visits. AreVisits shown visits.items) }
     ensures refused { IfErr result EndsShift }
 {
-    let present = AtomicUsize::new(0);
-    let present = &present;
+    let gauge = Gauge::new();
+    let gauge = &gauge;
     let (outcomes, served) = thread::join(
         rt,
         move || -> Result<Vec<Result<Visit, Refusal>>, Refusal>
             requires { IsSync R.row × AreGuests shown guests.items × (shown.clients ≤ 8) }
             ensures { IfOk result (λ outcomes. AreOutcomes shown outcomes.items) × IfErr result (λ why. why ≡ Refusal.Memory) }
-        { visit_all(rt, guests, shown, present) },
+        { visit_all(rt, guests, shown, &gauge.peers) },
         move || -> Result<Report, Refusal>
             requires { IsSync R.row × (room_of server.now ≡ 1024) }
             ensures { IfErr result EndsShift }
-        { server.serve(rt, Shift::Turns(u64::from(shown.turns)), present) },
+        {
+            server.serve(
+                rt,
+                Shift::Turns(u64::from(shown.turns)),
+                gauge,
+                &mut Unwatched,
+            )
+        },
     );
     served?;
     first_fault_or_all(alloc, outcomes?.as_slice())

@@ -26,6 +26,8 @@ pub struct ServeOptions {
     pub channels: u8,
     pub room: u32,
     pub length: Length,
+    /// Whether each connection, each end of one and each refused order is told.
+    pub logs: bool,
 }
 
 /// What `demo` was told.
@@ -100,7 +102,8 @@ fn serve_command<'a>(alloc: Global) -> Result<Command<'a>, AllocError> {
         .arg(channels(alloc))?
         .arg(room(alloc))?
         .arg(turns(alloc))?
-        .arg(forever(alloc)?)
+        .arg(forever(alloc)?)?
+        .arg(logs(alloc))
 }
 
 fn demo_command<'a>(alloc: Global) -> Result<Command<'a>, AllocError> {
@@ -164,6 +167,13 @@ fn forever<'a>(alloc: Global) -> Result<Arg<'a>, AllocError> {
         .conflicts_with("turns")
 }
 
+fn logs<'a>(alloc: Global) -> Arg<'a> {
+    Arg::new(alloc, "log")
+        .long("log")
+        .help("Tell each connection, each end of one and each refused order on standard error")
+        .action(ArgAction::SetTrue)
+}
+
 fn turns<'a>(alloc: Global) -> Arg<'a> {
     Arg::new(alloc, "turns")
         .long("turns")
@@ -209,6 +219,7 @@ fn serve_options(found: &ArgMatches<'_>) -> Option<ServeOptions> {
         channels: found.get_one::<u8>("channels")?,
         room: found.get_one::<u32>("room")?,
         length,
+        logs: found.get_flag("log"),
     })
 }
 

@@ -1,12 +1,14 @@
 //! Why the program ends with a status other than 0.
 
 use enet_lab::LabFault;
+use enet_serve::Unopened;
 use enet_types::Refusal;
 use std::alloc::AllocError;
+use std::io;
 use thiserror::Error;
 
 /// Why the program ends with a status other than 0. The text goes to standard error.
-#[derive(Clone, Copy, Debug, PartialEq, Eq, Error)]
+#[derive(Clone, Copy, Debug, Error)]
 pub enum Failure {
     /// The command line was refused.
     #[error("bad command line")]
@@ -20,9 +22,15 @@ pub enum Failure {
     /// The lab ended before the end of its script.
     #[error("{0}")]
     Lab(LabFault),
+    /// The system makes no second thread.
+    #[error("no second thread can be made")]
+    NoThread,
     /// The server failed.
     #[error("{0}")]
     Service(Refusal),
+    /// The server's socket failed, and this is what the system says of it.
+    #[error("{0}: {1}")]
+    Socket(Refusal, io::Error),
 }
 
 impl Failure {
@@ -44,5 +52,14 @@ impl From<AllocError> for Failure {
 impl From<Refusal> for Failure {
     fn from(why: Refusal) -> Failure {
         Failure::Service(why)
+    }
+}
+
+impl From<Unopened> for Failure {
+    fn from(unopened: Unopened) -> Failure {
+        match unopened.reason {
+            Some(reason) => Failure::Socket(unopened.why, reason),
+            None => Failure::Service(unopened.why),
+        }
     }
 }

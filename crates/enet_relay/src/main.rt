@@ -5,9 +5,9 @@
 //! `enet_demo`, and how a script of the lab is answered by `enet_lab`.
 //! Only tested, by scripts/check-rows.sh: the scripts of scripts/rows; the command lines `--help`, no subcommand, an unknown one, a word
 //! too many, and those of `serve` and `demo` with numbers out of range; what both print; an input that can't be read, an output that
-//! can't be written, a port that is taken. By scripts/check-clients.sh: what clients of the reference library get from `serve`, and those
-//! of `demo` from a server of that library. By hand alone: want of memory (`E1 Memory`, status 1), and the line of totals of `serve
-//! --forever`.
+//! can't be written, a port that is taken, an address that isn't there, a system that makes no threads. By scripts/check-clients.sh: what
+//! clients of the reference library get from `serve`, and those of `demo` from a server of that library, the log, and how a server ends
+//! whose relay finds no memory. By hand alone: want of memory elsewhere (`E1 Memory`, status 1).
 //! Neither: that `serve` ends, since threads may wait.
 #![tactic(auto)]
 
@@ -15,6 +15,7 @@ mod command_line;
 mod demonstrating;
 mod failure;
 mod serving;
+mod watching;
 
 use command_line::{Task, read_task};
 use demonstrating::demonstrate;

@@ -2,17 +2,18 @@
 
 use crate::command_line::{Length, ServeOptions};
 use crate::failure::Failure;
-use enet_serve::{Server, Settings, Shift};
-use std::net::Net;
+use crate::watching::Operator;
+use enet_serve::{Gauge, Server, Settings, Shift, Unopened, Watch};
+use enet_types::Refusal;
+use std::net::{Ipv4Addr, Net};
 use std::rt::Clock;
 use std::sync::Wait;
-use std::sync::atomic::AtomicUsize;
-use std::sync::atomic::Ordering::SeqCst;
+use std::thread;
 use std::thread::Threads;
 use std::time::Duration;
 
-/// Totals are told once in so many seconds.
-const BETWEEN_TOTALS: u64 = 60;
+/// A shift of `--forever` has so many seconds, a day, unless much is done before.
+const SHIFT: u64 = 86_400;
 
 /// Serves, and tells how much it was.
 pub fn serve<R>(rt: &R, options: ServeOptions) -> Result<(), Failure>
@@ -25,49 +26,83 @@ where
         channels: options.channels,
         room: options.room,
     };
+    if thread::spawn(rt, || ()).is_err() {
+        return Err(Failure::NoThread);
+    }
     let mut server = Server::open(rt, settings)?;
-    let served = match options.length {
-        Length::Turns(turns) => serve_turns(rt, &mut server, turns),
-        Length::Forever => serve_on(rt, &mut server),
-    };
+    tell_start(rt, &server, settings);
+    let served = serve_as_asked(rt, &mut server, options);
+    server.take_leave(rt);
     server.close();
     served
 }
 
-fn serve_turns<R>(rt: &R, server: &mut Server, turns: u32) -> Result<(), Failure>
-where
-    R: Threads + Wait + Clock + Sync + Print,
-{
-    let report = server.serve(rt, Shift::Turns(u64::from(turns)), &AtomicUsize::new(0))?;
-    let received = report.received;
-    let sent = report.sent;
-    println!(rt; "served {turns} received {received} sent {sent}").map_err(|_| Failure::Io)
+// Where it listens, and with what. A line that can't be written ends nothing.
+fn tell_start<R: Eprint>(rt: &R, server: &Server, settings: Settings) {
+    let ip = Ipv4Addr::from_bits(settings.address.ip);
+    let port = settings.address.port;
+    let peers = settings.peers;
+    let channels = settings.channels;
+    let buffer = server.receive_buffer().unwrap_or(0);
+    let _ = eprintln!(rt;
+        "listening at {ip}:{port}, {peers} slots, {channels} channels, receive buffer {buffer} bytes"
+    );
 }
 
-// Serves until the process is stopped. Totals that can't be written end nothing.
-fn serve_on<R>(rt: &R, server: &mut Server) -> Result<(), Failure>
+fn serve_as_asked<R>(rt: &R, server: &mut Server, options: ServeOptions) -> Result<(), Failure>
 where
-    R: Threads + Wait + Clock + Sync + Eprint,
+    R: Threads + Wait + Clock + Sync + Print + Eprint,
 {
-    let present = AtomicUsize::new(0);
-    let mut lost = 0u64;
+    let gauge = Gauge::new();
+    let mut operator = Operator::new(rt, &gauge, options.logs);
+    match options.length {
+        Length::Turns(turns) => serve_turns(rt, server, turns, &gauge, &mut operator),
+        Length::Forever => serve_on(rt, server, &gauge, &mut operator),
+    }
+}
+
+fn serve_turns<R, W>(
+    rt: &R,
+    server: &mut Server,
+    turns: u32,
+    gauge: &Gauge,
+    watch: &mut W,
+) -> Result<(), Failure>
+where
+    R: Threads + Wait + Clock + Sync + Print,
+    W: Watch + Send,
+{
+    match server.serve(rt, Shift::Turns(u64::from(turns)), gauge, watch) {
+        Ok(report) => {
+            let received = report.received;
+            let sent = report.sent;
+            println!(rt; "served {turns} received {received} sent {sent}").map_err(|_| Failure::Io)
+        }
+        Err(why) => Err(failure(server, why)),
+    }
+}
+
+// Serves until the process is stopped.
+fn serve_on<R, W>(rt: &R, server: &mut Server, gauge: &Gauge, watch: &mut W) -> Result<(), Failure>
+where
+    R: Threads + Wait + Clock + Sync,
+    W: Watch + Send,
+{
     for _ in rt.forever() {
-        let shift = Shift::Time(Duration::from_secs(BETWEEN_TOTALS));
-        let report = server.serve(rt, shift, &present)?;
-        lost = lost.saturating_add(u64::from(report.lost));
-        tell_totals(rt, server, present.load(SeqCst), lost);
+        let shift = Shift::Time(Duration::from_secs(SHIFT));
+        if let Err(why) = server.serve(rt, shift, gauge, watch) {
+            return Err(failure(server, why));
+        }
     }
     Ok(())
 }
 
-// `out` counts what the host put out; `lost` says how many of those didn't leave.
-fn tell_totals<R: Eprint>(rt: &R, server: &Server, peers: usize, lost: u64) {
-    let totals = server.host().totals();
-    let came = totals.datagrams_in;
-    let bytes_in = totals.bytes_in;
-    let went = totals.datagrams_out;
-    let bytes_out = totals.bytes_out;
-    let _ = eprintln!(rt;
-        "peers {peers} in {came} bytes {bytes_in} out {went} bytes {bytes_out} lost {lost}"
-    );
+// Why a shift was refused. Where the wire failed, what the system said of it stands beside that.
+fn failure(server: &Server, why: Refusal) -> Failure {
+    let reason = if why == Refusal::WireFault {
+        server.reason()
+    } else {
+        None
+    };
+    Failure::from(Unopened { why, reason })
 }

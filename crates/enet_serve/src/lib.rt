@@ -7,11 +7,15 @@
 //! for what [`Server::serve`] names. A server opens with the standard host of its
 //! settings, with nothing waiting ([`Server::open`]). After a shift that was refused nothing is said of the server.
 //! Only tested, by scripts/check-rows.sh and scripts/check-clients.sh: what real clients get, that a shift ends, at which address a
-//! server listens, and that the queues settle (no E16). Neither: what a network gives, and when; what `present` shows.
+//! server listens, what the system says where it can't, that the queues settle (no E16), that the server ends once its relay has, and that
+//! its clients are told of its end. Neither: what a network gives, and when; what `gauge` shows and `watch` is told.
 #![tactic(auto)]
 
+mod leaving;
 mod server;
 mod threads;
 
-pub use enet_shift::Shift;
+pub use enet_chat::Gauge;
+pub use enet_service::Unopened;
+pub use enet_shift::{Met, Note, Shift, Unwatched, Watch, WatchedHost};
 pub use server::{Server, Settings};

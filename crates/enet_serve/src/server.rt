@@ -4,21 +4,23 @@ ghost use Rattle.enet_chat.specs.Relaying.{Relays, IsThrough};
 ghost use Rattle.enet_shift.specs.Shifts.{CanSettle, IsNotSettled};
 ghost use Rattle.enet_serve.specs.Threads.{IsLeft, returned};
 
-use crate::threads::{Carryover, begin_relay};
-use enet_chat::RelayParts;
+use crate::leaving::take_leave;
+use crate::threads::{Carryover, begin_relay, relay_on};
+use enet_chat::{Gauge, RelayParts};
 use enet_events::Poster;
 use enet_host::HostCore;
-use enet_service::{Desk, Inbox, MioWire, QueueSink, QueueSource, Report};
-use enet_shift::{Ends, Queues, Returned, Shared, Shift, Signals, Station, beside_turns, settle};
+use enet_service::{Desk, Inbox, MioWire, QueueSink, QueueSource, Report, Unopened};
+use enet_shift::{
+    Ends, Queues, Returned, Shared, Shift, Signals, Station, Watch, beside_turns, settle,
+};
 use enet_submit::Drain;
 use enet_types::{Addr, Config, Refusal};
 use std::alloc::Global;
-use std::mem;
 use std::net::Net;
 use std::rt::Clock;
 use std::sync::Wait;
-use std::sync::atomic::AtomicUsize;
 use std::thread::Threads;
+use std::{io, mem};
 
 /// What a server is opened with.
 #[derive(Clone, Copy)]
@@ -42,25 +44,25 @@ pub struct Server {
 }
 
 impl Server {
-    ghost use Rattle.std.specs.Prelude.{◌≡◌, ◌⊎◌, true, false, IfOk, IfErr, Err};
+    ghost use Rattle.std.specs.Prelude.{◌≡◌, ◌⊎◌, true, false, None, IfOk, IfErr, Err};
     ghost use Rattle.enet_shift.specs.Shifts.{AreNew};
     ghost use Rattle.enet_serve.specs.Serving.{Serves, EndsShift, IsNotServed, IsOpened, is_in_range, host_of};
 
     /// A server at this address, with no peer.
     ///
     /// E8 where `peers` or `channels` is out of its range (`room` is tested by [`Server::serve`]), E14 where the address can't be had,
-    /// E1 for want of memory.
-    pub fn open<R: Net + AllocGlobal>(rt: &R, settings: Settings) -> Result<Server, Refusal>
-        ensures out_of_range { is_in_range settings ≡ false → result ≡ Err Refusal.BadConfig }
-        ensures in_range { is_in_range settings ≡ true → IfErr result (λ why. (why ≡ Refusal.WireFault) ⊎ (why ≡ Refusal.Memory)) }
+    /// with what the system says of it, E1 for want of memory.
+    pub fn open<R: Net + AllocGlobal>(rt: &R, settings: Settings) -> Result<Server, Unopened>
+        ensures out_of_range { is_in_range settings ≡ false → result ≡ Err (record { why = Refusal.BadConfig; reason = None }) }
+        ensures in_range { is_in_range settings ≡ true → IfErr result (λ unopened. (unopened.why ≡ Refusal.WireFault) ⊎ (unopened.why ≡ Refusal.Memory)) }
         ensures opened { IfOk result (IsOpened settings) }
     {
         let alloc = rt.alloc();
         let config = Config::standard(settings.peers, settings.channels);
         if !config.is_in_range() {
-            return Err(Refusal::BadConfig);
+            return Err(Unopened::from(Refusal::BadConfig));
         }
-        let wire = MioWire::bind(rt, settings.address)?;
+        let wire = MioWire::open(rt, settings.address)?;
         Ok(Server {
             alloc,
             room: settings.room,
@@ -72,21 +74,25 @@ impl Server {
     /// Serves for a shift: one thread takes the service's turns, and this one or another relays, until the shift is over and no
     /// event is left. What was not carried out then is kept for the next shift.
     ///
-    /// While it serves, `present` shows how many peers are connected.
+    /// While it serves, `gauge` shows how many peers are connected and how far the relay has come, and `watch` is told of the turns by the
+    /// thread that takes them.
     ///
     /// Each shift has queues of its own, since a seat submits 4,294,967,295 orders at most.
     ///
     /// E14 where the wire fails, E1 for want of memory, E8 where the queues' places are out of range, E10 where a shift is so long
-    /// that the seat has submitted as many orders as it may, E16 where the threads ended and a queue isn't empty. Whatever is refused,
-    /// nothing is promised of the server then, but that it can be closed.
-    pub fn serve<R>(
+    /// that the seat has submitted as many orders as it may, E16 where the threads ended and a queue isn't empty. By E1 and E10 the relay
+    /// ends, and a shift of a time soon after it. Whatever is refused, nothing is promised of the server then, but that it can take leave
+    /// and be closed.
+    pub fn serve<R, W>(
         &mut self,
         rt: &R,
         shift: Shift,
-        present: &AtomicUsize,
+        gauge: &Gauge,
+        watch: &mut W,
     ) -> Result<Report, Refusal>
     where
         R: Threads + Wait + Clock + Sync,
+        W: Watch + Send,
         ensures serves { IfOk result (Serves self.old shift self.new) }
         ensures refused { IfErr result (IsNotServed self.old) }
     {
@@ -102,17 +108,18 @@ impl Server {
             bell: &bell,
             signals: &Signals::new(),
         };
-        self.run_shift(rt, shared, ends, shift, present)
+        self.run_shift(rt, shared, ends, shift, gauge, watch)
     }
 
     // A shift between these queues.
-    fn run_shift<R: Threads + Wait + Clock + Sync>(
+    fn run_shift<R: Threads + Wait + Clock + Sync, W: Watch + Send>(
         &mut self,
         rt: &R,
         shared: Shared<'_>,
         ends: Ends,
         shift: Shift,
-        present: &AtomicUsize,
+        gauge: &Gauge,
+        watch: &mut W,
     ) -> Result<Report, Refusal>
         requires { AreNew shared.queue.now shared.events.now ends }
         ensures serves { IfOk result (Serves self.old shift self.new) }
@@ -137,11 +144,12 @@ impl Server {
             &mut sink,
             shift,
             signals,
+            watch,
             &mut || -> Result<(), Refusal>
                 ensures relays { Relays relay.entry relay.exit }
                 ensures through { OnOk result (IsThrough relay.exit) }
                 ensures why { IfErr result (λ why. (why ≡ Refusal.Memory) ⊎ (why ≡ Refusal.SeatSpent)) }
-            { relay.run(rt, &signals.bell, &signals.ended, present) },
+            { relay_on(rt, &mut relay, signals, gauge) },
         );
         let kept = after_shift(
             rt,
@@ -161,7 +169,23 @@ impl Server {
     pub fn host(&self) -> &HostCore
         ensures { result.now ≡ host_of self.now }
     {
-        &self.station.service.host
+        self.station.service.host.host()
+    }
+
+    /// How many bytes of datagrams the system keeps until they are received, as [`MioWire::receive_buffer`] tells.
+    pub fn receive_buffer(&self) -> Option<u32> {
+        self.station.wire.receive_buffer()
+    }
+
+    /// What the system said where the wire failed.
+    pub fn reason(&self) -> Option<io::Error> {
+        self.station.wire.reason()
+    }
+
+    /// Tells each client that the server ends, behind all that was sent to it, and gives them a second to acknowledge it. Where the
+    /// wire fails nobody is told.
+    pub fn take_leave<R: Wait + Clock>(&mut self, rt: &R) {
+        take_leave(rt, self.alloc, &mut self.station);
     }
 
     /// Gives its socket up, and its connections, of which no peer is told.

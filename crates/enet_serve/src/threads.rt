@@ -1,13 +1,16 @@
 //! The relay's side of a shift.
-ghost use Rattle.std.specs.Prelude.{◌≡◌, IfOk, IfErr};
+ghost use Rattle.std.specs.Prelude.{◌≡◌, ◌⊎◌, OnOk, IfOk, IfErr};
+ghost use Rattle.enet_chat.specs.Relaying.{Relays, IsThrough};
 ghost use Rattle.enet_serve.specs.Threads.{IsBegun};
 
-use enet_chat::{Relay, Table};
+use enet_chat::{Gauge, Relay, Table};
 use enet_service::{Desk, Inbox};
+use enet_shift::Signals;
 use enet_submit::Order;
 use enet_types::{Event, Refusal};
 use std::alloc::Global;
 use std::collections::VecDeque;
+use std::sync::Wait;
 
 /// What the relay keeps from one shift to the next: the peers, the events not expanded yet, and the orders not carried out.
 #[derive(Drop)]
@@ -45,4 +48,20 @@ pub(crate) fn begin_relay<'a>(
     let mut desk = desk;
     desk.ask_all(kept.orders)?;
     Ok(Relay::new(alloc, kept.table, desk, inbox, kept.backlog))
+}
+
+/// Relays until the service has ended. Where the relay ends before, the service's thread is told.
+pub(crate) fn relay_on<R: Wait>(
+    rt: &R,
+    relay: &mut Relay<'_>,
+    signals: &Signals,
+    gauge: &Gauge,
+) -> Result<(), Refusal>
+    ensures relays { Relays relay.old relay.new }
+    ensures through { OnOk result (IsThrough relay.new) }
+    ensures why { IfErr result (λ why. (why ≡ Refusal.Memory) ⊎ (why ≡ Refusal.SeatSpent)) }
+{
+    let relayed = relay.run(rt, &signals.bell, &signals.ended, gauge);
+    signals.leave();
+    relayed
 }

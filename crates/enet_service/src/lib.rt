@@ -12,4 +12,4 @@ pub use enet_bridge::{
 };
 pub use enet_host::HostCore;
 pub use enet_turn::{Core, Fault, Report, Service, run, run_between_queues};
-pub use enet_wire::{Bell, MemoryWire, MioWire, Step, Told, Wire};
+pub use enet_wire::{Bell, MemoryWire, MioWire, Step, Told, Unopened, Wire};

@@ -13,9 +13,13 @@ mod settling;
 mod shift;
 mod station;
 mod turning;
+mod watch;
+mod watched;
 
 pub use queues::{Ends, Queues};
 pub use settling::{Returned, settle};
 pub use shift::Shift;
 pub use station::Station;
 pub use turning::{Shared, Signals, beside_turns};
+pub use watch::{Unwatched, Watch};
+pub use watched::{Met, Note, WatchedHost};

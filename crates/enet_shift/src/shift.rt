@@ -4,7 +4,9 @@ ghost use Rattle.enet_turn.specs.Run.{Round as OneTurn};
 ghost use Rattle.enet_bridge.specs.Serving.{queue_of, drain_of, poster_of};
 ghost use Rattle.enet_shift.specs.Shifts.{Lasts, Spell};
 
-use enet_host::HostCore;
+use crate::turning::Signals;
+use crate::watch::Watch;
+use crate::watched::WatchedHost;
 use enet_service::{MioWire, QueueSink, QueueSource, Report, Service, run_between_queues};
 use enet_types::Refusal;
 use std::io;
@@ -15,23 +17,29 @@ use std::time::{Duration, Instant};
 /// Between two looks at the clock a service takes so many turns.
 const TURNS_AT_ONCE: u64 = 64;
 
+/// After so many orders or events a shift of a time ends: its queues count 4,294,967,295 of each at most.
+const MANY: u32 = 2_147_483_648;
+
 /// How long a service takes turns.
 #[derive(Clone, Copy)]
 pub enum Shift {
     /// So many turns.
     Turns(u64),
-    /// As many turns as it takes until so much time has passed. Where the clock can't be read it never ends.
+    /// As many turns as it takes until so much time has passed, the other thread has left, or 2,147,483,648 orders were taken or events
+    /// told. Where the clock can't be read only the last two end it.
     Time(Duration),
 }
 
 /// The turns of a shift, and the sums of their reports. E14 where the wire fails.
-pub(crate) fn take_turns<R: Wait + Clock>(
+pub(crate) fn take_turns<R: Wait + Clock, W: Watch>(
     rt: &R,
-    service: &mut Service<HostCore>,
+    service: &mut Service<WatchedHost>,
     wire: &mut MioWire,
     source: &mut QueueSource<'_>,
     sink: &mut QueueSink<'_>,
     shift: Shift,
+    signals: &Signals,
+    watch: &mut W,
 ) -> Result<Report, Refusal>
     ensures queue { queue_of source.new ≡ queue_of source.old }
     ensures poster { (poster_of sink.new).queue ≡ (poster_of sink.old).queue }
@@ -41,19 +49,20 @@ pub(crate) fn take_turns<R: Wait + Clock>(
     ensures fault { IfErr result (λ why. why ≡ Refusal.WireFault) }
 {
     match shift {
-        Shift::Turns(turns) => turns_of(rt, service, wire, source, sink, turns),
-        Shift::Time(time) => turns_for(rt, service, wire, source, sink, time),
+        Shift::Turns(turns) => turns_of(rt, service, wire, source, sink, turns, watch),
+        Shift::Time(time) => turns_for(rt, service, wire, source, sink, time, signals, watch),
     }
 }
 
 // So many turns.
-fn turns_of<R: Wait + Clock>(
+fn turns_of<R: Wait + Clock, W: Watch>(
     rt: &R,
-    service: &mut Service<HostCore>,
+    service: &mut Service<WatchedHost>,
     wire: &mut MioWire,
     source: &mut QueueSource<'_>,
     sink: &mut QueueSink<'_>,
     turns: u64,
+    watch: &mut W,
 ) -> Result<Report, Refusal>
     ensures queue { queue_of source.new ≡ queue_of source.old }
     ensures poster { (poster_of sink.new).queue ≡ (poster_of sink.old).queue }
@@ -63,19 +72,35 @@ fn turns_of<R: Wait + Clock>(
     ensures fault { IfErr result (λ why. why ≡ Refusal.WireFault) }
 {
     match run_between_queues(rt, service, wire, source, sink, turns) {
-        Ok(report) => Ok(report),
-        Err(fault) => Err(fault.why),
+        Ok(report) => {
+            show(&mut service.host, report, watch);
+            Ok(report)
+        }
+        Err(fault) => {
+            show(&mut service.host, fault.report, watch);
+            Err(fault.why)
+        }
     }
 }
 
-// Turns until so much time has passed.
-fn turns_for<R: Wait + Clock>(
+// Shows what turns did, once.
+fn show<W: Watch>(host: &mut WatchedHost, report: Report, watch: &mut W)
+    ensures { host.new ≡ host.old }
+{
+    watch.look(host, report);
+    host.forget();
+}
+
+// Turns until so much time has passed, the other thread has left, or much was done.
+fn turns_for<R: Wait + Clock, W: Watch>(
     rt: &R,
-    service: &mut Service<HostCore>,
+    service: &mut Service<WatchedHost>,
     wire: &mut MioWire,
     source: &mut QueueSource<'_>,
     sink: &mut QueueSink<'_>,
     time: Duration,
+    signals: &Signals,
+    watch: &mut W,
 ) -> Result<Report, Refusal>
     ensures queue { queue_of source.new ≡ queue_of source.old }
     ensures poster { (poster_of sink.new).queue ≡ (poster_of sink.old).queue }
@@ -87,13 +112,17 @@ fn turns_for<R: Wait + Clock>(
     let start = Instant::now(rt);
     let mut total = Report::nothing();
     for _ in rt.forever() {
-        let report = turns_of(rt, service, wire, source, sink, TURNS_AT_ONCE)?;
+        let report = turns_of(rt, service, wire, source, sink, TURNS_AT_ONCE, watch)?;
         total = total.and(report);
-        if has_passed(rt, &start, time) {
+        if signals.has_left() || is_much(total) || has_passed(rt, &start, time) {
             return Ok(total);
         }
     }
     unreachable!()
+}
+
+fn is_much(total: Report) -> bool {
+    total.orders >= MANY || total.events >= MANY
 }
 
 // Where the clock can't be read, no time passes.

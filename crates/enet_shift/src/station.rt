@@ -1,6 +1,6 @@
 //! A service over our host, with the socket at which it is reached.
 
-use enet_host::HostCore;
+use crate::watched::WatchedHost;
 use enet_service::{MioWire, Service};
 use enet_types::{Config, Refusal};
 use std::alloc::Global;
@@ -8,7 +8,7 @@ use std::alloc::Global;
 /// A service over our host, and the socket at which it is reached. It is given up by [`Station::close`] alone.
 pub struct Station {
     pub wire: MioWire,
-    pub service: Service<HostCore>,
+    pub service: Service<WatchedHost>,
 }
 
 impl Station {
@@ -24,7 +24,7 @@ impl Station {
         ensures in_range { is_in_range config ≡ true → IfErr result (λ why. why ≡ Refusal.Memory) }
         ensures begins { IfOk result (λ station. state_of station ≡ beginning config) }
     {
-        let host = HostCore::open(alloc, config)?;
+        let host = WatchedHost::open(alloc, config)?;
         Ok(Station {
             wire,
             service: Service::new(host),

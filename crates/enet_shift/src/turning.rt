@@ -5,6 +5,7 @@ ghost use Rattle.enet_shift.specs.Shifts.{HasTurned, state_of};
 
 use crate::shift::{Shift, take_turns};
 use crate::station::Station;
+use crate::watch::Watch;
 use enet_events::EventQueue;
 use enet_service::{Bell, QueueSink, QueueSource, Report, TakerBell};
 use enet_submit::SubmitQueue;
@@ -24,17 +25,19 @@ pub struct Shared<'a> {
     pub events: &'a EventQueue,
     /// Wakes the service's thread.
     pub bell: &'a Bell,
-    /// What the service's thread tells the other one.
+    /// What the two threads tell each other.
     pub signals: &'a Signals,
 }
 
-/// What the service's thread tells the other one.
+/// What the two threads tell each other.
 #[derive(Drop)]
 pub struct Signals {
     /// Wakes the other thread.
     pub bell: TakerBell,
     /// The service's thread has ended.
     pub ended: AtomicBool,
+    // The other thread has left.
+    left: AtomicBool,
 }
 
 impl Signals {
@@ -43,7 +46,17 @@ impl Signals {
         Signals {
             bell: TakerBell::new(),
             ended: AtomicBool::new(false),
+            left: AtomicBool::new(false),
         }
+    }
+
+    /// The other thread calls it where it ends: a shift of a time ends soon then, since nobody takes what its turns tell.
+    pub fn leave(&self) {
+        self.left.store(true, SeqCst);
+    }
+
+    pub(crate) fn has_left(&self) -> bool {
+        self.left.load(SeqCst)
     }
 
     fn end(&self) {
@@ -54,13 +67,14 @@ impl Signals {
 
 // Takes the turns of a shift, and then tells the other thread that the service has ended. E14 where the wire fails; the other thread
 // is told of the end then, too.
-fn serve_turns<R: Wait + Clock>(
+fn serve_turns<R: Wait + Clock, W: Watch>(
     rt: &R,
     station: &mut Station,
     source: &mut QueueSource<'_>,
     sink: &mut QueueSink<'_>,
     shift: Shift,
     signals: &Signals,
+    watch: &mut W,
 ) -> Result<Report, Refusal>
     ensures queue { queue_of source.new ≡ queue_of source.old }
     ensures poster { (poster_of sink.new).queue ≡ (poster_of sink.old).queue }
@@ -74,26 +88,31 @@ fn serve_turns<R: Wait + Clock>(
         source,
         sink,
         shift,
+        signals,
+        watch,
     );
     signals.end();
     report
 }
 
 /// Does `other` in one thread, and takes the turns of a shift in another, until both have ended. `other` is what takes events and submits
-/// orders: it goes on until it is told that the service has ended. It begins only then where no second thread can be made.
+/// orders: it goes on until it is told that the service has ended, and where it ends before, it says so ([`Signals::leave`]). It begins only
+/// once the service has ended where no second thread can be made. `watch` is told of the turns.
 ///
 /// E14 where the wire fails: the service's thread ends then.
-pub fn beside_turns<R, F, T>(
+pub fn beside_turns<R, W, F, T>(
     rt: &R,
     station: &mut Station,
     source: &mut QueueSource<'_>,
     sink: &mut QueueSink<'_>,
     shift: Shift,
     signals: &Signals,
+    watch: &mut W,
     other: &mut F,
 ) -> (T, Result<Report, Refusal>)
 where
     R: Threads + Wait + Clock + Sync,
+    W: Watch + Send,
     F: FnMut() -> T + Send,
     T: Send,
     requires other { F.pre other.old }
@@ -111,6 +130,6 @@ where
             ensures poster { (poster_of sink.exit.now).queue ≡ (poster_of sink.entry.now).queue }
             ensures turned { IfOk result (HasTurned shift (state_of station.entry.now) (drain_of source.entry.now) (poster_of sink.entry.now) (state_of station.exit.now) (drain_of source.exit.now) (poster_of sink.exit.now)) }
             ensures fault { IfErr result (λ why. why ≡ Refusal.WireFault) }
-        { serve_turns(rt, station, source, sink, shift, signals) },
+        { serve_turns(rt, station, source, sink, shift, signals, watch) },
     )
 }

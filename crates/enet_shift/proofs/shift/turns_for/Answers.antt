@@ -16,8 +16,8 @@ loop-preserved g c =
       further _ _ _ _ _ _ _ _ _ before more _ _ _ c.loop.invariant.2 c.in_ok-report.ensures.turns.2 c.and-total.ensures,
     )
 
-pub returns-then-has_passed-clause-turns : goal.returns-then-has_passed-clause-turns
-returns-then-has_passed-clause-turns g c =
+pub returns-then-has_left-clause-turns : goal.returns-then-has_left-clause-turns
+returns-then-has_left-clause-turns g c =
     let before : List Round = c.loop.invariant.1 in
     let more : List Round = c.in_ok-report.ensures.turns.0 in
     (before ++ more, omega (arith, length-append before more, c.in_ok-report.ensures.turns.1), further _ _ _ _ _ _ _ _ _ before more _ _ _ c.loop.invariant.2 c.in_ok-report.ensures.turns.2 c.and-total.ensures)

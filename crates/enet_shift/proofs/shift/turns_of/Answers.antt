@@ -1,5 +1,7 @@
-use Rattle.std.proofs.Common.{List}
+use Rattle.std.proofs.Common.{List, sym, subst}
+use Rattle.enet_host.specs.Host.{Host}
 use Rattle.enet_turn.specs.Run.{Round}
+use Rattle.enet_shift.specs.Shifts.{TakesTurns}
 use Rattle.enet_shift.proofs.Spells.{fault_of_wire}
 use Rattle.enet_shift.proofs.shift.turns_of.Goals as goal
 
@@ -8,7 +10,9 @@ returns-in-Ok-clause-turns g c =
     let ran = c.in-Ok.ensures.run in
     let ends = ran.6 in
     let rounds : List Round = ran.0 in
-    (rounds, ends.1, record { turns = ran.1; sound = ends.0; totals = ends.2; gave = ran.3.grown; put = ran.4 })
+    let turns : TakesTurns (c.args.service.now.host, c.args.service.now.waiting) rounds (c.show.new.host, c.run_between_queues.new.service.waiting) =
+    subst (λ (host : Host). TakesTurns (c.args.service.now.host, c.args.service.now.waiting) rounds (host, c.run_between_queues.new.service.waiting)) (sym c.show.ensures) ran.1 in
+    (rounds, ends.1, record { turns = turns; sound = ends.0; totals = ends.2; gave = ran.3.grown; put = ran.4 })
 
 pub returns-in-Err-clause-fault : goal.returns-in-Err-clause-fault
 returns-in-Err-clause-fault g c = fault_of_wire _ _ _ c.in-Err.ensures.run.6

@@ -1,0 +1,60 @@
+//! How the clients of a server are told that it ends.
+
+use enet_service::{Fault, MemorySink, MemorySource, run};
+use enet_shift::Station;
+use enet_types::DisconnectMode;
+use std::alloc::Global;
+use std::collections::VecDeque;
+use std::io;
+use std::rt::Clock;
+use std::sync::Wait;
+use std::time::{Duration, Instant};
+
+/// So many milliseconds the clients have for their acknowledgements.
+const MOMENT: u64 = 1_000;
+
+/// So many events a turn tells at most.
+const MOST_EVENTS: usize = 1_024;
+
+/// Ends each connection behind all that was sent over it, and takes turns until all have ended, for a second at most. Who isn't gone by
+/// then is sent one DISCONNECT that wants no answer. Where the wire fails it ends.
+pub(crate) fn take_leave<R: Wait + Clock>(rt: &R, alloc: Global, station: &mut Station) {
+    if see_off(rt, alloc, station).is_err() || station.service.host.is_alone() {
+        return;
+    }
+    station.service.host.part_from_all(DisconnectMode::Now);
+    let _ = take_turn(rt, alloc, station);
+}
+
+// Takes turns until no peer is left, or the moment is over. Who connects meanwhile is asked to go, too.
+fn see_off<R: Wait + Clock>(rt: &R, alloc: Global, station: &mut Station) -> Result<(), Fault> {
+    let start = Instant::now(rt);
+    for _ in rt.forever() {
+        station.service.host.part_from_all(DisconnectMode::Later);
+        take_turn(rt, alloc, station)?;
+        if station.service.host.is_alone() || is_over(rt, &start) {
+            return Ok(());
+        }
+    }
+    unreachable!()
+}
+
+// Where the clock can't be read, it is over.
+fn is_over<R: Clock>(rt: &R, start: &io::Result<Instant>) -> bool {
+    let Ok(start) = start else {
+        return true;
+    };
+    match start.elapsed(rt) {
+        Ok(elapsed) => elapsed >= Duration::from_millis(MOMENT),
+        Err(_) => true,
+    }
+}
+
+// A turn without orders, whose events nobody takes.
+fn take_turn<R: Wait + Clock>(rt: &R, alloc: Global, station: &mut Station) -> Result<(), Fault> {
+    let mut source = MemorySource::new(VecDeque::new(alloc));
+    let mut sink = MemorySink::new(alloc, MOST_EVENTS);
+    let Station { wire, service } = station;
+    run(rt, service, wire, &mut source, &mut sink, 1)?;
+    Ok(())
+}

@@ -1,0 +1,18 @@
+//! Who is told of a service's turns while they are taken.
+
+use crate::watched::WatchedHost;
+use enet_service::Report;
+
+/// Is told of a service's turns while they are taken, by the thread that takes them.
+pub trait Watch {
+    /// These turns are over, 64 at most: the sums of their reports, and the host with what it noted in them.
+    fn look(&mut self, host: &WatchedHost, report: Report);
+}
+
+/// Nobody is told.
+#[derive(Drop)]
+pub struct Unwatched;
+
+impl Watch for Unwatched {
+    fn look(&mut self, _host: &WatchedHost, _report: Report) {}
+}

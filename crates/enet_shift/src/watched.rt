@@ -1,0 +1,226 @@
+//! A host whose operator is told who came and went, and which orders were refused.
+
+use enet_host::HostCore;
+use enet_service::Core;
+use enet_submit::Order;
+use enet_types::{Addr, Config, DisconnectMode, Event, PeerRef, Refusal};
+use std::alloc::Global;
+use std::marker::Model;
+
+/// So many notes are kept at most until they are looked at.
+const MOST_NOTES: usize = 4_096;
+
+/// What happened at a host.
+#[derive(Clone, Copy, Debug, PartialEq, Eq)]
+pub enum Note {
+    /// This peer connected. `info` is the word that it gave.
+    Came { met: Met, info: u32 },
+    /// The connection of this peer has ended. `info` is the word of the other end's DISCONNECT, 0 where this end's own was acknowledged
+    /// or the peer timed out.
+    Went { met: Met, info: u32 },
+    /// An order was refused: one to this peer, or where None stands one to connect.
+    Refused { peer: Option<PeerRef>, why: Refusal },
+}
+
+/// A peer and where it is.
+#[derive(Clone, Copy, Debug, PartialEq, Eq)]
+pub struct Met {
+    pub peer: PeerRef,
+    pub address: Addr,
+}
+
+/// A host that notes who came and went, and which orders were refused. Contracts see the host alone.
+#[derive(Drop)]
+pub struct WatchedHost {
+    host: HostCore,
+    // The peer of each slot whose connection was told and whose end wasn't.
+    met: Vec<Option<Met>>,
+    notes: Vec<Note>,
+    // How many notes found no place.
+    missed: u64,
+    refused: u64,
+}
+
+impl Model for WatchedHost {
+    ghost use Rattle.enet_host.specs.Host.{Host};
+    ghost use Rattle.std.specs.Coded.{codes};
+    ghost use Rattle.enet_inbox.specs.Codes.{inbox_code};
+
+    ghost Value = { Host };
+
+    ghost coded = { Prim.hlevel (codes, inbox_code) };
+
+    ghost view = { λ w. w.host };
+}
+
+impl WatchedHost {
+    ghost use Rattle.std.specs.Prelude.{◌≡◌, true, false, IfOk, IfErr, Err};
+    ghost use Rattle.enet_types.specs.Config.{is_in_range};
+    ghost use Rattle.enet_host.specs.Opening.{opened};
+
+    /// A host of this configuration, which did nothing yet.
+    ///
+    /// E8 where a number of the configuration is out of its range, E1 for want of memory.
+    pub fn open(alloc: Global, config: Config) -> Result<WatchedHost, Refusal>
+        ensures out_of_range { is_in_range config ≡ false → result ≡ Err Refusal.BadConfig }
+        ensures in_range { is_in_range config ≡ true → IfErr result (λ why. why ≡ Refusal.Memory) }
+        ensures opened { IfOk result (λ watched. watched ≡ opened config) }
+    {
+        if !config.is_in_range() {
+            return Err(Refusal::BadConfig);
+        }
+        let mut met = Vec::new(alloc);
+        if met.resize(usize::from(config.peers), None).is_err() {
+            return Err(Refusal::Memory);
+        }
+        Ok(WatchedHost {
+            host: HostCore::open(alloc, config)?,
+            met,
+            notes: Vec::new(alloc),
+            missed: 0,
+            refused: 0,
+        })
+    }
+
+    /// The host itself.
+    pub fn host(&self) -> &HostCore
+        ensures { result.now ≡ self.now }
+    {
+        &self.host
+    }
+
+    /// What was noted since [`WatchedHost::forget`], in order.
+    pub fn notes(&self) -> &[Note] {
+        self.notes.as_slice()
+    }
+
+    /// How many notes since then weren't kept: 4,096 are, where there is memory.
+    pub fn missed(&self) -> u64 {
+        self.missed
+    }
+
+    /// How many orders were refused since then.
+    pub fn refused(&self) -> u64 {
+        self.refused
+    }
+
+    /// Whether no connection stands that was told.
+    pub fn is_alone(&self) -> bool {
+        self.met.iter().all(|met| met.is_none())
+    }
+
+    /// Forgets what was noted.
+    pub(crate) fn forget(&mut self)
+        ensures { self.new ≡ self.old }
+    {
+        self.notes.clear();
+        self.missed = 0;
+        self.refused = 0;
+    }
+
+    /// Ends each connection that was told, in this way. A peer that is going already isn't asked again.
+    pub fn part_from_all(&mut self, how: DisconnectMode) {
+        for slot in 0..self.met.len() {
+            if let Some(Some(met)) = self.met.get(slot) {
+                let peer = met.peer;
+                let _ = self.host.obey(Order::Disconnect { peer, how, info: 0 });
+            }
+        }
+    }
+
+    fn note(&mut self, note: Note)
+        ensures { self.new ≡ self.old }
+    {
+        if self.notes.len() >= MOST_NOTES || self.notes.push(note).is_err() {
+            self.missed = self.missed.saturating_add(1);
+        }
+    }
+
+    // Notes an event that was just told.
+    fn note_event(&mut self, event: &Event)
+        ensures { self.new ≡ self.old }
+    {
+        match event {
+            Event::Connect { peer, info } => self.note_came(*peer, *info),
+            Event::Disconnect { peer, info } => self.note_went(*peer, *info),
+            _ => {}
+        }
+    }
+
+    fn note_came(&mut self, peer: PeerRef, info: u32)
+        ensures { self.new ≡ self.old }
+    {
+        let Some(address) = self.host.address(peer) else {
+            return;
+        };
+        let met = Met { peer, address };
+        if let Some(place) = self.met.get_mut(usize::from(peer.slot)) {
+            *place = Some(met);
+        }
+        self.note(Note::Came { met, info });
+    }
+
+    fn note_went(&mut self, peer: PeerRef, info: u32)
+        ensures { self.new ≡ self.old }
+    {
+        let Some(place) = self.met.get_mut(usize::from(peer.slot)) else {
+            return;
+        };
+        if let Some(met) = place.take() {
+            self.note(Note::Went { met, info });
+        }
+    }
+}
+
+impl Core for WatchedHost {
+    ghost use Rattle.enet_turn.specs.Hosting.{Ticks, Obeys, Hears, Gives, Tells, untold};
+
+    ghost ticks = { Ticks };
+
+    ghost obeys = { Obeys };
+
+    ghost hears = { Hears };
+
+    ghost gives = { Gives };
+
+    ghost tells = { Tells };
+
+    ghost untold = { untold };
+
+    fn tick(&mut self, ms: u32) {
+        Core::tick(&mut self.host, ms);
+    }
+
+    fn obey(&mut self, order: Order) -> Result<(), Refusal> {
+        let peer = peer_of(&order);
+        let obeyed = self.host.obey(order);
+        if let Err(why) = obeyed {
+            self.refused = self.refused.saturating_add(1);
+            self.note(Note::Refused { peer, why });
+        }
+        obeyed
+    }
+
+    fn hear(&mut self, from: Addr, bytes: &[u8]) {
+        self.host.hear(from, bytes);
+    }
+
+    fn give(&mut self, buf: &mut [u8; 4096]) -> Option<(Addr, usize)> {
+        self.host.give(buf)
+    }
+
+    fn tell(&mut self) -> Option<Event> {
+        let event = self.host.tell()?;
+        self.note_event(&event);
+        Some(event)
+    }
+}
+
+// To whom an order goes; None where it is to connect.
+fn peer_of(order: &Order) -> Option<PeerRef> {
+    match order {
+        Order::Connect { .. } => None,
+        Order::Submit { peer, .. } => Some(*peer),
+        Order::Disconnect { peer, .. } => Some(*peer),
+    }
+}
