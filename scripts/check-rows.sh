@@ -3,7 +3,7 @@
 # to standard output with NAME.out, to standard error with NAME.err (no such file: nothing) and its status with NAME.status
 # (no such file: 0). A long script and its output are made by NAME.awk. A script that is listed and missing fails. Each line of
 # unreadable-lines.txt and of unreadable-lines-of-a-fleet.txt, whose escapes are printf's, is the second of a script for a pair or a
-# fleet, and the first that can't be read. Each short script that makes two hosts is also run by `check_memory` as one list of events,
+# fleet, and the first that can't be read. Each short script that makes two hosts, and the first of a fleet, is also run by `check_memory` as one list of events,
 # in one call. Command lines are tried too; those of `demo` take ports 47100 to 47108. The last line is
 # 'N passed, M failed'; the status is 1 where one fails. The programs are those that `rt ci`, or `rt run` in crates/enet_relay and
 # crates/check_memory, leaves; another `enet_relay` can be named as argument.
@@ -45,11 +45,17 @@ row() {
     script "$1" "$row.lab" "$row.out" "$err" "$wanted"
 }
 
-# A script as one list of events.
+# A script as one list of events. The row of a fleet stands in the program itself.
 at_once() {
     local row=$rows/$1
-    [ -r "$row.lab" ] && [ ! -e "$row.status" ] && grep -Eq '^(pair|open) ' < <(head -n 1 "$row.lab") || return
-    { echo run; cat "$row.lab"; echo =; cat "$row.out"; } | timeout 120 "$lists" > "$room/out" 2> "$room/err"
+    if [ "$1" = fleet-and-strangers ]; then
+        printf 'run\nfleet\n' > "$room/list"
+    elif [ -r "$row.lab" ] && [ ! -e "$row.status" ] && grep -Eq '^(pair|open) ' < <(head -n 1 "$row.lab"); then
+        { echo run; cat "$row.lab"; echo =; cat "$row.out"; } > "$room/list"
+    else
+        return
+    fi
+    timeout 120 "$lists" < "$room/list" > "$room/out" 2> "$room/err"
     [ "$(<"$room/out")" = 'as expected, 0 growths refused' ] || { fail "$1 at once" "$(head -c 200 "$room/out" "$room/err")"; return; }
     passed=$((passed + 1))
 }

@@ -293,6 +293,14 @@ fn is_event(event: &Event, wanted: Wanted) -> bool {
     }
 }
 
+/// Whether a step came to this.
+fn is_wanted(fleet: &Fleet, node: Node, outcome: &Outcome, wanted: Wanted) -> bool {
+    match outcome {
+        Ok(answer) => is_answer(fleet, node, answer, wanted),
+        Err(why) => matches!(wanted, Wanted::Refused(reason) if *why == reason),
+    }
+}
+
 /// Makes an event happen. No clause says what: callers would carry it along.
 fn stepped(fleet: &mut Fleet, event: FleetEvent) -> Outcome {
     fleet.step(event)
@@ -307,11 +315,7 @@ fn step(fleet: &mut Fleet, number: u32, deed: Deed, wanted: Wanted) -> Result<bo
         let node = node_of(&event);
         let outcome = stepped(fleet, event);
         let is_refused = is_for_want_of_memory(&outcome);
-        let is_wanted = match &outcome {
-            Ok(answer) => is_answer(fleet, node, answer, wanted),
-            Err(why) => matches!(wanted, Wanted::Refused(reason) if *why == reason),
-        };
-        if is_wanted {
+        if is_wanted(fleet, node, &outcome, wanted) {
             return Ok(is_again);
         }
         if !is_refused || Seen::of_fleet(fleet) != before {
@@ -358,6 +362,51 @@ pub(crate) fn run(alloc: Global, is_longer: bool) -> Result<u32, Fault> {
     let outcome = run_in(&mut fleet, is_longer);
     fleet.close();
     Ok(refused.saturating_add(outcome?))
+}
+
+/// Runs the row as one list of events, and compares each answer. How many growths were refused.
+pub(crate) fn run_at_once(alloc: Global) -> Result<u32, Fault> {
+    let (mut fleet, refused) = open(alloc)?;
+    let outcome = run_list(alloc, &mut fleet);
+    fleet.close();
+    outcome?;
+    Ok(refused)
+}
+
+fn run_list(alloc: Global, fleet: &mut Fleet) -> Result<(), Fault> {
+    let events = events_of(alloc)?;
+    match fleet.run(&events) {
+        Ok(told) => are_wanted(fleet, &told),
+        Err(_) => Err(Fault::OwnMemory),
+    }
+}
+
+/// The events of the row.
+fn events_of(alloc: Global) -> Result<Vec<FleetEvent>, Fault> {
+    let mut events = Vec::new(alloc);
+    for (deed, _wanted) in &ROW {
+        if events.push(event_of(*deed)).is_err() {
+            return Err(Fault::OwnMemory);
+        }
+    }
+    Ok(events)
+}
+
+/// Whether these are the row's answers, each and no more.
+fn are_wanted(fleet: &Fleet, told: &[Outcome]) -> Result<(), Fault> {
+    let mut number = 1u32;
+    let mut told = told.iter();
+    for (deed, wanted) in &ROW {
+        number = number.saturating_add(1);
+        match told.next() {
+            Some(outcome) if is_wanted(fleet, node_of(&event_of(*deed)), outcome, *wanted) => {}
+            _ => return Err(Fault::Differs(number)),
+        }
+    }
+    match told.next() {
+        None => Ok(()),
+        Some(_) => Err(Fault::Differs(number)),
+    }
 }
 
 fn run_in(fleet: &mut Fleet, is_longer: bool) -> Result<u32, Fault> {

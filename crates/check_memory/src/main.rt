@@ -8,7 +8,7 @@
 //! behind the last call's was refused, so that the calls have no more.
 //!
 //! In place of the script may stand `fleet`, a row of a fleet that stands in fleet.rt with its answers, or `fleet and on`, where calls
-//! follow that take no memory, so that both have as many growths. A line of that row is told by its number, the making being line 1.
+//! follow that take no memory, so that both have as many growths. Behind `run`, `fleet` is one list of events too. A line of that row is told by its number, the making being line 1.
 //!
 //! What no script of the lab can say, bandwidths and the throttle's numbers, `check_hosts` has a script of.
 #![tactic(auto)]
@@ -38,7 +38,10 @@ fn grow(alloc: Global, count: u32, refused: Fault) -> Result<(), Fault> {
 fn run_input(alloc: Global, number: &str, input: &str) -> Result<u32, Fault> {
     let (script, answers) = input.split_once("\n=\n").unwrap_or((input, ""));
     if number == "run" {
-        return row::run_at_once(alloc, script, answers);
+        return match script.trim_end() {
+            "fleet" => fleet::run_at_once(alloc),
+            _ => row::run_at_once(alloc, script, answers),
+        };
     }
     let Ok(count) = number.parse::<u32>() else {
         return Err(Fault::Io);
