@@ -23,9 +23,9 @@ pub use settings::{set_bandwidth, set_ping_interval, set_timeout, throttle_confi
 /// all was refused. Or its peer does alone what fell to it: commands that came, submissions, disconnects, emissions with the very
 /// datagram that they gave, those that gave nothing too, takes, ticks, settings, throttle limits, each with what it answers, also where
 /// it refuses, stops or wants memory (`Deed`); and where that leaves the peer free, so is the slot, with the next generation and the
-/// connection's sessions. A refused `set_bandwidth` falls to no peer: the memory that was wanting may have been for another. Or a connection begins in it, for which the user asks or a CONNECT: it is the lowest slot that is free and has
-/// a generation left, and the CONNECT's connection isn't there yet. Each time it is said, too, how many bytes the slot counts for its
-/// next share of bandwidth. Of the host this sees what its connections share alone (`Common`): settings and clock, the turn order of
+/// connection's sessions. Or a connection begins in it, for which the user asks or a CONNECT: it is the lowest slot that is free and has
+/// a generation left, and the CONNECT's connection isn't there yet. A refused `set_bandwidth` falls to no peer: the memory that was
+/// wanting may have been for another. Each time it is said, too, how many bytes the slot counts for its next share of bandwidth. Of the host this sees what its connections share alone (`Common`): settings and clock, the turn order of
 /// slots, when the bandwidth is shared out and among how many connected peers, and where they begin, the lowest slot that is free and
 /// has a generation left, and the test of a CONNECT's address and connect id.
 ///

@@ -40,7 +40,7 @@ abbrev pub bytes_shown : World → Side → Result Answer Refusal → List ℕ
 bytes_shown w side (Ok (Sent (Some k))) = bytes_in (slice_get (site_of w side).log k)
 bytes_shown w side _ = []
 
--- What is told of what came of an event in a world, of what the world is then.
+-- What is told of what came of an event in a world, once the world is so.
 abbrev pub world_text : WorldEvent → Result Answer Refusal → Begun → List ℕ
 world_text event outcome new = outcome_text (OfWorld (side_of event)) None (bytes_shown new.world (side_of event) outcome) outcome
 
@@ -52,11 +52,12 @@ abbrev pub sent_shown : Fleet → Node → Result Answer Refusal → Option (Add
 sent_shown f node (Ok (Sent (Some k))) = sent_by (place_of f node) k
 sent_shown f node _ = None
 
+-- What is told in a fleet with so many clients of what came of an event at a host, with the datagram that the answer shows.
 abbrev pub text_with : ℕ → Node → Option (Addr × List ℕ) → Result Answer Refusal → List ℕ
 text_with clients node None outcome = outcome_text (OfFleet node) None [] outcome
 text_with clients node (Some sent) outcome = outcome_text (OfFleet node) (Some (recipient_at clients sent.0)) sent.1 outcome
 
--- The same in a fleet.
+-- What is told of what came of an event in a fleet, once the fleet is so.
 abbrev pub fleet_text : FleetEvent → Result Answer Refusal → Fleet → List ℕ
 fleet_text event outcome new = text_with (length new.clients) (node_of event) (sent_shown new (node_of event) outcome) outcome
 

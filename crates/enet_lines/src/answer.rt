@@ -13,7 +13,7 @@ use enet_script::{bytes_text, event_text, peer_text, received_text, refusal_text
 use enet_types::Refusal;
 use std::alloc::{AllocError, Global};
 
-/// The text of what a host answered to an event. Where it put a datagram out, `datagram` is what the datagram's bytes are, and `to` is
+/// The text of what a host answered to an event. Where it put a datagram out, `datagram` has its bytes, and `to` is
 /// whom it went to, which goes without saying in a world: None there. Of other answers neither says anything. An error where there is no
 /// memory for the text.
 pub fn answer_text(

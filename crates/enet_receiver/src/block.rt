@@ -69,10 +69,11 @@ impl Block {
         }
     }
 
-    /// Whether no number is marked. It looks at no word.
+    /// Whether no number is marked, by the count of the missing ones.
     pub(crate) fn is_clear(&self) -> bool
         ensures { IsTrue result → (k : ℕ) → slice_index_or self.now k false ≡ false }
     {
+        // The field is named, so that what holds of every block is known here.
         let _marks = &self.marks;
         self.missing == NUMBERS
     }

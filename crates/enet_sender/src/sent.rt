@@ -1,9 +1,9 @@
-//! A reliable command that was sent.
+//! A command of a channel, queued or sent.
 
 use enet_fragment::DataCommand;
 use enet_rtt::Transmission;
 
-/// A reliable command that was sent and is not acknowledged yet.
+/// A command of a channel, and how it was sent so far; one that is only queued stands as if it had been sent at 0.
 #[derive(Drop)]
 pub struct Sent {
     /// The command, with its payload.
