@@ -2,7 +2,8 @@
 # Clients of the reference library talk through a relay, in the scenarios of clients/client.c: first straight, then by way of
 # clients/proxy.c, which drops, repeats and reorders datagrams; and a crowd of them (clients/crowd.c) straight, where each queue of the
 # relay has 64 places, so that both are full at once and neither thread may wait for the other. Clients of `demo` visit a server of the
-# reference library. Each scenario has a server of its own, and all run side by side: `check-clients.sh [PROGRAM]`. PROGRAM is the
+# reference library. Two guests (clients/guests.c) are told when a server ends after its turns, and when it ends since its relay found no
+# memory; they notice nothing of receptions that fail (clients/faults.c). Each scenario has a server of its own, and all run side by side: `check-clients.sh [PROGRAM]`. PROGRAM is the
 # built `enet_relay`, by default the one that `rt ci`, or `rt run` in crates/enet_relay, leaves; `reference` stands for the relay of
 # clients/server.c, which tells whether the clients themselves are right. Prints what failed, and as last line 'N passed, M failed';
 # the status is 1 where one failed. It ends within 4 minutes.
@@ -94,6 +95,89 @@ visit() {
     fi
 }
 
+# Starts a server on port $2 with the words from $4 on, whose memory and receptions fail when it is told, and two guests until $3. $1 is
+# the scenario's name. Waits until the guests talk.
+receive_guests() {
+    LD_PRELOAD=$room/faults.so "$program" serve --port "$2" --log "${@:4}" > "$room/$1.out" 2> "$room/$1.err" &
+    relay=$!
+    timeout 110 "$room/guests" "$2" "$3" > "$room/$1.guests" 2> "$room/$1.client" &
+    client=$!
+    for _ in {1..300}; do
+        [ -s "$room/$1.guests" ] && return
+        sleep 0.1
+    done
+}
+
+# Whether the guests ended well, and the file of the server's standard error $1.err begins and goes on as it must, with $2 ends of
+# connections by the guests and the last line $3.
+guests_fared() {
+    wait "$client"
+    local status=$? pattern='^listening at 127\.0\.0\.1:[0-9]+, 32 slots, 2 channels, receive buffer [1-9][0-9]* bytes$'
+    client=
+    sleep 1
+    [ "$status" -eq 0 ] || { echo "the guests ended with status $status: $(head -c 400 "$room/$1.client")"; return 1; }
+    head -n 1 "$room/$1.err" | grep -Eq "$pattern" || { echo "the first line is $(head -n 1 "$room/$1.err")"; return 1; }
+    [ "$(grep -Ec '^connect [01]\.0 at 127\.0\.0\.1:[0-9]+ info 7$' "$room/$1.err")" = 2 ] || { echo "no line of two connections"; return 1; }
+    [ "$(grep -Ec '^disconnect [01]\.0 at 127\.0\.0\.1:[0-9]+ info 5$' "$room/$1.err")" = "$2" ] || { echo "not $2 ends of connections"; return 1; }
+    [ "$3" = '' ] || [ "$(tail -n 1 "$room/$1.err")" = "$3" ] || { echo "the last line is $(tail -n 1 "$room/$1.err")"; return 1; }
+}
+
+# Whether the server ended with status $2 in time, and wrote to standard output what begins with $3.
+server_ended() {
+    for _ in {1..100}; do
+        kill -0 "$relay" 2> /dev/null || break
+        sleep 0.1
+    done
+    kill -0 "$relay" 2> /dev/null && { echo 'the server goes on'; return 1; }
+    wait "$relay"
+    local status=$?
+    relay=
+    [ "$status" -eq "$2" ] || { echo "the server ended with status $status where $2 is wanted"; return 1; }
+    [[ $(<"$room/$1.out") == "$3"* ]] || { echo "it wrote $(<"$room/$1.out")"; return 1; }
+}
+
+# The relay's thread finds no memory once.
+no_memory() {
+    trap end_attempt EXIT
+    trap 'exit 1' TERM
+    receive_guests no-memory "$1" told --forever
+    kill -USR1 "$relay"
+    guests_fared no-memory 0 'E1 Memory' > "$room/no-memory.first" || return
+    server_ended no-memory 1 '' > "$room/no-memory.first" && : > "$room/no-memory.passed"
+}
+
+# The server's turns are over.
+turns_over() {
+    trap end_attempt EXIT
+    trap 'exit 1' TERM
+    receive_guests turns-over "$1" told --turns 2000
+    guests_fared turns-over 0 '' > "$room/turns-over.first" || return
+    server_ended turns-over 0 'served 2000 received ' > "$room/turns-over.first" && : > "$room/turns-over.passed"
+}
+
+# Receptions of the server's socket fail.
+no_reception() {
+    trap end_attempt EXIT
+    trap 'exit 1' TERM
+    receive_guests no-reception "$1" 100 --forever
+    for _ in 1 2 3; do
+        kill -USR2 "$relay"
+        sleep 0.2
+    done
+    guests_fared no-reception 2 '' > "$room/no-reception.first" || return
+    kill -0 "$relay" 2> /dev/null && : > "$room/no-reception.passed"
+}
+
+# Scenarios of guests, each a function, by the names of their files.
+guests() {
+    local name
+    for name in no-memory turns-over no-reception; do
+        free_port
+        names+=("$name")
+        "${name//-/_}" "$port" &
+    done
+}
+
 # Each scenario: its name, the clients, the slots.
 all() {
     local name clients slots way
@@ -102,6 +186,7 @@ all() {
         free_port
         names+=(visit)
         visit "$port" &
+        guests
     fi
     for way in straight lossy; do
         while read -r name clients slots; do

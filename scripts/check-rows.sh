@@ -82,13 +82,23 @@ command_line() {
     passed=$((passed + 1))
 }
 
+# The first line of `serve` on the port `port`, at 127.0.0.1 or $1. How large a receive buffer is hangs on the system, so N stands for it.
+listening() {
+    echo "listening at ${1:-127.0.0.1}:$port, 32 slots, 2 channels, receive buffer N bytes"
+}
+
+# A file of standard error, with N for the size of the receive buffer.
+sized() {
+    sed -E '1s/receive buffer [1-9][0-9]* bytes$/receive buffer N bytes/' "$1"
+}
+
 # A command line of `serve` or `demo`: its name here, the wanted status, standard error and standard output, and its words.
 service_line() {
     local name=$1 wanted=$2 err=$3 out=$4
     shift 4
     timeout 120 "$program" "$@" > "$room/out" 2> "$room/err"
     local status=$?
-    [ "$(<"$room/err")" = "$err" ] || { fail "$name" "standard error is: $(head -c 200 "$room/err")"; return; }
+    [ "$(sized "$room/err")" = "$err" ] || { fail "$name" "standard error is: $(head -c 200 "$room/err")"; return; }
     [ "$(<"$room/out")" = "$out" ] || { fail "$name" "standard output is: $(head -c 200 "$room/out")"; return; }
     [ "$status" -eq "$wanted" ] || { fail "$name" "status $status where $wanted is wanted"; return; }
     passed=$((passed + 1))
@@ -138,20 +148,32 @@ demo --port 0
 END
 }
 
+# Makes a program of the built one under limits by which no thread's stack has room.
+no_threads() {
+    printf '%s\n' '#!/bin/bash' 'ulimit -s 4000000 -v 2000000 && exec "$PROGRAM" "$@"' > "$room/no-threads"
+    chmod +x "$room/no-threads"
+}
+
 services() {
+    no_threads
     free_port
-    service_line serve-two-turns 0 '' 'served 2 received 0 sent 0' serve --port "$port" --turns 2
-    service_line serve-no-turn 0 '' 'served 0 received 0 sent 0' serve --port "$port" --turns 0 --address 127.0.0.1
+    service_line serve-two-turns 0 "$(listening)" 'served 2 received 0 sent 0' serve --port "$port" --turns 2
+    service_line serve-no-turn 0 "$(listening)" 'served 0 received 0 sent 0' serve --port "$port" --turns 0 --address 127.0.0.1
+    service_line serve-with-log 0 "$(listening)" 'served 2 received 0 sent 0' serve --port "$port" --turns 2 --log
+    PROGRAM=$program program=$room/no-threads service_line serve-without-threads 1 'no second thread can be made' '' \
+        serve --port "$port" --turns 2
     start_service --turns 1000000
-    service_line port-taken 1 'E14 WireFault' '' serve --port "$port" --turns 2
-    service_line another-address 0 '' 'served 2 received 0 sent 0' serve --port "$port" --turns 2 --address 127.0.0.2
+    service_line port-taken 1 'E14 WireFault: Address already in use (os error 98)' '' serve --port "$port" --turns 2
+    service_line no-such-address 1 'E14 WireFault: Cannot assign requested address (os error 99)' '' \
+        serve --port "$port" --turns 2 --address 192.0.2.1
+    service_line another-address 0 "$(listening 127.0.0.2)" 'served 2 received 0 sent 0' serve --port "$port" --turns 2 --address 127.0.0.2
     end_service
     free_port
     start_service --forever
     sleep 2
     kill -0 "$first" 2> "$room/gone" || fail forever 'it ended by itself'
     end_service
-    [ ! -s "$room/first" ] && [ ! -s "$room/first.err" ] || fail forever "it wrote: $(head -c 200 "$room/first" "$room/first.err")"
+    [ ! -s "$room/first" ] && [ "$(sized "$room/first.err")" = "$(listening)" ] || fail forever "it wrote: $(head -c 200 "$room/first" "$room/first.err")"
 }
 
 # What `demo` prints with $1 clients of which each got $2 packets, and the last word $3.

@@ -7,7 +7,8 @@
 //! too many, and those of `serve` and `demo` with numbers out of range; what both print; an input that can't be read, an output that
 //! can't be written, a port that is taken, an address that isn't there, a system that makes no threads. By scripts/check-clients.sh: what
 //! clients of the reference library get from `serve`, and those of `demo` from a server of that library, the log, and how a server ends
-//! whose relay finds no memory. By hand alone: want of memory elsewhere (`E1 Memory`, status 1).
+//! whose relay finds no memory. By hand alone: want of memory elsewhere (`E1 Memory`, status 1), and the line of totals of `serve
+//! --forever`.
 //! Neither: that `serve` ends, since threads may wait.
 #![tactic(auto)]
 

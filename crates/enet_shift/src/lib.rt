@@ -5,7 +5,9 @@
 //! where a time was, in none of which the wire failed, and its report their sums; what the turns were given is what the drain took, and
 //! what they put is what the poster posted. Once settled, the only taker took all that was posted, and the orders that the drain didn't
 //! take are told in order ([`settle`]).
-//! Only tested, by scripts/check-rows.sh and scripts/check-clients.sh: that the queues settle (no E16). Neither: that a shift ends.
+//! A host that notes who came and went ([`WatchedHost`]) is the host that it holds, in each of its calls.
+//! Only tested, by scripts/check-rows.sh and scripts/check-clients.sh: that the queues settle (no E16), what is noted and shown to a [`Watch`],
+//! and that a shift of a time ends once the other thread has left. Neither: that a shift ends otherwise.
 #![tactic(auto)]
 
 mod queues;

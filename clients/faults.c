@@ -1,0 +1,83 @@
+// A library that is loaded before the C library (LD_PRELOAD) and has calls of it fail, one at each signal: SIGUSR1 asks that the next growth
+// of memory is refused in a thread that receives no datagrams; SIGUSR2 that the next reception of a datagram fails with EHOSTUNREACH.
+#include <errno.h>
+#include <malloc.h>
+#include <signal.h>
+#include <stdatomic.h>
+#include <stdbool.h>
+#include <stddef.h>
+#include <sys/socket.h>
+#include <sys/syscall.h>
+#include <unistd.h>
+
+void *__libc_malloc(size_t size);
+void *__libc_calloc(size_t count, size_t size);
+void *__libc_realloc(void *block, size_t size);
+void *__libc_memalign(size_t alignment, size_t size);
+
+static atomic_bool wants_growth_refused, wants_reception_failed;
+static _Thread_local bool receives;
+
+static void ask(int number)
+{
+    atomic_store(number == SIGUSR1 ? &wants_growth_refused : &wants_reception_failed, true);
+}
+
+__attribute__((constructor)) static void listen_for_signals(void)
+{
+    struct sigaction action = { .sa_handler = ask, .sa_flags = SA_RESTART };
+    sigaction(SIGUSR1, &action, NULL);
+    sigaction(SIGUSR2, &action, NULL);
+}
+
+static bool is_refused(void)
+{
+    if (receives || !atomic_exchange(&wants_growth_refused, false))
+        return false;
+    errno = ENOMEM;
+    return true;
+}
+
+void *malloc(size_t size)
+{
+    return is_refused() ? NULL : __libc_malloc(size);
+}
+
+void *calloc(size_t count, size_t size)
+{
+    return is_refused() ? NULL : __libc_calloc(count, size);
+}
+
+void *realloc(void *block, size_t size)
+{
+    return is_refused() ? NULL : __libc_realloc(block, size);
+}
+
+void *aligned_alloc(size_t alignment, size_t size)
+{
+    return is_refused() ? NULL : __libc_memalign(alignment, size);
+}
+
+void *memalign(size_t alignment, size_t size)
+{
+    return is_refused() ? NULL : __libc_memalign(alignment, size);
+}
+
+int posix_memalign(void **block, size_t alignment, size_t size)
+{
+    void *got = is_refused() ? NULL : __libc_memalign(alignment, size);
+    if (got == NULL)
+        return ENOMEM;
+    *block = got;
+    return 0;
+}
+
+ssize_t recvfrom(int socket, void *restrict buffer, size_t length, int flags, struct sockaddr *restrict from, socklen_t *restrict from_length)
+{
+    receives = true;
+    if (atomic_exchange(&wants_reception_failed, false)) {
+        errno = EHOSTUNREACH;
+        return -1;
+    }
+    return syscall(SYS_recvfrom, socket, buffer, length, flags, from, from_length);
+}
