@@ -19,15 +19,18 @@ pub use settings::{set_bandwidth, set_ping_interval, set_timeout, throttle_confi
 
 /// What calls of a host make of one of its connections.
 ///
-/// `one_call`: each call does to each slot one of three things (`Fares`). Its peer, if it has one, stays as it was: nothing fell to it, or
-/// all was refused. Or its peer does alone what fell to it: commands that came, submissions, disconnects, emissions with the very
+/// `one_call`: each call does to each slot one of three things (`Fares`). Its peer, if it has one, stays as it was: what fell to it, if
+/// anything, was refused or had no effect (an acknowledgement that matches nothing, a tick by which nothing was due, an emission of
+/// nothing). Or its peer does alone what fell to it: commands that came, submissions, disconnects, emissions with the very
 /// datagram that they gave, those that gave nothing too, takes, ticks, settings, throttle limits, each with what it answers, also where
 /// it refuses, stops or wants memory (`Deed`); and where that leaves the peer free, so is the slot, with the next generation and the
-/// connection's sessions. A refused `set_bandwidth` falls to no peer: the memory that was wanting may have been for another. Or a connection begins in it, for which the user asks or a CONNECT: it is the lowest slot that is free and has
-/// a generation left, and the CONNECT's connection isn't there yet. Each time it is said, too, how many bytes the slot counts for its
-/// next share of bandwidth. Of the host this sees what its connections share alone (`Common`): settings and clock, the turn order of
-/// slots, when the bandwidth is shared out and among how many connected peers, and where they begin, the lowest slot that is free and
-/// has a generation left, and the test of a CONNECT's address and connect id.
+/// connection's sessions. A `set_bandwidth` that is refused falls to no peer: the memory that was wanting may have been for another.
+/// Or a connection begins in it, for which the user asks or a CONNECT: it is the lowest slot that is free and has a generation left,
+/// and the CONNECT's connection isn't there yet. Each time it is said, too, how many bytes the slot counts for its next share of
+/// bandwidth. Of the host this sees what its connections share alone (`Common`): settings and clock, the turn order of slots, when the
+/// bandwidth is shared out and among how many connected peers, and where they begin, the lowest slot that is free and has a generation
+/// left, and the test of a CONNECT's address and connect id. Of these no connection changes the settings, the clock, and when
+/// the bandwidth is shared out: `set_bandwidth` and `tick` do, by their arguments and by these alone.
 ///
 /// `one_answer`: a peer alone answers in one way, and goes on in one way, want of memory apart. `one_way`: so a slot fares in one way by
 /// a call with its answers. `alike`: two hosts that agree on a slot, and on what connections share, leave that slot alike. What is
