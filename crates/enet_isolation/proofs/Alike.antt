@@ -39,7 +39,8 @@ use Rattle.enet_isolation.specs.Deeds as deed
 use Rattle.enet_isolation.specs.Falling.{Falls, nothing_left, no_command, stops, Reaches, unreadable, elsewhere, turned_away, here, Fell, Begins, asks, answers, counted}
 use Rattle.enet_isolation.specs.Falling as falling
 use Rattle.enet_isolation.specs.Law.{Stays, Fares, untouched, goes_on, begins, having_emitted}
-use Rattle.enet_isolation.specs.Alike.{asked, is_memory, is_wanting, OneAnswer, IsCounted, IsHeld, OneWay, Alike}
+use Rattle.enet_isolation.specs.Alike.{asked, is_memory, is_wanting, OneAnswer, IsCounted, IsHeld, Agree, OneWay, Alike}
+use Rattle.enet_isolation.proofs.Agreeing.{fell-same, stays-same, counts-same, begins-same, free-back}
 use Rattle.enet_isolation.proofs.OneCall.{one-call}
 use Rattle.enet_isolation.proofs.Receiving.{read-once, offer-once}
 use Rattle.enet_isolation.proofs.Slots.{held}
@@ -394,23 +395,34 @@ stays-so c h i s u p q ds low live has stays fell alone e =
     e ∙ ap (λ (x : Peering). having_emitted (with_peer s x) (counted c h i s)) same
     ∙ ap (λ (x : SlotState). having_emitted x (counted c h i s)) (held s p (live p has) ∙ ap (λ (o : Option Peering). record s { peer = o }) (sym has))
 
+-- a slot counts the same bytes
+counting : (c : Call) (g h : Common) (i : ℕ) (s t : SlotState) → Agree c i s.peer g h → having_emitted t (counted c g i s) ≡ having_emitted t (counted c h i s)
+counting c g h i s t agree = ap (λ (n : ℕ). having_emitted t n) (counts-same c g h i s s.peer agree)
+
 pub one-way : OneWay
-one-way c h i s t u low live (untouched stays not' e) (untouched stays' not'' f) = e ∙ sym f
-one-way c h i s t u low live (untouched stays not' e) (goes_on p q ds has fell alone f) = e ∙ sym (stays-so c h i s u p q ds low live has (stays p has) fell alone f)
-one-way c h i s t u low live (untouched stays not' e) (begins none left b) = absurd (not' u b)
-one-way c h i s t u low live (goes_on p q ds has fell alone e) (untouched stays not' f) = stays-so c h i s t p q ds low live has (stays p has) fell alone e ∙ sym f
-one-way c h i s t u low live (goes_on p q ds has fell alone e) (goes_on p' q' es has' fell' alone' f) =
+one-way c g h i s t u low live agree (untouched stays not' e) (untouched stays' not'' f) = e ∙ counting c g h i s s agree ∙ sym f
+one-way c g h i s t u low live agree (untouched stays not' e) (goes_on p q ds has fell alone f) =
+    let k : Stays c h i s p = stays-same c g h i s p (subst (λ (o : Option Peering). Agree c i o g h) has agree) (stays p has) in
+    e ∙ counting c g h i s s agree ∙ sym (stays-so c h i s u p q ds low live has k fell alone f)
+one-way c g h i s t u low live agree (untouched stays not' e) (begins none left b) =
+    absurd (not' u (begins-same c h g i s u (free-back c g h i (subst (λ (o : Option Peering). Agree c i o g h) none agree)) b))
+one-way c g h i s t u low live agree (goes_on p q ds has fell alone e) (untouched stays not' f) =
+    let k : Fell h i s p c ds = fell-same c g h i s p ds (subst (λ (o : Option Peering). Agree c i o g h) has agree) fell in
+    stays-so c h i s t p q ds low live has (stays p has) k alone (e ∙ counting c g h i s (with_peer s q) agree) ∙ sym f
+one-way c g h i s t u low live agree (goes_on p q ds has fell alone e) (goes_on p' q' es has' fell' alone' f) =
     let same : p' ≡ p = same-some p' p (sym has' ∙ has) in
-    let deeds : es ≡ ds = fell-once c h i s p es ds low (subst (λ (x : Peering). Fell h i s x c es) same fell') fell in
+    let k : Fell h i s p c ds = fell-same c g h i s p ds (subst (λ (o : Option Peering). Agree c i o g h) has agree) fell in
+    let deeds : es ≡ ds = fell-once c h i s p es ds low (subst (λ (x : Peering). Fell h i s x c es) same fell') k in
     let left : AllAlone ds p q' = subst (λ (xs : List Deed). AllAlone xs p q') deeds (subst (λ (x : Peering). AllAlone es x q') same alone') in
-    e ∙ ap (λ (x : Peering). having_emitted (with_peer s x) (counted c h i s)) (all-once ds p q q' alone left) ∙ sym f
-one-way c h i s t u low live (goes_on p q ds has fell alone e) (begins none left b) = none-some s.peer p none has
-one-way c h i s t u low live (begins none left b) (untouched stays not' f) = absurd (not' t b)
-one-way c h i s t u low live (begins none left b) (goes_on p q ds has fell alone f) = none-some s.peer p none has
-one-way c h i s t u low live (begins none left b) (begins none' left' b') = begins-once c h i s t u b b'
+    e ∙ counting c g h i s (with_peer s q) agree ∙ ap (λ (x : Peering). having_emitted (with_peer s x) (counted c h i s)) (all-once ds p q q' alone left) ∙ sym f
+one-way c g h i s t u low live agree (goes_on p q ds has fell alone e) (begins none left b) = none-some s.peer p none has
+one-way c g h i s t u low live agree (begins none left b) (untouched stays not' f) = absurd (not' t (begins-same c g h i s t (subst (λ (o : Option Peering). Agree c i o g h) none agree) b))
+one-way c g h i s t u low live agree (begins none left b) (goes_on p q ds has fell alone f) = none-some s.peer p none has
+one-way c g h i s t u low live agree (begins none left b) (begins none' left' b') =
+    begins-once c h i s t u (begins-same c g h i s t (subst (λ (o : Option Peering). Agree c i o g h) none agree) b) b'
 
 pub alike : Alike
-alike c g after h after' i s low keeps same there there' acts acts' =
+alike c g after h after' i s low keeps agree there there' acts acts' =
     let t : (t : SlotState) × (slice_get after.slots i ≡ Some t) × Fares c (common_of g) i s t = one-call c g after acts i s there in
     let u : (u : SlotState) × (slice_get after'.slots i ≡ Some u) × Fares c (common_of h) i s u = one-call c h after' acts' i s there' in
-    t.1 ∙ ap (λ (x : SlotState). Some x) (one-way c (common_of h) i s t.0 u.0 low (λ p has. keeps.held i s p there has) (subst (λ (x : Common). Fares c x i s t.0) same t.2) u.2) ∙ sym u.1
+    t.1 ∙ ap (λ (x : SlotState). Some x) (one-way c (common_of g) (common_of h) i s t.0 u.0 low (λ p has. keeps.held i s p there has) agree t.2 u.2) ∙ sym u.1

@@ -11,6 +11,8 @@ pub mod Counts
 pub mod Names
 pub mod AllCalls
 pub mod Beginning
+pub mod Agreeing
 pub mod Alike
+pub mod Own
 pub mod Matching
 pub mod Keeping

@@ -1,4 +1,5 @@
--- What the connections of one host share: this, the call, and nothing else.
+-- What the connections of one host share: this, the call, and nothing else. No connection changes the settings, the clock or when the
+-- bandwidth is shared out: `set_bandwidth` and `tick` do, by their arguments and these alone.
 use Rattle.std.specs.Prelude.{ℕ, Bool, Option, length}
 use Rattle.std.specs.List.{count_by, list_any}
 use Rattle.enet_types.specs.declared.address.Addr.{Addr}

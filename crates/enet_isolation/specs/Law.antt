@@ -19,7 +19,8 @@ use Rattle.enet_isolation.specs.Falling.{Fell, FellAll, Begins, counted}
 abbrev pub having_emitted : SlotState → ℕ → SlotState
 having_emitted s n = record s { emitted = n }
 
--- what fell to a peer left it as it was: nothing fell to it, or all was refused
+-- what fell to a peer, if anything, left it as it was: all was refused, or it was an acknowledgement that matches nothing, a tick by
+-- which nothing was due, an emission of nothing
 pub record Stays (c : Call) (h : Common) (i : ℕ) (s : SlotState) (p : Peering) : Type 0 where
   pub deeds : List Deed
   pub fell : Fell h i s p c deeds
@@ -27,7 +28,7 @@ pub record Stays (c : Call) (h : Common) (i : ℕ) (s : SlotState) (p : Peering)
 
 -- what one call made of slot i, which was s: of the host this sees only what its connections share
 pub data Fares (c : Call) (h : Common) (i : ℕ) (s t : SlotState) : Type 0 where
-  -- its peer stays as it was, or it was free and stays so
+  -- its peer stays as it was, or it was free and stays so; its bytes may be counted anew
   untouched : ((p : Peering) → s.peer ≡ Some p → Stays c h i s p) → ((u : SlotState) → Begins c h i s u → ⊥) → t ≡ having_emitted s (counted c h i s) → Fares c h i s t
   -- its peer did alone what fell to it; where that leaves it free, so is the slot
   goes_on : (p q : Peering) (ds : List Deed) → s.peer ≡ Some p → Fell h i s p c ds → AllAlone ds p q → t ≡ having_emitted (with_peer s q) (counted c h i s) → Fares c h i s t

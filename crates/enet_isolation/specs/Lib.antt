@@ -4,5 +4,6 @@ pub mod Deeds
 pub mod Falling
 pub mod Law
 pub mod Alike
+pub mod Own
 pub mod Beginnings
 pub mod Ends

@@ -9,6 +9,7 @@
 
 ghost use Rattle.enet_isolation.specs.Ends.{Matches};
 ghost use Rattle.enet_isolation.specs.Alike.{OneAnswer, OneWay, Alike};
+ghost use Rattle.enet_isolation.specs.Own.{OfTheHost};
 ghost use Rattle.enet_isolation.specs.Beginnings.{Beginnings};
 ghost use Rattle.enet_isolation.specs.Law.{OneCall, EachKeeps, Isolation, AreIsolated};
 
@@ -19,20 +20,26 @@ pub use settings::{set_bandwidth, set_ping_interval, set_timeout, throttle_confi
 
 /// What calls of a host make of one of its connections.
 ///
-/// `one_call`: each call does to each slot one of three things (`Fares`). Its peer, if it has one, stays as it was: nothing fell to it, or
-/// all was refused. Or its peer does alone what fell to it: commands that came, submissions, disconnects, emissions with the very
+/// `one_call`: each call does to each slot one of three things (`Fares`). Its peer, if it has one, stays as it was: what fell to it, if
+/// anything, was refused or had no effect (an acknowledgement that matches nothing, a tick by which nothing was due, an emission of
+/// nothing). Or its peer does alone what fell to it: commands that came, submissions, disconnects, emissions with the very
 /// datagram that they gave, those that gave nothing too, takes, ticks, settings, throttle limits, each with what it answers, also where
 /// it refuses, stops or wants memory (`Deed`); and where that leaves the peer free, so is the slot, with the next generation and the
 /// connection's sessions. Or a connection begins in it, for which the user asks or a CONNECT: it is the lowest slot that is free and has
 /// a generation left, and the CONNECT's connection isn't there yet. A refused `set_bandwidth` falls to no peer: the memory that was
-/// wanting may have been for another. Each time it is said, too, how many bytes the slot counts for its next share of bandwidth. Of the host this sees what its connections share alone (`Common`): settings and clock, the turn order of
-/// slots, when the bandwidth is shared out and among how many connected peers, and where they begin, the lowest slot that is free and
-/// has a generation left, and the test of a CONNECT's address and connect id.
+/// wanting may have been for another. Each time it is said, too, how many bytes the slot counts for its next share of bandwidth. Of the
+/// host this sees what its connections share alone (`Common`): settings and clock, the turn order of slots, when the bandwidth is shared
+/// out and among how many connected peers, and where they begin, the lowest slot that is free and has a generation left, and the test of
+/// a CONNECT's address and connect id. `of_the_host`: of these no connection changes the settings, the clock, and when the bandwidth is
+/// shared out: `set_bandwidth` and `tick` do, by their arguments and by these alone.
 ///
 /// `one_answer`: a peer alone answers in one way, and goes on in one way, want of memory apart. `one_way`: so a slot fares in one way by
-/// a call with its answers. `alike`: two hosts that agree on a slot, and on what connections share, leave that slot alike. What is
-/// answered of a datagram tells how many of its commands reached the peer by a count, which stops at 4,294,967,295: for these two it has
-/// no more bytes than that.
+/// a call with its answers, whatever else the host holds. `alike`: so two hosts that hold the same in a slot leave it alike, where they
+/// agree on what the call looks at there (`Agree`). Of a slot with a peer that is nothing where a peer is asked or told something by the
+/// user; the clock where a datagram comes; the clock and whose turn is first where one is asked for; the turn where an event is; and of a
+/// tick the clock, whether the bandwidth is shared out, and then how much among how many. A free slot sees besides what decides whether
+/// and how a connection begins there. So what other slots hold makes no other difference. What is answered of a datagram tells how many
+/// of its commands reached the peer by a count, which stops at 4,294,967,295: for these two it has no more bytes than that.
 ///
 /// `keeps`: from its opening on a host holds no peer that is free, whatever is called.
 ///
@@ -52,6 +59,7 @@ pub fn isolation()
     ensures one_answer { OneAnswer }
     ensures one_way { OneWay }
     ensures alike { Alike }
+    ensures of_the_host { OfTheHost }
     ensures calls { Isolation }
     ensures beginnings { Beginnings }
     ensures events { Matches }

@@ -2,6 +2,7 @@ use Rattle.enet_isolation.proofs.OneCall.{one-call}
 use Rattle.enet_isolation.proofs.Keeping.{each-keeps}
 use Rattle.enet_isolation.proofs.AllCalls as all
 use Rattle.enet_isolation.proofs.Alike.{one-answer, one-way, alike}
+use Rattle.enet_isolation.proofs.Own.{of-the-host}
 use Rattle.enet_isolation.proofs.Beginning.{each-beginning}
 use Rattle.enet_isolation.proofs.Matching.{matches}
 use Rattle.enet_isolation.proofs.isolation.Goals as goal
@@ -20,6 +21,9 @@ returns-clause-one_way c = one-way
 
 pub returns-clause-alike : goal.returns-clause-alike
 returns-clause-alike c = alike
+
+pub returns-clause-of_the_host : goal.returns-clause-of_the_host
+returns-clause-of_the_host c = of-the-host
 
 pub returns-clause-calls : goal.returns-clause-calls
 returns-clause-calls c = all.isolation
