@@ -1,4 +1,4 @@
-use Rattle.std.proofs.Common.{[], ◌∷◌, ◌++◌, ap, ◌∙◌, arith}
+use Rattle.std.proofs.Common.{List, [], ◌∷◌, ◌++◌, ap, ◌∙◌, arith}
 use Rattle.std.specs.FinMap.{len}
 use Rattle.enet_seq.specs.Numbering.{wire}
 use Rattle.enet_seq.specs.Windows.{after}
@@ -19,7 +19,7 @@ returns-clause-is c =
     (c.pass.ensures.front ∙ ap (after c.args.front.now) c.count.ensures.value)
     (c.pass.ensures.held ∙ ap (without wire c.args.held.now (after c.args.front.now 1)) c.count.ensures.value)
     (c.pass.ensures.waiting ∙ ap (without wire c.args.waiting.now c.args.front.now) c.count.ensures.value)
-    (c.push_back_reserved.ensures.items ∙ ap (λ (d : Dispatched). c.args.dispatched.now.items ++ d ∷ []) c.handed_out.ensures)
+    (◌∙◌ {A = List Dispatched} c.push_back_reserved.ensures.items (ap (λ (d : Dispatched). c.args.dispatched.now.items ++ d ∷ []) c.handed_out.ensures))
     c.flush.ensures.items c.flush.ensures.last c.flush.ensures.rest
 
 pub returns-clause-fewer : goal.returns-clause-fewer
