@@ -6,7 +6,7 @@ set -u
 cd "$(dirname "$0")/.." || exit 1
 program=${1:?usage: measure.sh PROGRAM [WORD..]}
 shift
-line=$(grep -E "^$program( |:)" measure/crates.txt) && [ -d "measure/$program" ] || { echo "measure/ has no program $program" >&2; exit 1; }
+line=$(grep -E "^$program( |:)" measure/list.txt) && [ -d "measure/$program" ] || { echo "measure/ has no program $program" >&2; exit 1; }
 copy=measure/out
 mkdir -p "$copy/crates/$program"
 find "$copy/crates" -mindepth 1 -maxdepth 1 ! -name "$program" -exec rm -rf {} +
