@@ -1,5 +1,5 @@
 -- What a call across the border makes of what a handle holds.
-use Rattle.std.specs.Prelude.{◌≡◌, ◌⊎◌, ◌<◌, ◌≤◌, ◌++◌, ℕ, true, false, Option, Some, None, Result, Ok, Err, List, length, drop, is_ok}
+use Rattle.std.specs.Prelude.{◌≡◌, ◌⊎◌, ◌<◌, ◌≤◌, ◌++◌, ℕ, true, Option, Some, None, Result, Ok, Err, List, length, drop, is_ok}
 use Rattle.std.specs.Option.{option_and_then}
 use Rattle.std.specs.List.{list_any}
 use Rattle.enet_types.specs.declared.address.Addr.{Addr}

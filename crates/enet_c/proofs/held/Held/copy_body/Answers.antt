@@ -1,4 +1,4 @@
-use Rattle.std.proofs.Common.{arith, ℕ, List, length, ◌++◌, Option, sym, ap, ◌∙◌, subst}
+use Rattle.std.proofs.Common.{arith, ℕ, List, ◌++◌, Option, sym, ap, ◌∙◌, subst}
 use Rattle.std.specs.Prelude.{drop}
 use Rattle.enet_c.specs.Border.{Copies, nothing, short, copied}
 use Rattle.enet_c.proofs.held.Held.copy_body.Goals as goal
