@@ -1,0 +1,33 @@
+/* The proved functions, as crates/enet_c exports them. No pointer may be NULL, also beside a length of 0: gofnjerta.c sees to that.
+ * For the library's own C code alone. */
+#ifndef GOFNJERTA_CORE_H
+#define GOFNJERTA_CORE_H
+#include "gofnjerta.h"
+
+size_t gofnjerta_core_error_name(uint32_t number, char *name, size_t room);
+size_t gofnjerta_core_stop_name(uint32_t number, char *name, size_t room);
+void gofnjerta_core_standard(uint16_t peers, uint8_t channels, gofnjerta_config *config);
+uint32_t gofnjerta_core_open(gofnjerta_host *host, const gofnjerta_config *config);
+void gofnjerta_core_close(gofnjerta_host *host);
+uint32_t gofnjerta_core_connect(gofnjerta_host *host, const gofnjerta_address *to, uint8_t channels, uint32_t info, uint32_t word,
+                                gofnjerta_peer *peer);
+uint32_t gofnjerta_core_submit(gofnjerta_host *host, const gofnjerta_peer *peer, uint8_t channel, uint8_t flags, const void *body, size_t length);
+uint32_t gofnjerta_core_stage(gofnjerta_host *host, const void *body, size_t length);
+uint32_t gofnjerta_core_submit_staged(gofnjerta_host *host, const gofnjerta_peer *peer, uint8_t channel, uint8_t flags);
+gofnjerta_received gofnjerta_core_receive(gofnjerta_host *host, const gofnjerta_address *from, const void *datagram, size_t length);
+uint32_t gofnjerta_core_service(gofnjerta_host *host, void *buffer, size_t room, gofnjerta_datagram *datagram);
+uint32_t gofnjerta_core_tick(gofnjerta_host *host, uint32_t ms);
+uint32_t gofnjerta_core_next_event(gofnjerta_host *host, gofnjerta_event *event);
+uint32_t gofnjerta_core_body(gofnjerta_host *host, void *buffer, size_t room);
+uint32_t gofnjerta_core_disconnect(gofnjerta_host *host, const gofnjerta_peer *peer, uint32_t info);
+uint32_t gofnjerta_core_disconnect_now(gofnjerta_host *host, const gofnjerta_peer *peer, uint32_t info);
+uint32_t gofnjerta_core_disconnect_later(gofnjerta_host *host, const gofnjerta_peer *peer, uint32_t info);
+uint32_t gofnjerta_core_set_bandwidth(gofnjerta_host *host, uint32_t incoming, uint32_t outgoing);
+uint32_t gofnjerta_core_throttle_configure(gofnjerta_host *host, const gofnjerta_peer *peer, uint32_t interval, uint32_t acceleration,
+                                           uint32_t deceleration);
+uint32_t gofnjerta_core_set_ping_interval(gofnjerta_host *host, const gofnjerta_peer *peer, uint32_t ms);
+uint32_t gofnjerta_core_set_timeout(gofnjerta_host *host, const gofnjerta_peer *peer, uint32_t limit, uint32_t minimum, uint32_t maximum);
+uint32_t gofnjerta_core_peer(gofnjerta_host *host, const gofnjerta_peer *peer, gofnjerta_reading *reading);
+uint32_t gofnjerta_core_totals_of(gofnjerta_host *host, gofnjerta_totals *totals);
+
+#endif

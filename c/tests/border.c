@@ -1,0 +1,307 @@
+/* The header against the library: sizes, offsets and numbers; and what a call answers that is used badly. */
+#include "../core.h"
+#include "check.h"
+#include <stdlib.h>
+#include <string.h>
+
+/* Sizes: those that crates/enet_c proves of its own structures (src/shapes.rt). */
+_Static_assert(sizeof(gofnjerta_config) == 32 && sizeof(gofnjerta_address) == 8 && sizeof(gofnjerta_peer) == 8, "settings and names");
+_Static_assert(sizeof(gofnjerta_received) == 12 && sizeof(gofnjerta_datagram) == 20 && sizeof(gofnjerta_event) == 32, "what a host gives");
+_Static_assert(sizeof(gofnjerta_reading) == 60 && sizeof(gofnjerta_totals) == 32, "readings");
+_Static_assert(sizeof(gofnjerta_host) == 16 && sizeof(bool) == 1, "the handle");
+
+static const gofnjerta_address at_a = {0x0A0B0C0D, 7000}, at_b = {0x0E0F1011, 7001};
+static const gofnjerta_address shortened = {1, 2};
+
+/* Brings what a host puts out to another one, and tells how many datagrams. */
+static int carry(gofnjerta_host *from, gofnjerta_address own, gofnjerta_host *to) {
+    uint8_t buffer[GOFNJERTA_ROOM];
+    gofnjerta_datagram gave;
+    int count = 0;
+    while (gofnjerta_service(from, buffer, sizeof buffer, &gave) == GOFNJERTA_OK && gave.length) {
+        gofnjerta_received got;
+        ANSWERS(GOFNJERTA_OK, gofnjerta_receive(to, own, buffer, gave.length, &got));
+        CHECK(got.stop == 0);
+        count++;
+    }
+    return count;
+}
+
+static void settle(gofnjerta_host *a, gofnjerta_host *b) {
+    while (carry(a, at_a, b) + carry(b, at_b, a)) {}
+}
+
+/* The names of the numbers: the library's own, for each number that the proved functions know. */
+static void names(void) {
+    char name[64];
+    for (uint32_t number = 1; number < 32; number++) {
+        memset(name, 0, sizeof name);
+        size_t length = gofnjerta_core_error_name(number, name, sizeof name - 1);
+        CHECK(length ? !strcmp(name, gofnjerta_error_name(number)) : !strcmp("?", gofnjerta_error_name(number)));
+        CHECK((length > 0) == (number <= 17));
+        memset(name, 0, sizeof name);
+        length = gofnjerta_core_stop_name(number, name, sizeof name - 1);
+        CHECK(length ? !strcmp(name, gofnjerta_stop_name(number)) : !strcmp("?", gofnjerta_stop_name(number)));
+        CHECK((length > 0) == (number <= 13));
+    }
+    CHECK(gofnjerta_core_error_name(0, name, 64) == 0 && gofnjerta_core_error_name(UINT32_MAX, name, 64) == 0);
+    CHECK(gofnjerta_core_error_name(GOFNJERTA_TOO_LARGE, name, 10) == 0 && gofnjerta_core_error_name(GOFNJERTA_TOO_LARGE, name, 11) == 11);
+    CHECK(!strcmp(gofnjerta_error_name(GOFNJERTA_MEMORY), "E1 Memory") && !strcmp(gofnjerta_error_name(GOFNJERTA_NO_SUCH_PEER), "E2 NoSuchPeer"));
+    CHECK(!strcmp(gofnjerta_error_name(GOFNJERTA_NOT_CONNECTED), "E3 NotConnected"));
+    CHECK(!strcmp(gofnjerta_error_name(GOFNJERTA_NO_SUCH_CHANNEL), "E4 NoSuchChannel"));
+    CHECK(!strcmp(gofnjerta_error_name(GOFNJERTA_TOO_LARGE), "E5 TooLarge") && !strcmp(gofnjerta_error_name(GOFNJERTA_NO_SLOT), "E7 NoSlot"));
+    CHECK(!strcmp(gofnjerta_error_name(GOFNJERTA_BAD_CONFIG), "E8 BadConfig") && !strcmp(gofnjerta_error_name(GOFNJERTA_CLOSED), "Closed"));
+    CHECK(!strcmp(gofnjerta_error_name(GOFNJERTA_NULL), "Null") && !strcmp(gofnjerta_error_name(GOFNJERTA_NULL + 1), "?"));
+    CHECK(!strcmp(gofnjerta_error_name(GOFNJERTA_OK), "OK") && !strcmp(gofnjerta_stop_name(0), "none"));
+}
+
+/* Where the fields of the settings lie: each that has a range is refused outside of it, and the others are in the offer of a peer. */
+static void settings(void) {
+    gofnjerta_config good = gofnjerta_standard(0x0123, 0x45), config;
+    CHECK(good.peers == 0x0123 && good.channels == 0x45 && good.mtu == 1392 && good.incoming == 0 && good.outgoing == 0);
+    CHECK(good.max_packet == GOFNJERTA_MAX_PACKET && good.max_waiting == GOFNJERTA_MAX_PACKET && good.generations == 1000000 && good.clock == 0);
+    gofnjerta_host host = {0};
+#define REFUSED(field, value) (config = good, config.field = (value), ANSWERS(GOFNJERTA_BAD_CONFIG, gofnjerta_open(&host, &config)))
+    REFUSED(peers, 0);
+    REFUSED(peers, 4096);
+    REFUSED(channels, 0);
+    REFUSED(mtu, 575);
+    REFUSED(mtu, 4097);
+    REFUSED(max_packet, 0);
+    REFUSED(max_packet, GOFNJERTA_MAX_PACKET + 1);
+    REFUSED(max_waiting, 0);
+    REFUSED(max_waiting, GOFNJERTA_MAX_PACKET + 1);
+    REFUSED(generations, 0);
+    CHECK(!host.is_open && !host.at);
+
+    config = good;
+    config.mtu = 0x0576, config.incoming = 0x01020304, config.outgoing = 0x05060708, config.clock = 0xABCD1234;
+    ANSWERS(GOFNJERTA_OK, gofnjerta_open(&host, &config));
+    CHECK(host.is_open);
+    ANSWERS(GOFNJERTA_OPEN, gofnjerta_open(&host, &config));
+    gofnjerta_peer peer = {9, 9};
+    ANSWERS(GOFNJERTA_OK, gofnjerta_connect(&host, at_b, 7, 0x11121314, 0x21222324, &peer));
+    CHECK(peer.slot == 0 && peer.generation == 0);
+    uint8_t buffer[GOFNJERTA_ROOM];
+    gofnjerta_datagram gave;
+    ANSWERS(GOFNJERTA_OK, gofnjerta_service(&host, buffer, sizeof buffer, &gave));
+    /* A CONNECT as ENet 1.3 writes it: header 4, command head 4, slot 2, sessions 2, then eleven numbers of 4 bytes. */
+    static const uint8_t offer[] = {
+        0x8F, 0xFF, 0x12, 0x34, 0x82, 0xFF, 0, 1, 0, 0, 0xFF, 0xFF, 0, 0, 0x05, 0x76, 0, 1, 0, 0, 0, 0, 0, 7, 1, 2, 3, 4,
+        5, 6, 7, 8, 0, 0, 0x13, 0x88, 0, 0, 0, 2, 0, 0, 0, 2, 0x21, 0x22, 0x23, 0x24, 0x11, 0x12, 0x13, 0x14};
+    CHECK(gave.length == sizeof offer && gave.to.ip == at_b.ip && gave.to.port == at_b.port);
+    for (size_t i = 0; i < sizeof offer; i++)
+        if (i < 16 || i > 19) CHECK(buffer[i] == offer[i]); /* the window follows from the bandwidths */
+    ANSWERS(GOFNJERTA_OK, gofnjerta_close(&host));
+    CHECK(!host.is_open);
+    ANSWERS(GOFNJERTA_OK, gofnjerta_close(&host));
+}
+
+/* Where the fields of events, readings and totals lie, in a conversation whose numbers are known. */
+static void conversation(gofnjerta_host *a, gofnjerta_host *b, gofnjerta_peer *from_b, gofnjerta_peer *from_a) {
+    gofnjerta_event event;
+    uint8_t body[64];
+    ANSWERS(GOFNJERTA_OK, gofnjerta_connect(b, at_a, 2, 0x01020304, 0x11223344, from_b));
+    ANSWERS(GOFNJERTA_NOT_CONNECTED, gofnjerta_submit(b, *from_b, 0, GOFNJERTA_RELIABLE, "x", 1));
+    carry(b, at_b, a);
+    gofnjerta_tick(a, 30), gofnjerta_tick(b, 30);
+    settle(a, b);
+    ANSWERS(GOFNJERTA_OK, gofnjerta_next_event(b, &event));
+    CHECK(event.kind == GOFNJERTA_CONNECT && event.info == 0 && event.peer.slot == from_b->slot);
+    ANSWERS(GOFNJERTA_OK, gofnjerta_next_event(a, &event));
+    CHECK(event.kind == GOFNJERTA_CONNECT && event.info == 0x01020304 && event.peer.slot == 0 && event.peer.generation == 0);
+    *from_a = event.peer;
+    ANSWERS(GOFNJERTA_UNTOLD, gofnjerta_body(a, body, sizeof body));
+
+    ANSWERS(GOFNJERTA_OK, gofnjerta_submit(b, *from_b, 1, GOFNJERTA_RELIABLE, "hello", 5));
+    gofnjerta_reading read;
+    carry(b, at_b, a);
+    ANSWERS(GOFNJERTA_OK, gofnjerta_read_peer(b, *from_b, &read));
+    CHECK(read.state == GOFNJERTA_CONNECTED && read.mtu == 1000 && read.connect_id == 0x11223344 && read.in_transit == 5);
+    CHECK(read.address.ip == at_a.ip && read.address.port == at_a.port && read.slot == 0 && read.channels == 2);
+    CHECK(read.window == 65536 && read.throttle == 32 && read.throttle_interval == 5000 && read.acceleration == 2 && read.deceleration == 2);
+    CHECK(read.round_trip == 500 && read.variance == 0 && read.incoming_session == 0 && read.outgoing_session == 0);
+    gofnjerta_tick(a, 30), gofnjerta_tick(b, 30);
+    settle(a, b);
+    ANSWERS(GOFNJERTA_OK, gofnjerta_read_peer(b, *from_b, &read));
+    CHECK(read.round_trip == 30 && read.variance == 15 && read.in_transit == 0);
+    ANSWERS(GOFNJERTA_OK, gofnjerta_next_event(a, &event));
+    CHECK(event.kind == GOFNJERTA_RECEIVE && event.channel == 1 && event.flags == GOFNJERTA_RELIABLE && event.length == 5 && event.peer.slot == 0);
+    ANSWERS(GOFNJERTA_SHORT, gofnjerta_body(a, body, 4));
+    ANSWERS(GOFNJERTA_SHORT, gofnjerta_body(a, NULL, 0));
+    memset(body, 0xEE, sizeof body);
+    ANSWERS(GOFNJERTA_OK, gofnjerta_body(a, body, 6));
+    CHECK(!memcmp(body, "hello\xEE\xEE", 7));
+    ANSWERS(GOFNJERTA_OK, gofnjerta_body(a, body, 5));
+    ANSWERS(GOFNJERTA_OK, gofnjerta_next_event(a, &event));
+    CHECK(event.kind == GOFNJERTA_NONE && event.length == 0 && event.channel == 0);
+    ANSWERS(GOFNJERTA_UNTOLD, gofnjerta_body(a, body, sizeof body));
+}
+
+/* A body that is staged goes to a peer again and again; an empty one is a packet too. */
+static void staged(gofnjerta_host *a, gofnjerta_host *b, gofnjerta_peer from_b) {
+    gofnjerta_event event;
+    uint8_t body[8] = {0};
+    ANSWERS(GOFNJERTA_UNSTAGED, gofnjerta_submit_staged(b, from_b, 0, GOFNJERTA_RELIABLE));
+    ANSWERS(GOFNJERTA_OK, gofnjerta_stage(b, "abc", 3));
+    ANSWERS(GOFNJERTA_OK, gofnjerta_submit_staged(b, from_b, 0, GOFNJERTA_RELIABLE));
+    ANSWERS(GOFNJERTA_NO_SUCH_CHANNEL, gofnjerta_submit_staged(b, from_b, 2, GOFNJERTA_RELIABLE));
+    ANSWERS(GOFNJERTA_OK, gofnjerta_submit_staged(b, from_b, 1, GOFNJERTA_UNSEQUENCED));
+    ANSWERS(GOFNJERTA_OK, gofnjerta_submit(b, from_b, 0, GOFNJERTA_RELIABLE, NULL, 0));
+    settle(a, b);
+    int packets = 0, empty = 0;
+    while (gofnjerta_next_event(a, &event) == GOFNJERTA_OK && event.kind == GOFNJERTA_RECEIVE) {
+        ANSWERS(GOFNJERTA_OK, gofnjerta_body(a, body, sizeof body));
+        if (event.length == 0) empty++;
+        else CHECK(event.length == 3 && !memcmp(body, "abc", 3) && event.flags == (event.channel ? GOFNJERTA_UNSEQUENCED : GOFNJERTA_RELIABLE));
+        packets++;
+    }
+    CHECK(packets == 3 && empty == 1);
+}
+
+/* Lengths over the limits, channels and peers that aren't there. */
+static void beyond(gofnjerta_host *b, gofnjerta_peer from_b) {
+    static uint8_t large[200001], buffer[GOFNJERTA_ROOM];
+    gofnjerta_peer gone = {from_b.slot, from_b.generation + 1}, beyond_all = {4, 0}, last = {65535, UINT32_MAX};
+    gofnjerta_reading read = {.mtu = 5};
+    gofnjerta_datagram gave;
+    ANSWERS(GOFNJERTA_TOO_LARGE, gofnjerta_submit(b, from_b, 0, GOFNJERTA_RELIABLE, large, 200001));
+    ANSWERS(GOFNJERTA_TOO_LARGE, gofnjerta_submit(b, from_b, 0, GOFNJERTA_RELIABLE, large, SIZE_MAX));
+    ANSWERS(GOFNJERTA_TOO_LARGE, gofnjerta_stage(b, large, (size_t)GOFNJERTA_MAX_PACKET + 1));
+    ANSWERS(GOFNJERTA_TOO_LARGE, gofnjerta_receive(b, at_a, large, SIZE_MAX, NULL));
+    ANSWERS(GOFNJERTA_NO_SUCH_CHANNEL, gofnjerta_submit(b, from_b, 2, GOFNJERTA_RELIABLE, "x", 1));
+    ANSWERS(GOFNJERTA_NO_SUCH_CHANNEL, gofnjerta_submit(b, from_b, 255, GOFNJERTA_RELIABLE, "x", 1));
+    ANSWERS(GOFNJERTA_NO_SUCH_PEER, gofnjerta_submit(b, gone, 0, GOFNJERTA_RELIABLE, "x", 1));
+    ANSWERS(GOFNJERTA_NO_SUCH_PEER, gofnjerta_submit(b, beyond_all, 0, GOFNJERTA_RELIABLE, "x", 1));
+    ANSWERS(GOFNJERTA_NO_SUCH_PEER, gofnjerta_submit_staged(b, last, 0, GOFNJERTA_RELIABLE));
+    ANSWERS(GOFNJERTA_NO_SUCH_PEER, gofnjerta_disconnect(b, gone, 0));
+    ANSWERS(GOFNJERTA_NO_SUCH_PEER, gofnjerta_disconnect_now(b, beyond_all, 0));
+    ANSWERS(GOFNJERTA_NO_SUCH_PEER, gofnjerta_disconnect_later(b, last, 0));
+    ANSWERS(GOFNJERTA_NO_SUCH_PEER, gofnjerta_set_ping_interval(b, gone, 1));
+    ANSWERS(GOFNJERTA_NO_SUCH_PEER, gofnjerta_set_timeout(b, gone, 1, 2, 3));
+    ANSWERS(GOFNJERTA_NO_SUCH_PEER, gofnjerta_throttle_configure(b, gone, 1, 2, 3));
+    ANSWERS(GOFNJERTA_NO_SUCH_PEER, gofnjerta_read_peer(b, gone, &read));
+    CHECK(read.mtu == 5);
+    ANSWERS(GOFNJERTA_BAD_CONFIG, gofnjerta_connect(b, at_a, 0, 0, 0, &gone));
+    ANSWERS(GOFNJERTA_SHORT, gofnjerta_service(b, buffer, GOFNJERTA_ROOM - 1, &gave));
+    CHECK(gave.length == 0);
+    ANSWERS(GOFNJERTA_OK, gofnjerta_set_ping_interval(b, from_b, 250));
+    ANSWERS(GOFNJERTA_OK, gofnjerta_set_timeout(b, from_b, 0, 0, 0));
+    ANSWERS(GOFNJERTA_OK, gofnjerta_set_bandwidth(b, 100000, 200000));
+    ANSWERS(GOFNJERTA_OK, gofnjerta_throttle_configure(b, from_b, 4000, 3, 1));
+}
+
+/* Peers until no slot is free, and datagrams that are nothing. */
+static void crowded(gofnjerta_host *b) {
+    gofnjerta_peer peer;
+    gofnjerta_received got = {9, 9, 9};
+    for (int i = 1; i < 4; i++) {
+        ANSWERS(GOFNJERTA_OK, gofnjerta_connect(b, shortened, 255, 0, (uint32_t)i, &peer));
+        CHECK(peer.slot == i);
+    }
+    peer = (gofnjerta_peer){77, 78};
+    ANSWERS(GOFNJERTA_NO_SLOT, gofnjerta_connect(b, shortened, 1, 0, 0, &peer));
+    CHECK(peer.slot == 77 && peer.generation == 78);
+    ANSWERS(GOFNJERTA_OK, gofnjerta_receive(b, at_a, NULL, 0, &got));
+    CHECK(got.status == 0 && got.handled == 0 && got.stop == 1);
+    ANSWERS(GOFNJERTA_OK, gofnjerta_receive(b, shortened, "\x00\x00\x01", 3, &got));
+    CHECK(got.handled == 0 && got.stop == 4);
+}
+
+/* A peer that was there: its name means nobody, also when the slot is taken again. */
+static void parted(gofnjerta_host *a, gofnjerta_host *b, gofnjerta_peer from_b, gofnjerta_peer from_a) {
+    gofnjerta_event event;
+    gofnjerta_reading read;
+    gofnjerta_totals in, out;
+    settle(a, b);
+    while (gofnjerta_next_event(a, &event) == GOFNJERTA_OK && event.kind) {}
+    ANSWERS(GOFNJERTA_OK, gofnjerta_disconnect(b, from_b, 0x0A0B0C0D));
+    ANSWERS(GOFNJERTA_NOT_CONNECTED, gofnjerta_disconnect(b, from_b, 0));
+    ANSWERS(GOFNJERTA_NOT_CONNECTED, gofnjerta_submit(b, from_b, 0, GOFNJERTA_RELIABLE, "x", 1));
+    settle(a, b);
+    ANSWERS(GOFNJERTA_OK, gofnjerta_next_event(a, &event));
+    CHECK(event.kind == GOFNJERTA_DISCONNECT && event.info == 0x0A0B0C0D && event.peer.slot == from_a.slot);
+    ANSWERS(GOFNJERTA_NO_SUCH_PEER, gofnjerta_submit(a, from_a, 0, GOFNJERTA_RELIABLE, "x", 1));
+    ANSWERS(GOFNJERTA_OK, gofnjerta_next_event(b, &event));
+    CHECK(event.kind == GOFNJERTA_DISCONNECT && event.info == 0);
+    ANSWERS(GOFNJERTA_NO_SUCH_PEER, gofnjerta_read_peer(b, from_b, &read));
+    gofnjerta_peer next;
+    ANSWERS(GOFNJERTA_OK, gofnjerta_connect(b, at_a, 2, 0, 5, &next));
+    CHECK(next.slot == from_b.slot && next.generation == from_b.generation + 1);
+    ANSWERS(GOFNJERTA_NO_SUCH_PEER, gofnjerta_read_peer(b, from_b, &read));
+    ANSWERS(GOFNJERTA_OK, gofnjerta_read_peer(b, next, &read));
+    CHECK(read.state == GOFNJERTA_CONNECTING && read.connect_id == 5 && read.round_trip == 500);
+    ANSWERS(GOFNJERTA_OK, gofnjerta_read_totals(a, &in));
+    ANSWERS(GOFNJERTA_OK, gofnjerta_read_totals(b, &out));
+    CHECK(in.datagrams_in > 3 && in.bytes_in > 8 * in.datagrams_in && in.datagrams_out > 3 && in.bytes_out > 4 * in.datagrams_out);
+    CHECK(out.datagrams_in == in.datagrams_out && out.bytes_in == in.bytes_out);
+}
+
+/* A handle that holds no host, and pointers to nothing. */
+static void nothing(void) {
+    gofnjerta_host host = {0};
+    gofnjerta_peer peer = {1, 2};
+    gofnjerta_config config = gofnjerta_standard(4, 2);
+    gofnjerta_event event = {.kind = 9};
+    gofnjerta_datagram gave = {.length = 9};
+    gofnjerta_received got = {9, 9, 9};
+    gofnjerta_reading read = {.mtu = 9};
+    gofnjerta_totals totals = {.bytes_in = 9};
+    uint8_t buffer[GOFNJERTA_ROOM];
+#define BOTH(call, ...) (ANSWERS(GOFNJERTA_CLOSED, gofnjerta_##call(&host, ##__VA_ARGS__)), ANSWERS(GOFNJERTA_NULL, gofnjerta_##call(NULL, ##__VA_ARGS__)))
+    BOTH(connect, at_a, 2, 0, 0, &peer);
+    BOTH(submit, peer, 0, 0, "x", 1);
+    BOTH(stage, "x", 1);
+    BOTH(submit_staged, peer, 0, 0);
+    BOTH(receive, at_a, "x", 1, &got);
+    BOTH(service, buffer, sizeof buffer, &gave);
+    BOTH(tick, 1);
+    BOTH(next_event, &event);
+    BOTH(body, buffer, 1);
+    BOTH(disconnect, peer, 0);
+    BOTH(disconnect_now, peer, 0);
+    BOTH(disconnect_later, peer, 0);
+    BOTH(set_bandwidth, 0, 0);
+    BOTH(throttle_configure, peer, 1, 2, 3);
+    BOTH(set_ping_interval, peer, 1);
+    BOTH(set_timeout, peer, 1, 2, 3);
+    BOTH(read_peer, peer, &read);
+    BOTH(read_totals, &totals);
+    CHECK(peer.slot == 1 && peer.generation == 2 && got.stop == 9 && read.mtu == 9 && totals.bytes_in == 9);
+    CHECK(event.kind == GOFNJERTA_NONE && gave.length == 0 && !host.is_open && !host.at);
+    ANSWERS(GOFNJERTA_NULL, gofnjerta_close(NULL));
+    ANSWERS(GOFNJERTA_NULL, gofnjerta_open(NULL, &config));
+    ANSWERS(GOFNJERTA_NULL, gofnjerta_open(&host, NULL));
+    ANSWERS(GOFNJERTA_OK, gofnjerta_open(&host, &config));
+    ANSWERS(GOFNJERTA_NULL, gofnjerta_connect(&host, at_a, 2, 0, 0, NULL));
+    ANSWERS(GOFNJERTA_NULL, gofnjerta_submit(&host, peer, 0, 0, NULL, 1));
+    ANSWERS(GOFNJERTA_NULL, gofnjerta_stage(&host, NULL, 1));
+    ANSWERS(GOFNJERTA_NULL, gofnjerta_receive(&host, at_a, NULL, 1, NULL));
+    ANSWERS(GOFNJERTA_NULL, gofnjerta_service(&host, NULL, sizeof buffer, &gave));
+    ANSWERS(GOFNJERTA_NULL, gofnjerta_service(&host, buffer, sizeof buffer, NULL));
+    ANSWERS(GOFNJERTA_NULL, gofnjerta_next_event(&host, NULL));
+    ANSWERS(GOFNJERTA_NULL, gofnjerta_body(&host, NULL, 1));
+    ANSWERS(GOFNJERTA_NULL, gofnjerta_read_peer(&host, peer, NULL));
+    ANSWERS(GOFNJERTA_NULL, gofnjerta_read_totals(&host, NULL));
+    ANSWERS(GOFNJERTA_OK, gofnjerta_close(&host));
+}
+
+int main(void) {
+    gofnjerta_host a = {0}, b = {0};
+    gofnjerta_config config = gofnjerta_standard(4, 3);
+    gofnjerta_peer from_a, from_b;
+    names();
+    settings();
+    nothing();
+    config.mtu = 1000, config.max_packet = 200000;
+    ANSWERS(GOFNJERTA_OK, gofnjerta_open(&a, &config));
+    ANSWERS(GOFNJERTA_OK, gofnjerta_open(&b, &config));
+    conversation(&a, &b, &from_b, &from_a);
+    staged(&a, &b, from_b);
+    beyond(&b, from_b);
+    parted(&a, &b, from_b, from_a);
+    crowded(&b);
+    gofnjerta_close(&a);
+    gofnjerta_close(&b);
+    return ended("border");
+}

@@ -1,0 +1,143 @@
+/* What the layer doesn't offer is refused loudly, and an end that is not there is told. */
+#include <enet/enet.h>
+#include <stdbool.h>
+#include <stdio.h>
+#include <string.h>
+
+static long passed, failed;
+
+#define CHECK(condition) ((condition) ? (void)passed++ : (void)(failed++, printf("%s:%d: not so: %s\n", __FILE__, __LINE__, #condition)))
+
+static enet_uint32 ENET_CALLBACK no_checksum(const ENetBuffer *buffers, size_t count) {
+    (void)buffers;
+    return (enet_uint32)count;
+}
+
+static int ENET_CALLBACK no_intercept(ENetHost *host, ENetEvent *event) {
+    (void)host, (void)event;
+    return 0;
+}
+
+static bool destroyed;
+
+static void ENET_CALLBACK destroy(void *context) {
+    destroyed = context == &destroyed;
+}
+
+static const ENetAddress any = {ENET_HOST_ANY, ENET_PORT_ANY};
+
+/* A host with one setting of the program's: it is served, or not. */
+#define SERVED(wanted, setting) \
+    do { \
+        ENetEvent event_; \
+        ENetHost *host = enet_host_create(&any, 2, 2, 0, 0); \
+        CHECK(host != NULL); \
+        setting; \
+        CHECK(enet_host_service(host, &event_, 0) == (wanted)); \
+        enet_host_destroy(host); \
+    } while (0)
+
+static void settings(void) {
+    ENetCompressor compressor = {&destroyed, NULL, NULL, destroy};
+    SERVED(0, (void)host);
+    SERVED(-1, host->checksum = no_checksum);
+    SERVED(-1, host->checksum = enet_crc32);
+    SERVED(-1, host->intercept = no_intercept);
+    SERVED(-1, host->duplicatePeers = 1);
+    SERVED(0, host->mtu = 1000);
+    SERVED(-1, host->mtu = 500);
+    SERVED(-1, host->mtu = 5000);
+    SERVED(-1, host->maximumPacketSize = (size_t)1 << 40);
+    SERVED(0, host->maximumPacketSize = 1000);
+    SERVED(0, enet_host_channel_limit(host, 1));
+    SERVED(0, enet_host_channel_limit(host, 0));
+    SERVED(-1, (enet_host_service(host, NULL, 0), enet_host_channel_limit(host, 1)));
+    SERVED(-1, (enet_host_service(host, NULL, 0), host->mtu = 1000));
+    SERVED(-1, enet_host_compress(host, &compressor));
+    CHECK(destroyed);
+    SERVED(0, (enet_host_compress(host, &compressor), enet_host_compress(host, NULL)));
+    SERVED(0, CHECK(enet_host_compress_with_range_coder(host) == -1));
+    CHECK(enet_host_create(&any, 0, 2, 0, 0) == NULL && enet_host_create(&any, 4096, 2, 0, 0) == NULL);
+}
+
+/* A connection that nobody answers ends by a DISCONNECT, after its timeout; a broadcast address is refused at once. */
+static void nobody(void) {
+    ENetEvent event;
+    ENetHost *host = enet_host_create(NULL, 1, 2, 0, 0);
+    ENetAddress to = {ENET_HOST_BROADCAST, 9};
+    CHECK(enet_host_connect(host, &to, 2, 0) == NULL);
+    CHECK(enet_address_set_host_ip(&to, "127.0.0.1") == 0);
+    ENetPeer *peer = enet_host_connect(host, &to, 2, 0);
+    CHECK(peer != NULL && peer->state == ENET_PEER_STATE_CONNECTING);
+    CHECK(enet_host_connect(host, &to, 2, 0) == NULL);
+    enet_peer_timeout(peer, 2, 100, 600);
+    CHECK(peer->timeoutLimit == 2 && peer->timeoutMinimum == 100 && peer->timeoutMaximum == 600);
+    ENetPacket *packet = enet_packet_create("x", 1, ENET_PACKET_FLAG_RELIABLE);
+    CHECK(enet_peer_send(peer, 0, packet) == -1 && packet->referenceCount == 0);
+    enet_packet_destroy(packet);
+    int told = enet_host_service(host, &event, 5000);
+    CHECK(told == 1 && event.type == ENET_EVENT_TYPE_DISCONNECT && event.peer == peer && event.data == 0);
+    CHECK(peer->state == ENET_PEER_STATE_DISCONNECTED && host->connectedPeers == 0);
+    enet_host_destroy(host);
+}
+
+/* Serves both hosts until one of them tells an event of this type, for at most 5 seconds. */
+static ENetEvent until(ENetHost *one, ENetHost *other, ENetEventType type) {
+    ENetEvent event;
+    enet_uint32 begun = enet_time_get();
+    while (enet_time_get() - begun < 5000)
+        for (int i = 0; i < 2; i++)
+            while (enet_host_service(i ? other : one, &event, 1) > 0) {
+                if (event.type == type) return event;
+                if (event.type == ENET_EVENT_TYPE_RECEIVE) enet_packet_destroy(event.packet);
+            }
+    memset(&event, 0, sizeof event);
+    return event;
+}
+
+static int freed;
+
+static void ENET_CALLBACK count_free(ENetPacket *packet) {
+    (void)packet;
+    freed++;
+}
+
+/* Two hosts of the layer: packets come as they were sent, callbacks are called, and a reset peer's packets are gone. */
+static void conversation(void) {
+    ENetHost *server = enet_host_create(&any, 2, 2, 0, 0), *client = enet_host_create(NULL, 1, 2, 0, 0);
+    ENetAddress to = server->address;
+    CHECK(to.port != 0 && enet_address_set_host_ip(&to, "127.0.0.1") == 0);
+    ENetPeer *peer = enet_host_connect(client, &to, 2, 77);
+    ENetEvent event = until(client, server, ENET_EVENT_TYPE_CONNECT);
+    event = until(client, server, ENET_EVENT_TYPE_CONNECT);
+    CHECK(event.type == ENET_EVENT_TYPE_CONNECT && server->connectedPeers == 1 && client->connectedPeers == 1);
+    ENetPacket *packet = enet_packet_create("hello", 5, ENET_PACKET_FLAG_RELIABLE);
+    packet->freeCallback = count_free;
+    CHECK(enet_peer_send(peer, 2, packet) == -1 && enet_peer_send(peer, 1, packet) == 0);
+    event = until(client, server, ENET_EVENT_TYPE_RECEIVE);
+    CHECK(event.type == ENET_EVENT_TYPE_RECEIVE && event.channelID == 1 && event.packet->dataLength == 5 && !memcmp(event.packet->data, "hello", 5));
+    CHECK(event.packet->flags == ENET_PACKET_FLAG_RELIABLE && freed == 1);
+    enet_packet_destroy(event.packet);
+    for (int i = 0; i < 3; i++) enet_host_broadcast(client, 0, enet_packet_create("abc", 3, ENET_PACKET_FLAG_RELIABLE));
+    for (int i = 0; i < 20; i++) enet_host_service(client, NULL, 5), enet_host_service(server, NULL, 5);
+    enet_uint8 channel = 9;
+    packet = enet_peer_receive(&server->peers[0], &channel);
+    CHECK(packet != NULL && channel == 0 && packet->dataLength == 3);
+    enet_packet_destroy(packet);
+    enet_peer_reset(&server->peers[0]);
+    CHECK(enet_host_check_events(server, &event) == 0 && server->peers[0].state == ENET_PEER_STATE_DISCONNECTED && server->connectedPeers == 0);
+    event = until(client, server, ENET_EVENT_TYPE_DISCONNECT);
+    CHECK(event.type == ENET_EVENT_TYPE_DISCONNECT && client->connectedPeers == 0);
+    enet_host_destroy(server);
+    enet_host_destroy(client);
+}
+
+int main(void) {
+    CHECK(enet_initialize() == 0 && enet_linked_version() == ENET_VERSION);
+    settings();
+    nobody();
+    conversation();
+    enet_deinitialize();
+    printf("refusals: %ld checks held, %ld did not\n", passed, failed);
+    return passed > 0 && failed == 0 ? 0 : 1;
+}

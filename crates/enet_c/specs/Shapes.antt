@@ -1,0 +1,132 @@
+-- What the shapes of the border mean.
+use Rattle.std.specs.Prelude.{ℕ, Option, Some, None, List, length}
+use Rattle.std.specs.Option.{option_map, option_and_then}
+use Rattle.enet_types.specs.declared.address.Addr.{Addr}
+use Rattle.enet_types.specs.declared.config.Config.{Config}
+use Rattle.enet_types.specs.declared.event.Event.{Event}
+use Rattle.enet_types.specs.declared.event.Event.TheVariants as events
+use Rattle.enet_types.specs.declared.event.PeerRef.{PeerRef}
+use Rattle.enet_types.specs.declared.event.Received.{Received}
+use Rattle.enet_types.specs.declared.stop.Stop.{Stop}
+use Rattle.enet_types.specs.Stop.{stop_number}
+use Rattle.enet_peer.specs.declared.parts.PeerState.{PeerState}
+use Rattle.enet_peer.specs.declared.parts.PeerState.TheVariants as state
+use Rattle.enet_peer.specs.Peering.{Peering}
+use Rattle.enet_outbox.specs.Outbox.{transit_of}
+use Rattle.enet_slot.specs.Slot.{SlotState}
+use Rattle.enet_host.specs.declared.totals.Totals.{Totals}
+use Rattle.enet_host.specs.Host.{slot_named}
+use Rattle.enet_c.specs.declared.shapes.CoreAddress.{CoreAddress}
+use Rattle.enet_c.specs.declared.shapes.CoreConfig.{CoreConfig}
+use Rattle.enet_c.specs.declared.shapes.CoreDatagram.{CoreDatagram}
+use Rattle.enet_c.specs.declared.shapes.CoreEvent.{CoreEvent}
+use Rattle.enet_c.specs.declared.shapes.CorePeer.{CorePeer}
+use Rattle.enet_c.specs.declared.shapes.CoreReading.{CoreReading}
+use Rattle.enet_c.specs.declared.shapes.CoreReceived.{CoreReceived}
+use Rattle.enet_c.specs.declared.shapes.CoreTotals.{CoreTotals}
+
+abbrev pub config_shown : Config → CoreConfig
+config_shown c = record {
+  peers = c.peers;
+  channels = c.channels;
+  mtu = c.mtu;
+  incoming = c.incoming;
+  outgoing = c.outgoing;
+  max_packet = c.max_packet;
+  max_waiting = c.max_waiting;
+  generations = c.generations;
+  clock = c.clock;
+}
+
+abbrev pub config_meant : CoreConfig → Config
+config_meant c = record {
+  peers = c.peers;
+  channels = c.channels;
+  mtu = c.mtu;
+  incoming = c.incoming;
+  outgoing = c.outgoing;
+  max_packet = c.max_packet;
+  max_waiting = c.max_waiting;
+  generations = c.generations;
+  clock = c.clock;
+}
+
+abbrev pub address_shown : Addr → CoreAddress
+address_shown a = record { ip = a.ip; port = a.port }
+
+abbrev pub address_meant : CoreAddress → Addr
+address_meant a = record { ip = a.ip; port = a.port }
+
+abbrev pub name_shown : PeerRef → CorePeer
+name_shown name = record { slot = name.slot; generation = name.generation }
+
+abbrev pub name_meant : CorePeer → PeerRef
+name_meant peer = record { slot = peer.slot; generation = peer.generation }
+
+abbrev pub totals_shown : Totals → CoreTotals
+totals_shown t = record { datagrams_in = t.datagrams_in; bytes_in = t.bytes_in; datagrams_out = t.datagrams_out; bytes_out = t.bytes_out }
+
+-- what a host answers to a datagram: the stop's number, 0 where there is none
+abbrev pub stop_shown : Option Stop → ℕ
+stop_shown None = 0
+stop_shown (Some stop) = stop_number stop
+
+abbrev pub received_shown : Received → CoreReceived
+received_shown r = record { status = 0; handled = r.handled; stop = stop_shown r.stop }
+
+-- a datagram that a host put out, of length 0 where it put out none
+abbrev pub no_datagram : CoreDatagram
+no_datagram = record { length = 0; to = record { ip = 0; port = 0 }; peer = record { slot = 0; generation = 0 } }
+
+abbrev pub datagram_shown : Option (PeerRef × Addr × ℕ) → CoreDatagram
+datagram_shown None = no_datagram
+datagram_shown (Some gave) = record { length = gave.2; to = address_shown gave.1; peer = name_shown gave.0 }
+
+-- an event, of kind 0 where there is none
+abbrev pub no_event : CoreEvent
+no_event = record { kind = 0; info = 0; peer = record { slot = 0; generation = 0 }; channel = 0; flags = 0; length = 0 }
+
+abbrev pub event_shown : Option Event → CoreEvent
+event_shown None = no_event
+event_shown (Some (events.Connect name info)) = record no_event { kind = 1; info = info; peer = name_shown name }
+event_shown (Some (events.Disconnect name info)) = record no_event { kind = 2; info = info; peer = name_shown name }
+event_shown (Some (events.Receive name q)) = record no_event { kind = 3; peer = name_shown name; channel = q.channel; flags = q.flags; length = length q.body }
+event_shown (Some (events.Refused seat number why)) = no_event
+
+abbrev pub state_number : PeerState → ℕ
+state_number state.Free = 0
+state_number state.Connecting = 1
+state_number state.Answering = 2
+state_number state.Connected = 3
+state_number state.DisconnectLater = 4
+state_number state.Disconnecting = 5
+state_number state.AckDisconnect = 6
+state_number state.Ended = 7
+state_number state.Parting = 8
+
+-- what can be read of a peer and its slot
+abbrev pub reading_of : SlotState → Peering → CoreReading
+reading_of s p = record {
+  state = state_number p.state;
+  mtu = p.terms.mtu;
+  window = p.terms.window;
+  connect_id = p.terms.connect_id;
+  round_trip = p.estimate.round_trip;
+  variance = p.estimate.variance;
+  in_transit = transit_of p.outbox;
+  throttle = p.outbox.throttle.value;
+  throttle_interval = p.terms.throttle_interval;
+  acceleration = p.terms.acceleration;
+  deceleration = p.terms.deceleration;
+  address = address_shown s.address;
+  slot = p.terms.slot;
+  channels = p.terms.channels;
+  incoming_session = p.terms.incoming_session;
+  outgoing_session = p.terms.outgoing_session;
+}
+
+abbrev pub reading_in : SlotState → Option CoreReading
+reading_in s = option_map (reading_of s) s.peer
+
+abbrev pub reading_named : List SlotState → PeerRef → Option CoreReading
+reading_named slots name = option_and_then reading_in (slot_named slots name)

@@ -1,0 +1,153 @@
+//! The host's calls on what a handle holds, with numbers in place of refusals.
+
+ghost use Rattle.std.specs.Prelude.{◌≡◌};
+ghost use Rattle.enet_slot.specs.Calls.{submission};
+ghost use Rattle.enet_host.specs.Calls.{on_named};
+ghost use Rattle.enet_c.specs.Border.{Asks, Copies, PutsOut, SettlesWithMemory, SubmitsStaged, Tells};
+ghost use Rattle.enet_c.specs.Shapes.{reading_named};
+
+use crate::held::Held;
+use crate::numbers::{OK, SHORT, UNSTAGED, UNTOLD, number_of};
+use crate::shapes::{CoreAddress, CoreDatagram, CoreEvent, CorePeer, CoreReading, state_number};
+use bytes::Bytes;
+use enet_host::{Addr, Event, PeerRef, Refusal};
+use std::alloc::Global;
+
+impl Held {
+    /// Asks the host at an address for a connection. The peer is named where the answer is 0, and left as it was elsewhere.
+    pub(crate) fn connect(
+        &mut self,
+        to: Addr,
+        channels: u8,
+        info: u32,
+        word: u32,
+        peer: &mut CorePeer,
+    ) -> u32
+        ensures { Asks to channels info word peer.old peer.new self.old result self.new }
+    {
+        match self.host.connect(to, channels, info, word) {
+            Ok(name) => {
+                *peer = CorePeer::of(name);
+                OK
+            }
+            Err(why) => number_of(why),
+        }
+    }
+
+    /// Submits a packet with a body of its own.
+    pub(crate) fn give(&mut self, name: PeerRef, channel: u8, flags: u8, body: Bytes) -> u32
+        ensures { SettlesWithMemory (λ slots. on_named slots name (submission channel (record { flags = flags; body = body }))) self.old result self.new }
+    {
+        match self.host.submit(name, channel, flags, body) {
+            Ok(()) => OK,
+            Err((why, _body)) => number_of(why),
+        }
+    }
+
+    /// Submits a packet whose body is copied, unless the host would refuse it.
+    pub(crate) fn submit(
+        &mut self,
+        alloc: Global,
+        name: PeerRef,
+        channel: u8,
+        flags: u8,
+        body: &[u8],
+    ) -> u32
+        ensures { SettlesWithMemory (λ slots. on_named slots name (submission channel (record { flags = flags; body = body.now }))) self.old result self.new }
+    {
+        if let Some(why) = self.host.submission_refusal(name, channel, body.len()) {
+            return number_of(why);
+        }
+        match Bytes::copy_from_slice(alloc, body) {
+            Ok(body) => self.give(name, channel, flags, body),
+            Err(_) => number_of(Refusal::Memory),
+        }
+    }
+
+    /// Submits a packet with the staged body, which is shared.
+    pub(crate) fn submit_staged(&mut self, name: PeerRef, channel: u8, flags: u8) -> u32
+        ensures { SubmitsStaged name channel flags self.old result self.new }
+    {
+        let Some(staged) = &self.staged else {
+            return UNSTAGED;
+        };
+        if let Some(why) = self.host.submission_refusal(name, channel, staged.len()) {
+            return number_of(why);
+        }
+        match staged.clone() {
+            Ok(body) => self.give(name, channel, flags, body),
+            Err(_) => number_of(Refusal::Memory),
+        }
+    }
+
+    /// Puts out the next datagram, into the first 4,096 bytes of a buffer.
+    pub(crate) fn service(&mut self, buffer: &mut [u8], datagram: &mut CoreDatagram) -> u32
+        ensures { PutsOut buffer.old buffer.new datagram.new self.old result self.new }
+    {
+        *datagram = CoreDatagram::none();
+        let Some(front) = buffer.first_chunk_mut::<4096>() else {
+            return SHORT;
+        };
+        *datagram = CoreDatagram::of(self.host.service(front));
+        OK
+    }
+
+    /// Tells the next event, and keeps the body of its packet.
+    pub(crate) fn next_event(&mut self, event: &mut CoreEvent) -> u32
+        ensures { Tells event.new self.old result self.new }
+    {
+        let told = self.host.next_event();
+        *event = CoreEvent::of(&told);
+        self.told = match told {
+            Some(Event::Receive { peer: _, packet }) => Some(packet.body),
+            _ => None,
+        };
+        OK
+    }
+
+    /// Copies the body that is kept to the front of a buffer.
+    pub(crate) fn copy_body(&self, buffer: &mut [u8]) -> u32
+        ensures { Copies self.now.told buffer.old result buffer.new }
+    {
+        let Some(body) = &self.told else {
+            return UNTOLD;
+        };
+        let count = body.len();
+        if count > buffer.len() {
+            return SHORT;
+        }
+        buffer[..count].copy_from_slice(body);
+        OK
+    }
+
+    /// What can be read of a peer.
+    pub(crate) fn reading(&self, name: PeerRef) -> Option<CoreReading>
+        ensures { result ≡ reading_named self.now.host.slots name }
+    {
+        let host = &self.host;
+        let state = host.state(name)?;
+        let terms = host.terms(name)?;
+        let trip = host.round_trip(name)?;
+        let in_transit = host.in_transit(name)?;
+        let throttle = host.throttle(name)?;
+        let address = host.address(name)?;
+        Some(CoreReading {
+            state: state_number(state),
+            mtu: terms.mtu,
+            window: terms.window,
+            connect_id: terms.connect_id,
+            round_trip: trip.mean,
+            variance: trip.variance,
+            in_transit,
+            throttle,
+            throttle_interval: terms.throttle_interval,
+            acceleration: terms.acceleration,
+            deceleration: terms.deceleration,
+            address: CoreAddress::of(address),
+            slot: terms.slot,
+            channels: terms.channels,
+            incoming_session: terms.incoming_session,
+            outgoing_session: terms.outgoing_session,
+        })
+    }
+}

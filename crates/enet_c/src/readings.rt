@@ -1,0 +1,59 @@
+//! What can be read of a host and its peers.
+
+ghost use Rattle.std.specs.Prelude.{◌≡◌, IfSome};
+ghost use Rattle.enet_c.specs.Border.{Crosses, Reads, ReadsPeer};
+ghost use Rattle.enet_c.specs.Shapes.{name_meant, totals_shown};
+
+use crate::numbers::{CLOSED, OK, number_of};
+use crate::own::Handle;
+use crate::shapes::{CorePeer, CoreReading, CoreTotals};
+use enet_host::Refusal;
+use std::alloc::Global;
+
+/// Reads what there is of a peer. E2 where there is none of this name; then nothing is written.
+#[unsafe(no_mangle)]
+pub extern "C" fn gofnjerta_core_peer(
+    alloc: Global,
+    handle: &mut Handle,
+    peer: &CorePeer,
+    reading: &mut CoreReading,
+) -> u32
+    ensures { Crosses (ReadsPeer (name_meant peer.now) reading.old reading.new) handle.old.own.value result handle.new.own.value }
+{
+    let Some(held) = handle.take(alloc) else {
+        return CLOSED;
+    };
+    let found = held.reading(peer.into_name());
+    handle.put(held);
+    match found {
+        Some(found) => {
+            *reading = found;
+            OK
+        }
+        None => number_of(Refusal::NoSuchPeer),
+    }
+}
+
+/// How much went through the host.
+#[unsafe(no_mangle)]
+pub extern "C" fn gofnjerta_core_totals_of(
+    alloc: Global,
+    handle: &mut Handle,
+    totals: &mut CoreTotals,
+) -> u32
+    ensures reads { Crosses Reads handle.old.own.value result handle.new.own.value }
+    ensures totals { IfSome handle.old.own.value (λ held. totals.new ≡ totals_shown held.host.totals) }
+{
+    let Some(held) = handle.take(alloc) else {
+        return CLOSED;
+    };
+    let found = held.host.totals();
+    handle.put(held);
+    *totals = CoreTotals {
+        datagrams_in: found.datagrams_in,
+        bytes_in: found.bytes_in,
+        datagrams_out: found.datagrams_out,
+        bytes_out: found.bytes_out,
+    };
+    OK
+}

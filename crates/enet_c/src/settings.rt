@@ -1,0 +1,147 @@
+//! Connections end, and what can be set.
+
+ghost use Rattle.std.specs.Prelude.{◌≡◌};
+ghost use Rattle.enet_types.specs.declared.event.DisconnectMode.TheVariants.{Ask, Later, Now};
+ghost use Rattle.enet_slot.specs.Calls.{leaving, pinging, throttling, waiting};
+ghost use Rattle.enet_host.specs.Calls.{on_named};
+ghost use Rattle.enet_c.specs.Border.{Crosses, Settles, SettlesWithMemory, SetsBandwidth};
+ghost use Rattle.enet_c.specs.Shapes.{name_meant};
+
+use crate::numbers::{CLOSED, answer};
+use crate::own::Handle;
+use crate::shapes::CorePeer;
+use std::alloc::Global;
+
+/// Disconnects: what is queued is dropped, and the event comes once the other end has acknowledged.
+#[unsafe(no_mangle)]
+pub extern "C" fn gofnjerta_core_disconnect(
+    alloc: Global,
+    handle: &mut Handle,
+    peer: &CorePeer,
+    info: u32,
+) -> u32
+    ensures { Crosses (Settles (λ slots. on_named slots (name_meant peer.now) (leaving Ask info))) handle.old.own.value result handle.new.own.value }
+{
+    let Some(mut held) = handle.take(alloc) else {
+        return CLOSED;
+    };
+    let done = held.host.disconnect(peer.into_name(), info);
+    handle.put(held);
+    answer(done)
+}
+
+/// Ends the connection at once: the other end is told once, and no event comes here.
+#[unsafe(no_mangle)]
+pub extern "C" fn gofnjerta_core_disconnect_now(
+    alloc: Global,
+    handle: &mut Handle,
+    peer: &CorePeer,
+    info: u32,
+) -> u32
+    ensures { Crosses (Settles (λ slots. on_named slots (name_meant peer.now) (leaving Now info))) handle.old.own.value result handle.new.own.value }
+{
+    let Some(mut held) = handle.take(alloc) else {
+        return CLOSED;
+    };
+    let done = held.host.disconnect_now(peer.into_name(), info);
+    handle.put(held);
+    answer(done)
+}
+
+/// Disconnects once all that is queued has gone and each reliable command is acknowledged.
+#[unsafe(no_mangle)]
+pub extern "C" fn gofnjerta_core_disconnect_later(
+    alloc: Global,
+    handle: &mut Handle,
+    peer: &CorePeer,
+    info: u32,
+) -> u32
+    ensures { Crosses (Settles (λ slots. on_named slots (name_meant peer.now) (leaving Later info))) handle.old.own.value result handle.new.own.value }
+{
+    let Some(mut held) = handle.take(alloc) else {
+        return CLOSED;
+    };
+    let done = held.host.disconnect_later(peer.into_name(), info);
+    handle.put(held);
+    answer(done)
+}
+
+/// Sets the host's bandwidths, in bytes per second; 0 says that no limit is known.
+#[unsafe(no_mangle)]
+pub extern "C" fn gofnjerta_core_set_bandwidth(
+    alloc: Global,
+    handle: &mut Handle,
+    incoming: u32,
+    outgoing: u32,
+) -> u32
+    ensures { Crosses (SetsBandwidth incoming outgoing) handle.old.own.value result handle.new.own.value }
+{
+    let Some(mut held) = handle.take(alloc) else {
+        return CLOSED;
+    };
+    let done = held.host.set_bandwidth(incoming, outgoing);
+    handle.put(held);
+    answer(done)
+}
+
+/// Sets the throttle's interval in milliseconds, and its acceleration and deceleration in parts of 32.
+#[unsafe(no_mangle)]
+pub extern "C" fn gofnjerta_core_throttle_configure(
+    alloc: Global,
+    handle: &mut Handle,
+    peer: &CorePeer,
+    interval: u32,
+    acceleration: u32,
+    deceleration: u32,
+) -> u32
+    ensures { Crosses (SettlesWithMemory (λ slots. on_named slots (name_meant peer.now) (throttling interval acceleration deceleration))) handle.old.own.value result handle.new.own.value }
+{
+    let Some(mut held) = handle.take(alloc) else {
+        return CLOSED;
+    };
+    let done = held
+        .host
+        .throttle_configure(peer.into_name(), interval, acceleration, deceleration);
+    handle.put(held);
+    answer(done)
+}
+
+/// Sets after how many milliseconds a peer that was not heard is pinged; 0 stands for 500.
+#[unsafe(no_mangle)]
+pub extern "C" fn gofnjerta_core_set_ping_interval(
+    alloc: Global,
+    handle: &mut Handle,
+    peer: &CorePeer,
+    ms: u32,
+) -> u32
+    ensures { Crosses (Settles (λ slots. on_named slots (name_meant peer.now) (pinging ms))) handle.old.own.value result handle.new.own.value }
+{
+    let Some(mut held) = handle.take(alloc) else {
+        return CLOSED;
+    };
+    let done = held.host.set_ping_interval(peer.into_name(), ms);
+    handle.put(held);
+    answer(done)
+}
+
+/// Sets how long the other end may leave a command unacknowledged; a 0 stands for the standard number.
+#[unsafe(no_mangle)]
+pub extern "C" fn gofnjerta_core_set_timeout(
+    alloc: Global,
+    handle: &mut Handle,
+    peer: &CorePeer,
+    limit: u32,
+    minimum: u32,
+    maximum: u32,
+) -> u32
+    ensures { Crosses (Settles (λ slots. on_named slots (name_meant peer.now) (waiting limit minimum maximum))) handle.old.own.value result handle.new.own.value }
+{
+    let Some(mut held) = handle.take(alloc) else {
+        return CLOSED;
+    };
+    let done = held
+        .host
+        .set_timeout(peer.into_name(), limit, minimum, maximum);
+    handle.put(held);
+    answer(done)
+}

@@ -1,0 +1,60 @@
+#!/usr/bin/env bash
+# The host as a library for C, and libenet's API over it: `build-c.sh FOLDER [ARCHIVE]` makes of FOLDER, as /usr/local,
+#   include/gofnjerta.h   lib/libgofnjerta.a   lib/libgofnjerta.so   lib/pkgconfig/gofnjerta.pc
+# and, for programs that are written for libenet,
+#   include/gofnjerta/enet/enet.h   lib/libgofnjerta_enet.a   lib/gofnjerta/libenet.so.7   lib/pkgconfig/gofnjerta-enet.pc
+# ARCHIVE is the proved part, crates/enet_c/out/libenet_c.a; where it isn't given, `rt lib` proves and builds it first. A program is
+# then compiled by
+#   cc program.c $(PKG_CONFIG_PATH=FOLDER/lib/pkgconfig pkg-config --cflags --libs gofnjerta)
+# and runs with LD_LIBRARY_PATH=FOLDER/lib, or is linked with FOLDER/lib/libgofnjerta.a, which needs nothing beside the C library. A
+# program for libenet is compiled with gofnjerta-enet in place of gofnjerta; one that is there already runs on
+# LD_LIBRARY_PATH=FOLDER/lib/gofnjerta as it is. The compiler is CC (cc), and CFLAGS comes to its flags. Says at the end how to link; the status is 1 where something failed.
+set -eu
+[ $# -ge 1 ] || { echo "usage: build-c.sh FOLDER [ARCHIVE]" >&2; exit 1; }
+mkdir -p "$1/include/gofnjerta/enet" "$1/lib/pkgconfig" "$1/lib/gofnjerta"
+folder=$(cd "$1" && pwd)
+[ $# -lt 2 ] || archive=$(realpath "$2")
+cd "$(dirname "$0")/.."
+kit=$(dirname "$(dirname "$(realpath "$(command -v rt)")")")
+if [ $# -lt 2 ]; then
+    (cd crates/enet_c && rt lib --jobs 1)
+    archive=$PWD/crates/enet_c/out/libenet_c.a
+fi
+room=$(mktemp -d)
+trap 'rm -rf "$room"' EXIT
+read -ra given <<< "${CFLAGS:-}"
+compile() {
+    "${CC:-cc}" -std=gnu11 -O2 -g -fPIC -Wall -Wextra ${given[@]+"${given[@]}"} "$@"
+}
+
+# The kit's part of the C library's calls (malloc and memcpy, by names of its own) goes into the library, so that nothing else is linked.
+compile -c c/gofnjerta.c -o "$room/gofnjerta.o"
+mkdir "$room/parts"
+(cd "$room/parts" && ar x "$archive" && ar x "$kit/c/liblibc_c.a")
+rm -f "$folder/lib/libgofnjerta.a"
+ar rcs "$folder/lib/libgofnjerta.a" "$room/gofnjerta.o" "$room"/parts/*.o
+compile -shared -Wl,-soname,libgofnjerta.so -Wl,--version-script=c/gofnjerta.map -o "$folder/lib/libgofnjerta.so" "$room/gofnjerta.o" \
+    "$room"/parts/*.o
+compile -Ic -c c/enet.c -o "$room/enet.o"
+rm -f "$folder/lib/libgofnjerta_enet.a"
+ar rcs "$folder/lib/libgofnjerta_enet.a" "$room/enet.o" "$room/gofnjerta.o" "$room"/parts/*.o
+compile -shared -Wl,-soname,libenet.so.7 -Wl,--version-script=c/enet/enet.map -o "$folder/lib/gofnjerta/libenet.so.7" "$room/enet.o" \
+    "$room/gofnjerta.o" "$room"/parts/*.o
+cp c/gofnjerta.h "$folder/include/"
+cp c/enet/enet.h "$folder/include/gofnjerta/enet/"
+
+# A pkg-config file: its name, what it is, the folder of its headers and its library.
+describe() {
+    cat > "$folder/lib/pkgconfig/$1.pc" << END
+prefix=$folder
+Name: $1
+Description: $2
+Version: 1.3.17
+Cflags: -I\${prefix}/$3
+Libs: -L\${prefix}/lib -l$4
+END
+}
+describe gofnjerta 'a proved host of ENet 1.3 without a socket' include gofnjerta
+describe gofnjerta-enet 'the API of libenet 1.3 over a proved host' include/gofnjerta gofnjerta_enet
+echo "built: cc program.c -I$folder/include -L$folder/lib -lgofnjerta, and run it with LD_LIBRARY_PATH=$folder/lib"
+echo "for libenet's API: cc program.c -I$folder/include/gofnjerta $folder/lib/libgofnjerta_enet.a"

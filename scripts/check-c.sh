@@ -1,0 +1,148 @@
+#!/usr/bin/env bash
+# The library for C and libenet's API over it: `check-c.sh [ARCHIVE]`. ARCHIVE is the proved part, by default the one that `rt ci`, or
+# `rt lib` in crates/enet_c, leaves. Builds both (scripts/build-c.sh) and runs
+# - the tests of c/tests: the header against the library and bad use (border), two hosts in memory over a lossy net (lossy), and each
+#   allocation failing in turn (memory); plain, with AddressSanitizer and UndefinedBehaviorSanitizer, and under valgrind;
+# - the layer: its structures lie as the reference library's header says (layout), and what isn't offered is refused (refusals);
+# - conversations of the programs in clients/ that use no more than what is offered, compiled unchanged against c/enet/enet.h, with the
+#   reference library at the other end, both ways round, straight and through clients/proxy.c; one runs a program that was built for
+#   libenet on our shared library.
+# Prints what failed, and as last line 'N passed, M failed'; the status is 1 where one failed or nothing was tried. It ends within 4
+# minutes. As root it installs what is missing of gcc, libenet-dev and valgrind.
+cd "$(dirname "$0")/.." || exit 1
+. scripts/clients.sh
+archive=${1:-crates/enet_c/out/libenet_c.a}
+passed=0
+failed=0
+
+fail() {
+    echo "FAILED $1: $(tail -n 20 "$2" 2> /dev/null)"
+    failed=$((failed + 1))
+}
+
+# Runs the command after the name $1, and counts whether it ended well.
+try() {
+    local name=$1
+    shift
+    if timeout 200 "$@" > "$room/$name.out" 2>&1; then passed=$((passed + 1)); else fail "$name" "$room/$name.out"; fi
+}
+
+# Compiles the test $1 of c/tests to the program $2, with the words after them.
+compile() {
+    cc -std=gnu11 -O1 -g -Wall -Wextra -Ic "c/tests/$1.c" -o "$room/$2" "${@:3}"
+}
+
+build_tests() {
+    local made=$room/made wrap=-Wl,--wrap=malloc,--wrap=realloc,--wrap=free checked=(-fsanitize=address,undefined -fno-sanitize-recover=all)
+    compile border border "$made/lib/libgofnjerta.a" && compile lossy lossy "$made/lib/libgofnjerta.a" &&
+        compile memory memory "$wrap" "$made/lib/libgofnjerta.a" && compile lossy lossy-shared -L"$made/lib" -lgofnjerta &&
+        compile refusals refusals "$made/lib/libgofnjerta_enet.a" && compile layout layout-ours &&
+        cc c/tests/layout.c -o "$room/layout-theirs" &&
+        compile border border-checked "${checked[@]}" c/gofnjerta.c "$room/checked.a" &&
+        compile lossy lossy-checked "${checked[@]}" c/gofnjerta.c "$room/checked.a" &&
+        compile refusals refusals-checked "${checked[@]}" c/enet.c c/gofnjerta.c "$room/checked.a"
+}
+
+# The programs of clients/ on the layer: `server` and `crowd` as they are, and with sanitizers.
+build_ours() {
+    local program
+    for program in server crowd; do
+        cc -std=gnu11 -O2 -Wall -Wextra -Ic -o "$room/our-$program" "clients/$program.c" "$room/made/lib/libgofnjerta_enet.a" || return 1
+        cc -std=gnu11 -O1 -g -Wall -Wextra -Ic -fsanitize=address,undefined -o "$room/checked-$program" "clients/$program.c" c/enet.c \
+            c/gofnjerta.c "$room/checked.a" || return 1
+    done
+}
+
+# Without the part of gofnjerta.c, which is compiled anew with the sanitizers.
+build_all() {
+    build_clients "$room" && bash scripts/build-c.sh "$room/made" "$archive" && cp "$room/made/lib/libgofnjerta.a" "$room/checked.a" &&
+        ar d "$room/checked.a" gofnjerta.o && build_tests && build_ours
+}
+
+# A conversation: the program $3 serves $5 slots, on port $6, and the clients $4.. talk, by way of the proxy on port $7 where $2 is lossy.
+attempt() {
+    local name=$1 way=$2 server=$3 client=$4 slots=$5 to=$6 status
+    "$room/$server" "$6" "$slots" 3 > "$room/$name.server" 2>&1 &
+    relay=$!
+    if [ "$way" = lossy ]; then
+        to=$7
+        "$room/proxy" "$7" "$6" 5 2> "$room/$name.proxy" &
+        proxy=$!
+    fi
+    read -ra words <<< "$client"
+    LD_LIBRARY_PATH=${library:-} timeout 110 "$room/${words[0]}" "$to" "${words[@]:1}" > "$room/$name.client" 2>&1
+    status=$?
+    kill -0 "$relay" 2> /dev/null || { echo "the server ended" >> "$room/$name.client"; status=1; }
+    kill $relay $proxy 2> /dev/null
+    wait $relay $proxy 2> /dev/null
+    grep -q "ERROR: \|runtime error" "$room/$name.server" && { cat "$room/$name.server" >> "$room/$name.client"; status=1; }
+    relay=
+    proxy=
+    return "$status"
+}
+
+# The same in the background; a client that came too late (status 2), as on a machine that is busy, is let try once more.
+converse() {
+    free_port
+    local first=$port
+    free_port
+    names+=("$1")
+    {
+        trap 'kill $relay $proxy 2> /dev/null' EXIT
+        attempt "$@" "$first" "$port"
+        case $? in
+            0) : > "$room/$1.passed" ;;
+            2) attempt "$@" "$first" "$port" && : > "$room/$1.passed" ;;
+        esac
+    } &
+}
+
+# Who serves, and who talks: ours and the reference library's, both ways round.
+conversations() {
+    local way
+    for way in straight lossy; do
+        converse "talk-1-$way" "$way" our-server "client talk 1 reference $way" 8
+        converse "talk-8-$way" "$way" our-server "client talk 8 reference $way" 8
+        converse "large-$way" "$way" our-server "client large 2 reference $way" 2
+        converse "again-$way" "$way" our-server "client again 2 reference $way" 4
+        converse "idle-$way" "$way" our-server "client idle 2 reference $way" 2
+        converse "vanish-$way" "$way" our-server "client vanish 3 reference $way" 2
+        converse "full-$way" "$way" our-server "client full 5 reference $way" 4
+        converse "talk-checked-$way" "$way" checked-server "client talk 2 reference $way" 8
+        converse "crowd-at-reference-$way" "$way" server "our-crowd 8 20" 8
+        converse "crowd-checked-$way" "$way" server "checked-crowd 4 10" 8
+    done
+    converse crowd-at-ours straight our-server "crowd 60 2" 60
+    library=$room/made/lib/gofnjerta converse crowd-on-shared straight server "crowd 8 20" 8
+    wait
+}
+
+room=$(mktemp -d) || exit 1
+trap 'kill $(jobs -p) 2> /dev/null; wait; rm -rf "$room"' EXIT
+names=()
+relay=
+proxy=
+if [ ! -r "$archive" ]; then
+    echo "$archive isn't there: run 'rt ci', or 'rt lib' in crates/enet_c" > "$room/said"
+    fail "$archive" "$room/said"
+elif ! { command -v valgrind || apt-get install -y valgrind || { apt-get update && apt-get install -y valgrind; }; } > "$room/said" 2>&1; then
+    fail valgrind "$room/said"
+elif ! build_all > "$room/said" 2>&1; then
+    fail build "$room/said"
+else
+    grind=(valgrind -q --error-exitcode=9 --leak-check=full --errors-for-leak-kinds=definite)
+    for name in border lossy memory refusals border-checked lossy-checked refusals-checked; do
+        try "$name" "$room/$name"
+    done
+    try lossy-shared env LD_LIBRARY_PATH="$room/made/lib" "$room/lossy-shared"
+    try border-valgrind "${grind[@]}" "$room/border"
+    try memory-valgrind "${grind[@]}" "$room/memory"
+    try refusals-valgrind "${grind[@]}" "$room/refusals"
+    try layout diff <("$room/layout-ours") <("$room/layout-theirs")
+    conversations
+    for name in "${names[@]}"; do
+        if [ -e "$room/$name.passed" ]; then passed=$((passed + 1)); else fail "$name" "$room/$name.client"; fi
+    done
+fi
+echo "$passed passed, $failed failed"
+[ "$failed" -eq 0 ] && [ "$passed" -gt 0 ]
