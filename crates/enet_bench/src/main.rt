@@ -1,5 +1,6 @@
-//! `enet_bench [ORDERS]`: sends that many orders (1,000,000 where none is given) through a submit queue of 4,096 places, from one
-//! seat and then from four, each in a thread of its own, and prints how many were settled and how many went through in a second.
+//! `enet_bench [ORDERS [time]]`: sends that many orders (1,000,000 where none is given) through a submit queue of 4,096
+//! places, from one seat and then from four, each in a thread of its own, and prints how many were settled. With the word
+//! `time` it also prints how many orders went through in a second.
 //!
 //! `enet_bench peer`: has peers receive 100,000 commands of each kind of which nothing is taken, others submit as many packets
 //! of each kind that are not put out, and others again take the acknowledgements of 8,192 sent commands in, in three orders,
@@ -29,55 +30,75 @@ const THOUSANDS: u32 = 100;
 /// What the command line asks for.
 #[derive(Clone, Copy)]
 enum Asked {
-    /// So many orders through a submit queue.
-    Orders(u32),
+    /// So many orders through a submit queue, timed or not.
+    Orders { count: u32, timed: bool },
     /// What piles up at a peer.
     Peer,
 }
 
 fn main(rt: HostRuntime) -> Result<()> {
     match read_words(&rt)? {
-        Asked::Orders(count) => send_all(&rt, rt.alloc(), count),
+        Asked::Orders { count, timed } => send_all(&rt, rt.alloc(), count, timed),
         Asked::Peer => pile_up(&rt, rt.alloc()),
     }
 }
 
 fn read_words<R: Env + AllocGlobal>(rt: &R) -> Result<Asked> {
     let mut args = env::args(rt)?.skip(1);
-    match args.next() {
-        Some(text) => read(text.as_str()),
-        None => Ok(Asked::Orders(DEFAULT)),
+    let first = args.next();
+    let timed = args.next().is_some();
+    match first {
+        Some(text) => read(text.as_str(), timed),
+        None => read_none(),
     }
 }
 
-fn read(text: &str) -> Result<Asked> {
+/// Without words.
+fn read_none() -> Result<Asked> {
+    Ok(Asked::Orders {
+        count: DEFAULT,
+        timed: false,
+    })
+}
+
+/// With this first word, and a second or not.
+fn read(text: &str, timed: bool) -> Result<Asked> {
     if text == "peer" {
         return Ok(Asked::Peer);
     }
     let count = text.parse::<u32>().context("not a number of orders")?;
-    Ok(Asked::Orders(count))
+    Ok(Asked::Orders { count, timed })
 }
 
 /// Sends so many orders from one seat, and then from four.
-fn send_all<R>(rt: &R, alloc: Global, orders: u32) -> Result<()>
+fn send_all<R>(rt: &R, alloc: Global, orders: u32, timed: bool) -> Result<()>
 where
     R: Threads + Wait + Clock + Print + Sync,
 {
     for seats in [1, 4] {
-        measure(rt, alloc, seats, orders / seats)?;
+        measure(rt, alloc, seats, orders / seats, timed)?;
     }
     Ok(())
 }
 
-fn measure<R>(rt: &R, alloc: Global, seats: u32, per_seat: u32) -> Result<()>
+fn measure<R>(rt: &R, alloc: Global, seats: u32, per_seat: u32, timed: bool) -> Result<()>
 where
     R: Threads + Wait + Clock + Print + Sync,
 {
     let start = Instant::now(rt)?;
     let total = traffic::run(rt, alloc, seats, per_seat)?.total;
     let micros = start.elapsed(rt)?.as_micros();
+    println!(rt; "seats {seats} orders {total}")?;
+    if timed {
+        print_rate(rt, total, micros)?;
+    }
+    Ok(())
+}
+
+/// Prints how many in a second so many in so many microseconds are.
+fn print_rate<R: Print>(rt: &R, total: u64, micros: u128) -> Result<()> {
     let per_second = traffic::rate(total, micros);
-    println!(rt; "seats {seats} orders {total}: {per_second} a second")?;
+    println!(rt; "{per_second} a second")?;
     Ok(())
 }
 
