@@ -1,6 +1,6 @@
 #!/usr/bin/env bash
-# The library for C and libenet's API over it: `check-c.sh [ARCHIVE]`. ARCHIVE is the proved part, by default the one that `rt ci`, or
-# `rt lib` in crates/enet_c, leaves. Builds both (scripts/build-c.sh) and runs
+# The library for C and libenet's API over it: `check-c.sh [ARCHIVE]`. ARCHIVE is the proved part, by default the one that `rt lib` in
+# crates/enet_c leaves; `rt ci` proves that crate and leaves none. Builds both (scripts/build-c.sh) and runs
 # - the tests of c/tests: the header against the library and bad use (border), two hosts in memory over a lossy net (lossy), and each
 #   allocation failing in turn (memory); plain, with AddressSanitizer and UndefinedBehaviorSanitizer, and under valgrind;
 # - the layer: its structures lie as the reference library's header says (layout), and what isn't offered is refused (refusals);
@@ -123,7 +123,7 @@ names=()
 relay=
 proxy=
 if [ ! -r "$archive" ]; then
-    echo "$archive isn't there: run 'rt ci', or 'rt lib' in crates/enet_c" > "$room/said"
+    echo "$archive isn't there: run 'rt lib' in crates/enet_c" > "$room/said"
     fail "$archive" "$room/said"
 elif ! { command -v valgrind || apt-get install -y valgrind || { apt-get update && apt-get install -y valgrind; }; } > "$room/said" 2>&1; then
     fail valgrind "$room/said"

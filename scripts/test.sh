@@ -14,6 +14,4 @@ bash scripts/check-edits.sh --read
 edits=$?
 bash scripts/check-rows.sh
 rows=$?
-bash scripts/check-c.sh
-c=$?
-bash scripts/check-clients.sh && [ "$edits" = 0 ] && [ "$rows" = 0 ] && [ "$c" = 0 ]
+bash scripts/check-clients.sh && [ "$edits" = 0 ] && [ "$rows" = 0 ]
