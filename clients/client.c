@@ -54,6 +54,7 @@ typedef struct Client {
     ENetHost *host;
     ENetPeer *peer;
     enet_uint32 sent[KINDS];
+    int kept; // packets that the library has not let go: queued, or sent and not acknowledged
     From from[MOST];
     enet_uint32 empties; // packets of 0 bytes that came, and whose sender isn't known yet
     uint8_t order[NUMBERS]; // the senders of the reliable packets that came and weren't empty
@@ -101,11 +102,23 @@ static size_t length_of(Kind kind, int sender, enet_uint32 number)
     return kind == RELIABLE ? reliable_length(sender, number, &seed) : kinds[kind].shortest;
 }
 
+// The library is done with a packet: it was acknowledged, or went and asked for none, or its connection ended.
+static void let_go(ENetPacket *packet)
+{
+    Client *client = packet->userData;
+    client->kept--;
+}
+
 static void submit(int id, Kind kind)
 {
     Client *client = &clients[id];
     size_t length = body(kind, id, client->sent[kind]++);
     ENetPacket *packet = enet_packet_create(wanted, length, kinds[kind].flags);
+    if (packet != NULL) {
+        packet->userData = client;
+        packet->freeCallback = let_go;
+        client->kept++;
+    }
     if (packet == NULL || enet_peer_send(client->peer, kinds[kind].channel, packet) != 0)
         give_up("client %d: a packet (%s) of %zu bytes isn't taken", id, kinds[kind].name, length);
 }
@@ -259,8 +272,7 @@ static void until(int (*holds)(void), const char *what)
 static int settled(void)
 {
     for (int id = 0; id < count; id++) {
-        const ENetPeer *peer = clients[id].peer;
-        if (clients[id].state == IN && !(enet_list_empty(&peer->outgoingCommands) && enet_list_empty(&peer->sentReliableCommands)))
+        if (clients[id].state == IN && clients[id].kept > 0)
             return 0;
         enet_uint32 empties = 0;
         for (int other = 0; other < count && clients[id].state == IN; other++) {

@@ -1,6 +1,8 @@
 #!/usr/bin/env bash
 # Measures `enet_relay serve` side by side with a relay of the same rule over the reference library (clients/server.c), with the clients
-# of clients/load.c: `bench.sh [PROGRAM] [SECONDS]`. For each number of clients, size and kind of packet, both relays are measured one
+# of clients/load.c: `bench.sh [PROGRAM] [SECONDS]`. Where PROGRAM is `layer`, clients/server.c over our layer (c/enet.c) stands in the place of
+# `serve`, in one thread as over the reference library; it needs crates/enet_c/out/libenet_c.a, which `rt lib` makes there, and tells first
+# what an idle call of the C library takes. For each number of clients, size and kind of packet, both relays are measured one
 # after the other, SECONDS each for the trip at light load and for the most that goes through (2 where it isn't given). Prints a table;
 # in each cell ours stands first. Proves nothing, and takes some minutes.
 cd "$(dirname "$0")/.." || exit 1
@@ -10,8 +12,15 @@ seconds=${2:-2}
 room=$(mktemp -d) || exit 1
 trap 'rm -rf "$room"; kill $relay 2> /dev/null' EXIT
 relay=
-[ -x "$program" ] || { echo "$program isn't there: run 'rt ci', or 'rt run' in crates/enet_relay" >&2; exit 1; }
 build_clients "$room" || exit 1
+if [ "$program" = layer ]; then
+    bash scripts/build-c.sh "$room/made" crates/enet_c/out/libenet_c.a > "$room/build" 2>&1 &&
+        cc -std=gnu11 -O2 -Ic -o "$room/our-server" clients/server.c "$room/made/lib/libgofnjerta_enet.a" &&
+        cc -std=gnu11 -O2 -Ic -o "$room/idle" c/tests/idle.c "$room/made/lib/libgofnjerta.a" && "$room/idle" || { cat "$room/build" >&2; exit 1; }
+elif [ ! -x "$program" ]; then
+    echo "$program isn't there: run 'rt ci', or 'rt run' in crates/enet_relay" >&2
+    exit 1
+fi
 
 # What load.c says of the relay $1 with $2 clients, $3 bytes, channel $4.
 measure() {

@@ -6,9 +6,11 @@
 # - the layer: its structures lie as the reference library's header says (layout), and what isn't offered is refused (refusals);
 # - conversations of the programs in clients/ that use no more than what is offered, compiled unchanged against c/enet/enet.h, with the
 #   reference library at the other end, both ways round, straight and through clients/proxy.c; one runs a program that was built for
-#   libenet on our shared library.
+#   libenet on our shared library;
+# - programs that weren't written for it: libenet's tutorial (c/tests/tutorial.c) on the layer, and Debian's python3-enet, which was built
+#   for libenet, on our shared library (c/tests/binding.py), each with the reference library at the other end, both ways round.
 # Prints what failed, and as last line 'N passed, M failed'; the status is 1 where one failed or nothing was tried. It ends within 4
-# minutes. As root it installs what is missing of gcc, libenet-dev and valgrind.
+# minutes. As root it installs what is missing of gcc, libenet-dev, valgrind and python3-enet.
 cd "$(dirname "$0")/.." || exit 1
 . scripts/clients.sh
 archive=${1:-crates/enet_c/out/libenet_c.a}
@@ -38,15 +40,16 @@ build_tests() {
         compile memory memory "$wrap" "$made/lib/libgofnjerta.a" && compile lossy lossy-shared -L"$made/lib" -lgofnjerta &&
         compile refusals refusals "$made/lib/libgofnjerta_enet.a" && compile layout layout-ours &&
         cc c/tests/layout.c -o "$room/layout-theirs" &&
+        compile tutorial our-tutorial "$made/lib/libgofnjerta_enet.a" && cc -Wall -Wextra c/tests/tutorial.c -o "$room/tutorial" -lenet &&
         compile border border-checked "${checked[@]}" c/gofnjerta.c "$room/checked.a" &&
         compile lossy lossy-checked "${checked[@]}" c/gofnjerta.c "$room/checked.a" &&
         compile refusals refusals-checked "${checked[@]}" c/enet.c c/gofnjerta.c "$room/checked.a"
 }
 
-# The programs of clients/ on the layer: `server` and `crowd` as they are, and with sanitizers.
+# The programs of clients/ on the layer: `server`, `client` and `crowd` as they are, and with sanitizers.
 build_ours() {
     local program
-    for program in server crowd; do
+    for program in server client crowd; do
         cc -std=gnu11 -O2 -Wall -Wextra -Ic -o "$room/our-$program" "clients/$program.c" "$room/made/lib/libgofnjerta_enet.a" || return 1
         cc -std=gnu11 -O1 -g -Wall -Wextra -Ic -fsanitize=address,undefined -o "$room/checked-$program" "clients/$program.c" c/enet.c \
             c/gofnjerta.c "$room/checked.a" || return 1
@@ -97,9 +100,35 @@ converse() {
     } &
 }
 
+# One of c/tests that has both ends in it: the command $2 serves on a port of its own, and $3 visits it.
+meet() {
+    local server client
+    free_port
+    names+=("$1")
+    read -ra server <<< "$2"
+    read -ra client <<< "$3"
+    {
+        trap 'kill $relay 2> /dev/null' EXIT
+        timeout 60 "${server[@]}" serve "$port" > "$room/$1.server" 2>&1 &
+        relay=$!
+        timeout 40 "${client[@]}" visit "$port" > "$room/$1.client" 2>&1 && wait "$relay" && : > "$room/$1.passed"
+    } &
+}
+
+# libenet's tutorial, compiled for either library, and Python's binding, which was built for libenet, on either.
+meetings() {
+    local on_ours="env LD_LIBRARY_PATH=$room/made/lib/gofnjerta" binding="/usr/bin/python3 c/tests/binding.py"
+    meet tutorial-ours "$room/our-tutorial" "$room/our-tutorial"
+    meet tutorial-at-ours "$room/our-tutorial" "$room/tutorial"
+    meet tutorial-at-reference "$room/tutorial" "$room/our-tutorial"
+    meet tutorial-on-shared "$on_ours $room/tutorial" "$room/tutorial"
+    meet binding-at-reference "$binding" "$on_ours $binding"
+    meet binding-at-ours "$on_ours $binding" "$binding"
+}
+
 # Who serves, and who talks: ours and the reference library's, both ways round.
 conversations() {
-    local way
+    local way scenario
     for way in straight lossy; do
         converse "talk-1-$way" "$way" our-server "client talk 1 reference $way" 8
         converse "talk-8-$way" "$way" our-server "client talk 8 reference $way" 8
@@ -109,12 +138,25 @@ conversations() {
         converse "vanish-$way" "$way" our-server "client vanish 3 reference $way" 2
         converse "full-$way" "$way" our-server "client full 5 reference $way" 4
         converse "talk-checked-$way" "$way" checked-server "client talk 2 reference $way" 8
+        for scenario in "talk 8" "large 2" "again 2" "vanish 3"; do
+            converse "our-${scenario/ /-}-$way" "$way" server "our-client $scenario reference $way" 8
+        done
+        converse "our-talk-ours-$way" "$way" our-server "our-client talk 4 reference $way" 8
+        converse "talk-checked-at-reference-$way" "$way" server "checked-client talk 2 reference $way" 8
         converse "crowd-at-reference-$way" "$way" server "our-crowd 8 20" 8
         converse "crowd-checked-$way" "$way" server "checked-crowd 4 10" 8
     done
     converse crowd-at-ours straight our-server "crowd 60 2" 60
     library=$room/made/lib/gofnjerta converse crowd-on-shared straight server "crowd 8 20" 8
     wait
+}
+
+# Debian's valgrind and Python binding, where they are missing.
+install_tools() {
+    local missing=()
+    command -v valgrind || missing+=(valgrind)
+    /usr/bin/python3 -c 'import enet' || missing+=(python3-enet)
+    [ ${#missing[@]} -eq 0 ] || apt-get install -y "${missing[@]}" || { apt-get update && apt-get install -y "${missing[@]}"; }
 }
 
 room=$(mktemp -d) || exit 1
@@ -125,8 +167,8 @@ proxy=
 if [ ! -r "$archive" ]; then
     echo "$archive isn't there: run 'rt lib' in crates/enet_c" > "$room/said"
     fail "$archive" "$room/said"
-elif ! { command -v valgrind || apt-get install -y valgrind || { apt-get update && apt-get install -y valgrind; }; } > "$room/said" 2>&1; then
-    fail valgrind "$room/said"
+elif ! install_tools > "$room/said" 2>&1; then
+    fail "valgrind or python3-enet" "$room/said"
 elif ! build_all > "$room/said" 2>&1; then
     fail build "$room/said"
 else
@@ -139,6 +181,7 @@ else
     try memory-valgrind "${grind[@]}" "$room/memory"
     try refusals-valgrind "${grind[@]}" "$room/refusals"
     try layout diff <("$room/layout-ours") <("$room/layout-theirs")
+    meetings
     conversations
     for name in "${names[@]}"; do
         if [ -e "$room/$name.passed" ]; then passed=$((passed + 1)); else fail "$name" "$room/$name.client"; fi

@@ -2,14 +2,16 @@
 # Clients of the reference library talk through a relay, in the scenarios of clients/client.c: first straight, then by way of
 # clients/proxy.c, which drops, repeats and reorders datagrams; and a crowd of them (clients/crowd.c) straight, where each queue of the
 # relay has 64 places, so that both are full at once and neither thread may wait for the other. Clients of `demo` visit a server of the
-# reference library. Two guests (clients/guests.c) are told when a server ends after its turns, and when it ends since its relay found no
-# memory; they notice nothing of receptions that fail (clients/faults.c). Each scenario has a server of its own, and all run side by side: `check-clients.sh [PROGRAM]`. PROGRAM is the
-# built `enet_relay`, by default the one that `rt ci`, or `rt run` in crates/enet_relay, leaves; `reference` stands for the relay of
-# clients/server.c, which tells whether the clients themselves are right. Prints what failed, and as last line 'N passed, M failed';
-# the status is 1 where one failed. It ends within 4 minutes.
+# reference library, and so does `example_echo`, whose own server a client of that library visits (clients/echo.c). Two guests
+# (clients/guests.c) are told when a server ends after its turns, and when it ends since its relay found no memory; they notice nothing of
+# receptions that fail (clients/faults.c). Each scenario has a server of its own, and all run side by side: `check-clients.sh [PROGRAM]`.
+# PROGRAM is the built `enet_relay`, by default the one that `rt ci`, or `rt run` in crates/enet_relay, leaves; `reference` stands for the
+# relay of clients/server.c, which tells whether the clients themselves are right. Prints what failed, and as last line 'N passed, M
+# failed'; the status is 1 where one failed. It ends within 4 minutes.
 cd "$(dirname "$0")/.." || exit 1
 . scripts/clients.sh
 program=${1:-crates/enet_relay/out/enet_relay}
+example=crates/example_echo/out/example_echo
 passed=0
 failed=0
 
@@ -93,6 +95,45 @@ visit() {
     else
         echo "status $status: $(head -c 400 "$room/visit.out" "$room/visit.err" "$room/visit.server")" > "$room/visit.first"
     fi
+}
+
+# An echo server on port $3 and its visitor, the way $2, where lossy by a proxy on port $4: example_echo serves a client of the reference
+# library (clients/echo.c) where $1 is `ours`, and visits a server of that library where it is `theirs`.
+echo_both_ways() {
+    trap end_attempt EXIT
+    trap 'exit 1' TERM
+    local name=echo-$1-$2 to=$3 status
+    local server=("$example" serve "$3" 20000) visitor=("$room/echo")
+    [ "$1" = ours ] || { server=("$room/server" "$3" 2 2 echo); visitor=("$example" visit); }
+    "${server[@]}" > "$room/$name.relay" 2>&1 &
+    relay=$!
+    if [ "$2" = lossy ]; then
+        to=$4
+        "$room/proxy" "$4" "$3" 7 2> "$room/$name.proxy" &
+        proxy=$!
+    fi
+    timeout 110 "${visitor[@]}" "$to" > "$room/$name.client" 2>&1 &
+    client=$!
+    wait "$client"
+    status=$?
+    if [ "$status" -eq 0 ]; then
+        : > "$room/$name.passed"
+    else
+        echo "status $status: $(head -c 400 "$room/$name.client" "$room/$name.relay")" > "$room/$name.first"
+    fi
+}
+
+echoes() {
+    local who way first
+    for way in straight lossy; do
+        for who in ours theirs; do
+            free_port
+            first=$port
+            free_port
+            names+=("echo-$who-$way")
+            echo_both_ways "$who" "$way" "$first" "$port" &
+        done
+    done
 }
 
 # Starts a server on port $2 with the words from $4 on, whose memory and receptions fail when it is told, and two guests until $3. $1 is
@@ -187,6 +228,7 @@ all() {
         names+=(visit)
         visit "$port" &
         guests
+        echoes
     fi
     for way in straight lossy; do
         while read -r name clients slots; do
@@ -211,8 +253,8 @@ names=()
 relay=
 proxy=
 client=
-if [ "$program" != reference ] && [ ! -x "$program" ]; then
-    fail "$program" "it isn't there: run 'rt ci', or 'rt run' in crates/enet_relay"
+if [ "$program" != reference ] && ! [ -x "$program" -a -x "$example" ]; then
+    fail "$program or $example" "it isn't there: run 'rt ci', or 'rt run' in its folder"
 elif ! build_clients "$room"; then
     fail clients "the C programs can't be built"
 else

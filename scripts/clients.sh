@@ -11,7 +11,7 @@ build_clients() {
             { cat "$1/install" >&2; return 1; }
     fi
     local source
-    for source in client crowd guests server proxy load hostile; do
+    for source in client crowd echo guests server proxy load hostile; do
         cc -std=gnu11 -O2 -Wall -Wextra -pthread -o "$1/$source" "clients/$source.c" -lenet || return 1
     done
     cc -std=gnu11 -O2 -Wall -Wextra -shared -fPIC -o "$1/faults.so" clients/faults.c
@@ -28,11 +28,13 @@ free_port() {
     done
 }
 
-# Becomes a relay on port $2 of 127.0.0.1 with $3 slots and 3 channels: that of server.c in the directory $4 where $1 is `reference`,
-# else the program $1, with $5 places in each queue between its threads (65,536 where it isn't given).
+# Becomes a relay on port $2 of 127.0.0.1 with $3 slots and 3 channels: that of server.c in the directory $4 where $1 is `reference`, the
+# same over our layer where it is `layer`, else the program $1, with $5 places in each queue between its threads (65,536 where it isn't given).
 relay() {
     if [ "$1" = reference ]; then
         exec "$4/server" "$2" "$3" 3
+    elif [ "$1" = layer ]; then
+        exec "$4/our-server" "$2" "$3" 3
     else
         exec "$1" serve --port "$2" --peers "$3" --channels 3 --room "${5:-65536}" --forever
     fi

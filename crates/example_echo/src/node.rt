@@ -1,0 +1,63 @@
+//! A host with the socket at which it is reached.
+
+use enet_host::{Config, HostCore};
+use enet_types::{Addr, Refusal};
+use enet_wire::{MioWire, Wire};
+use std::net::Net;
+use std::rt::Clock;
+use std::sync::Wait;
+
+/// So many datagrams are taken in and put out in one turn at most, so that neither keeps the other from its turn.
+const MOST_DATAGRAMS: u32 = 256;
+
+/// A host with the socket at which it is reached.
+#[derive(Drop)]
+pub struct Node {
+    pub host: HostCore,
+    wire: MioWire,
+}
+
+impl Node {
+    /// Listens at this address; at port 0, at a port that the system chooses. E8 where a number of the settings is out of its range, E14
+    /// where the address can't be had, E1 for want of memory.
+    pub fn open<R: Net + AllocGlobal>(rt: &R, at: Addr, config: Config) -> Result<Node, Refusal> {
+        Ok(Node {
+            host: HostCore::open(rt.alloc(), config)?,
+            wire: MioWire::bind(rt, at)?,
+        })
+    }
+
+    /// Sleeps until a datagram comes, at most 5 ms, tells the host how much time passed, and hands it what came.
+    pub fn take_in<R: Wait + Clock>(&mut self, rt: &R) -> Result<(), Refusal> {
+        let passed = self.wire.wait(rt)?;
+        self.host.tick(passed);
+        let mut buffer = [0; 4096];
+        for _ in 0..MOST_DATAGRAMS {
+            let Some((from, length)) = self.wire.recv(&mut buffer)? else {
+                break;
+            };
+            if let Some(datagram) = buffer.get(..length) {
+                self.host.receive(from, datagram);
+            }
+        }
+        Ok(())
+    }
+
+    /// Sends what the host has to send. A datagram that the socket has no room for is lost, as in a network; the host sends again what
+    /// has to come.
+    pub fn put_out(&mut self) -> Result<(), Refusal> {
+        let mut buffer = [0; 4096];
+        for _ in 0..MOST_DATAGRAMS {
+            let Some((_, to, length)) = self.host.service(&mut buffer) else {
+                break;
+            };
+            let Some(datagram) = buffer.get(..length) else {
+                break;
+            };
+            if !self.wire.send(to, datagram)? {
+                break;
+            }
+        }
+        Ok(())
+    }
+}
