@@ -40,11 +40,12 @@ pub struct DemoOptions {
 }
 
 /// What the program is to do.
-#[derive(Clone, Copy)]
 pub enum Task {
     /// The help was printed, and nothing is left to do.
     Nothing,
     Lab,
+    /// Of this file, or where there is none of standard input.
+    Inspect(Option<String>),
     Serve(ServeOptions),
     Demo(DemoOptions),
 }
@@ -53,7 +54,7 @@ pub enum Task {
 pub fn read_task<R: Env + Print + Eprint + AllocGlobal>(rt: &R) -> Result<Task, Failure> {
     let words = words_of(rt)?;
     match command(rt.alloc())?.try_get_matches_from(words.as_slice()) {
-        Ok(found) => task_of(&found).ok_or(Failure::CommandLine),
+        Ok(found) => task_of(rt.alloc(), &found)?.ok_or(Failure::CommandLine),
         Err(error) => answer(rt, &error),
     }
 }
@@ -84,13 +85,20 @@ fn command<'a>(alloc: Global) -> Result<Command<'a>, AllocError> {
     );
     Command::new(alloc, "enet_relay")
         .about(
-            "Hosts of ENet 1.3: a lab for them, a server that relays chat, and a demonstration of it",
+            "Hosts of ENet 1.3: a lab for them, what datagrams say, a server that relays chat, and a demonstration of it",
         )
         .disable_help_subcommand(true)
         .subcommand_required(true)
         .subcommand(lab)?
+        .subcommand(inspect_command(alloc)?)?
         .subcommand(serve_command(alloc)?)?
         .subcommand(demo_command(alloc)?)
+}
+
+fn inspect_command<'a>(alloc: Global) -> Result<Command<'a>, AllocError> {
+    Command::new(alloc, "inspect")
+        .about("Tells in words what datagrams say: a line of hex each, or a capture in pcap format")
+        .arg(file(alloc))
 }
 
 fn serve_command<'a>(alloc: Global) -> Result<Command<'a>, AllocError> {
@@ -112,6 +120,10 @@ fn demo_command<'a>(alloc: Global) -> Result<Command<'a>, AllocError> {
         .arg(clients(alloc))?
         .arg(server_port(alloc))?
         .arg(turns(alloc))
+}
+
+fn file<'a>(alloc: Global) -> Arg<'a> {
+    Arg::new(alloc, "file").help("The file to read; without it standard input is read")
 }
 
 fn clients<'a>(alloc: Global) -> Arg<'a> {
@@ -195,13 +207,23 @@ fn number8<'a>(alloc: Global, name: &'a str, least: i64, most: i64) -> Arg<'a> {
 }
 
 // None where a word isn't one of ours, which the parser has refused before, or the address isn't one.
-fn task_of(found: &ArgMatches<'_>) -> Option<Task> {
-    let (name, found) = found.subcommand()?;
+fn task_of(alloc: Global, found: &ArgMatches<'_>) -> Result<Option<Task>, AllocError> {
+    let Some((name, found)) = found.subcommand() else {
+        return Ok(None);
+    };
     match name {
-        "lab" => Some(Task::Lab),
-        "serve" => Some(Task::Serve(serve_options(found)?)),
-        "demo" => Some(Task::Demo(demo_options(found)?)),
-        _ => None,
+        "lab" => Ok(Some(Task::Lab)),
+        "inspect" => Ok(Some(Task::Inspect(file_named(alloc, found)?))),
+        "serve" => Ok(serve_options(found).map(Task::Serve)),
+        "demo" => Ok(demo_options(found).map(Task::Demo)),
+        _ => Ok(None),
+    }
+}
+
+fn file_named(alloc: Global, found: &ArgMatches<'_>) -> Result<Option<String>, AllocError> {
+    match found.get_str("file") {
+        Some(path) => Ok(Some(String::from_str(alloc, path)?)),
+        None => Ok(None),
     }
 }
 

@@ -1,5 +1,6 @@
 //! Why the program ends with a status other than 0.
 
+use enet_inspect::InspectFault;
 use enet_lab::LabFault;
 use enet_serve::Unopened;
 use enet_types::Refusal;
@@ -22,6 +23,12 @@ pub enum Failure {
     /// The lab ended before the end of its script.
     #[error("{0}")]
     Lab(LabFault),
+    /// The input of `inspect` wasn't read to its end.
+    #[error("{0}")]
+    Inspect(InspectFault),
+    /// The file to inspect can't be opened, and this is what the system says of it.
+    #[error("{0}")]
+    File(io::Error),
     /// The system makes no second thread.
     #[error("no second thread can be made")]
     NoThread,
@@ -38,6 +45,7 @@ impl Failure {
     pub fn status(self) -> u8 {
         match self {
             Failure::CommandLine | Failure::Lab(LabFault::BadScript(_)) => 2,
+            Failure::Inspect(fault) if fault.is_unreadable() => 2,
             _ => 1,
         }
     }

@@ -1,20 +1,22 @@
-//! The program `enet_relay`. `enet_relay lab` runs a script of what happens to two hosts or to a fleet, `enet_relay serve` relays chat
-//! between real ENet clients, and `enet_relay demo` shows a server with clients in one process.
+//! The program `enet_relay`. `enet_relay lab` runs a script of what happens to two hosts or to a fleet, `enet_relay inspect` tells in words
+//! what datagrams say, `enet_relay serve` relays chat between real ENet clients, and `enet_relay demo` shows a server with clients in one
+//! process.
 //!
 //! Proved: that it is safe; what a shift of the server did is said by `enet_serve`, what came of each client of the demonstration by
-//! `enet_demo`, and how a script of the lab is answered by `enet_lab`.
-//! Only tested, by scripts/check-rows.sh: the scripts of scripts/rows; the command lines `--help`, no subcommand, an unknown one, a word
-//! too many, and those of `serve` and `demo` with numbers out of range; what both print; an input that can't be read, an output that
-//! can't be written, a port that is taken, an address that isn't there, a system that makes no threads. By scripts/check-clients.sh: what
-//! clients of the reference library get from `serve`, and those of `demo` from a server of that library, the log, and how a server ends
-//! whose relay finds no memory. By hand alone: want of memory elsewhere (`E1 Memory`, status 1), and the line of totals of `serve
-//! --forever`.
+//! `enet_demo`, how a script of the lab is answered by `enet_lab`, and what is told of a datagram by `enet_inspect`.
+//! Only tested, by scripts/check-inspect.sh: what `inspect` writes and its status. By scripts/check-rows.sh: the scripts of scripts/rows;
+//! the command lines `--help`, no subcommand, an unknown one, a word too many, and those of `serve` and `demo` with numbers out of range;
+//! what both print; an input that can't be read, an output that can't be written, a port that is taken, an address that isn't there, a
+//! system that makes no threads. By scripts/check-clients.sh: what clients of the reference library get from `serve`, and those of `demo`
+//! from a server of that library, the log, and how a server ends whose relay finds no memory. By hand alone: want of memory elsewhere
+//! (`E1 Memory`, status 1), and the line of totals of `serve --forever`.
 //! Neither: that `serve` ends, since threads may wait.
 #![tactic(auto)]
 
 mod command_line;
 mod demonstrating;
 mod failure;
+mod inspecting;
 mod serving;
 mod watching;
 
@@ -22,11 +24,12 @@ use command_line::{Task, read_task};
 use demonstrating::demonstrate;
 use enet_lab::lab;
 use failure::Failure;
+use inspecting::inspect_input;
 use serving::serve;
 use std::io;
 use std::net::Net;
 use std::process::ExitCode;
-use std::rt::{Clock, Env};
+use std::rt::{Clock, Env, Files};
 use std::sync::Wait;
 use std::thread::Threads;
 
@@ -35,13 +38,14 @@ const LATE: u8 = 3;
 
 fn run<R>(rt: &R) -> Result<ExitCode, Failure>
 where
-    R: Env + Input + Print + Eprint + AllocGlobal + Threads + Wait + Net + Clock + Sync,
+    R: Env + Files + Input + Print + Eprint + AllocGlobal + Threads + Wait + Net + Clock + Sync,
 {
     match read_task(rt)? {
         Task::Nothing => {}
         Task::Lab => {
             lab(rt.alloc(), &mut rt.reader(), &mut io::writer(rt)).map_err(Failure::Lab)?;
         }
+        Task::Inspect(file) => inspect_input(rt, file)?,
         Task::Serve(options) => serve(rt, options)?,
         Task::Demo(options) => {
             if !demonstrate(rt, options)? {

@@ -1,0 +1,3 @@
+pub mod Joins
+pub mod Steps
+pub mod Whole

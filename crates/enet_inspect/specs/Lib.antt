@@ -1,0 +1,4 @@
+pub mod Texts
+pub mod Described
+pub mod Lines
+pub mod Faults

@@ -1,0 +1,165 @@
+#!/usr/bin/env bash
+# Runs the built program `enet_relay inspect`: on the datagrams of the files in crates/check_captures/data, of which it must tell what
+# inspected.awk derives from the remarks that stand beside them; on lines that are cut short, compressed, unreadable or passed over; and on
+# captures in pcap format that are made here, byte by byte. The last line is 'N passed, M failed'; the status is 1 where one fails. The
+# program is the one that `rt ci`, or `rt run` in crates/enet_relay, leaves; another can be named as argument.
+cd "$(dirname "$0")/.." || exit 1
+program=$(realpath -m "${1:-crates/enet_relay/out/enet_relay}")
+captures=crates/check_captures/data
+passed=0
+failed=0
+
+fail() {
+    echo "FAILED $1: $2"
+    failed=$((failed + 1))
+}
+
+# An input: its name here, the file that has it, the files of the wanted output and standard error, and the wanted status. It is read from
+# standard input, and by its name.
+input() {
+    local name=$1 file=$2 out=$3 err=$4 wanted=$5 status way
+    for way in stdin file; do
+        if [ "$way" = stdin ]; then
+            timeout 60 "$program" inspect < "$file" > "$room/out" 2> "$room/err"
+        else
+            timeout 60 "$program" inspect "$file" > "$room/out" 2> "$room/err" < /dev/null
+        fi
+        status=$?
+        cmp -s "$out" "$room/out" || { fail "$name by $way" "standard output: $(diff "$out" "$room/out" | head -c 400)"; return; }
+        cmp -s "$err" "$room/err" || { fail "$name by $way" "standard error is: $(head -c 200 "$room/err")"; return; }
+        [ "$status" -eq "$wanted" ] || { fail "$name by $way" "status $status where $wanted is wanted"; return; }
+    done
+    passed=$((passed + 1))
+}
+
+captured_files() {
+    local file name count=0
+    for file in "$captures"/*.txt; do
+        name=$(basename "$file" .txt)
+        awk '!/^#/ { print $2 }' "$file" > "$room/hex"
+        awk -f scripts/inspected.awk "$file" > "$room/wanted" || { fail "$name" "$(tail -n 1 "$room/wanted")"; continue; }
+        count=$((count + $(wc -l < "$room/hex")))
+        input "captured: $name" "$room/hex" "$room/wanted" /dev/null 0
+    done
+    [ "$count" -eq 446 ] || fail captures "they have $count datagrams where 446 are wanted"
+}
+
+# Lines: their name here, what they are by printf, the wanted output and standard error by printf, and the status.
+lines() {
+    printf '%b' "$2" > "$room/lines"
+    printf '%b' "$3" > "$room/wanted"
+    printf '%b' "$4" > "$room/wanted.err"
+    input "$1" "$room/lines" "$room/wanted" "$room/wanted.err" "$5"
+}
+
+rows() {
+    local ping='datagram 0 length 8\n  peer 1 session 2 sent 100\n  PING channel 255 number 3 acknowledge\n'
+    lines nothing '' '' '' 0
+    lines passed-over '# a remark\n\n   \n' '' '' 0
+    lines either-case '  A001006485FF0003 \n' "$ping" '' 0
+    lines no-line-feed 'a001006485ff0003' "$ping" '' 0
+    lines no-bytes '-\n' 'datagram 0 length 0\n  S1 Short at byte 0: -\n' '' 0
+    lines one-byte '80\n' 'datagram 0 length 1\n  S1 Short at byte 0: 80\n' '' 0
+    lines no-sent-time '800001\n' 'datagram 0 length 3\n  S1 Short at byte 0: 800001\n' '' 0
+    lines header-alone '0fff\n' 'datagram 0 length 2\n  peer none session 0\n' '' 0
+    lines compressed '4000aabb\n' 'datagram 0 length 4\n  peer 0 session 0 compressed\n  S2 Compressed at byte 2: aabb\n' '' 0
+    lines compressed-and-short 'c00001\n' 'datagram 0 length 3\n  S2 Compressed at byte 0: c00001\n' '' 0
+    lines unknown-command '00000dff0001\n' 'datagram 0 length 6\n  peer 0 session 0\n  S6 BadCommand at byte 2: 0dff0001\n' '' 0
+    lines short-command 'a001006485ff000386000004000568\n' \
+        'datagram 0 length 15\n  peer 1 session 2 sent 100\n  PING channel 255 number 3 acknowledge\n  S6 BadCommand at byte 8: 86000004000568\n' '' 0
+    lines empty-packet '0000860000040000\n' \
+        'datagram 0 length 8\n  peer 0 session 0\n  SEND_RELIABLE channel 0 number 4 acknowledge length 0 payload -\n' '' 0
+    lines bad-line '#\na001006485ff0003\na00\n' "$ping" 'E15 BadScript line 3\n' 2
+    lines two-words 'a0 01\n' '' 'E15 BadScript line 1\n' 2
+}
+
+# The bytes of hex, which may have spaces between them.
+bytes() {
+    printf '%b' "$(tr -d ' \n' <<< "$1" | sed 's/../\\x&/g')"
+}
+
+# A number of four bytes in hex, in the order $1.
+word() {
+    local hex
+    hex=$(printf '%08x' "$2")
+    [ "$1" = big ] || hex=${hex:6:2}${hex:4:2}${hex:2:2}${hex:0:2}
+    echo "$hex"
+}
+
+# The hex of a capture's beginning: the order, the magic number, and the link type. The version is 2.4 in either order.
+beginning() {
+    local version=00020004
+    [ "$1" = big ] || version=02000400
+    echo "$(word "$1" "$2")$version$(word "$1" 0)$(word "$1" 0)$(word "$1" 65535)$(word "$1" "$3")"
+}
+
+# The hex of a packet in a capture: the order, seconds, parts, and the packet's hex.
+packet() {
+    local len=$((${#4} / 2))
+    echo "$(word "$1" "$2")$(word "$1" "$3")$(word "$1" "$len")$(word "$1" "$len")$4"
+}
+
+# A capture: its name here, its hex, and what is wanted.
+capture() {
+    bytes "$2" > "$room/capture"
+    printf '%b' "$3" > "$room/wanted"
+    printf '%b' "$4" > "$room/wanted.err"
+    input "$1" "$room/capture" "$room/wanted" "$room/wanted.err" "$5"
+}
+
+# A PING in UDP over IPv4, from 10.0.0.1:4660 to 10.0.0.2:47001, and the frames of the links around it.
+captures() {
+    local udp=1234b79900100000a001006485ff0003
+    local ip=4500002400010000401100000a0000010a000002$udp
+    local tcp=4500002400010000400600000a0000010a000002$udp
+    local piece=4500002400012000401100000a0000010a000002$udp
+    local ethernet=0202020202020101010101010800
+    local way='datagram %d length 8 from 10.0.0.1:4660 to 10.0.0.2:47001 at 7.'
+    local ping='\n  peer 1 session 2 sent 100\n  PING channel 255 number 3 acknowledge\n'
+    local first second order
+    first=$(printf "$way" 0)
+    second=$(printf "$way" 1)
+    for order in big little; do
+        capture "ethernet $order" "$(beginning $order 0xa1b2c3d4 1)$(packet $order 7 8 "$ethernet$ip")" \
+            "${first}000008$ping""0 other packets\n" '' 0
+        capture "nanoseconds $order" "$(beginning $order 0xa1b23c4d 101)$(packet $order 7 8 "$ip")" \
+            "${first}000000008$ping""0 other packets\n" '' 0
+        capture "cut short $order" "$(beginning $order 0xa1b2c3d4 12)$(packet $order 7 8 "$ip")$(packet $order 7 9 "$ip" | head -c 60)" \
+            "${first}000008$ping" 'capture cut short after 1 packets\n' 2
+        capture "link type $order" "$(beginning $order 0xa1b2c3d4 105)" '' "link type 105 can't be read\n" 2
+        capture "loopback $order" "$(beginning $order 0xa1b2c3d4 0)$(packet $order 7 8 "$(word $order 2)$ip")" \
+            "${first}000008$ping""0 other packets\n" '' 0
+    done
+    capture "cooked, padded, and others" \
+        "$(beginning big 0xa1b2c3d4 113)$(packet big 7 8 "00000304000600000000000000000800${ip}0000")$(packet big 7 8 \
+        "000003040006000000000000000086dd$ip")$(packet big 7 9 "00000304000600000000000000000800$ip")" \
+        "${first}000008$ping${second}000009$ping""1 other packets\n" '' 0
+    capture "others alone" \
+        "$(beginning little 0xa1b2c3d4 228)$(packet little 7 8 "$tcp")$(packet little 7 8 "$piece")$(packet little 7 8 "${ip:0:70}")$(packet \
+        little 7 8 '')" '4 other packets\n' '' 0
+    capture "no beginning" a1b2c3d4 '' 'capture cut short after 0 packets\n' 2
+}
+
+files() {
+    timeout 60 "$program" inspect "$room/no-such-file" > "$room/out" 2> "$room/err"
+    [ $? -eq 1 ] && [ "$(<"$room/err")" = 'No such file or directory (os error 2)' ] && passed=$((passed + 1)) || fail no-such-file "$(<"$room/err")"
+    timeout 60 "$program" inspect < / > "$room/out" 2> "$room/err"
+    [ $? -eq 1 ] && [ "$(<"$room/err")" = 'input or output failed' ] && passed=$((passed + 1)) || fail unreadable "$(<"$room/err")"
+    echo 0fff | timeout 60 "$program" inspect > /dev/full 2> "$room/err"
+    [ $? -eq 1 ] && [ "$(<"$room/err")" = 'input or output failed' ] && passed=$((passed + 1)) || fail unwritable "$(<"$room/err")"
+    timeout 60 "$program" inspect one two > "$room/out" 2> "$room/err"
+    [ $? -eq 2 ] && [ "$(<"$room/err")" = 'bad command line' ] && passed=$((passed + 1)) || fail two-files "$(<"$room/err")"
+}
+
+room=$(mktemp -d) || exit 1
+trap 'rm -rf "$room"' EXIT
+if [ ! -x "$program" ]; then
+    fail "$program" "it isn't there: run 'rt ci', or 'rt run' in crates/enet_relay"
+else
+    captured_files
+    rows
+    captures
+    files
+fi
+echo "$passed passed, $failed failed"
+[ "$failed" -eq 0 ]
