@@ -1,2 +1,3 @@
+pub mod GroupingLemmas
 pub mod PeersLemmas
 pub mod Relays

@@ -5,15 +5,15 @@ use Rattle.std.proofs.lemmas.Bool.{eq-eqb}
 use Rattle.enet_types.specs.declared.event.PeerRef.{PeerRef}
 use Rattle.enet_chat.specs.Peers.{is_same, has, count, has_each_once, others}
 
-or_none : (a b : Bool) → (a || b) ≡ false → (a ≡ false) × (b ≡ false)
+pub or_none : (a b : Bool) → (a || b) ≡ false → (a ≡ false) × (b ≡ false)
 or_none true b e = cc
 or_none false b e = (refl, e)
 
-and_both : (a b : Bool) → (a && b) ≡ true → (a ≡ true) × (b ≡ true)
+pub and_both : (a b : Bool) → (a && b) ≡ true → (a ≡ true) × (b ≡ true)
 and_both true b e = (refl, e)
 and_both false b e = cc
 
-not_true : (b : Bool) → not b ≡ true → b ≡ false
+pub not_true : (b : Bool) → not b ≡ true → b ≡ false
 not_true true e = cc
 not_true false e = refl
 
@@ -38,7 +38,7 @@ others_once (p ∷ ps) gone e =
     let both = and_both (not (has ps p)) (has_each_once ps) e in
     once_cond (not (is_same p gone)) p (others ps gone) (has_others ps gone p (not_true _ both.0)) (others_once ps gone both.1)
 
-same_is : (p q : PeerRef) → is_same p q ≡ true → p ≡ q
+pub same_is : (p q : PeerRef) → is_same p q ≡ true → p ≡ q
 same_is p q e =
     let both = and_both (eqb p.slot q.slot) (eqb p.generation q.generation) e in
     let slot : p.slot ≡ q.slot = eqb-true p.slot q.slot both.0 in

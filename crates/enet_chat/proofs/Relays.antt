@@ -1,13 +1,16 @@
 -- Steps of a relay, one after another.
 use Rattle.std.proofs.Common.{◌≡◌, List, [], ◌∷◌, ◌++◌, refl, sym, ◌∙◌, ap, append_assoc}
 use Rattle.std.proofs.lemmas.List.{append-nil}
+use Rattle.std.proofs.lemmas.List.Elements.{filter-append}
 use Rattle.enet_types.specs.declared.event.PeerRef.{PeerRef}
 use Rattle.enet_types.specs.declared.event.Event.{Event}
 use Rattle.enet_submit.specs.declared.order.Order.{Order}
+use Rattle.enet_events.specs.declared.numbered.Numbered.{Numbered}
 use Rattle.enet_bridge.specs.Holding.{asked, received}
 use Rattle.enet_chat.specs.Chat.{noted, relayed}
 use Rattle.enet_chat.specs.declared.relaying.Relay.{Relay}
-use Rattle.enet_chat.specs.Relaying.{events, noted_all, relayed_all, SameQueues, Relays}
+use Rattle.enet_chat.specs.Relaying.{events, noted_all, relayed_all, ArePackets, is_for, those_for, SameForEach, SameQueues, Relays}
+use Rattle.enet_chat.proofs.GroupingLemmas.{packets_note}
 
 noted_more : (peers : List PeerRef) (es fs : List Event) → noted_all peers (es ++ fs) ≡ noted_all (noted_all peers es) fs
 noted_more peers [] fs = refl
@@ -23,18 +26,29 @@ joined : (a b c p q x y : List Event) → a ++ p ≡ x ++ b → b ++ q ≡ y ++ 
 joined a b c p q x y e f =
     sym (append_assoc a p q) ∙ ap (λ (es : List Event). es ++ q) e ∙ append_assoc x b q ∙ ap (λ (es : List Event). x ++ es) f ∙ sym (append_assoc x y c)
 
+for_each_more : (os ps xs ys : List Order) → SameForEach os xs → SameForEach ps ys → SameForEach (os ++ ps) (xs ++ ys)
+for_each_more os ps xs ys f g peer =
+    filter-append (is_for peer) os ps
+    ∙ ap (λ (l : List Order). l ++ those_for peer ps) (f peer)
+    ∙ ap (λ (l : List Order). those_for peer xs ++ l) (g peer)
+    ∙ sym (filter-append (is_for peer) xs ys)
+
+on_for_each : (os ps : List Order) (a b : List PeerRef) (es fs : List Event) → b ≡ noted_all a es → SameForEach os (relayed_all a es) → SameForEach ps (relayed_all b fs) → SameForEach (os ++ ps) (relayed_all a (es ++ fs))
+on_for_each os ps a b es fs e f g peer =
+    for_each_more os ps (relayed_all a es) (relayed_all b fs) f g peer
+    ∙ ap (λ (peers : List PeerRef). those_for peer (relayed_all a es ++ relayed_all peers fs)) e
+    ∙ ap (those_for peer) (sym (relayed_more a es fs))
+
 pub relays_on : (a b c : Relay) → Relays a b → Relays b c → Relays a c
 relays_on a b c p q = record {
   taken = p.taken ++ q.taken;
   expanded = p.expanded ++ q.expanded;
+  asked_for = p.asked_for ++ q.asked_for;
   took = q.took ∙ ap (λ (es : List Event). es ++ q.taken) p.took ∙ append_assoc (events (received a.inbox)) p.taken q.taken;
   in_order = joined a.backlog.items b.backlog.items c.backlog.items p.taken q.taken p.expanded q.expanded p.in_order q.in_order;
   peers = q.peers ∙ ap (λ (ps : List PeerRef). noted_all ps q.expanded) p.peers ∙ sym (noted_more a.table p.expanded q.expanded);
-  orders = q.orders
-      ∙ ap (λ (os : List Order). os ++ relayed_all b.table q.expanded) p.orders
-      ∙ append_assoc (asked a.desk) (relayed_all a.table p.expanded) (relayed_all b.table q.expanded)
-      ∙ ap (λ (ps : List PeerRef). asked a.desk ++ (relayed_all a.table p.expanded ++ relayed_all ps q.expanded)) p.peers
-      ∙ ap (λ (os : List Order). asked a.desk ++ os) (sym (relayed_more a.table p.expanded q.expanded));
+  orders = q.orders ∙ ap (λ (os : List Order). os ++ q.asked_for) p.orders ∙ append_assoc (asked a.desk) p.asked_for q.asked_for;
+  for_each = on_for_each p.asked_for q.asked_for a.table b.table p.expanded q.expanded p.peers p.for_each q.for_each;
   same_queues = (q.same_queues.0 ∙ p.same_queues.0, q.same_queues.1 ∙ p.same_queues.1);
 }
 
@@ -44,10 +58,12 @@ relays_none a b same inbox backlog table desk = record {
   same_queues = same;
   taken = [];
   expanded = [];
+  asked_for = [];
   took = ap events inbox ∙ sym (append-nil (events (received a.inbox)));
   in_order = append-nil a.backlog.items ∙ sym backlog;
   peers = table;
   orders = desk ∙ sym (append-nil (asked a.desk));
+  for_each = λ (peer : PeerRef). refl;
 }
 
 -- an event was expanded
@@ -57,8 +73,43 @@ relays_expanded a b e same inbox backlog table desk = record {
   same_queues = same;
   taken = [];
   expanded = e ∷ [];
+  asked_for = relayed (noted a.table e) e;
   took = ap events inbox ∙ sym (append-nil (events (received a.inbox)));
   in_order = append-nil a.backlog.items ∙ backlog;
   peers = table;
-  orders = desk ∙ ap (λ (os : List Order). asked a.desk ++ os) (sym (append-nil (relayed (noted a.table e) e)));
+  orders = desk;
+  for_each = λ (peer : PeerRef). ap (those_for peer) (sym (append-nil (relayed (noted a.table e) e)));
+}
+
+events_more : (xs : List Numbered) (n : Numbered) → events (xs ++ n ∷ []) ≡ events xs ++ n.event ∷ []
+events_more [] n = refl
+events_more (x ∷ xs) n = ap (λ (es : List Event). x.event ∷ es) (events_more xs n)
+
+-- an event was taken
+pub relays_taken : (a b : Relay) (n : Numbered) → SameQueues a b → received b.inbox ≡ received a.inbox ++ n ∷ [] → b.backlog.items ≡ a.backlog.items ++ n.event ∷ [] → b.table ≡ a.table → asked b.desk ≡ asked a.desk → Relays a b
+relays_taken a b n same inbox backlog table desk = record {
+  same_queues = same;
+  taken = n.event ∷ [];
+  expanded = [];
+  asked_for = [];
+  took = ap events inbox ∙ events_more (received a.inbox) n;
+  in_order = sym backlog;
+  peers = table;
+  orders = desk ∙ sym (append-nil (asked a.desk));
+  for_each = λ (peer : PeerRef). refl;
+}
+
+-- packets were expanded
+pub relays_packets : (a b : Relay) (es : List Event) (os : List Order) → ArePackets es → SameForEach os (relayed_all a.table es) → SameQueues a b → received b.inbox ≡ received a.inbox
+    → a.backlog.items ≡ es ++ b.backlog.items → b.table ≡ a.table → asked b.desk ≡ asked a.desk ++ os → Relays a b
+relays_packets a b es os packets each same inbox backlog table desk = record {
+  same_queues = same;
+  taken = [];
+  expanded = es;
+  asked_for = os;
+  took = ap events inbox ∙ sym (append-nil (events (received a.inbox)));
+  in_order = append-nil a.backlog.items ∙ backlog;
+  peers = table ∙ sym (packets_note a.table es packets);
+  orders = desk;
+  for_each = each;
 }

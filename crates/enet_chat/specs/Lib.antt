@@ -1,3 +1,4 @@
 pub mod Chat
+pub mod Grouping
 pub mod Peers
 pub mod Relaying

@@ -1,9 +1,13 @@
 -- What the relay's thread makes of the events that it takes.
-use Rattle.std.specs.Prelude.{◌≡◌, ◌⊎◌, ◌<◌, List, [], ◌∷◌, ◌++◌, map, length}
+use Rattle.std.specs.Prelude.{◌≡◌, ◌⊎◌, ◌<◌, Bool, true, List, [], ◌∷◌, ◌++◌, map, length, ⊤}
+use Rattle.std.specs.List.{filter}
 use Rattle.enet_types.specs.declared.event.PeerRef.{PeerRef}
 use Rattle.enet_types.specs.declared.event.Event.{Event}
+use Rattle.enet_types.specs.declared.event.Event.TheVariants.{Connect, Receive, Disconnect, Refused}
 use Rattle.enet_submit.specs.declared.order.Order.{Order}
+use Rattle.enet_submit.specs.declared.order.Order.TheVariants as order
 use Rattle.enet_events.specs.declared.numbered.Numbered.{Numbered}
+use Rattle.enet_chat.specs.Peers.{is_same}
 use Rattle.enet_chat.specs.Chat.{noted, relayed}
 use Rattle.enet_bridge.specs.declared.desk.Desk.{Desk}
 use Rattle.enet_bridge.specs.declared.inbox.Inbox.{Inbox}
@@ -44,17 +48,46 @@ abbrev pub relayed_all : List PeerRef → List Event → List Order
 relayed_all peers [] = []
 relayed_all peers (e ∷ es) = relayed (noted peers e) e ++ relayed_all (noted peers e) es
 
+-- a packet came, which leaves the peers as they are
+abbrev pub IsPacket : Event → Type 0
+IsPacket (Connect peer info) = ⊥
+IsPacket (Receive peer packet) = ⊤
+IsPacket (Disconnect peer info) = ⊥
+IsPacket (Refused seat number why) = ⊥
+
+abbrev pub ArePackets : List Event → Type 0
+ArePackets [] = ⊤
+ArePackets (e ∷ es) = IsPacket e × ArePackets es
+
+-- whether an order is for this peer. A Connect, which names no peer, is for each of them
+abbrev pub is_for : PeerRef → Order → Bool
+is_for peer (order.Connect addr channels info word) = true
+is_for peer (order.Submit to channel flags body) = is_same to peer
+is_for peer (order.Disconnect to how info) = is_same to peer
+
+-- those of the orders that are for this peer, in their order
+abbrev pub those_for : PeerRef → List Order → List Order
+those_for peer orders = filter (λ o. is_for peer o) orders
+
+-- For every peer the same orders in the same order. So none is lost or doubled, as each is for some peer; only between orders
+-- for different peers the order may be another
+abbrev pub SameForEach : List Order → List Order → Type 0
+SameForEach orders others = (peer : PeerRef) → those_for peer orders ≡ those_for peer others
+
 -- between the same queues
 abbrev pub SameQueues : Relay → Relay → Type 0
 SameQueues old new = (desk_queue (desk_of new) ≡ desk_queue (desk_of old)) × (inbox_queue (inbox_of new) ≡ inbox_queue (inbox_of old))
 
 -- From one state of a relay to a later one: it took these events, and expanded those, in the order in which they were taken.
--- The table is what those made of it, and what was asked is what was asked before and then their orders
+-- The table is what those made of it. It asked for these orders behind those asked for before: for every peer they are what the
+-- expanded events give for it, in order
 pub record Relays (old new : Relay) : Type 0 where
   pub taken : List Event
   pub expanded : List Event
+  pub asked_for : List Order
   pub took : events (received (inbox_of new)) ≡ events (received (inbox_of old)) ++ taken
   pub in_order : backlog_of old ++ taken ≡ expanded ++ backlog_of new
   pub peers : peers_of new ≡ noted_all (peers_of old) expanded
-  pub orders : asked (desk_of new) ≡ asked (desk_of old) ++ relayed_all (peers_of old) expanded
+  pub orders : asked (desk_of new) ≡ asked (desk_of old) ++ asked_for
+  pub for_each : SameForEach asked_for (relayed_all (peers_of old) expanded)
   pub same_queues : SameQueues old new

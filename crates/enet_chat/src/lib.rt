@@ -2,13 +2,15 @@
 //!
 //! Proved: the table after an event, and the orders of an event, exactly; that a table has no peer twice, and so that a chat
 //! packet goes once to each other peer of the table and never back to its sender. Of the thread that relays (`Relays`): the events
-//! that it took are, in order, those that it expanded and those that wait; what was asked for is, in order, what the expanded ones
-//! give; after every refusal too; and it ends well only where it found no event, with all expanded unless orders wait for room.
+//! that it took are, in order, those that it expanded and those that wait; what was asked for is, for every receiver and in order,
+//! what the expanded ones give for it, so that nothing is lost or doubled; after every refusal too; and it ends well only where it
+//! found no event, with all expanded unless orders wait for room.
 //! Only tested: by `check_queues`, that the calls succeed where there is memory; by scripts/check-clients.sh through `enet_relay serve`,
-//! that the thread gets on. Neither: that the bodies of the orders share their bytes, so that no copy is made, and that a call with Wait
-//! returns.
+//! that the thread gets on. Neither: that the bodies of the orders share their bytes, so that no copy is made, that orders
+//! of packets that follow one another are grouped by receiver, and that a call with Wait returns.
 #![tactic(auto)]
 
+mod batch;
 mod gauge;
 mod laws;
 mod relay;

@@ -56,7 +56,7 @@ fn to_others(
     Ok(orders)
 }
 
-fn push_order(
+pub(crate) fn push_order(
     orders: &mut Vec<Order>,
     peer: PeerRef,
     channel: u8,

@@ -3,6 +3,7 @@ ghost use Rattle.std.specs.Prelude.{◌≡◌, ◌++◌, OnOk, OnErr, IfErr};
 ghost use Rattle.enet_bridge.specs.Holding.{asked, desk_queue};
 ghost use Rattle.enet_chat.specs.Chat.{noted, relayed};
 
+use crate::batch::{batch_orders, drop_first, packets_first};
 use crate::gauge::Gauge;
 use crate::relay::relay_step;
 use crate::table::Table;
@@ -20,18 +21,22 @@ use std::thread;
 /// A turn of the service takes at most so many orders, so after so many it is told.
 const MOST_ORDERS: usize = 256;
 
-/// With so many events relayed since the last rest it pays to look a few times before the next.
-const BUSY: u32 = 8;
+/// So many events at most are taken one after another, and so many chat packets expanded together.
+const MOST_EVENTS: usize = 64;
+
+/// With so many events expanded since the last rest it pays to look a few times before the next.
+const BUSY: u64 = 4;
 
 const LOOKS: u32 = 5;
 
-/// While it doesn't rest it shows itself once in so many events.
-const BETWEEN_SHOWS: u32 = 64;
+/// While it doesn't rest it shows itself once in so many expanded events.
+const BETWEEN_SHOWS: u64 = 32;
 
 /// The connected peers, the events that were taken and not yet expanded into orders, and the orders that wait for room.
 ///
 /// An event is expanded once no order waits. So what is kept while the service takes no orders is events, of which a chat packet
-/// is one, whatever the number of its receivers.
+/// is one, whatever the number of its receivers. Chat packets that follow one another are expanded together, up to a bound: their
+/// orders are asked for receiver by receiver, so that the host sends a receiver what is for it in few datagrams.
 #[derive(Drop)]
 pub struct Relay<'a> {
     alloc: Global,
@@ -39,11 +44,25 @@ pub struct Relay<'a> {
     desk: Desk<'a>,
     inbox: Inbox<'a>,
     backlog: VecDeque<Event>,
+    tally: Tally,
+}
+
+/// What a relay counts.
+#[derive(Drop)]
+struct Tally {
     // Orders since the service was last told.
     untold: usize,
     // Events expanded and orders asked for, by it and those that showed themselves at the same gauge before.
     expanded: u64,
     orders: u64,
+}
+
+impl Tally {
+    fn add(&mut self, events: usize, orders: usize) {
+        self.untold = self.untold.saturating_add(orders);
+        self.expanded = self.expanded.saturating_add(events as u64);
+        self.orders = self.orders.saturating_add(orders as u64);
+    }
 }
 
 /// What a relay leaves.
@@ -73,11 +92,11 @@ enum Found {
 }
 
 impl<'a> Relay<'a> {
-    ghost use Rattle.std.specs.Prelude.{◌≡◌, ◌⊎◌, ◌<◌, ◌++◌, [], true, false, length, OnOk, IfOk, IfErr};
+    ghost use Rattle.std.specs.Prelude.{◌≡◌, ◌⊎◌, ◌<◌, ◌≤◌, ◌++◌, [], true, false, length, take, OnOk, IfOk, IfErr};
     ghost use Rattle.enet_submit.specs.Words.{IsFinishedOf, all_sent};
     ghost use Rattle.enet_bridge.specs.Ends.{orders};
     ghost use Rattle.enet_bridge.specs.Holding.{asked, waiting_at, received, desk_queue, inbox_queue, FoundNone};
-    ghost use Rattle.enet_chat.specs.Relaying.{peers_of, backlog_of, desk_of, inbox_of, Relays, IsThrough};
+    ghost use Rattle.enet_chat.specs.Relaying.{peers_of, backlog_of, desk_of, inbox_of, ArePackets, Relays, IsThrough};
 
     /// A relay that goes on from these peers and these events.
     pub fn new(
@@ -98,9 +117,11 @@ impl<'a> Relay<'a> {
             desk,
             inbox,
             backlog,
-            untold: 0,
-            expanded: 0,
-            orders: 0,
+            tally: Tally {
+                untold: 0,
+                expanded: 0,
+                orders: 0,
+            },
         }
     }
 
@@ -123,9 +144,10 @@ impl<'a> Relay<'a> {
         }
     }
 
-    /// Takes events, expands them by the rule of the relay and submits their orders, until the service has ended and no event
-    /// is left; those that it took are expanded then, unless orders wait for room. It never waits for room while the service holds
-    /// an event back. Meanwhile `gauge` shows how many peers are connected, and how far it has come.
+    /// Takes events, expands them by the rule of the relay and submits their orders, for every peer in the order of the events,
+    /// until the service has ended and no event is left; those that it took are expanded then, unless orders wait for room. It never
+    /// waits for room while the service holds an event back. Meanwhile `gauge` shows how many peers are connected, and how far it
+    /// has come.
     ///
     /// E1 for want of memory, E10 where the seat has submitted as many orders as it may; the relay is then as after all that it
     /// did before.
@@ -142,8 +164,8 @@ impl<'a> Relay<'a> {
         ensures why { IfErr result (λ why. (why ≡ Refusal.Memory) ⊎ (why ≡ Refusal.SeatSpent)) }
     {
         let mut pace = Pace::new();
-        self.expanded = gauge.expanded();
-        self.orders = gauge.asked();
+        self.tally.expanded = gauge.expanded();
+        self.tally.orders = gauge.asked();
         self.show(gauge);
         for _ in rt.forever() {
             if self.round(rt, bell, ended, &mut pace, gauge)? {
@@ -168,9 +190,10 @@ impl<'a> Relay<'a> {
         ensures why { IfErr result (λ why. (why ≡ Refusal.Memory) ⊎ (why ≡ Refusal.SeatSpent)) }
     {
         let over = ended.load(SeqCst);
+        let before = self.tally.expanded;
         match self.step(rt, bell, over)? {
             Found::Work => {
-                if pace.work() {
+                if pace.work(self.tally.expanded.saturating_sub(before)) {
                     self.show(gauge);
                 }
                 Ok(false)
@@ -193,7 +216,7 @@ impl<'a> Relay<'a> {
         }
     }
 
-    // Submits what waits, and then expands an event or takes one.
+    // Submits what waits, and then expands events or takes some.
     fn step<R: Wait>(&mut self, rt: &R, bell: &TakerBell, over: bool) -> Result<Found, Refusal>
         ensures relays { Relays self.old self.new }
         ensures none { IfOk result (λ found. found ≡ Found.Nothing → FoundNone (inbox_of self.new)) }
@@ -213,7 +236,7 @@ impl<'a> Relay<'a> {
                 }
             }
         }
-        self.take(rt)
+        self.take_some(rt)
     }
 
     // Submits what waits, and tells the service where there is no room or much was submitted.
@@ -222,11 +245,29 @@ impl<'a> Relay<'a> {
         ensures full { result ≡ Pumped.Full → 0 < length (waiting_at (desk_of self.new)) }
     {
         let pumped = self.desk.submit(rt);
-        if pumped == Pumped::Full || self.untold >= MOST_ORDERS {
+        if pumped == Pumped::Full || self.tally.untold >= MOST_ORDERS {
             self.tell();
             return pumped;
         }
         pumped
+    }
+
+    // Takes events while there are some, but not too many.
+    fn take_some<R: Wait>(&mut self, rt: &R) -> Result<Found, Refusal>
+        ensures relays { Relays self.old self.new }
+        ensures none { IfOk result (λ found. found ≡ Found.Nothing → FoundNone (inbox_of self.new)) }
+        ensures same { IfOk result (λ found. found ≡ Found.Nothing → (backlog_of self.new ≡ backlog_of self.old) × (desk_of self.new ≡ desk_of self.old)) }
+        ensures why { IfErr result (λ why. why ≡ Refusal.Memory) }
+    {
+        if let Found::Nothing = self.take(rt)? {
+            return Ok(Found::Nothing);
+        }
+        for _ in 1..MOST_EVENTS {
+            if let Found::Nothing = self.take(rt)? {
+                break;
+            }
+        }
+        Ok(Found::Work)
     }
 
     // Takes an event.
@@ -248,8 +289,38 @@ impl<'a> Relay<'a> {
         }
     }
 
-    // Expands the oldest event that was taken and wasn't yet, if there is one.
+    // Expands the oldest events that were taken and weren't yet, if there are some: chat packets that follow one another
+    // together, and any other event alone.
     fn expand(&mut self) -> Result<bool, Refusal>
+        ensures relays { Relays self.old self.new }
+        ensures none { IfOk result (λ found. found ≡ false → backlog_of self.new ≡ []) }
+        ensures why { IfErr result (λ why. why ≡ Refusal.Memory) }
+    {
+        let count = packets_first(&self.backlog, MOST_EVENTS);
+        if count < 2 {
+            return self.expand_one();
+        }
+        self.expand_packets(count)?;
+        Ok(true)
+    }
+
+    // Expands so many chat packets, the oldest events that were taken and weren't expanded yet.
+    fn expand_packets(&mut self, count: usize) -> Result<(), Refusal>
+        requires within { count ≤ length (backlog_of self.old) }
+        requires packets { ArePackets (take count (backlog_of self.old)) }
+        ensures relays { Relays self.old self.new }
+        ensures why { IfErr result (λ why. why ≡ Refusal.Memory) }
+    {
+        let orders = batch_orders(self.alloc, &self.table, &self.backlog, count)?;
+        let asked = orders.len();
+        self.desk.ask_all(VecDeque::from_vec(orders))?;
+        drop_first(&mut self.backlog, count);
+        self.tally.add(count, asked);
+        Ok(())
+    }
+
+    // Expands the oldest event that was taken and wasn't yet, if there is one.
+    fn expand_one(&mut self) -> Result<bool, Refusal>
         ensures relays { Relays self.old self.new }
         ensures none { IfOk result (λ found. found ≡ false → backlog_of self.new ≡ []) }
         ensures why { IfErr result (λ why. why ≡ Refusal.Memory) }
@@ -259,9 +330,7 @@ impl<'a> Relay<'a> {
         };
         match relay_event(self.alloc, &mut self.table, &mut self.desk, &event) {
             Ok(orders) => {
-                self.untold = self.untold.saturating_add(orders);
-                self.expanded = self.expanded.saturating_add(1);
-                self.orders = self.orders.saturating_add(orders as u64);
+                self.tally.add(1, orders);
                 Ok(true)
             }
             Err(why) => {
@@ -272,7 +341,7 @@ impl<'a> Relay<'a> {
     }
 
     fn show(&self, gauge: &Gauge) {
-        gauge.show(self.table.len(), self.expanded, self.orders);
+        gauge.show(self.table.len(), self.tally.expanded, self.tally.orders);
     }
 
     // Tells the service that there are orders.
@@ -280,7 +349,7 @@ impl<'a> Relay<'a> {
         ensures relays { Relays self.old self.new }
         ensures same { desk_of self.new ≡ desk_of self.old }
     {
-        self.untold = 0;
+        self.tally.untold = 0;
         self.desk.ring();
     }
 }
@@ -308,7 +377,8 @@ fn relay_event(
 /// How the thread rests: after much work it looks a few times before it sleeps.
 #[derive(Drop)]
 struct Pace {
-    done: u32,
+    // Events expanded since the last rest.
+    done: u64,
     looks: u32,
 }
 
@@ -317,11 +387,12 @@ impl Pace {
         Pace { done: 0, looks: 0 }
     }
 
-    // True once in `BETWEEN_SHOWS` times.
-    fn work(&mut self) -> bool {
-        self.done = self.done.saturating_add(1);
+    // True once in `BETWEEN_SHOWS` events.
+    fn work(&mut self, events: u64) -> bool {
+        let before = self.done / BETWEEN_SHOWS;
+        self.done = self.done.saturating_add(events);
         self.looks = 0;
-        self.done % BETWEEN_SHOWS == 0
+        self.done / BETWEEN_SHOWS != before
     }
 
     fn rest<R: Wait>(&mut self, rt: &R, bell: &TakerBell) {

@@ -14,7 +14,7 @@ use Rattle.enet_bridge.specs.Ends.{orders}
 use Rattle.enet_turn.specs.declared.report.Report.{Report}
 use Rattle.enet_turn.specs.Queues.{given, accepted}
 use Rattle.enet_turn.specs.Run.{Round, IsSound, all_gave, all_puts, total}
-use Rattle.enet_chat.specs.Relaying.{noted_all, relayed_all, AreBehind}
+use Rattle.enet_chat.specs.Relaying.{noted_all, relayed_all, SameForEach, AreBehind}
 use Rattle.enet_shift.specs.declared.shift.Shift.{Shift}
 use Rattle.enet_shift.specs.Shifts.{Lasts, TakesTurns, IsRoom}
 use Rattle.enet_serve.specs.declared.server.Server.{Server}
@@ -57,11 +57,13 @@ pub record IsOpened (settings : Settings) (server : Server) : Type 0 where
 
 -- ---- a shift
 -- From one shift to the next. In none of its turns the wire failed, and the report is their sums. The events that the turns put are
--- expanded behind those that waited, once and in order, or wait; the orders that they give over the peers come behind those that
--- waited and were handed to the turns, once and in order, or wait. Events wait only where orders do
+-- expanded behind those that waited, once and in order, or wait. The orders that were asked for are for every peer what those events
+-- give for it, in order (SameForEach); they come behind those that waited, and were handed to the turns, once and in order, or wait.
+-- Events wait only where orders do
 pub record Serves (old : Server) (shift : Shift) (new : Server) (report : Report) : Type 0 where
   pub rounds : List Round
   pub expanded : List Event
+  pub asked_for : List Order
   pub lasts : Lasts shift rounds
   pub turns : TakesTurns (host_of old, waiting_of old) rounds (host_of new, waiting_of new)
   pub sound : All IsSound rounds
@@ -70,7 +72,8 @@ pub record Serves (old : Server) (shift : Shift) (new : Server) (report : Report
   pub events : backlog_of old ++ accepted (all_puts rounds) ≡ expanded ++ backlog_of new
   pub behind : AreBehind (backlog_of new) (orders_of new)
   pub peers : peers_of new ≡ noted_all (peers_of old) expanded
-  pub orders_done : orders_of old ++ relayed_all (peers_of old) expanded ≡ orders (given (all_gave rounds)) ++ orders_of new
+  pub for_each : SameForEach asked_for (relayed_all (peers_of old) expanded)
+  pub orders_done : orders_of old ++ asked_for ≡ orders (given (all_gave rounds)) ++ orders_of new
 
 -- what ends a shift early: the wire failed, memory was wanting, the seat is spent, or a queue was not empty
 abbrev pub EndsShift : Refusal → Type 0

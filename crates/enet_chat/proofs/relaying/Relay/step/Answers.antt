@@ -19,4 +19,4 @@ returns-clause-relays g c =
       | in-All+in_ok-expand-in-All+else-branch w ↦
           subst (λ (s : Relay). Relays c.args.self.now s) (sym w.self-is) (relays_on _ _ _ c.submit.ensures.relays w.expand.ensures.relays)
     ] in
-    relays_on _ _ _ before c.take.ensures.relays
+    relays_on _ _ _ before c.take_some.ensures.relays

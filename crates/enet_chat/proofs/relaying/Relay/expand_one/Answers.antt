@@ -1,6 +1,6 @@
 use Rattle.std.proofs.Common.{refl, sym, ◌∙◌}
 use Rattle.enet_chat.proofs.Relays.{relays_none, relays_expanded}
-use Rattle.enet_chat.proofs.relaying.Relay.expand.Goals as goal
+use Rattle.enet_chat.proofs.relaying.Relay.expand_one.Goals as goal
 
 pub returns-in-Ok-clause-relays : goal.returns-in-Ok-clause-relays
 returns-in-Ok-clause-relays c =

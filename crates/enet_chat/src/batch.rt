@@ -1,0 +1,117 @@
+//! The orders of several chat packets, receiver by receiver.
+ghost use Rattle.std.specs.Prelude.{◌≡◌, ◌≤◌, ◌++◌, [], ◌∷◌, length, take, drop, true, IfErr, IfOk, OnOk};
+ghost use Rattle.enet_chat.specs.Chat.{relayed};
+ghost use Rattle.enet_chat.specs.Relaying.{IsPacket, ArePackets, SameForEach, relayed_all};
+ghost use Rattle.enet_chat.specs.Grouping.{relayed_to, grouped};
+
+use crate::relay::push_order;
+use crate::table::Table;
+use enet_submit::Order;
+use enet_types::{Event, PeerRef, Refusal};
+use std::alloc::Global;
+use std::collections::VecDeque;
+
+// RELIABLE of ENet's packet flags.
+const RELIABLE: u8 = 1;
+
+// How many chat packets come first in the backlog, at most so many.
+pub(crate) fn packets_first(backlog: &VecDeque<Event>, most: usize) -> usize
+    ensures within { result ≤ length backlog.now.items }
+    ensures packets { ArePackets (take result backlog.now.items) }
+{
+    let mut count = 0;
+    while count < most && count < backlog.len() {
+        if !is_packet(&backlog[count]) {
+            break;
+        }
+        count += 1;
+    }
+    count
+}
+
+fn is_packet(event: &Event) -> bool
+    ensures { result ≡ true → IsPacket event.now }
+{
+    matches!(event, Event::Receive { .. })
+}
+
+// What the first events of the backlog give, which are chat packets.
+pub(crate) fn batch_orders(
+    alloc: Global,
+    table: &Table,
+    backlog: &VecDeque<Event>,
+    count: usize,
+) -> Result<Vec<Order>, Refusal>
+    requires within { count ≤ length backlog.now.items }
+    requires packets { ArePackets (take count backlog.now.items) }
+    ensures orders { IfOk result (λ orders. SameForEach orders.items (relayed_all table.now (take count backlog.now.items))) }
+    ensures memory { IfErr result (λ why. why ≡ Refusal.Memory) }
+{
+    let orders = group(alloc, table.peers.as_slice(), backlog, count)?;
+    Ok(orders)
+}
+
+// What the first events of the backlog give, receiver by receiver.
+fn group(
+    alloc: Global,
+    peers: &[PeerRef],
+    backlog: &VecDeque<Event>,
+    count: usize,
+) -> Result<Vec<Order>, Refusal>
+    requires { count ≤ length backlog.now.items }
+    ensures orders { IfOk result (λ orders. orders.items ≡ grouped peers.now (take count backlog.now.items)) }
+    ensures memory { IfErr result (λ why. why ≡ Refusal.Memory) }
+{
+    let mut orders = Vec::new(alloc);
+    if orders.reserve(peers.len().saturating_mul(count)).is_err() {
+        return Err(Refusal::Memory);
+    }
+    for peer in peers {
+        push_all_for(&mut orders, *peer, backlog, count)?;
+    }
+    Ok(orders)
+}
+
+// What the first events of the backlog give for one peer.
+fn push_all_for(
+    orders: &mut Vec<Order>,
+    peer: PeerRef,
+    backlog: &VecDeque<Event>,
+    count: usize,
+) -> Result<(), Refusal>
+    requires { count ≤ length backlog.now.items }
+    ensures pushed { OnOk result (orders.new.items ≡ orders.old.items ++ relayed_to peer (take count backlog.now.items)) }
+    ensures memory { IfErr result (λ why. why ≡ Refusal.Memory) }
+{
+    for at in 0..count {
+        push_for(orders, peer, &backlog[at])?;
+    }
+    Ok(())
+}
+
+// What an event gives for one peer.
+fn push_for(orders: &mut Vec<Order>, peer: PeerRef, event: &Event) -> Result<(), Refusal>
+    ensures pushed { OnOk result (orders.new.items ≡ orders.old.items ++ relayed (peer ∷ []) event.now) }
+    ensures memory { IfErr result (λ why. why ≡ Refusal.Memory) }
+{
+    let Event::Receive { peer: from, packet } = event else {
+        return Ok(());
+    };
+    let flags = match packet.channel {
+        0 => RELIABLE,
+        1 => 0,
+        _ => return Ok(()),
+    };
+    if *from == peer {
+        return Ok(());
+    }
+    push_order(orders, peer, packet.channel, flags, &packet.body)
+}
+
+// Drops the first events of the backlog.
+pub(crate) fn drop_first(backlog: &mut VecDeque<Event>, count: usize)
+    requires { count ≤ length backlog.old.items }
+    ensures { backlog.new.items ≡ drop count backlog.old.items }
+{
+    let _ = backlog.drain(..count);
+}
