@@ -3,8 +3,7 @@
 use crate::datagrams::named;
 use bytes::Bytes;
 use enet_codec::read_header;
-use enet_datagram::obey;
-use enet_peer::{Peer, PeerEvent, PeerState};
+use enet_peer::{Peer, PeerEvent, PeerState, obey};
 use enet_script::{
     bytes_text, bytes_word, end, event_text, received_text, refusal_text, u8_word, u32_word, word,
 };

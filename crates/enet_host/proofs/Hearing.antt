@@ -6,7 +6,7 @@ use Rattle.enet_types.specs.declared.config.Config.{Config}
 use Rattle.enet_types.specs.declared.event.Received.{Received}
 use Rattle.enet_types.specs.declared.stop.Stop.{Stop}
 use Rattle.enet_peer.specs.Peering.{Peering}
-use Rattle.enet_datagram.specs.Heading.{IsRead}
+use Rattle.enet_peer.specs.Heading.{IsRead}
 use Rattle.enet_slot.specs.declared.slot.Slot.{Slot}
 use Rattle.enet_slot.specs.Slot.{SlotState}
 use Rattle.enet_slot.specs.Giving.{is_vacant}

@@ -9,7 +9,7 @@ use Rattle.enet_types.specs.declared.stop.Stop.TheVariants as stop
 use Rattle.enet_codec.specs.declared.command.Offer.{Offer}
 use Rattle.enet_codec.specs.declared.header.Header.{Header}
 use Rattle.enet_connect.specs.Terms.{is_channel_count}
-use Rattle.enet_datagram.specs.Heading.{IsUnreadable, IsRead, IsOffer, IsNoOffer}
+use Rattle.enet_peer.specs.Heading.{IsUnreadable, IsRead, IsOffer, IsNoOffer}
 use Rattle.enet_slot.specs.Slot.{SlotState}
 use Rattle.enet_slot.specs.Giving.{answering}
 use Rattle.enet_slot.specs.Hearing.{no_peer, refused_by_slot, is_connection, stopped, Hears}

@@ -7,7 +7,7 @@ ghost use Rattle.enet_slot.specs.Slotted.{all_shown};
 
 use enet_codec::Header;
 use enet_connect::Offer;
-use enet_datagram::{read_heading, read_offer};
+use enet_peer::{read_heading, read_offer};
 use enet_slot::{Slot, Start, any_is_connection, first_available};
 use enet_types::{Addr, Received, Stop};
 

@@ -20,10 +20,10 @@ use Rattle.enet_peer.specs.Peering.{Peering}
 use Rattle.enet_peer.specs.CommandEffect.{Outcome, Obeys, obeyed, wants_memory}
 use Rattle.enet_peer.specs.declared.parts.PeerEvent.{PeerEvent}
 use Rattle.enet_peer.specs.Calls.{Taken, Refuses}
-use Rattle.enet_datagram.specs.Handling.{one_more}
-use Rattle.enet_datagram.specs.Handling as handling
-use Rattle.enet_datagram.specs.Heading.{IsRead, IsUnreadable, IsOffer}
-use Rattle.enet_datagram.specs.Heading as heading
+use Rattle.enet_peer.specs.Handling.{one_more}
+use Rattle.enet_peer.specs.Handling as handling
+use Rattle.enet_peer.specs.Heading.{IsRead, IsUnreadable, IsOffer}
+use Rattle.enet_peer.specs.Heading as heading
 use Rattle.enet_slot.specs.Slot.{SlotState, with_peer, name_of, greatest}
 use Rattle.enet_slot.specs.Calls.{Does, DoesWithMemory, IsRefusedBy}
 use Rattle.enet_slot.specs.Giving.{asking, answering}

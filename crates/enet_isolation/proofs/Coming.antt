@@ -2,8 +2,8 @@
 use Rattle.std.proofs.Common.{ℕ, List, [], ◌∷◌, refl, Option, Ok, Err}
 use Rattle.enet_types.specs.declared.event.Received.{Received}
 use Rattle.enet_peer.specs.Peering.{Peering}
-use Rattle.enet_datagram.specs.Handling.{Handles, one_more}
-use Rattle.enet_datagram.specs.Handling as handling
+use Rattle.enet_peer.specs.Handling.{Handles, one_more}
+use Rattle.enet_peer.specs.Handling as handling
 use Rattle.enet_isolation.specs.Deeds.{Deed, Come, AllAlone}
 use Rattle.enet_isolation.specs.Falling.{Falls}
 use Rattle.enet_isolation.specs.Falling as falling

@@ -19,7 +19,7 @@ use Rattle.enet_codec.specs.Message.{Message, connect}
 use Rattle.enet_codec.proofs.HeaderLaws.{one_header}
 use Rattle.enet_codec.proofs.Laws.{one_spelling}
 use Rattle.enet_peer.specs.Peering.{Peering}
-use Rattle.enet_datagram.specs.Heading.{IsUnreadable, IsRead, IsOffer}
+use Rattle.enet_peer.specs.Heading.{IsUnreadable, IsRead, IsOffer}
 use Rattle.enet_slot.specs.Slot.{SlotState, name_of}
 use Rattle.enet_host.specs.Host.{Host}
 use Rattle.enet_slot.specs.Giving.{is_vacant, is_available, asking, answering}

@@ -8,7 +8,7 @@ use Rattle.enet_codec.specs.declared.command.Offer.{Offer}
 use Rattle.enet_codec.specs.declared.header.Header.{Header}
 use Rattle.enet_peer.specs.declared.parts.PeerState.TheVariants as state
 use Rattle.enet_peer.specs.Peering.{Peering}
-use Rattle.enet_datagram.specs.Heading.{IsRead, IsOffer}
+use Rattle.enet_peer.specs.Heading.{IsRead, IsOffer}
 use Rattle.enet_slot.specs.Slot.{SlotState, greatest}
 use Rattle.enet_slot.specs.Hearing.{no_peer}
 use Rattle.enet_host.specs.Host.{Host, Keeps}

@@ -17,9 +17,9 @@ use Rattle.enet_peer.specs.declared.parts.PeerEvent.TheVariants as told
 use Rattle.enet_peer.specs.Peering.{Peering}
 use Rattle.enet_peer.specs.Calls.{is_connected}
 use Rattle.enet_peer.specs.Calls as peers
-use Rattle.enet_datagram.specs.Handling.{SpellsNone, one_more}
-use Rattle.enet_datagram.specs.Handling as handling
-use Rattle.enet_datagram.specs.Heading.{IsUnreadable, IsRead, IsOffer}
+use Rattle.enet_peer.specs.Handling.{SpellsNone, one_more}
+use Rattle.enet_peer.specs.Handling as handling
+use Rattle.enet_peer.specs.Heading.{IsUnreadable, IsRead, IsOffer}
 use Rattle.enet_slot.specs.Slot.{SlotState, name_of, greatest}
 use Rattle.enet_slot.specs.Giving.{asking, answering}
 use Rattle.enet_slot.specs.Hearing.{no_peer, refused_by_slot, stopped}

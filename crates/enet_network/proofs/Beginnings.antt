@@ -16,7 +16,7 @@ use Rattle.enet_codec.proofs.Laws.{one_spelling}
 use Rattle.enet_codec.proofs.Datagrams.{some-bytes}
 use Rattle.enet_connect.specs.declared.server.Server.{Server}
 use Rattle.enet_connect.specs.Terms.{is_channel_count}
-use Rattle.enet_datagram.specs.Heading.{IsRead, IsOffer}
+use Rattle.enet_peer.specs.Heading.{IsRead, IsOffer}
 use Rattle.enet_peer.specs.declared.parts.PeerState.TheVariants as state
 use Rattle.enet_peer.specs.Peering.{Peering, connecting, answering as answering_peer}
 use Rattle.enet_link.specs.Steps.{Has}

@@ -15,9 +15,9 @@ use Rattle.enet_fragment.specs.DataCommand.{data_of, read_of}
 use Rattle.enet_peer.specs.declared.parts.PeerState.TheVariants as state
 use Rattle.enet_peer.specs.Peering.{Peering}
 use Rattle.enet_peer.specs.CommandEffect.{Outcome, Stops, obeyed, wants_memory}
-use Rattle.enet_datagram.specs.Handling.{HandlesEach, one_more}
-use Rattle.enet_datagram.specs.Heading.{IsRead}
-use Rattle.enet_datagram.proofs.Each.{handles-each}
+use Rattle.enet_peer.specs.Handling.{HandlesEach, one_more}
+use Rattle.enet_peer.specs.Heading.{IsRead}
+use Rattle.enet_peer.proofs.Each.{handles-each}
 use Rattle.enet_link.specs.Link as link
 use Rattle.enet_link.specs.Steps.{Has}
 use Rattle.enet_connection.specs.Connection.{Put, End, messages_of, sent_on}
@@ -223,7 +223,7 @@ heard-there from i d answer old new e own far k low acts same sent has apart sho
     run : (es : List Event) × RunsAt es own far (with_peer own hears.after)
     run = comes old.host.clock header.sent l.puts 0 k.peer answer hears.after own far k.has (in-time (numbers_of from e.connection) e.greatest own far d l shown.greatest k.greatest not-late)
         (handles-each old.host.clock header.sent 0 commands (messages_of l.puts) k.peer hears.after answer (behind d.text l.header header read.front commands (messages_of l.puts) read.split read.spelled l.spelled)
-        (subst (λ (y : Peering). Rattle.enet_datagram.specs.Handling.Handles old.host.clock header.sent 0 commands y answer hears.after) p hears.handled))
+        (subst (λ (y : Peering). Rattle.enet_peer.specs.Handling.Handles old.host.clock header.sent 0 commands y answer hears.after) p hears.handled))
 
 -- a datagram comes
 

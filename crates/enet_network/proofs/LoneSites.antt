@@ -13,8 +13,8 @@ use Rattle.enet_codec.specs.Header.{masked}
 use Rattle.enet_codec.specs.Message.{Message, IsMessage, Spells, connect}
 use Rattle.enet_codec.specs.Datagram.{SpellsAll, SpellsDatagram}
 use Rattle.enet_codec.proofs.Datagrams.{some-bytes}
-use Rattle.enet_datagram.specs.Handling.{Handles, nothing_left, goes_on}
-use Rattle.enet_datagram.specs.Heading.{is_compressed, too_short, IsRead, IsOffer}
+use Rattle.enet_peer.specs.Handling.{Handles, nothing_left, goes_on}
+use Rattle.enet_peer.specs.Heading.{is_compressed, too_short, IsRead, IsOffer}
 use Rattle.enet_sender.specs.CommandChoice.{Packet}
 use Rattle.enet_outbox.specs.Emission.{Filling, datagram, header_for, filled, HasDatagram}
 use Rattle.enet_outbox.proofs.Spelled.{datagram-spelled}

@@ -8,7 +8,7 @@ use Rattle.enet_types.specs.declared.event.Received.{Received}
 use Rattle.enet_codec.specs.declared.command.Offer.{Offer}
 use Rattle.enet_codec.specs.declared.header.Header.{Header}
 use Rattle.enet_codec.specs.Message.{connect}
-use Rattle.enet_datagram.specs.Heading.{IsRead, IsOffer}
+use Rattle.enet_peer.specs.Heading.{IsRead, IsOffer}
 use Rattle.enet_peer.specs.declared.parts.PeerState.{PeerState}
 use Rattle.enet_peer.specs.declared.parts.PeerState.TheVariants as state
 use Rattle.enet_peer.specs.Peering.{Peering}

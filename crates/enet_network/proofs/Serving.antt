@@ -10,7 +10,7 @@ use Rattle.enet_codec.specs.declared.header.Header.{Header}
 use Rattle.enet_codec.specs.Header.{masked}
 use Rattle.enet_codec.specs.Datagram.{SpellsDatagram}
 use Rattle.enet_codec.proofs.HeaderLaws.{one_header}
-use Rattle.enet_datagram.specs.Heading.{IsRead}
+use Rattle.enet_peer.specs.Heading.{IsRead}
 use Rattle.enet_codec.specs.Message.{Message, Body, acknowledge, connect, verify_connect, disconnect, ping, send_reliable, send_unreliable, send_fragment, send_unsequenced, bandwidth_limit, throttle_configure, send_unreliable_fragment}
 use Rattle.enet_fragment.specs.declared.data.DataCommand.{DataCommand}
 use Rattle.enet_fragment.specs.DataCommand.{data_of}

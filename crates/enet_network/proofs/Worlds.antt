@@ -7,7 +7,7 @@ use Rattle.enet_types.specs.declared.refusal.Refusal.{Refusal}
 use Rattle.enet_types.specs.declared.address.Addr.{Addr}
 use Rattle.enet_codec.specs.declared.header.Header.{Header}
 use Rattle.enet_codec.proofs.HeaderLaws.{one_header}
-use Rattle.enet_datagram.specs.Heading.{IsRead}
+use Rattle.enet_peer.specs.Heading.{IsRead}
 use Rattle.enet_peer.specs.declared.parts.PeerState.TheVariants as state
 use Rattle.enet_peer.specs.Peering.{Peering}
 use Rattle.enet_link.specs.Steps.{Has}

@@ -4,7 +4,7 @@ use Rattle.enet_codec.specs.declared.command.Head.{Head}
 use Rattle.enet_codec.specs.declared.header.Header.{Header}
 use Rattle.enet_codec.specs.Header.{SpellsHeader}
 use Rattle.enet_codec.specs.Message.{Message, Body, acknowledge, send_reliable, send_unreliable, send_fragment, send_unsequenced, send_unreliable_fragment, Spells}
-use Rattle.enet_datagram.specs.Handling.{SpellsNone}
+use Rattle.enet_peer.specs.Handling.{SpellsNone}
 use Rattle.enet_network.specs.Log.{counted_all, reached}
 use Rattle.enet_network.specs.declared.mark.Mark.{Mark}
 use Rattle.enet_network.specs.declared.mark.MarkKind.{MarkKind}

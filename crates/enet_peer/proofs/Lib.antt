@@ -6,3 +6,5 @@ pub mod Arriving
 pub mod Reaching
 pub mod Places
 pub mod Unmatched
+pub mod Steps
+pub mod Each

@@ -6,3 +6,5 @@ pub mod Calls
 pub mod Acting
 pub mod Next
 pub mod Reachable
+pub mod Handling
+pub mod Heading

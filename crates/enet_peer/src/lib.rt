@@ -19,9 +19,11 @@
 //! `check_hosts`: captures.
 #![tactic(auto)]
 
+mod datagram;
 mod effects;
 mod endings;
 mod events;
+mod heading;
 mod laws;
 mod leaving;
 mod opening;
@@ -32,6 +34,8 @@ mod sending;
 mod settings;
 mod time;
 
+pub use datagram::{obey, what_was_put_out_comes};
+pub use heading::{read_heading, read_offer};
 pub use laws::{disconnect_is_answered, reachable_stays};
 pub use parts::{Limits, PeerEvent, PeerState};
 pub use peer::Peer;

@@ -3,7 +3,7 @@ use Rattle.std.proofs.Common.{◌≡◌, ℕ, zero, suc, List, [], ◌++◌, tak
 use Rattle.std.proofs.lemmas.List.{take-append-drop}
 use Rattle.enet_codec.specs.Message.{Message, Spells}
 use Rattle.enet_network.specs.declared.mark.Mark.{Mark}
-use Rattle.enet_datagram.specs.Handling.{SpellsNone}
+use Rattle.enet_peer.specs.Handling.{SpellsNone}
 use Rattle.enet_network.specs.Marks.{mark_of, MarksOf}
 
 -- none is left

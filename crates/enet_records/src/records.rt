@@ -3,7 +3,7 @@
 ghost use Rattle.std.specs.Prelude.{◌≡◌, ℕ, ◌+◌, ◌<◌, ◌≤◌, ◌^◌, List, [], length, slice_get, vec_len, vec_capacity};
 ghost use Rattle.std.specs.Option.{option_copied};
 ghost use Rattle.enet_codec.specs.declared.header.Header.{Header};
-ghost use Rattle.enet_datagram.specs.Heading.{IsRead};
+ghost use Rattle.enet_peer.specs.Heading.{IsRead};
 ghost use Rattle.enet_link.specs.Steps.{Has};
 ghost use Rattle.enet_network.specs.Network.{HostEnd};
 ghost use Rattle.enet_records.specs.Records.{AreBelow, AreApart, HasEnd, Notes};
@@ -11,7 +11,7 @@ ghost use Rattle.enet_records.specs.Records.{AreBelow, AreApart, HasEnd, Notes};
 use crate::around::Around;
 use crate::end::{End, position_of};
 use crate::numbers::marks_of;
-use enet_datagram::read_heading;
+use enet_peer::read_heading;
 use enet_network::Mark;
 use enet_types::{Addr, PeerRef};
 use std::marker::Model;

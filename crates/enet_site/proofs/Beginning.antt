@@ -7,7 +7,7 @@ use Rattle.enet_types.specs.declared.event.PeerRef.{PeerRef}
 use Rattle.enet_types.specs.declared.event.Received.{Received}
 use Rattle.enet_types.specs.declared.refusal.Refusal.TheVariants as refusal
 use Rattle.enet_codec.specs.declared.header.Header.{Header}
-use Rattle.enet_datagram.specs.Heading.{IsRead}
+use Rattle.enet_peer.specs.Heading.{IsRead}
 use Rattle.enet_peer.specs.declared.parts.PeerState.{PeerState}
 use Rattle.enet_peer.specs.Peering.{Peering}
 use Rattle.enet_link.specs.Steps.{Has}

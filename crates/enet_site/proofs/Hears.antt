@@ -6,7 +6,7 @@ use Rattle.enet_types.specs.declared.event.PeerRef.{PeerRef}
 use Rattle.enet_types.specs.declared.event.Received.{Received}
 use Rattle.enet_types.specs.declared.refusal.Refusal.{Refusal}
 use Rattle.enet_codec.specs.declared.header.Header.{Header}
-use Rattle.enet_datagram.specs.Heading.{IsRead}
+use Rattle.enet_peer.specs.Heading.{IsRead}
 use Rattle.enet_host.specs.Host.{Host}
 use Rattle.enet_host.specs.Foretelling.{next_name}
 use Rattle.enet_slot.specs.Hearing.{no_peer}

@@ -10,7 +10,7 @@ use Rattle.enet_codec.specs.Header.{header_text, header_word}
 use Rattle.enet_codec.specs.Message.{Message, bit}
 use Rattle.enet_codec.specs.Datagram.{SpellsDatagram}
 use Rattle.enet_codec.proofs.Arms.{flag}
-use Rattle.enet_datagram.specs.Heading.{IsRead, is_compressed}
+use Rattle.enet_peer.specs.Heading.{IsRead, is_compressed}
 use Rattle.enet_outbox.specs.Emission.{HasDatagram}
 use Rattle.enet_outbox.proofs.Spelled.{datagram-spelled}
 use Rattle.enet_peer.specs.Calls.{destination_of}

@@ -4,7 +4,7 @@ ghost use Rattle.std.specs.Prelude.{◌≡◌, ℕ, ◌==◌, List, [], Some, If
 ghost use Rattle.enet_types.specs.declared.address.Addr.{Addr};
 ghost use Rattle.enet_types.specs.declared.event.Received.{Received};
 ghost use Rattle.enet_codec.specs.declared.header.Header.{Header};
-ghost use Rattle.enet_datagram.specs.Heading.{IsRead};
+ghost use Rattle.enet_peer.specs.Heading.{IsRead};
 ghost use Rattle.enet_host.specs.Host.{Host};
 ghost use Rattle.enet_host.specs.Foretelling.{next_name};
 ghost use Rattle.enet_slot.specs.Hearing.{no_peer};
@@ -16,7 +16,7 @@ ghost use Rattle.enet_network.specs.World.{IsRefusedFor};
 ghost use Rattle.enet_site.specs.Sites.{site, IsWhole, begun_if};
 
 use crate::delivery::{NO_PEER, refused_delivery};
-use enet_datagram::read_heading;
+use enet_peer::read_heading;
 use enet_host::HostCore;
 use enet_records::{Datagram, Records, fresh_end};
 use enet_types::{Addr, PeerRef, Received, Refusal};

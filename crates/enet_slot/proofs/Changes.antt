@@ -7,7 +7,7 @@ use Rattle.enet_peer.specs.declared.parts.PeerState.TheVariants as state
 use Rattle.enet_peer.specs.declared.parts.PeerEvent.{PeerEvent}
 use Rattle.enet_peer.specs.Peering.{Peering}
 use Rattle.enet_peer.specs.Calls.{PutsOut, next_event}
-use Rattle.enet_datagram.specs.Handling.{Handles}
+use Rattle.enet_peer.specs.Handling.{Handles}
 use Rattle.enet_slot.specs.Slot.{SlotState, greatest, with_peer, with_peer_in, name_of}
 use Rattle.enet_slot.specs.Hearing.{Hears}
 use Rattle.enet_slot.specs.Serving.{with_emitted, Gives, passes_by, Passes}

@@ -7,7 +7,7 @@ use Rattle.enet_types.specs.declared.stop.Stop.TheVariants as stop
 use Rattle.enet_peer.specs.declared.parts.PeerState.{PeerState}
 use Rattle.enet_peer.specs.declared.parts.PeerState.TheVariants as state
 use Rattle.enet_peer.specs.Peering.{Peering}
-use Rattle.enet_datagram.specs.Handling.{Handles}
+use Rattle.enet_peer.specs.Handling.{Handles}
 use Rattle.enet_slot.specs.Slot.{SlotState, with_peer}
 
 abbrev pub is_same_address : Addr → Addr → Bool

@@ -5,8 +5,7 @@ ghost use Rattle.enet_slot.specs.Giving.{is_vacant};
 ghost use Rattle.enet_slot.specs.Hearing.{is_deaf, stopped, refused_by_slot, is_connection, Hears};
 
 use crate::Slot;
-use enet_datagram::obey;
-use enet_peer::PeerState;
+use enet_peer::{PeerState, obey};
 use enet_types::{Addr, Received, Stop};
 
 /// What stands for the slot of one that isn't known yet (ENet 1.3).

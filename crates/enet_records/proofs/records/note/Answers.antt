@@ -1,7 +1,7 @@
 use Rattle.std.proofs.Common.{◌≡◌, ◌^◌, ℕ, List, length, rules, sym, ap, subst, ◌∙◌, slice_set}
 use Rattle.std.proofs.lemmas.List.{with_items_is}
 use Rattle.enet_codec.specs.declared.header.Header.{Header}
-use Rattle.enet_datagram.specs.Heading.{IsRead}
+use Rattle.enet_peer.specs.Heading.{IsRead}
 use Rattle.enet_network.specs.Marks.{Counts}
 use Rattle.enet_network.specs.Network.{HostEnd}
 use Rattle.enet_records.specs.Records.{AreBelow}

@@ -6,7 +6,7 @@ use Rattle.enet_codec.specs.Message.{Message, Spells}
 use Rattle.enet_types.specs.declared.event.Received.{Received}
 use Rattle.enet_peer.specs.Peering.{Peering}
 use Rattle.enet_peer.specs.CommandEffect.{obeyed, wants_memory, Obeys}
-use Rattle.enet_datagram.specs.Handling.{Handles, nothing_left, stops, goes_on, counted, one_more}
+use Rattle.enet_peer.specs.Handling.{Handles, nothing_left, stops, goes_on, counted, one_more}
 
 pub ends : (now : ℕ) (sent : Option ℕ) (handled : ℕ) (bytes : List ℕ) (p : Peering) → bytes ≡ []
     → Handles now sent handled bytes p (record { handled = handled; stop = None }) p

@@ -1,8 +1,8 @@
 use Rattle.std.proofs.Common.{length}
 use Rattle.enet_types.specs.declared.event.Received.{Received}
 use Rattle.enet_peer.specs.Peering.{Peering}
-use Rattle.enet_datagram.specs.Handling.{Handles}
-use Rattle.enet_datagram.proofs.obey.Given as goal
+use Rattle.enet_peer.specs.Handling.{Handles}
+use Rattle.enet_peer.proofs.datagram.obey.Given as goal
 
 -- what comes of the bytes that are left is what comes of all
 abbrev pub invariant-loop-rest : goal.invariant-loop-rest

@@ -1,7 +1,7 @@
 use Rattle.std.proofs.Common.{◌≡◌, ◌++◌, drop, take, arith, rules, sym}
 use Rattle.std.proofs.lemmas.List.{take-append-drop}
-use Rattle.enet_datagram.specs.Heading.{too_short, compressed, cut_short}
-use Rattle.enet_datagram.proofs.heading.read_heading.Goals as goal
+use Rattle.enet_peer.specs.Heading.{too_short, compressed, cut_short}
+use Rattle.enet_peer.proofs.heading.read_heading.Goals as goal
 
 pub returns-then-bytes-lt2-clause-refused : goal.returns-then-bytes-lt2-clause-refused
 returns-then-bytes-lt2-clause-refused c = too_short (omega arith)

@@ -1,9 +1,9 @@
 use Rattle.std.proofs.Common.{◌≡◌, ◌≢◌, [], length, rules}
 use Rattle.std.proofs.lemmas.List.{nil_from_length}
 use Rattle.enet_codec.specs.Message.{view}
-use Rattle.enet_datagram.specs.Handling.{no_command, one_more}
-use Rattle.enet_datagram.proofs.Steps.{ends, stops-at, goes-on-at}
-use Rattle.enet_datagram.proofs.obey.Goals as goal
+use Rattle.enet_peer.specs.Handling.{no_command, one_more}
+use Rattle.enet_peer.proofs.Steps.{ends, stops-at, goes-on-at}
+use Rattle.enet_peer.proofs.datagram.obey.Goals as goal
 
 pub returns-in_default : goal.returns-in_default
 returns-in_default c =

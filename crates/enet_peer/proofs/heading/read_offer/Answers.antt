@@ -1,6 +1,6 @@
 use Rattle.std.proofs.Common.{[], append-nil, refl}
 use Rattle.enet_codec.specs.Message.{connect}
-use Rattle.enet_datagram.proofs.heading.read_offer.Goals as goal
+use Rattle.enet_peer.proofs.heading.read_offer.Goals as goal
 
 pub returns-in_default-clause-none : goal.returns-in_default-clause-none
 returns-in_default-clause-none c = λ head o spelled.

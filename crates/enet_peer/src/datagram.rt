@@ -5,22 +5,17 @@
 //! that of S12 among them. `read_heading` and `read_offer` read the header and a stranger's offer exactly. Law
 //! `what_was_put_out_comes`: of bytes that spell a list of commands, just these come to the peer.
 //! Only tested, by `check_peer`: that commands find memory, and worked datagrams.
-#![tactic(auto)]
 
 ghost use Rattle.std.specs.Prelude.{◌≡◌, ℕ, ◌≤◌, List, Option, drop, length};
 ghost use Rattle.enet_types.specs.declared.event.Received.{Received};
 ghost use Rattle.enet_codec.specs.Message.{Message};
 ghost use Rattle.enet_codec.specs.Datagram.{SpellsAll};
 ghost use Rattle.enet_peer.specs.Peering.{Peering};
-ghost use Rattle.enet_datagram.specs.Handling.{Handles, HandlesEach, counted};
+ghost use Rattle.enet_peer.specs.Handling.{Handles, HandlesEach, counted};
 
 use enet_codec::{Stop, read_command};
-use enet_peer::Peer;
+use crate::Peer;
 use enet_types::Received;
-
-mod heading;
-
-pub use heading::{read_heading, read_offer};
 
 /// The commands of a datagram come to a peer at the time `now`, in milliseconds, one after another, until none is left or
 /// one stops the datagram. `sent` is the sent time that the datagram's header tells, and `commands` is all that stands behind

@@ -1,10 +1,10 @@
 //! What a datagram begins with, and the offer of one who has no peer yet.
 
 ghost use Rattle.std.specs.Prelude.{◌≡◌, ◌≤◌, length, IfOk, IfErr, IfSome, IfNone};
-ghost use Rattle.enet_datagram.specs.Heading.{is_compressed, IsUnreadable, IsRead, IsOffer, IsNoOffer, offer_in};
+ghost use Rattle.enet_peer.specs.Heading.{is_compressed, IsUnreadable, IsRead, IsOffer, IsNoOffer, offer_in};
 ghost use Rattle.enet_codec.specs.Message.{view};
 
-use crate::bytes_after;
+use crate::datagram::bytes_after;
 use enet_codec::{Command, Header, Offer, read_command, read_header};
 use enet_types::Stop;
 

@@ -8,7 +8,7 @@ use Rattle.enet_codec.proofs.Laws.{one_spelling}
 use Rattle.enet_codec.proofs.Datagrams.{some-bytes}
 use Rattle.enet_peer.specs.Peering.{Peering}
 use Rattle.enet_peer.specs.CommandEffect.{obeyed, wants_memory, Obeys}
-use Rattle.enet_datagram.specs.Handling.{Handles, HandlesEach, nothing_left, no_command, stops, goes_on}
+use Rattle.enet_peer.specs.Handling.{Handles, HandlesEach, nothing_left, no_command, stops, goes_on}
 
 -- two splits of the same bytes before a command are one
 split-once : (text rest text' rest' : List ℕ) (m n : Message) → Spells text m → Spells text' n → text ++ rest ≡ text' ++ rest' → (m ≡ n) × (rest ≡ rest')

@@ -1,5 +1,0 @@
-use Rattle.enet_datagram.proofs.Each.{handles-each}
-use Rattle.enet_datagram.proofs.what_was_put_out_comes.Goals as goal
-
-pub returns : goal.returns
-returns c = handles-each
