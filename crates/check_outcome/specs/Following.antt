@@ -4,8 +4,8 @@ use Rattle.enet_types.specs.declared.packet.Packet.{Packet}
 use Rattle.enet_sender.specs.CommandChoice as command_choice
 use Rattle.enet_sender.specs.CommandChoice.{carried_from}
 use Rattle.enet_outbox.specs.Outbox.{is_unsequenced}
-use Rattle.enet_link.specs.Follows.{FollowsCarried}
-use Rattle.enet_link.specs.Steps.{bodies_of}
+use Rattle.enet_connection.specs.Follows.{FollowsCarried}
+use Rattle.enet_connection.specs.LinkSteps.{bodies_of}
 use Rattle.enet_connection.specs.Connection.{of_channel, in_sequence}
 
 -- a submitted packet, as the choice of its commands sees it

@@ -6,14 +6,14 @@ use Rattle.enet_sender.specs.CommandChoice.{ChosenPacket, carried}
 use Rattle.enet_sender.specs.Sender.{Sender}
 use Rattle.enet_sender.specs.declared.sent.Sent.{Sent}
 use Rattle.enet_peer.specs.Peering.{Peering}
-use Rattle.enet_link.specs.Image.{ShowsReceiver}
-use Rattle.enet_link.specs.Keeps.{Keeps}
-use Rattle.enet_link.specs.Link.{PutOut, is_late, number_below}
-use Rattle.enet_link.specs.Meant.{Stands, OfReliable, OfUnreliable, IsReadAsMeant}
-use Rattle.enet_link.specs.Steps.{Has}
-use Rattle.enet_link.specs.WireLink.{WireLink}
-use Rattle.enet_link.proofs.Greatest.{bounded}
-use Rattle.enet_link.proofs.Runs.{keeps}
+use Rattle.enet_connection.specs.Image.{ShowsReceiver}
+use Rattle.enet_connection.specs.Keeps.{Keeps}
+use Rattle.enet_connection.specs.Link.{PutOut, is_late, number_below}
+use Rattle.enet_connection.specs.Meant.{Stands, OfReliable, OfUnreliable, IsReadAsMeant}
+use Rattle.enet_connection.specs.LinkSteps.{Has}
+use Rattle.enet_connection.specs.WireLink.{WireLink}
+use Rattle.enet_connection.proofs.Greatest.{bounded}
+use Rattle.enet_connection.proofs.LinkRuns.{keeps}
 use Rattle.enet_connection.specs.Connection.{End, sent_on, of_channel}
 use Rattle.enet_connection.specs.Law.{mtu_of}
 use Rattle.enet_connection.specs.Linked.{IsLinked, ShowsSending, ShowsReceiving}

@@ -24,9 +24,9 @@ use Rattle.enet_peer.specs.declared.parts.PeerState.{PeerState}
 use Rattle.enet_peer.specs.declared.parts.PeerState.TheVariants as state
 use Rattle.enet_peer.specs.Endings.{ended, is_later}
 use Rattle.enet_peer.specs.CommandEffect.{Outcome, is_allowed, is_of_handshake, obeyed, by_body, by_answer, by_arrival, on_data, stopped, on_acknowledge, welcomed, on_verify_in, on_disconnect_in, on_bandwidth, on_throttle}
-use Rattle.enet_link.specs.Link.{is_late}
-use Rattle.enet_link.specs.Steps.{Has, DropAnswers}
-use Rattle.enet_link.specs.WireLink.{WireLink, drops_answers}
+use Rattle.enet_connection.specs.Link.{is_late}
+use Rattle.enet_connection.specs.LinkSteps.{Has, DropAnswers}
+use Rattle.enet_connection.specs.WireLink.{WireLink, drops_answers}
 use Rattle.enet_connection.specs.Connection.{Put, End, sent_on}
 use Rattle.enet_connection.specs.Steps.{with_peer}
 use Rattle.enet_connection.specs.Linked.{sends_in, dispatches_in, sender_in, receiver_in, dispatched_on, IsClean}

@@ -18,8 +18,8 @@ use Rattle.enet_peer.specs.declared.parts.PeerState.{PeerState}
 use Rattle.enet_peer.specs.declared.parts.PeerState.TheVariants as state
 use Rattle.enet_peer.specs.Endings.{ended, freed, disconnecting, parting, settled, is_later}
 use Rattle.enet_peer.specs.CommandEffect.{Outcome, answered, answered_at, is_answered_in, sampled, with_answer, on_match, on_acknowledge, on_last_disconnect, on_disconnect_in}
-use Rattle.enet_link.specs.Link.{is_late}
-use Rattle.enet_link.specs.Steps.{Has}
+use Rattle.enet_connection.specs.Link.{is_late}
+use Rattle.enet_connection.specs.LinkSteps.{Has}
 use Rattle.enet_connection.specs.Connection.{Put, End, sent_on, in_sequence}
 use Rattle.enet_connection.specs.Steps.{with_peer}
 use Rattle.enet_connection.specs.Linked.{sends_in, dispatches_in, numbers_on}

@@ -6,8 +6,8 @@ use Rattle.enet_fragment.specs.Cutting as cutting
 use Rattle.enet_peer.specs.declared.parts.PeerEvent.TheVariants as told
 use Rattle.enet_peer.specs.Peering.{Peering, joined, answering}
 use Rattle.enet_peer.specs.CommandEffect.{obeyed}
-use Rattle.enet_link.specs.Link.{is_late}
-use Rattle.enet_link.specs.Steps.{Has}
+use Rattle.enet_connection.specs.Link.{is_late}
+use Rattle.enet_connection.specs.LinkSteps.{Has}
 use Rattle.enet_connection.specs.Connection as connection
 use Rattle.enet_connection.specs.Connection.{Put, End, Connection, sent_on}
 use Rattle.enet_connection.specs.Steps.{One, Two, Submit, Emit, Come, Take, Answer, InTime, no_end, asking_pair, joined_pair, with_submission, with_emission, with_peer}

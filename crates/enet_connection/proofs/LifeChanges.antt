@@ -26,8 +26,8 @@ use Rattle.enet_peer.specs.Calls.{is_connected, next_event}
 use Rattle.enet_inbox.specs.DataEffect.{handed_over, unsequenced_taken}
 use Rattle.enet_inbox.specs.Inbox.{is_full}
 use Rattle.enet_receiver.specs.Foresight.{after_command}
-use Rattle.enet_link.specs.Steps.{Has}
-use Rattle.enet_link.proofs.Lists.{Has-slice_get}
+use Rattle.enet_connection.specs.LinkSteps.{Has}
+use Rattle.enet_connection.proofs.Lists.{Has-slice_get}
 use Rattle.enet_connection.specs.Connection.{End}
 use Rattle.enet_connection.specs.Steps.{Event, Answer, Submit, Emit, Come, Tick, Take, Disconnect, Set, Happens}
 use Rattle.enet_connection.specs.Law.{IsOneLife, AreLast}

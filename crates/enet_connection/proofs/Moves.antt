@@ -18,9 +18,9 @@ use Rattle.enet_peer.specs.declared.parts.PeerEvent.TheVariants as told
 use Rattle.enet_peer.specs.declared.parts.PeerState.TheVariants as state
 use Rattle.enet_control.specs.Controlling as controlling
 use Rattle.enet_receiver.specs.Foresight.{ReceivingEnd}
-use Rattle.enet_link.specs.Link.{Answer, is_late}
-use Rattle.enet_link.specs.WireLink.{WireLink, answered, marks, stops_receiving}
-use Rattle.enet_link.specs.Steps.{Has, Acknowledge, Mark, StopReceiving}
+use Rattle.enet_connection.specs.Link.{Answer, is_late}
+use Rattle.enet_connection.specs.WireLink.{WireLink, answered, marks, stops_receiving}
+use Rattle.enet_connection.specs.LinkSteps.{Has, Acknowledge, Mark, StopReceiving}
 use Rattle.enet_connection.specs.Connection.{Put, End, sent_on, packets_of, in_sequence}
 use Rattle.enet_connection.specs.Steps.{with_peer}
 use Rattle.enet_connection.specs.Linked.{IsLinked, sends_in, dispatches_in, sender_in, receiver_in, numbers_on, dispatched_on}

@@ -10,8 +10,8 @@ use Rattle.enet_sender.specs.Sender.{nothing_sent}
 use Rattle.enet_sender.specs.Due.{SendingEnd}
 use Rattle.enet_outbox.specs.Outbox.{cleared_sender}
 use Rattle.enet_peer.specs.Peering.{Peering}
-use Rattle.enet_link.specs.WireLink.{WireLink, stops_sending, stops_receiving, drops_answers}
-use Rattle.enet_link.specs.Steps.{Has, Event, StopSending, StopReceiving, DropAnswers, Runs, fresh_link}
+use Rattle.enet_connection.specs.WireLink.{WireLink, stops_sending, stops_receiving, drops_answers}
+use Rattle.enet_connection.specs.LinkSteps.{Has, Event, StopSending, StopReceiving, DropAnswers, Runs, fresh_link}
 use Rattle.enet_connection.specs.Connection.{Put, End, sent_on, packets_of, in_sequence, of_channel}
 use Rattle.enet_connection.specs.Steps.{with_peer}
 use Rattle.enet_connection.specs.Law.{mtu_of}

@@ -19,9 +19,9 @@ use Rattle.enet_outbox.specs.declared.parts.Acknowledgement.{Acknowledgement}
 use Rattle.enet_outbox.specs.Outbox.{with_acknowledgement}
 use Rattle.enet_peer.specs.Peering.{Peering}
 use Rattle.enet_peer.specs.CommandEffect.{answered, answered_at, is_answered_in, by_answer, by_arrival}
-use Rattle.enet_link.specs.Link.{is_late}
-use Rattle.enet_link.specs.Steps.{Has}
-use Rattle.enet_link.proofs.Runs.{keeps}
+use Rattle.enet_connection.specs.Link.{is_late}
+use Rattle.enet_connection.specs.LinkSteps.{Has}
+use Rattle.enet_connection.proofs.LinkRuns.{keeps}
 use Rattle.enet_connection.specs.Connection.{Put, End, sent_on, packets_of, in_sequence}
 use Rattle.enet_connection.specs.Steps.{with_peer}
 use Rattle.enet_connection.specs.Linked.{IsLinked, sends_in, dispatches_in, receiver_in, numbers_on}

@@ -13,8 +13,8 @@ use Rattle.enet_sender.specs.Sender as sender
 use Rattle.enet_sender.specs.Due.{SendingEnd}
 use Rattle.enet_outbox.specs.Outbox.{Outbox, is_unsequenced, with_unsequenced, with_sequenced}
 use Rattle.enet_peer.specs.Peering.{Peering}
-use Rattle.enet_link.specs.WireLink.{WireLink, submits}
-use Rattle.enet_link.specs.Steps.{Event, Submit, Send, Drop, Mark, PutsOut, Arrive, ArriveAnswered, PutsAnswer, Acknowledge, StopSending, StopReceiving, DropAnswers, Happens, Runs, fresh_link}
+use Rattle.enet_connection.specs.WireLink.{WireLink, submits}
+use Rattle.enet_connection.specs.LinkSteps.{Event, Submit, Send, Drop, Mark, PutsOut, Arrive, ArriveAnswered, PutsAnswer, Acknowledge, StopSending, StopReceiving, DropAnswers, Happens, Runs, fresh_link}
 use Rattle.enet_connection.specs.Connection.{End, of_channel}
 use Rattle.enet_connection.specs.Steps.{with_submission}
 use Rattle.enet_connection.specs.Law.{mtu_of}

@@ -28,8 +28,8 @@ use Rattle.enet_peer.specs.Peering.{Peering, joined, connecting, answering}
 use Rattle.enet_peer.specs.Endings.{dropped, ended, freed, disconnecting, parting}
 use Rattle.enet_peer.specs.CommandEffect.{obeyed}
 use Rattle.enet_peer.specs.Calls.{submitted, pace_of, gone_on, ticked, next_event}
-use Rattle.enet_link.specs.Steps.{Has}
-use Rattle.enet_link.proofs.Lists.{Has-push_cases, Has-append_cases, Has-slice_get}
+use Rattle.enet_connection.specs.LinkSteps.{Has}
+use Rattle.enet_connection.proofs.Lists.{Has-push_cases, Has-append_cases, Has-slice_get}
 use Rattle.enet_connection.specs.Connection.{Put, End, put_by}
 use Rattle.enet_connection.specs.Steps.{Event, Answer, Submit, Emit, Come, Tick, Take, Disconnect, Set, Happens, with_peer, with_setting, with_emission, no_end}
 use Rattle.enet_connection.proofs.Emits.{Has-from_map}

@@ -10,7 +10,7 @@ use Rattle.enet_outbox.specs.Outbox.{is_unsequenced}
 use Rattle.enet_peer.specs.declared.parts.PeerEvent.{PeerEvent}
 use Rattle.enet_peer.specs.declared.parts.PeerEvent.TheVariants as told
 use Rattle.enet_peer.specs.Peering.{Peering}
-use Rattle.enet_link.specs.Greatest.{greatest_after}
+use Rattle.enet_connection.specs.Greatest.{greatest_after}
 
 -- a command that was put out: `sent_then` is the greatest number sent on its channel, just after its datagram, by the end that numbers it;
 -- an acknowledgement is numbered by the end that sent its command

@@ -10,11 +10,11 @@ use Rattle.enet_sender.specs.CommandChoice as command_choice
 use Rattle.enet_sender.specs.Sender.{Sender, nothing_sent}
 use Rattle.enet_sender.specs.declared.sent.Sent.{Sent}
 use Rattle.enet_peer.specs.Peering.{Peering}
-use Rattle.enet_link.specs.Image.{ShowsReceiver}
-use Rattle.enet_link.specs.Keeps.{IsReceived}
-use Rattle.enet_link.specs.Link.{PutOut, is_late, number_below}
-use Rattle.enet_link.specs.Meant.{OfReliable, OfUnreliable, IsReadAsMeant}
-use Rattle.enet_link.specs.Steps.{Has}
+use Rattle.enet_connection.specs.Image.{ShowsReceiver}
+use Rattle.enet_connection.specs.Keeps.{IsReceived}
+use Rattle.enet_connection.specs.Link.{PutOut, is_late, number_below}
+use Rattle.enet_connection.specs.Meant.{OfReliable, OfUnreliable, IsReadAsMeant}
+use Rattle.enet_connection.specs.LinkSteps.{Has}
 use Rattle.enet_connection.specs.Connection.{Put, End, Connection, sent_on, of_channel}
 use Rattle.enet_connection.specs.Law.{mtu_of}
 use Rattle.enet_connection.specs.Linked.{sends_in, dispatches_in, sender_in, receiver_in, dispatched_on}

@@ -8,8 +8,8 @@ use Rattle.enet_fragment.specs.DataCommand.{data_of}
 use Rattle.enet_connect.specs.declared.terms.Terms.{Terms}
 use Rattle.enet_connect.specs.declared.server.Server.{Server}
 use Rattle.enet_connect.specs.Terms.{is_channel_count}
-use Rattle.enet_link.specs.Link.{is_late}
-use Rattle.enet_link.specs.Steps.{Has}
+use Rattle.enet_connection.specs.Link.{is_late}
+use Rattle.enet_connection.specs.LinkSteps.{Has}
 use Rattle.enet_outbox.specs.Emission.{filled}
 use Rattle.enet_peer.specs.declared.parts.Limits.{Limits}
 use Rattle.enet_peer.specs.declared.parts.PeerEvent.{PeerEvent}

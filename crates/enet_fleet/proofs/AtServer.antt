@@ -3,8 +3,8 @@ use Rattle.std.proofs.Common.{◌≡◌, ◌≢◌, ℕ, ◌⊎◌, inl, inr, fa
 use Rattle.std.proofs.lemmas.Option.{slice_get_within}
 use Rattle.enet_types.specs.declared.address.Addr.{Addr}
 use Rattle.enet_types.specs.declared.event.Received.{Received}
-use Rattle.enet_link.specs.Steps.{Has}
-use Rattle.enet_link.proofs.Lists.{Has-slice_get}
+use Rattle.enet_connection.specs.LinkSteps.{Has}
+use Rattle.enet_connection.proofs.Lists.{Has-slice_get}
 use Rattle.enet_isolation.specs.Calls as call
 use Rattle.enet_isolation.proofs.Lists.{same-or}
 use Rattle.enet_network.specs.Log.{Logged}

@@ -9,7 +9,7 @@ use Rattle.enet_types.specs.declared.config.Config.{Config}
 use Rattle.enet_types.specs.declared.refusal.Refusal.{Refusal}
 use Rattle.enet_types.specs.declared.refusal.Refusal.TheVariants.{NoSuchDatagram, NoSuchHost}
 use Rattle.enet_types.specs.Config.{is_in_range}
-use Rattle.enet_link.proofs.Lists.{Has-slice_get}
+use Rattle.enet_connection.proofs.Lists.{Has-slice_get}
 use Rattle.enet_slot.specs.Hearing.{is_same_address}
 use Rattle.enet_network.specs.declared.event.Answer.{Answer}
 use Rattle.enet_network.specs.Headline.{AreEnds}

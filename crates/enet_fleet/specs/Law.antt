@@ -5,7 +5,7 @@ use Rattle.enet_types.specs.declared.config.Config.{Config}
 use Rattle.enet_types.specs.declared.refusal.Refusal.{Refusal}
 use Rattle.enet_types.specs.Config.{is_in_range}
 use Rattle.enet_network.specs.declared.event.Answer.{Answer}
-use Rattle.enet_link.specs.Steps.{Has}
+use Rattle.enet_connection.specs.LinkSteps.{Has}
 use Rattle.enet_network.specs.Law.{IsPaired}
 use Rattle.enet_network.specs.Log.{Logged}
 use Rattle.enet_site.specs.Places.{Place}

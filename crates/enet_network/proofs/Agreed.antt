@@ -8,8 +8,8 @@ use Rattle.enet_packets.specs.declared.incoming_packet.Dispatched.{Dispatched}
 use Rattle.enet_peer.specs.declared.parts.PeerState.{PeerState}
 use Rattle.enet_peer.specs.declared.parts.PeerState.TheVariants as state
 use Rattle.enet_peer.specs.Peering.{Peering}
-use Rattle.enet_link.specs.Link.{PutOut}
-use Rattle.enet_link.specs.Steps.{Has}
+use Rattle.enet_connection.specs.Link.{PutOut}
+use Rattle.enet_connection.specs.LinkSteps.{Has}
 use Rattle.enet_connection.specs.Connection.{Put, End, messages_of, sent_on, of_channel, packets_of, in_sequence}
 use Rattle.enet_connection.specs.Law.{mtu_in, mtu_of}
 use Rattle.enet_connection.specs.Linked.{receiver_in}

@@ -19,8 +19,8 @@ use Rattle.enet_connect.specs.Terms.{is_channel_count}
 use Rattle.enet_peer.specs.Heading.{IsRead, IsOffer}
 use Rattle.enet_peer.specs.declared.parts.PeerState.TheVariants as state
 use Rattle.enet_peer.specs.Peering.{Peering, connecting, answering as answering_peer}
-use Rattle.enet_link.specs.Steps.{Has}
-use Rattle.enet_link.proofs.Lists.{Has-push, Has-slice_get}
+use Rattle.enet_connection.specs.LinkSteps.{Has}
+use Rattle.enet_connection.proofs.Lists.{Has-push, Has-slice_get}
 use Rattle.enet_connection.specs.Connection.{Put, End, messages_of}
 use Rattle.enet_connection.specs.Steps.{Answer, with_peer, no_end}
 use Rattle.enet_connection.proofs.Runs.{reached-none}

@@ -5,7 +5,7 @@ use Rattle.enet_types.specs.declared.packet.Packet.{Packet}
 use Rattle.enet_sender.specs.CommandChoice as command_choice
 use Rattle.enet_outbox.specs.Outbox.{is_unsequenced}
 use Rattle.enet_packets.specs.declared.incoming_packet.Dispatched.{Dispatched}
-use Rattle.enet_link.specs.Steps.{Has}
+use Rattle.enet_connection.specs.LinkSteps.{Has}
 use Rattle.enet_connection.specs.Connection.{of_channel, in_sequence}
 use Rattle.enet_network.specs.Headline.{AreOn}
 use Rattle.enet_network.specs.Log.{ChannelPackets, no_packets, packets_at}

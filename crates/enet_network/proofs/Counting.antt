@@ -4,8 +4,8 @@ use Rattle.std.proofs.lemmas.Bool.Decides.{nat_tests}
 use Rattle.std.proofs.lemmas.List.{length-set}
 use Rattle.enet_codec.specs.declared.command.Head.{Head}
 use Rattle.enet_codec.specs.Message.{Message, Body, acknowledge, connect, verify_connect, disconnect, ping, send_reliable, send_unreliable, send_fragment, send_unsequenced, bandwidth_limit, throttle_configure, send_unreliable_fragment}
-use Rattle.enet_link.specs.Steps.{Has}
-use Rattle.enet_link.specs.Greatest.{greatest_after}
+use Rattle.enet_connection.specs.LinkSteps.{Has}
+use Rattle.enet_connection.specs.Greatest.{greatest_after}
 use Rattle.enet_connection.specs.Connection as connection
 use Rattle.enet_network.specs.declared.mark.Mark.{Mark}
 use Rattle.enet_network.specs.declared.mark.MarkKind.{MarkKind}

@@ -18,8 +18,8 @@ use Rattle.enet_peer.specs.CommandEffect.{Outcome, Stops, obeyed, wants_memory}
 use Rattle.enet_peer.specs.Handling.{HandlesEach, one_more}
 use Rattle.enet_peer.specs.Heading.{IsRead}
 use Rattle.enet_peer.proofs.Each.{handles-each}
-use Rattle.enet_link.specs.Link as link
-use Rattle.enet_link.specs.Steps.{Has}
+use Rattle.enet_connection.specs.Link as link
+use Rattle.enet_connection.specs.LinkSteps.{Has}
 use Rattle.enet_connection.specs.Connection.{Put, End, messages_of, sent_on}
 use Rattle.enet_connection.specs.Steps.{Event, Come, InTime, with_peer}
 use Rattle.enet_slot.specs.Hearing.{is_same_address, no_peer, is_deaf, fits_session, refused_by_peer, refused_by_slot, Hears}

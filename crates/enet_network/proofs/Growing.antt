@@ -5,8 +5,8 @@ use Rattle.enet_types.specs.declared.event.Event.{Event as Told}
 use Rattle.enet_types.specs.declared.event.PeerRef.{PeerRef}
 use Rattle.enet_types.specs.declared.event.Received.{Received}
 use Rattle.enet_peer.specs.Peering.{Peering}
-use Rattle.enet_link.specs.Steps.{Has}
-use Rattle.enet_link.proofs.Lists.{Has-append_cases}
+use Rattle.enet_connection.specs.LinkSteps.{Has}
+use Rattle.enet_connection.proofs.Lists.{Has-append_cases}
 use Rattle.enet_connection.specs.Law.{mtu_in}
 use Rattle.enet_slot.specs.Slot.{SlotState, name_of}
 use Rattle.enet_host.specs.Host.{Host, named}

@@ -8,8 +8,8 @@ use Rattle.enet_peer.specs.declared.parts.PeerEvent.TheVariants as told
 use Rattle.enet_peer.specs.Peering.{Peering}
 use Rattle.enet_sender.specs.CommandChoice as command_choice
 use Rattle.enet_packets.specs.declared.incoming_packet.Dispatched.{Dispatched}
-use Rattle.enet_link.specs.Follows.{Follows}
-use Rattle.enet_link.specs.Steps.{Has, bodies_of}
+use Rattle.enet_connection.specs.Follows.{Follows}
+use Rattle.enet_connection.specs.LinkSteps.{Has, bodies_of}
 use Rattle.enet_connection.specs.Connection.{End, of_channel, packets_of, in_sequence}
 use Rattle.enet_connection.specs.Law.{mtu_in, IsOneLife, IsInOrder as IsInOrderBetween}
 use Rattle.enet_connection.specs.Steps.{no_end}

@@ -9,7 +9,7 @@ use Rattle.enet_codec.specs.Datagram.{SpellsAll, SpellsDatagram}
 use Rattle.enet_codec.proofs.HeaderLaws.{one_header}
 use Rattle.enet_codec.proofs.Laws.{one_spelling}
 use Rattle.enet_codec.proofs.Datagrams.{some-bytes}
-use Rattle.enet_link.specs.Steps.{Has}
+use Rattle.enet_connection.specs.LinkSteps.{Has}
 use Rattle.enet_network.specs.declared.mark.Mark.{Mark}
 use Rattle.enet_network.specs.Marks.{mark_of, MarksOf, MarksIn}
 

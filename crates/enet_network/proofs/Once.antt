@@ -12,8 +12,8 @@ use Rattle.enet_peer.specs.Heading.{IsRead, IsOffer}
 use Rattle.enet_peer.specs.declared.parts.PeerState.{PeerState}
 use Rattle.enet_peer.specs.declared.parts.PeerState.TheVariants as state
 use Rattle.enet_peer.specs.Peering.{Peering}
-use Rattle.enet_link.specs.Steps.{Has}
-use Rattle.enet_link.proofs.Lists.{Has-slice_get}
+use Rattle.enet_connection.specs.LinkSteps.{Has}
+use Rattle.enet_connection.proofs.Lists.{Has-slice_get}
 use Rattle.enet_connection.specs.Connection.{Put, messages_of}
 use Rattle.enet_slot.specs.Hearing.{is_same_address, no_peer, is_deaf, is_connection, is_connection_in}
 use Rattle.enet_slot.specs.Slot.{SlotState, with_peer_in}

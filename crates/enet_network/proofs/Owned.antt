@@ -5,7 +5,7 @@ use Rattle.enet_types.specs.declared.event.PeerRef.{PeerRef}
 use Rattle.enet_peer.specs.declared.parts.PeerState.{PeerState}
 use Rattle.enet_peer.specs.declared.parts.PeerState.TheVariants as state
 use Rattle.enet_peer.specs.Peering.{Peering}
-use Rattle.enet_link.specs.Steps.{Has}
+use Rattle.enet_connection.specs.LinkSteps.{Has}
 use Rattle.enet_slot.specs.Slot.{SlotState, name_of, with_peer, with_peer_in}
 use Rattle.enet_host.specs.Host.{Host, slot_named, peer_in, named}
 use Rattle.enet_host.specs.Calls.{address_of, address_in}

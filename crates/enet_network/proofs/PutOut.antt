@@ -7,8 +7,8 @@ use Rattle.enet_fragment.specs.DataCommand.{message_of, wire_body}
 use Rattle.enet_outbox.specs.declared.parts.Pace.{Pace}
 use Rattle.enet_outbox.specs.Outbox.{Outbox}
 use Rattle.enet_outbox.specs.Emission.{Filling, acknowledgement_of, unsequenced_of, filled}
-use Rattle.enet_link.specs.Steps.{Has}
-use Rattle.enet_link.proofs.Lists.{Has-push_cases}
+use Rattle.enet_connection.specs.LinkSteps.{Has}
+use Rattle.enet_connection.proofs.Lists.{Has-push_cases}
 use Rattle.enet_outbox.proofs.Filled.{by-filling}
 use Rattle.enet_network.proofs.Counting.{is_control, IsPlain}
 

@@ -12,7 +12,7 @@ use Rattle.enet_connection.specs.Steps.{with_peer, no_end, asking_pair}
 use Rattle.enet_connection.proofs.Laws.{lawful, asking-kept, joined-kept}
 use Rattle.enet_connection.proofs.Runs.{reached-none}
 use Rattle.enet_connection.proofs.Words.{word-none, word-asking, word-joined}
-use Rattle.enet_link.specs.Steps.{Has}
+use Rattle.enet_connection.specs.LinkSteps.{Has}
 use Rattle.enet_slot.specs.Giving.{limits_of, unused_slot, joined_terms, given}
 use Rattle.enet_slot.specs.Slot.{SlotState, greatest}
 use Rattle.enet_isolation.specs.Calls as call

@@ -3,8 +3,8 @@ use Rattle.std.proofs.Common.{◌≡◌, ℕ, Bool, true, false, List, take, inl
 use Rattle.enet_types.specs.declared.address.Addr.{Addr}
 use Rattle.enet_types.specs.declared.event.PeerRef.{PeerRef}
 use Rattle.enet_types.specs.declared.event.Received.{Received}
-use Rattle.enet_link.specs.Steps.{Has}
-use Rattle.enet_link.proofs.Lists.{Has-push_cases}
+use Rattle.enet_connection.specs.LinkSteps.{Has}
+use Rattle.enet_connection.proofs.Lists.{Has-push_cases}
 use Rattle.enet_slot.specs.Serving.{Gives}
 use Rattle.enet_slot.specs.Slot.{SlotState}
 use Rattle.enet_host.specs.Serving.{GivesInTurn}

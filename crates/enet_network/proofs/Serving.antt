@@ -20,7 +20,7 @@ use Rattle.enet_outbox.proofs.Spelled.{datagram-spelled}
 use Rattle.enet_peer.specs.declared.parts.PeerState.TheVariants as state
 use Rattle.enet_peer.specs.Peering.{Peering}
 use Rattle.enet_peer.specs.Calls.{PutsOut, pace_of, destination_of, gone_on}
-use Rattle.enet_link.specs.Steps.{Has}
+use Rattle.enet_connection.specs.LinkSteps.{Has}
 use Rattle.enet_connection.specs.Connection.{Put, End, messages_of, sent_on, put_by}
 use Rattle.enet_connection.specs.Connection as connection
 use Rattle.enet_connection.specs.Steps.{Emit, with_emission}

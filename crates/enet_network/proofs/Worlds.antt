@@ -10,8 +10,8 @@ use Rattle.enet_codec.proofs.HeaderLaws.{one_header}
 use Rattle.enet_peer.specs.Heading.{IsRead}
 use Rattle.enet_peer.specs.declared.parts.PeerState.TheVariants as state
 use Rattle.enet_peer.specs.Peering.{Peering}
-use Rattle.enet_link.specs.Steps.{Has}
-use Rattle.enet_link.proofs.Lists.{Has-push_cases, Has-slice_get}
+use Rattle.enet_connection.specs.LinkSteps.{Has}
+use Rattle.enet_connection.proofs.Lists.{Has-push_cases, Has-slice_get}
 use Rattle.enet_connection.specs.Connection.{End, sent_on}
 use Rattle.enet_connection.specs.Invariant.{Invariant as KeptBetween}
 use Rattle.enet_connection.specs.Steps.{One, Two, Event, no_end}

@@ -8,8 +8,8 @@ use Rattle.enet_types.specs.declared.event.PeerRef.{PeerRef}
 use Rattle.enet_types.specs.declared.packet.Packet.{Packet}
 use Rattle.enet_peer.specs.declared.parts.PeerEvent.{PeerEvent}
 use Rattle.enet_peer.specs.Peering.{Peering}
-use Rattle.enet_link.specs.Follows.{Follows}
-use Rattle.enet_link.specs.Steps.{Has, bodies_of}
+use Rattle.enet_connection.specs.Follows.{Follows}
+use Rattle.enet_connection.specs.LinkSteps.{Has, bodies_of}
 use Rattle.enet_connection.specs.Connection.{of_channel, in_sequence}
 use Rattle.enet_connection.specs.Law.{IsOneLife}
 use Rattle.enet_host.specs.Host.{named}

@@ -1,7 +1,7 @@
 -- By how many numbers a command is late.
 use Rattle.std.specs.Prelude.{ℕ, Bool, false, List}
 use Rattle.std.specs.List.{list_any}
-use Rattle.enet_link.specs.Link as link
+use Rattle.enet_connection.specs.Link as link
 use Rattle.enet_network.specs.declared.mark.Mark.{Mark}
 use Rattle.enet_network.specs.declared.mark.MarkKind.{MarkKind}
 use Rattle.enet_network.specs.declared.mark.MarkKind.TheVariants.{Data, Acknowledgement, Control}

@@ -9,7 +9,7 @@ use Rattle.enet_types.specs.declared.refusal.Refusal.{Refusal}
 use Rattle.enet_codec.specs.declared.command.Offer.{Offer}
 use Rattle.enet_codec.specs.declared.header.Header.{Header}
 use Rattle.enet_peer.specs.Heading.{IsRead}
-use Rattle.enet_link.specs.Steps.{Has}
+use Rattle.enet_connection.specs.LinkSteps.{Has}
 use Rattle.enet_connection.specs.Connection.{End, sent_on}
 use Rattle.enet_connection.specs.Law.{IsLawful}
 use Rattle.enet_connection.specs.Steps.{Event, Happens as HappensLaw, no_end, asking_pair}

@@ -3,7 +3,7 @@ use Rattle.std.specs.Prelude.{ℕ, List, [], ◌∷◌, ◌++◌, replicate, sli
 use Rattle.std.specs.List.{slice_index_or, fold}
 use Rattle.enet_types.specs.declared.address.Addr.{Addr}
 use Rattle.enet_types.specs.declared.packet.Packet.{Packet}
-use Rattle.enet_link.specs.Greatest.{greatest_after}
+use Rattle.enet_connection.specs.Greatest.{greatest_after}
 use Rattle.enet_network.specs.declared.mark.Mark.{Mark}
 use Rattle.enet_network.specs.declared.mark.MarkKind.{MarkKind}
 use Rattle.enet_network.specs.declared.mark.MarkKind.TheVariants.{Data, Acknowledgement, Control}

@@ -6,8 +6,8 @@ use Rattle.enet_codec.specs.Message.{Message}
 use Rattle.enet_codec.specs.Datagram.{SpellsDatagram}
 use Rattle.enet_fragment.specs.DataCommand.{data_of}
 use Rattle.enet_peer.specs.Peering.{Peering}
-use Rattle.enet_link.specs.Link.{PutOut}
-use Rattle.enet_link.specs.Steps.{Has}
+use Rattle.enet_connection.specs.Link.{PutOut}
+use Rattle.enet_connection.specs.LinkSteps.{Has}
 use Rattle.enet_connection.specs.Connection.{of_channel, in_sequence}
 use Rattle.enet_connection.specs.Linked.{sends_in, dispatches_in, sender_in, receiver_in}
 use Rattle.enet_connection.specs.Numbers.{Sending, Receiving, AreAgreed}

@@ -8,7 +8,7 @@ use Rattle.enet_fragment.specs.declared.data.DataCommand.{DataCommand}
 use Rattle.enet_fragment.specs.DataCommand.{data_of}
 use Rattle.enet_peer.specs.declared.parts.PeerState.TheVariants as state
 use Rattle.enet_peer.specs.Peering.{Peering}
-use Rattle.enet_link.specs.Steps.{Has}
+use Rattle.enet_connection.specs.LinkSteps.{Has}
 use Rattle.enet_connection.specs.Connection.{Put, End, messages_of, sent_on, packets_of}
 use Rattle.enet_connection.specs.Invariant.{is_young}
 use Rattle.enet_connection.specs.Steps.{Event, Happens}

@@ -1,8 +1,8 @@
 -- The numbers of an end stay below their bound.
 use Rattle.std.proofs.Common.{◌≡◌, ℕ, zero, suc, ◌+◌, ◌*◌, ◌^◌, ◌<◌, ◌≤◌, List, [], ◌∷◌, ◌++◌, length, take, Option, Some, None, option_to_list, slice_set, refl, ap, subst, inl, inr, ◌⊎◌, arith}
 use Rattle.std.proofs.lemmas.List.{length-take}
-use Rattle.enet_link.specs.Greatest.{greatest_after}
-use Rattle.enet_link.proofs.Greatest.{step}
+use Rattle.enet_connection.specs.Greatest.{greatest_after}
+use Rattle.enet_connection.proofs.Greatest.{step}
 use Rattle.enet_network.specs.declared.mark.Mark.{Mark}
 use Rattle.enet_network.specs.declared.mark.MarkKind.{MarkKind}
 use Rattle.enet_network.specs.declared.mark.MarkKind.TheVariants.{Data, Acknowledgement, Control}

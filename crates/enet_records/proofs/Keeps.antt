@@ -6,8 +6,8 @@ use Rattle.enet_types.specs.declared.event.Event.{Event}
 use Rattle.enet_types.specs.declared.event.Event.TheVariants as events
 use Rattle.enet_types.specs.declared.event.PeerRef.{PeerRef}
 use Rattle.enet_types.specs.declared.packet.Packet.{Packet}
-use Rattle.enet_link.specs.Steps.{Has}
-use Rattle.enet_link.proofs.Lists.{Has-push_cases, Has-slice_get}
+use Rattle.enet_connection.specs.LinkSteps.{Has}
+use Rattle.enet_connection.proofs.Lists.{Has-push_cases, Has-slice_get}
 use Rattle.enet_connection.proofs.Emits.{Has-from_map}
 use Rattle.enet_network.specs.Log.{Logged, packets_at, with_submitted_packet, with_taken}
 use Rattle.enet_network.specs.Network.{HostEnd, is_same_name, with_end}

@@ -1,7 +1,7 @@
 //! Whether a datagram comes too late.
 
 ghost use Rattle.std.specs.Prelude.{◌≡◌};
-ghost use Rattle.enet_link.specs.Link.{number_below};
+ghost use Rattle.enet_connection.specs.Link.{number_below};
 ghost use Rattle.enet_network.specs.Lateness.{is_late_command, has_late};
 ghost use Rattle.enet_network.specs.Log.{greatest_at};
 ghost use Rattle.enet_network.specs.Network.{numbers_in, end_of};

@@ -4,7 +4,7 @@ ghost use Rattle.std.specs.Prelude.{◌≡◌, ℕ, ◌+◌, ◌<◌, ◌≤◌,
 ghost use Rattle.std.specs.Option.{option_copied};
 ghost use Rattle.enet_codec.specs.declared.header.Header.{Header};
 ghost use Rattle.enet_peer.specs.Heading.{IsRead};
-ghost use Rattle.enet_link.specs.Steps.{Has};
+ghost use Rattle.enet_connection.specs.LinkSteps.{Has};
 ghost use Rattle.enet_network.specs.Network.{HostEnd};
 ghost use Rattle.enet_records.specs.Records.{AreBelow, AreApart, HasEnd, Notes};
 

@@ -10,7 +10,7 @@ use Rattle.enet_codec.specs.declared.header.Header.{Header}
 use Rattle.enet_peer.specs.Heading.{IsRead}
 use Rattle.enet_peer.specs.declared.parts.PeerState.{PeerState}
 use Rattle.enet_peer.specs.Peering.{Peering}
-use Rattle.enet_link.specs.Steps.{Has}
+use Rattle.enet_connection.specs.LinkSteps.{Has}
 use Rattle.enet_slot.specs.Slot.{SlotState, name_of}
 use Rattle.enet_host.specs.Host.{Host, named, peer_in, with_generation}
 use Rattle.enet_host.specs.Opening.{available, no_channel, no_slot, no_memory}

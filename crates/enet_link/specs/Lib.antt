@@ -1,9 +1,0 @@
-pub mod Follows
-pub mod Link
-pub mod Greatest
-pub mod WireLink
-pub mod Steps
-pub mod Meant
-pub mod Keeps
-pub mod Image
-pub mod FirstSends
