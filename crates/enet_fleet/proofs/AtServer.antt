@@ -5,8 +5,8 @@ use Rattle.enet_types.specs.declared.address.Addr.{Addr}
 use Rattle.enet_types.specs.declared.event.Received.{Received}
 use Rattle.enet_connection.specs.LinkSteps.{Has}
 use Rattle.enet_connection.proofs.Lists.{Has-slice_get}
-use Rattle.enet_isolation.specs.Calls as call
-use Rattle.enet_isolation.proofs.Lists.{same-or}
+use Rattle.enet_network.specs.Calls as call
+use Rattle.enet_network.proofs.Lists.{same-or}
 use Rattle.enet_network.specs.Log.{Logged}
 use Rattle.enet_network.specs.Law.{IsElsewhere}
 use Rattle.enet_network.specs.Network.{HostEnd, Site}

@@ -10,8 +10,8 @@ use Rattle.enet_types.specs.declared.event.PeerRef.{PeerRef}
 use Rattle.enet_types.specs.declared.event.Received.{Received}
 use Rattle.enet_types.specs.declared.refusal.Refusal.{Refusal}
 use Rattle.enet_types.specs.declared.refusal.Refusal.TheVariants.{Memory, NoSuchHost}
-use Rattle.enet_isolation.specs.Calls.{Call}
-use Rattle.enet_isolation.specs.Calls as call
+use Rattle.enet_network.specs.Calls.{Call}
+use Rattle.enet_network.specs.Calls as call
 use Rattle.enet_network.specs.declared.event.Answer.{Answer}
 use Rattle.enet_network.specs.declared.event.Answer.TheVariants as answers
 use Rattle.enet_network.specs.Network.{Site}

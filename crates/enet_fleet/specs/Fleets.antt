@@ -7,8 +7,8 @@ use Rattle.enet_types.specs.declared.event.PeerRef.{PeerRef}
 use Rattle.enet_types.specs.declared.refusal.Refusal.{Refusal}
 use Rattle.enet_types.specs.declared.refusal.Refusal.TheVariants.{Memory, NoSuchDatagram, NoSuchHost}
 use Rattle.enet_slot.specs.Hearing.{is_same_address}
-use Rattle.enet_isolation.specs.Calls.{Call}
-use Rattle.enet_isolation.specs.Calls as call
+use Rattle.enet_network.specs.Calls.{Call}
+use Rattle.enet_network.specs.Calls as call
 use Rattle.enet_network.specs.declared.event.Answer.{Answer}
 use Rattle.enet_network.specs.declared.event.Answer.TheVariants as answers
 use Rattle.enet_network.specs.Log.{Logged}

@@ -2,7 +2,7 @@
 
 ghost use Rattle.std.specs.Prelude.{◌≡◌, ℕ, ◌++◌, ◌∷◌, [], length, Ok, Err, IfOk, IfErr, OnErr};
 ghost use Rattle.enet_types.specs.declared.address.Addr.{Addr};
-ghost use Rattle.enet_isolation.specs.Calls as call;
+ghost use Rattle.enet_network.specs.Calls as call;
 ghost use Rattle.enet_network.specs.Steps.{Calls, Happens};
 ghost use Rattle.enet_network.specs.World.{RefusesCall};
 ghost use Rattle.enet_fleet.specs.declared.event.FleetEvent.TheVariants as happen;

@@ -8,7 +8,7 @@ use Rattle.enet_slot.specs.Hearing.{is_same_address}
 use Rattle.enet_slot.specs.Slot.{SlotState}
 use Rattle.enet_host.specs.Host.{slot_named, peer_in}
 use Rattle.enet_host.specs.Calls.{address_in, address_of, address_named}
-use Rattle.enet_isolation.proofs.Names.{IsThere, named-there, there-slot}
+use Rattle.enet_network.proofs.Names.{IsThere, named-there, there-slot}
 use Rattle.enet_network.specs.Network.{is_at}
 
 pub same-address : (a b : Addr) → a ≡ b → is_same_address a b ≡ true

@@ -17,7 +17,7 @@ use Rattle.enet_connection.specs.Numbers.{is_sending, is_dispatching, sender_on,
 use Rattle.enet_connection.proofs.Emits.{Has-from_map}
 use Rattle.enet_connection.proofs.Laws.{agree}
 use Rattle.enet_host.specs.Host.{Host, named}
-use Rattle.enet_isolation.specs.Law.{held_if}
+use Rattle.enet_network.specs.IsolationLaw.{held_if}
 use Rattle.enet_network.specs.declared.mark.MarkKind.TheVariants.{Data}
 use Rattle.enet_network.specs.Law.{ShowsAt}
 use Rattle.enet_network.specs.Log.{packets_at, greatest_at}

@@ -3,8 +3,8 @@ use Rattle.std.proofs.Common.{◌≡◌, ◌≤◌, ℕ, ◌+◌, List, [], ◌�
 use Rattle.std.proofs.lemmas.List.{length-append}
 use Rattle.enet_types.specs.declared.refusal.Refusal.{Refusal}
 use Rattle.enet_host.specs.Host.{Host}
-use Rattle.enet_isolation.specs.Calls.{Call, Steps}
-use Rattle.enet_isolation.proofs.Beginning.{lived-all}
+use Rattle.enet_network.specs.Calls.{Call, Steps}
+use Rattle.enet_network.proofs.Beginning.{lived-all}
 use Rattle.enet_network.specs.declared.event.Answer.{Answer}
 use Rattle.enet_network.specs.declared.event.Side.{Side}
 use Rattle.enet_network.specs.declared.event.Side.TheVariants.{A, B}

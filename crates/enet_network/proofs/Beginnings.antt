@@ -31,9 +31,9 @@ use Rattle.enet_host.specs.Opening.{available, Connects, no_channel, no_slot, no
 use Rattle.enet_slot.specs.Hearing.{no_peer}
 use Rattle.enet_host.specs.Receiving.{offer_refused, Offers, Arrives}
 use Rattle.enet_host.specs.Receiving as receiving
-use Rattle.enet_isolation.proofs.Lists.{get-set, get-set_other, get-within}
-use Rattle.enet_isolation.proofs.Names.{IsThere}
-use Rattle.enet_isolation.proofs.Receiving.{is_open}
+use Rattle.enet_network.proofs.Lists.{get-set, get-set_other, get-within}
+use Rattle.enet_network.proofs.Names.{IsThere}
+use Rattle.enet_network.proofs.Receiving.{is_open}
 use Rattle.enet_network.specs.Law.{HasNothingOf, Asked, Begins, Answered}
 use Rattle.enet_network.specs.Log.{Logged, ChannelPackets, no_packets, fresh_channels, fresh_greatest, packets_at, greatest_at}
 use Rattle.enet_network.specs.Network.{HostEnd, Site, fresh_end}

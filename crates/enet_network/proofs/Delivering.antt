@@ -27,11 +27,11 @@ use Rattle.enet_slot.specs.Slot.{SlotState, greatest, with_peer as slot_with_pee
 use Rattle.enet_host.specs.Calls.{address_named}
 use Rattle.enet_host.specs.Receiving.{Offers, Arrives}
 use Rattle.enet_host.specs.Receiving as receiving
-use Rattle.enet_isolation.specs.Calls.{Call, Acts}
-use Rattle.enet_isolation.specs.Calls as call
-use Rattle.enet_isolation.proofs.Lists.{get-set, get-set_other, same-or}
-use Rattle.enet_isolation.proofs.Names.{IsThere, IsSpent, same-generations, spent-step}
-use Rattle.enet_isolation.proofs.Receiving.{is_open}
+use Rattle.enet_network.specs.Calls.{Call, Acts}
+use Rattle.enet_network.specs.Calls as call
+use Rattle.enet_network.proofs.Lists.{get-set, get-set_other, same-or}
+use Rattle.enet_network.proofs.Names.{IsThere, IsSpent, same-generations, spent-step}
+use Rattle.enet_network.proofs.Receiving.{is_open}
 use Rattle.enet_network.specs.declared.mark.Mark.{Mark}
 use Rattle.enet_network.specs.declared.mark.MarkKind.TheVariants.{Data, Acknowledgement}
 use Rattle.enet_network.specs.Lateness as lateness

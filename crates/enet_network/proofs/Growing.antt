@@ -12,8 +12,8 @@ use Rattle.enet_slot.specs.Slot.{SlotState, name_of}
 use Rattle.enet_host.specs.Host.{Host, named}
 use Rattle.enet_host.specs.Calls.{TakesOne}
 use Rattle.enet_host.specs.Opening.{available}
-use Rattle.enet_isolation.specs.Calls.{Call}
-use Rattle.enet_isolation.specs.Calls as call
+use Rattle.enet_network.specs.Calls.{Call}
+use Rattle.enet_network.specs.Calls as call
 use Rattle.enet_network.specs.Log.{Logged}
 use Rattle.enet_network.specs.Network.{HostEnd, Site, fresh_end, is_same_name, with_end}
 use Rattle.enet_network.specs.Steps.{Around, Happening, Calls, Hears, HappensAmong, Called, Logs, LogsIf, BringsOne, ends_after, after_event, with_packet, with_event, end_in, end_in_slot, begun_in, begun}

@@ -36,8 +36,8 @@ use Rattle.enet_host.specs.Calls.{put_back}
 use Rattle.enet_host.specs.Opening.{no_totals, asks}
 use Rattle.enet_host.specs.Receiving.{Arrives, unreadable, heard, offered, answers, offer_refused, handled_one, with_datagram_in}
 use Rattle.enet_host.specs.Serving.{InTurn, with_datagram_out}
-use Rattle.enet_isolation.specs.Calls as call
-use Rattle.enet_isolation.proofs.Slots.{held}
+use Rattle.enet_network.specs.Calls as call
+use Rattle.enet_network.proofs.Slots.{held}
 use Rattle.enet_network.specs.declared.event.Answer.TheVariants as answer
 use Rattle.enet_network.specs.declared.event.Side.{Side}
 use Rattle.enet_network.specs.declared.event.Side.TheVariants.{A, B}

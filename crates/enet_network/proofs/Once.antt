@@ -19,14 +19,14 @@ use Rattle.enet_slot.specs.Hearing.{is_same_address, no_peer, is_deaf, is_connec
 use Rattle.enet_slot.specs.Slot.{SlotState, with_peer_in}
 use Rattle.enet_host.specs.Host.{Host, named}
 use Rattle.enet_host.specs.Receiving.{is_known}
-use Rattle.enet_isolation.specs.Calls.{Call, Acts}
-use Rattle.enet_isolation.specs.Calls as call
-use Rattle.enet_isolation.specs.Common.{common_of}
-use Rattle.enet_isolation.specs.Falling as falling
-use Rattle.enet_isolation.specs.Law.{Fares, untouched, goes_on, begins}
-use Rattle.enet_isolation.proofs.Names.{IsThere, IsSpent, there-named, spent-step, spent-nobody}
-use Rattle.enet_isolation.proofs.OneCall.{one-call}
-use Rattle.enet_isolation.proofs.Receiving.{is_open}
+use Rattle.enet_network.specs.Calls.{Call, Acts}
+use Rattle.enet_network.specs.Calls as call
+use Rattle.enet_network.specs.Common.{common_of}
+use Rattle.enet_network.specs.Falling as falling
+use Rattle.enet_network.specs.IsolationLaw.{Fares, untouched, goes_on, begins}
+use Rattle.enet_network.proofs.Names.{IsThere, IsSpent, there-named, spent-step, spent-nobody}
+use Rattle.enet_network.proofs.OneCall.{one-call}
+use Rattle.enet_network.proofs.Receiving.{is_open}
 use Rattle.enet_network.specs.Log.{Logged}
 use Rattle.enet_network.specs.Network.{HostEnd, Site, is_over, has_ended, holds_another, is_earlier, is_late}
 use Rattle.enet_network.specs.Shown.{IsLogged, Shows}

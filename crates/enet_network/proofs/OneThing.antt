@@ -13,8 +13,8 @@ use Rattle.enet_connection.specs.Law.{mtu_in}
 use Rattle.enet_slot.specs.Slot.{name_of, greatest}
 use Rattle.enet_host.specs.Host.{Host, Keeps, named}
 use Rattle.enet_slot.specs.Calls.{event_of}
-use Rattle.enet_isolation.specs.Calls.{Call, Acts}
-use Rattle.enet_isolation.specs.Calls as call
+use Rattle.enet_network.specs.Calls.{Call, Acts}
+use Rattle.enet_network.specs.Calls as call
 use Rattle.enet_network.specs.Log.{Logged}
 use Rattle.enet_network.specs.Law.{AreNamed, GoesOn, IsElsewhere, IsBetween, Faces, OneThing, GoOnAt}
 use Rattle.enet_network.specs.Network.{HostEnd, Site, is_same_name, with_end, is_earlier, is_late}

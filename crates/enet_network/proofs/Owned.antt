@@ -11,14 +11,14 @@ use Rattle.enet_host.specs.Host.{Host, slot_named, peer_in, named}
 use Rattle.enet_host.specs.Calls.{address_of, address_in}
 use Rattle.enet_slot.specs.Giving.{unused_slot}
 use Rattle.enet_host.specs.Receiving.{handled_one}
-use Rattle.enet_isolation.specs.Calls.{Call, Done, Acts}
-use Rattle.enet_isolation.specs.Calls as call
-use Rattle.enet_isolation.specs.Common.{common_of}
-use Rattle.enet_isolation.specs.Falling as falling
-use Rattle.enet_isolation.specs.Law.{Fares, untouched, goes_on, begins}
-use Rattle.enet_isolation.proofs.Counts.{fares-back}
-use Rattle.enet_isolation.proofs.Names.{IsThere, named-there, there-slot}
-use Rattle.enet_isolation.proofs.Single.{begins-at}
+use Rattle.enet_network.specs.Calls.{Call, Done, Acts}
+use Rattle.enet_network.specs.Calls as call
+use Rattle.enet_network.specs.Common.{common_of}
+use Rattle.enet_network.specs.Falling as falling
+use Rattle.enet_network.specs.IsolationLaw.{Fares, untouched, goes_on, begins}
+use Rattle.enet_network.proofs.Counts.{fares-back}
+use Rattle.enet_network.proofs.Names.{IsThere, named-there, there-slot}
+use Rattle.enet_network.proofs.Single.{begins-at}
 use Rattle.enet_network.specs.Headline.{AreEnds}
 use Rattle.enet_network.specs.Log.{Logged}
 use Rattle.enet_network.specs.Network.{HostEnd, Site, fresh_end}

@@ -7,14 +7,14 @@ use Rattle.enet_peer.specs.declared.parts.PeerState.TheVariants as state
 use Rattle.enet_peer.specs.Peering.{Peering}
 use Rattle.enet_slot.specs.Slot.{SlotState, greatest}
 use Rattle.enet_host.specs.Host.{Host, named}
-use Rattle.enet_isolation.specs.Calls.{Call, Acts}
-use Rattle.enet_isolation.specs.Common.{common_of}
-use Rattle.enet_isolation.specs.Deeds.{Deed, AllAlone}
-use Rattle.enet_isolation.specs.Falling.{Fell, counted}
-use Rattle.enet_isolation.specs.Law.{Stays, Fares, untouched, goes_on, begins, having_emitted, held_if}
-use Rattle.enet_isolation.proofs.Names.{free-or, IsThere, named-there, there-named, IsSpent, same-generations, past-freed, spent-step, spent-nobody}
-use Rattle.enet_isolation.proofs.OneCall.{one-call}
-use Rattle.enet_isolation.proofs.Slots.{held}
+use Rattle.enet_network.specs.Calls.{Call, Acts}
+use Rattle.enet_network.specs.Common.{common_of}
+use Rattle.enet_network.specs.Deeds.{Deed, AllAlone}
+use Rattle.enet_network.specs.Falling.{Fell, counted}
+use Rattle.enet_network.specs.IsolationLaw.{Stays, Fares, untouched, goes_on, begins, having_emitted, held_if}
+use Rattle.enet_network.proofs.Names.{free-or, IsThere, named-there, there-named, IsSpent, same-generations, past-freed, spent-step, spent-nobody}
+use Rattle.enet_network.proofs.OneCall.{one-call}
+use Rattle.enet_network.proofs.Slots.{held}
 use Rattle.enet_network.specs.Shown.{IsGone, ShowsPeer}
 
 -- what a peer that isn't free is held as

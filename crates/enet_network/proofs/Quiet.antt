@@ -5,13 +5,13 @@ use Rattle.enet_connection.specs.Connection.{End}
 use Rattle.enet_connection.specs.Steps.{Event, Happens, with_peer}
 use Rattle.enet_connection.specs.Steps as event
 use Rattle.enet_slot.specs.Slot.{SlotState, greatest}
-use Rattle.enet_isolation.specs.Calls.{Call, Acts}
-use Rattle.enet_isolation.specs.Calls as call
-use Rattle.enet_isolation.specs.Common.{Common, common_of}
-use Rattle.enet_isolation.specs.Deeds.{Deed, Alone, AllAlone, Tick, Disconnect, Set}
-use Rattle.enet_isolation.specs.Ends.{takes_effect}
-use Rattle.enet_isolation.specs.Falling.{Fell, deeds_if}
-use Rattle.enet_isolation.proofs.Matching.{was-set, matches}
+use Rattle.enet_network.specs.Calls.{Call, Acts}
+use Rattle.enet_network.specs.Calls as call
+use Rattle.enet_network.specs.Common.{Common, common_of}
+use Rattle.enet_network.specs.Deeds.{Deed, Alone, AllAlone, Tick, Disconnect, Set}
+use Rattle.enet_network.specs.Ends.{takes_effect}
+use Rattle.enet_network.specs.Falling.{Fell, deeds_if}
+use Rattle.enet_network.proofs.Matching.{was-set, matches}
 use Rattle.enet_network.specs.Log.{Logged}
 use Rattle.enet_network.specs.Network.{HostEnd, Site}
 use Rattle.enet_network.specs.Shown.{ShowsPeer, Shows, RunsAt, Went}

@@ -15,8 +15,8 @@ use Rattle.enet_connection.proofs.Words.{word-none, word-asking, word-joined}
 use Rattle.enet_connection.specs.LinkSteps.{Has}
 use Rattle.enet_slot.specs.Giving.{limits_of, unused_slot, joined_terms, given}
 use Rattle.enet_slot.specs.Slot.{SlotState, greatest}
-use Rattle.enet_isolation.specs.Calls as call
-use Rattle.enet_isolation.proofs.Lists.{get-set}
+use Rattle.enet_network.specs.Calls as call
+use Rattle.enet_network.proofs.Lists.{get-set}
 use Rattle.enet_network.specs.declared.event.Answer.{Answer}
 use Rattle.enet_network.specs.declared.event.Side.{Side}
 use Rattle.enet_network.specs.declared.event.WorldEvent.{WorldEvent}

@@ -8,9 +8,9 @@ use Rattle.enet_connection.proofs.Lists.{Has-push_cases}
 use Rattle.enet_slot.specs.Serving.{Gives}
 use Rattle.enet_slot.specs.Slot.{SlotState}
 use Rattle.enet_host.specs.Serving.{GivesInTurn}
-use Rattle.enet_isolation.specs.Calls.{Acts}
-use Rattle.enet_isolation.specs.Calls as call
-use Rattle.enet_isolation.proofs.Names.{IsThere}
+use Rattle.enet_network.specs.Calls.{Acts}
+use Rattle.enet_network.specs.Calls as call
+use Rattle.enet_network.proofs.Names.{IsThere}
 use Rattle.enet_network.specs.Log.{Logged}
 use Rattle.enet_network.specs.Network.{HostEnd, Site}
 use Rattle.enet_network.specs.Steps.{Around, Happening, Calls, Hears, HappensAmong, Logs, LogsIf, BringsOne}

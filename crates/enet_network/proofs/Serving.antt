@@ -31,11 +31,11 @@ use Rattle.enet_host.specs.Turns.{turn_of}
 use Rattle.enet_slot.specs.Serving.{Gives, HasNothing, passes_by, Passes}
 use Rattle.enet_host.specs.Calls.{address_named}
 use Rattle.enet_host.specs.Serving.{InTurn, GivesInTurn, AllPass}
-use Rattle.enet_isolation.specs.Calls.{Call, Acts}
-use Rattle.enet_isolation.specs.Calls as call
-use Rattle.enet_isolation.proofs.Lists.{get-within}
-use Rattle.enet_isolation.proofs.Names.{IsThere, IsSpent, same-generations, spent-step, spent-nobody, there-named}
-use Rattle.enet_isolation.proofs.Slots.{emitted-apart}
+use Rattle.enet_network.specs.Calls.{Call, Acts}
+use Rattle.enet_network.specs.Calls as call
+use Rattle.enet_network.proofs.Lists.{get-within}
+use Rattle.enet_network.proofs.Names.{IsThere, IsSpent, same-generations, spent-step, spent-nobody, there-named}
+use Rattle.enet_network.proofs.Slots.{emitted-apart}
 use Rattle.enet_network.specs.declared.mark.Mark.{Mark}
 use Rattle.enet_network.specs.declared.mark.MarkKind.{MarkKind}
 use Rattle.enet_network.specs.declared.mark.MarkKind.TheVariants.{Data, Acknowledgement, Control}

@@ -19,15 +19,15 @@ use Rattle.enet_slot.specs.Slot.{SlotState, name_of, greatest}
 use Rattle.enet_host.specs.Host.{named}
 use Rattle.enet_slot.specs.Calls.{submission, event_of}
 use Rattle.enet_host.specs.Calls.{TakesOne}
-use Rattle.enet_isolation.specs.Calls.{Call, Acts}
-use Rattle.enet_isolation.specs.Calls as call
-use Rattle.enet_isolation.specs.Common.{Common, common_of}
-use Rattle.enet_isolation.specs.Deeds.{Deed, AllAlone, Submit, Take}
-use Rattle.enet_isolation.specs.Falling.{deeds_if, is_meant, taken_from}
-use Rattle.enet_isolation.proofs.Lists.{same-or}
-use Rattle.enet_isolation.proofs.Names.{IsThere, there-named}
-use Rattle.enet_isolation.proofs.Serving.{taken-event}
-use Rattle.enet_isolation.proofs.Single.{Does, does-named, meant-elsewhere}
+use Rattle.enet_network.specs.Calls.{Call, Acts}
+use Rattle.enet_network.specs.Calls as call
+use Rattle.enet_network.specs.Common.{Common, common_of}
+use Rattle.enet_network.specs.Deeds.{Deed, AllAlone, Submit, Take}
+use Rattle.enet_network.specs.Falling.{deeds_if, is_meant, taken_from}
+use Rattle.enet_network.proofs.Lists.{same-or}
+use Rattle.enet_network.proofs.Names.{IsThere, there-named}
+use Rattle.enet_network.proofs.IsolationServing.{taken-event}
+use Rattle.enet_network.proofs.Single.{Does, does-named, meant-elsewhere}
 use Rattle.enet_network.specs.Log.{ChannelPackets, packets_at, with_submitted_packet, with_taken}
 use Rattle.enet_network.specs.Network.{HostEnd, Site, is_same_name}
 use Rattle.enet_network.specs.Shown.{ShowsPeer, Shows, RunsAt, Went, on_channel}

@@ -21,14 +21,14 @@ use Rattle.enet_connection.proofs.Words.{IsWord, word-happens}
 use Rattle.enet_slot.specs.Slot.{SlotState, name_of, greatest}
 use Rattle.enet_host.specs.Host.{Host}
 use Rattle.enet_host.specs.Opening.{Connects, no_channel, no_slot, no_memory, asks}
-use Rattle.enet_isolation.specs.Calls.{Call, Acts}
-use Rattle.enet_isolation.specs.Calls as call
-use Rattle.enet_isolation.proofs.Lists.{same-or}
-use Rattle.enet_isolation.proofs.Names.{IsThere, IsSpent, same-generations, begun-generation}
-use Rattle.enet_isolation.proofs.OneCall.{one-call}
-use Rattle.enet_isolation.proofs.Receiving.{is_open}
-use Rattle.enet_isolation.specs.Law as isolation
-use Rattle.enet_isolation.specs.Common.{common_of}
+use Rattle.enet_network.specs.Calls.{Call, Acts}
+use Rattle.enet_network.specs.Calls as call
+use Rattle.enet_network.proofs.Lists.{same-or}
+use Rattle.enet_network.proofs.Names.{IsThere, IsSpent, same-generations, begun-generation}
+use Rattle.enet_network.proofs.OneCall.{one-call}
+use Rattle.enet_network.proofs.Receiving.{is_open}
+use Rattle.enet_network.specs.IsolationLaw as isolation
+use Rattle.enet_network.specs.Common.{common_of}
 use Rattle.enet_network.specs.Law.{AreNamed, HasNothingOf, GoesOn, IsElsewhere, IsBetween, Faces, Begins, ShowsAt}
 use Rattle.enet_network.specs.Log.{Logged, greatest_at}
 use Rattle.enet_network.specs.Network.{HostEnd, Site, fresh_end, end_of, numbers_in, numbers_of}

@@ -4,8 +4,8 @@ use Rattle.enet_types.specs.declared.event.PeerRef.{PeerRef}
 use Rattle.enet_types.specs.declared.refusal.Refusal.{Refusal}
 use Rattle.enet_peer.specs.Peering.{Peering}
 use Rattle.enet_host.specs.Host.{Host, named}
-use Rattle.enet_isolation.specs.Beginnings.{Lived}
-use Rattle.enet_isolation.specs.Calls.{Call, Steps}
+use Rattle.enet_network.specs.Beginnings.{Lived}
+use Rattle.enet_network.specs.Calls.{Call, Steps}
 use Rattle.enet_network.specs.declared.event.Answer.{Answer}
 use Rattle.enet_network.specs.declared.event.Side.{Side}
 use Rattle.enet_network.specs.declared.event.WorldEvent.{WorldEvent}

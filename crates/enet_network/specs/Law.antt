@@ -17,7 +17,7 @@ use Rattle.enet_slot.specs.Giving.{limits_of}
 use Rattle.enet_slot.specs.Slot.{greatest}
 use Rattle.enet_host.specs.Host.{Host}
 use Rattle.enet_host.specs.Calls.{address_named}
-use Rattle.enet_isolation.specs.Calls as call
+use Rattle.enet_network.specs.Calls as call
 use Rattle.enet_network.specs.declared.event.Answer.{Answer}
 use Rattle.enet_network.specs.declared.event.Side.{Side}
 use Rattle.enet_network.specs.declared.event.WorldEvent.{WorldEvent}

@@ -11,3 +11,12 @@ pub mod Numbers
 pub mod Headline
 pub mod Examples
 pub mod Alone
+pub mod Calls
+pub mod Common
+pub mod Deeds
+pub mod Falling
+pub mod IsolationLaw
+pub mod Alike
+pub mod Own
+pub mod Beginnings
+pub mod Ends

@@ -15,7 +15,7 @@ use Rattle.enet_connection.specs.Steps.{Event, Happens}
 use Rattle.enet_slot.specs.Slot.{SlotState}
 use Rattle.enet_host.specs.Host.{Host}
 use Rattle.enet_slot.specs.Calls.{event_of}
-use Rattle.enet_isolation.specs.Law.{IsAt}
+use Rattle.enet_network.specs.IsolationLaw.{IsAt}
 use Rattle.enet_network.specs.declared.mark.Mark.{Mark}
 use Rattle.enet_network.specs.declared.mark.MarkKind.TheVariants.{Data}
 use Rattle.enet_network.specs.Log.{Logged, packets_at, greatest_at}

@@ -14,8 +14,8 @@ use Rattle.enet_connection.specs.Law.{mtu_in}
 use Rattle.enet_slot.specs.Slot.{SlotState, name_of}
 use Rattle.enet_host.specs.Host.{Host, named}
 use Rattle.enet_host.specs.Opening.{available}
-use Rattle.enet_isolation.specs.Calls.{Call, Acts}
-use Rattle.enet_isolation.specs.Calls as call
+use Rattle.enet_network.specs.Calls.{Call, Acts}
+use Rattle.enet_network.specs.Calls as call
 use Rattle.enet_network.specs.declared.mark.Mark.{Mark}
 use Rattle.enet_network.specs.Log.{Logged, ChannelPackets, with_packets, with_submitted_packet, with_taken}
 use Rattle.enet_network.specs.Marks.{Counts}

@@ -24,10 +24,14 @@ ghost use Rattle.enet_network.specs.Examples.{IsInRange, CrossesOpened, CrossesJ
 use enet_host::HostCore;
 
 mod event;
+mod isolation;
 mod mark;
+mod settings;
 
 pub use event::{Answer, Side, WorldEvent};
+pub use isolation::{isolation, isolation_of};
 pub use mark::{Mark, MarkKind};
+pub use settings::{set_bandwidth, set_ping_interval, set_timeout, throttle_configure};
 
 /// What happens at a host is, for each of its connections, a number of events of the law of one connection.
 ///

@@ -16,13 +16,13 @@ use Rattle.enet_host.specs.Host.{Host, named, peer_in, with_generation}
 use Rattle.enet_host.specs.Opening.{available, no_channel, no_slot, no_memory}
 use Rattle.enet_host.specs.Foretelling.{next_name}
 use Rattle.enet_slot.specs.Hearing.{no_peer}
-use Rattle.enet_isolation.specs.Calls.{Call, Acts}
-use Rattle.enet_isolation.specs.Calls as call
-use Rattle.enet_isolation.specs.Common.{common_of}
-use Rattle.enet_isolation.specs.Falling as falling
-use Rattle.enet_isolation.specs.Law.{Fares, untouched, goes_on, begins}
-use Rattle.enet_isolation.proofs.OneCall.{one-call}
-use Rattle.enet_isolation.proofs.Receiving.{is_open}
+use Rattle.enet_network.specs.Calls.{Call, Acts}
+use Rattle.enet_network.specs.Calls as call
+use Rattle.enet_network.specs.Common.{common_of}
+use Rattle.enet_network.specs.Falling as falling
+use Rattle.enet_network.specs.IsolationLaw.{Fares, untouched, goes_on, begins}
+use Rattle.enet_network.proofs.OneCall.{one-call}
+use Rattle.enet_network.proofs.Receiving.{is_open}
 use Rattle.enet_network.specs.Network.{HostEnd, fresh_end}
 use Rattle.enet_network.specs.Steps.{end_in, end_in_slot, begun_in, begun}
 use Rattle.enet_network.proofs.Beginnings.{free-there}

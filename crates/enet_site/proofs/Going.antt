@@ -8,10 +8,10 @@ use Rattle.enet_slot.specs.Slot.{SlotState}
 use Rattle.enet_host.specs.Host.{Host, Keeps}
 use Rattle.enet_slot.specs.Giving.{no_address}
 use Rattle.enet_host.specs.Opening.{available}
-use Rattle.enet_isolation.specs.Calls.{Call, Acts}
-use Rattle.enet_isolation.specs.Calls as call
-use Rattle.enet_isolation.proofs.Keeping.{each-keeps}
-use Rattle.enet_isolation.proofs.Names.{IsThere}
+use Rattle.enet_network.specs.Calls.{Call, Acts}
+use Rattle.enet_network.specs.Calls as call
+use Rattle.enet_network.proofs.IsolationKeeping.{each-keeps}
+use Rattle.enet_network.proofs.Names.{IsThere}
 use Rattle.enet_network.specs.Log.{Logged}
 use Rattle.enet_network.specs.Network.{HostEnd, Site}
 use Rattle.enet_network.specs.Shown.{ShowsPeer}

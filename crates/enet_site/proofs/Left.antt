@@ -6,8 +6,8 @@ use Rattle.enet_types.specs.declared.event.PeerRef.{PeerRef}
 use Rattle.enet_types.specs.declared.refusal.Refusal.{Refusal}
 use Rattle.enet_slot.specs.Slot.{SlotState}
 use Rattle.enet_host.specs.Host.{Host}
-use Rattle.enet_isolation.specs.Calls.{Done, Acts}
-use Rattle.enet_isolation.specs.Calls as call
+use Rattle.enet_network.specs.Calls.{Done, Acts}
+use Rattle.enet_network.specs.Calls as call
 use Rattle.enet_network.specs.Network.{Site}
 use Rattle.enet_network.specs.Steps.{Calls, beside}
 use Rattle.enet_network.specs.World.{RefusesCall}

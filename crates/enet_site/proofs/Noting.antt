@@ -6,7 +6,7 @@ use Rattle.enet_types.specs.declared.refusal.Refusal.{Refusal}
 use Rattle.enet_host.specs.Host.{Host}
 use Rattle.enet_host.specs.Serving.{Serves}
 use Rattle.enet_slot.specs.Giving.{no_address}
-use Rattle.enet_isolation.specs.Calls as call
+use Rattle.enet_network.specs.Calls as call
 use Rattle.enet_network.specs.Log.{Logged}
 use Rattle.enet_network.specs.Network.{Site}
 use Rattle.enet_network.specs.Steps.{Around, Calls, LogsIf}

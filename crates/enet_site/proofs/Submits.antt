@@ -8,8 +8,8 @@ use Rattle.enet_sender.specs.CommandChoice as command_choice
 use Rattle.enet_connection.specs.Law.{mtu_in}
 use Rattle.enet_host.specs.Host.{Host, named}
 use Rattle.enet_host.specs.Foretelling.{refusal_of}
-use Rattle.enet_isolation.specs.Calls.{Done, Acts}
-use Rattle.enet_isolation.specs.Calls as call
+use Rattle.enet_network.specs.Calls.{Done, Acts}
+use Rattle.enet_network.specs.Calls as call
 use Rattle.enet_network.specs.Log.{Logged}
 use Rattle.enet_network.specs.Network.{HostEnd, is_same_name, with_end}
 use Rattle.enet_network.specs.Steps.{with_packet}

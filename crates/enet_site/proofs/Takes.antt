@@ -9,7 +9,7 @@ use Rattle.enet_types.specs.declared.refusal.Refusal.{Refusal}
 use Rattle.enet_host.specs.Host.{Host}
 use Rattle.enet_host.specs.Calls.{Takes}
 use Rattle.enet_host.specs.Foretelling.{teller_of, packet_of, Foretells}
-use Rattle.enet_isolation.specs.Calls as call
+use Rattle.enet_network.specs.Calls as call
 use Rattle.enet_network.specs.Log.{Logged}
 use Rattle.enet_network.specs.Network.{HostEnd, is_same_name, with_end}
 use Rattle.enet_network.specs.Steps.{with_event, after_event}

@@ -7,7 +7,7 @@ use Rattle.enet_peer.specs.Peering.{Peering}
 use Rattle.enet_connection.specs.LinkSteps.{Has}
 use Rattle.enet_host.specs.Host.{Host, Keeps}
 use Rattle.enet_slot.specs.Giving.{no_address}
-use Rattle.enet_isolation.specs.Calls.{Call}
+use Rattle.enet_network.specs.Calls.{Call}
 use Rattle.enet_network.specs.Log.{Logged}
 use Rattle.enet_network.specs.Network.{HostEnd, Site, fresh_end}
 use Rattle.enet_network.specs.Shown.{ShowsPeer}

@@ -3,8 +3,8 @@
 ghost use Rattle.std.specs.Prelude.{◌≡◌, ℕ, Some, Ok, Err, IfSome, IfNone, IfOk, IfErr, OnErr};
 ghost use Rattle.enet_types.specs.declared.address.Addr.{Addr};
 ghost use Rattle.enet_host.specs.Foretelling.{next_name};
-ghost use Rattle.enet_isolation.specs.Calls.{Acts};
-ghost use Rattle.enet_isolation.specs.Calls as call;
+ghost use Rattle.enet_network.specs.Calls.{Acts};
+ghost use Rattle.enet_network.specs.Calls as call;
 ghost use Rattle.enet_site.specs.Sites.{IsWhole, CallsOn};
 
 use enet_host::HostCore;

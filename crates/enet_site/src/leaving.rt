@@ -1,7 +1,7 @@
 //! A user ends a connection.
 
-ghost use Rattle.enet_isolation.specs.Calls.{Acts};
-ghost use Rattle.enet_isolation.specs.Calls as call;
+ghost use Rattle.enet_network.specs.Calls.{Acts};
+ghost use Rattle.enet_network.specs.Calls as call;
 
 use enet_host::HostCore;
 use enet_types::{DisconnectMode, PeerRef, Refusal};

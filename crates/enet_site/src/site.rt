@@ -6,7 +6,7 @@ ghost use Rattle.enet_types.specs.Config.{is_in_range};
 ghost use Rattle.enet_host.specs.Opening.{opened, joined};
 ghost use Rattle.enet_network.specs.Headline.{AreEnds, submitted_at, taken_at, events_at};
 ghost use Rattle.enet_network.specs.Network.{end_of, delivery_refusal};
-ghost use Rattle.enet_isolation.specs.Calls as call;
+ghost use Rattle.enet_network.specs.Calls as call;
 ghost use Rattle.enet_network.specs.Steps.{Calls, Hears, Happens, Called};
 ghost use Rattle.enet_network.specs.World.{joined_end, IsRefusedFor, RefusesCall};
 ghost use Rattle.enet_site.specs.Sites.{CallsAt};

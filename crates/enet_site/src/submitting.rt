@@ -5,8 +5,8 @@ ghost use Rattle.enet_connection.specs.Law.{mtu_in};
 ghost use Rattle.enet_host.specs.Host.{named};
 ghost use Rattle.enet_slot.specs.Calls.{submission};
 ghost use Rattle.enet_host.specs.Calls.{on_named};
-ghost use Rattle.enet_isolation.specs.Calls.{Acts};
-ghost use Rattle.enet_isolation.specs.Calls as call;
+ghost use Rattle.enet_network.specs.Calls.{Acts};
+ghost use Rattle.enet_network.specs.Calls as call;
 ghost use Rattle.enet_network.specs.Steps.{with_packet};
 ghost use Rattle.enet_site.specs.Sites.{IsWhole, CallsOn};
 

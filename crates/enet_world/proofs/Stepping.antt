@@ -4,7 +4,7 @@ use Rattle.enet_types.specs.declared.event.DisconnectMode.{DisconnectMode}
 use Rattle.enet_types.specs.declared.event.Event.{Event}
 use Rattle.enet_types.specs.declared.event.PeerRef.{PeerRef}
 use Rattle.enet_types.specs.declared.event.Received.{Received}
-use Rattle.enet_isolation.specs.Calls as call
+use Rattle.enet_network.specs.Calls as call
 use Rattle.enet_network.specs.declared.event.Answer.{Answer}
 use Rattle.enet_network.specs.declared.event.Answer.TheVariants as answers
 use Rattle.enet_network.specs.declared.event.Side.{Side}

@@ -1,5 +1,5 @@
 use Rattle.std.proofs.Common.{◌≡◌, ℕ, false, List, length, Some, sym, ap, subst, ◌∙◌, arith}
-use Rattle.enet_isolation.specs.Calls as call
+use Rattle.enet_network.specs.Calls as call
 use Rattle.enet_network.specs.Steps.{Called}
 use Rattle.enet_site.specs.Places.{Place}
 use Rattle.enet_fleet.specs.Fleets.{Fleet, place_of, is_host}
