@@ -4,8 +4,8 @@ use Rattle.std.proofs.lemmas.Bool.Decides.{nat_tests}
 use Rattle.std.proofs.lemmas.List.{append-nil}
 use Rattle.enet_types.specs.declared.packet.Packet.{Packet}
 use Rattle.enet_codec.specs.Message.{Message, acknowledge}
-use Rattle.enet_control.specs.declared.control.Control.{Control}
-use Rattle.enet_control.specs.declared.control.Control.TheVariants as control
+use Rattle.enet_senders.specs.declared.control.Control.{Control}
+use Rattle.enet_senders.specs.declared.control.Control.TheVariants as control
 use Rattle.enet_packets.specs.declared.incoming_packet.Dispatched.{Dispatched}
 use Rattle.enet_inbox.specs.Inbox.{Inbox}
 use Rattle.enet_inbox.specs.DataEffect.{DataEffect, unsequenced_taken}

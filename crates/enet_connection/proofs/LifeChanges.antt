@@ -4,11 +4,11 @@ use Rattle.std.specs.List.{slice_get, list_any}
 use Rattle.enet_types.specs.declared.packet.Packet.{Packet}
 use Rattle.enet_seq.specs.Numbering.{wire}
 use Rattle.enet_rtt.specs.declared.expiry.Patience.{Patience}
-use Rattle.enet_control.specs.declared.control.Control.TheVariants as control
-use Rattle.enet_control.specs.declared.control.Numbered.{Numbered}
-use Rattle.enet_control.specs.declared.control.SentControl.{SentControl}
-use Rattle.enet_control.specs.Controlling.{Commands, is_reliable, begun}
-use Rattle.enet_control.specs.Controlling as controlling
+use Rattle.enet_senders.specs.declared.control.Control.TheVariants as control
+use Rattle.enet_senders.specs.declared.control.Numbered.{Numbered}
+use Rattle.enet_senders.specs.declared.control.SentControl.{SentControl}
+use Rattle.enet_senders.specs.Controlling.{Commands, is_reliable, begun}
+use Rattle.enet_senders.specs.Controlling as controlling
 use Rattle.enet_sender.specs.Sender.{Next, next}
 use Rattle.enet_sender.specs.Sender as sender
 use Rattle.enet_sender.specs.Due.{SendingEnd}

@@ -16,7 +16,7 @@ use Rattle.enet_peer.specs.Peering.{Peering}
 use Rattle.enet_peer.specs.declared.parts.PeerEvent.{PeerEvent}
 use Rattle.enet_peer.specs.declared.parts.PeerEvent.TheVariants as told
 use Rattle.enet_peer.specs.declared.parts.PeerState.TheVariants as state
-use Rattle.enet_control.specs.Controlling as controlling
+use Rattle.enet_senders.specs.Controlling as controlling
 use Rattle.enet_receiver.specs.Foresight.{ReceivingEnd}
 use Rattle.enet_connection.specs.Link.{Answer, is_late}
 use Rattle.enet_connection.specs.WireLink.{WireLink, answered, marks, stops_receiving}

@@ -23,7 +23,7 @@ use Rattle.enet_connection.specs.Linked.{sender_in, receiver_in}
 use Rattle.enet_connection.specs.Invariant.{AreInPlace, IsTidy, is_young, is_agreed}
 use Rattle.enet_receiver.proofs.Sequenced.{sequenced-received, sequenced-cleared}
 use Rattle.enet_receiver.specs.Sequenced.{HasSequenced}
-use Rattle.enet_control.specs.Controlling.{after_acknowledgement}
+use Rattle.enet_senders.specs.Controlling.{after_acknowledgement}
 use Rattle.enet_connection.proofs.Packing.{idle-next, places-set}
 use Rattle.enet_connection.proofs.Moves.{senders-after, after-places, marked-at, marked-places}
 use Rattle.enet_connection.proofs.Arrivals.{get-take, narrowed-places}

@@ -6,12 +6,12 @@ use Rattle.enet_codec.specs.declared.command.Offer.{Offer}
 use Rattle.enet_codec.specs.Message.{Message, connect}
 use Rattle.enet_connect.specs.declared.terms.Terms.{Terms}
 use Rattle.enet_connect.specs.Verification.{verification_of}
-use Rattle.enet_control.specs.declared.control.Control.{Control}
-use Rattle.enet_control.specs.declared.control.Control.TheVariants as control
-use Rattle.enet_control.specs.declared.control.Numbered.{Numbered}
-use Rattle.enet_control.specs.declared.control.SentControl.{SentControl}
-use Rattle.enet_control.specs.Controlling.{Commands, Next, is_reliable, is_in_span, begun, again, next_queued, next_resent, next_of, next, after_acknowledgement, without_place, position_of, marked, body_of, message_of}
-use Rattle.enet_control.specs.Controlling as controlling
+use Rattle.enet_senders.specs.declared.control.Control.{Control}
+use Rattle.enet_senders.specs.declared.control.Control.TheVariants as control
+use Rattle.enet_senders.specs.declared.control.Numbered.{Numbered}
+use Rattle.enet_senders.specs.declared.control.SentControl.{SentControl}
+use Rattle.enet_senders.specs.Controlling.{Commands, Next, is_reliable, is_in_span, begun, again, next_queued, next_resent, next_of, next, after_acknowledgement, without_place, position_of, marked, body_of, message_of}
+use Rattle.enet_senders.specs.Controlling as controlling
 use Rattle.enet_fragment.specs.DataCommand.{wire_body}
 use Rattle.enet_fragment.specs.DataCommand as fragment
 use Rattle.enet_sender.specs.CommandChoice as command_choice

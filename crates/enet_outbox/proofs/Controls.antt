@@ -2,8 +2,8 @@
 use Rattle.std.proofs.Common.{◌≡◌, ℕ, ◌+◌, ◌-◌, ◌<◌, ◌≤◌, List, length, refl, sym, ap, ◌∙◌, subst, arith, Bool, true, false, cond, Option, Some, None}
 use Rattle.enet_codec.specs.Message.{IsMessage, canonical}
 use Rattle.enet_codec.specs.Writing.{Puts}
-use Rattle.enet_control.specs.declared.outgoing.Written.TheVariants as written
-use Rattle.enet_control.specs.Controlling.{Commands, Next, next, message_of, Did}
+use Rattle.enet_senders.specs.declared.outgoing.Written.TheVariants as written
+use Rattle.enet_senders.specs.Controlling.{Commands, Next, next, message_of, Did}
 use Rattle.enet_outbox.specs.declared.parts.Pace.{Pace}
 use Rattle.enet_outbox.specs.declared.packing.Progress.{Progress}
 use Rattle.enet_outbox.specs.Outbox.{Outbox}

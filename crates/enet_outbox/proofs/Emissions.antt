@@ -6,7 +6,7 @@ use Rattle.enet_codec.specs.declared.header.Header.{Header}
 use Rattle.enet_codec.specs.Header.{header_text}
 use Rattle.enet_codec.specs.Message.{Message, canonical}
 use Rattle.enet_throttle.specs.Throttle.{Throttling}
-use Rattle.enet_control.specs.Controlling.{Commands}
+use Rattle.enet_senders.specs.Controlling.{Commands}
 use Rattle.enet_sender.specs.Due.{SendingEnd}
 use Rattle.enet_outbox.specs.declared.parts.Acknowledgement.{Acknowledgement}
 use Rattle.enet_outbox.specs.declared.parts.Unsequenced.{Unsequenced}

@@ -2,10 +2,10 @@
 use Rattle.std.proofs.Common.{◌≡◌, ℕ, zero, suc, Bool, true, false, ◌||◌, ◌&&◌, not, nat_lt, ◌==◌, List, [], ◌∷◌, length, refl, sym, ap, ◌∙◌, arith, Option, Some, None}
 use Rattle.std.proofs.lemmas.Bool.Decides.{nat_tests}
 use Rattle.std.specs.List.{slice_get, list_all, list_any, position}
-use Rattle.enet_control.specs.Controlling.{Commands}
-use Rattle.enet_control.specs.Controlling as controlling
-use Rattle.enet_control.specs.declared.control.Numbered.{Numbered}
-use Rattle.enet_control.specs.declared.control.SentControl.{SentControl}
+use Rattle.enet_senders.specs.Controlling.{Commands}
+use Rattle.enet_senders.specs.Controlling as controlling
+use Rattle.enet_senders.specs.declared.control.Numbered.{Numbered}
+use Rattle.enet_senders.specs.declared.control.SentControl.{SentControl}
 use Rattle.enet_fragment.specs.declared.data.DataCommand.{DataCommand}
 use Rattle.enet_seq.specs.Numbering.{Numbering, wire}
 use Rattle.enet_sender.specs.declared.sent.Sent.{Sent}

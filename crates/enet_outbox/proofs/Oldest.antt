@@ -3,7 +3,7 @@ use Rattle.std.proofs.Common.{◌≡◌, ◌-◌, ◌≤◌, true, List, [], ◌
 use Rattle.std.specs.List.{slice_get}
 use Rattle.std.proofs.lemmas.Bool.{le-leb}
 use Rattle.enet_codec.specs.Message.{Message}
-use Rattle.enet_control.specs.Controlling as controlling
+use Rattle.enet_senders.specs.Controlling as controlling
 use Rattle.enet_fragment.specs.DataCommand.{message_of}
 use Rattle.enet_outbox.specs.declared.parts.Acknowledgement.{Acknowledgement}
 use Rattle.enet_outbox.specs.declared.parts.Pace.{Pace}

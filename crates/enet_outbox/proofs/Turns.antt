@@ -8,9 +8,9 @@ use Rattle.enet_seq.specs.Numbering.{Numbering}
 use Rattle.enet_fragment.specs.declared.data.DataCommand.{DataCommand}
 use Rattle.enet_sender.specs.declared.sent.Sent.{Sent}
 use Rattle.enet_sender.specs.Sender.{Sender, Next, next, next_of, next_queued, next_resent, first_sent, resent, begun, again, may_go, is_in_span, is_more, skipped, with_skipped}
-use Rattle.enet_control.specs.declared.control.Numbered.{Numbered}
-use Rattle.enet_control.specs.declared.control.SentControl.{SentControl}
-use Rattle.enet_control.specs.Controlling as control
+use Rattle.enet_senders.specs.declared.control.Numbered.{Numbered}
+use Rattle.enet_senders.specs.declared.control.SentControl.{SentControl}
+use Rattle.enet_senders.specs.Controlling as control
 
 abbrev pub one_if : Bool → ℕ
 one_if true = 1

@@ -8,7 +8,7 @@ use Rattle.enet_codec.specs.Header.{header_text}
 use Rattle.enet_codec.specs.Message.{IsMessage, Message, acknowledge, send_unsequenced, canonical}
 use Rattle.enet_seq.specs.Numbering.{wire}
 use Rattle.enet_throttle.specs.Throttle.{is_admitted, next_counter, transit}
-use Rattle.enet_control.specs.Controlling as controlling
+use Rattle.enet_senders.specs.Controlling as controlling
 use Rattle.enet_fragment.specs.DataCommand.{message_of}
 use Rattle.enet_sender.specs.declared.outgoing.Kind.{Kind}
 use Rattle.enet_sender.specs.declared.outgoing.Kind.TheVariants.{Reliable, Begins, More}

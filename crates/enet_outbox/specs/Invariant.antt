@@ -1,7 +1,7 @@
 -- What the fields of an outbox keep.
 use Rattle.std.specs.Prelude.{◌≡◌, ℕ, ◌≤◌, Bool, true, IsTrue, List, length, sum_by, Option, Some, None, slice_set}
 use Rattle.std.specs.List.{list_all}
-use Rattle.enet_control.specs.Controlling.{is_idle}
+use Rattle.enet_senders.specs.Controlling.{is_idle}
 use Rattle.enet_sender.specs.Sender.{bytes_in_transit, after_acknowledgement}
 use Rattle.enet_sender.specs.Due.{SendingEnd}
 use Rattle.enet_outbox.specs.Outbox.{Outbox, has_no_packet, has_no_reliable}

@@ -8,9 +8,9 @@ use Rattle.enet_rtt.specs.declared.expiry.Expiry.{Expiry}
 use Rattle.enet_rtt.specs.declared.expiry.Expiry.TheVariants.{No, Resend, End}
 use Rattle.enet_throttle.specs.Throttle.{Throttling}
 use Rattle.enet_throttle.specs.Throttle as throttle
-use Rattle.enet_control.specs.declared.control.Control.{Control}
-use Rattle.enet_control.specs.Controlling.{Commands, nothing_controlled, is_idle}
-use Rattle.enet_control.specs.Controlling as controlling
+use Rattle.enet_senders.specs.declared.control.Control.{Control}
+use Rattle.enet_senders.specs.Controlling.{Commands, nothing_controlled, is_idle}
+use Rattle.enet_senders.specs.Controlling as controlling
 use Rattle.enet_sender.specs.CommandChoice.{Packet, is_flagged_reliable, is_long}
 use Rattle.enet_sender.specs.Sender.{bytes_in_transit, left}
 use Rattle.enet_sender.specs.Sender as sender

@@ -3,7 +3,7 @@ use Rattle.std.specs.Prelude.{◌≡◌, ℕ, ◌+◌, ◌%◌, ◌==◌, not, B
 use Rattle.std.specs.List.{AllByRecursion, list_any, range_with_len}
 use Rattle.enet_codec.specs.Message.{IsMessage, Message, canonical}
 use Rattle.enet_throttle.specs.Throttle.{Throttling, is_admitted, next_counter}
-use Rattle.enet_control.specs.Controlling.{Commands}
+use Rattle.enet_senders.specs.Controlling.{Commands}
 use Rattle.enet_sender.specs.Due.{SendingEnd}
 use Rattle.enet_outbox.specs.declared.parts.Acknowledgement.{Acknowledgement}
 use Rattle.enet_outbox.specs.declared.parts.Unsequenced.{Unsequenced}

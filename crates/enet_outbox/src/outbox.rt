@@ -7,16 +7,15 @@ ghost use Rattle.std.specs.List.{list_any};
 ghost use Rattle.enet_fragment.specs.Cutting.{piece_length, piece_count};
 ghost use Rattle.enet_sender.specs.Due.{SendingEnd};
 ghost use Rattle.enet_sender.specs.Sender as sender;
-ghost use Rattle.enet_control.specs.Controlling.{is_idle};
+ghost use Rattle.enet_senders.specs.Controlling.{is_idle};
 ghost use Rattle.enet_outbox.specs.Outbox.{after_acknowledgement, after_lateness, cleared, empty_outbox, is_done, is_quiet, lateness, marked, matched_by, narrowed, sampled, submitted, transit_of, with_acknowledgement, with_control, with_unsequenced};
 
 use crate::{Acknowledgement, Matched, Unsequenced, lists};
 use bytes::Bytes;
 use enet_codec::Refusal;
-use enet_control::{Control, ControlChannel};
+use enet_senders::{Control, ControlChannel, Senders};
 use enet_fragment::FRAGMENT_OVERHEAD;
 use enet_rtt::{Expiry, Patience};
-use enet_senders::Senders;
 use enet_seq::after;
 use enet_throttle::Throttle;
 use std::alloc::Global;

@@ -1,7 +1,7 @@
 //! What an outbox is made of.
 
 use bytes::Bytes;
-use enet_control::Control;
+use enet_senders::Control;
 
 /// An acknowledgement that waits to be put out.
 #[derive(Clone, Copy)]

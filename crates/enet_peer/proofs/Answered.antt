@@ -8,8 +8,8 @@ use Rattle.enet_types.specs.declared.stop.Stop.{Stop}
 use Rattle.enet_types.specs.declared.stop.Stop.TheVariants as stop
 use Rattle.enet_rtt.specs.declared.expiry.Patience.{Patience}
 use Rattle.enet_rtt.specs.declared.expiry.Expiry.TheVariants.{No, Resend, End}
-use Rattle.enet_control.specs.declared.control.SentControl.{SentControl}
-use Rattle.enet_control.specs.Controlling as controlling
+use Rattle.enet_senders.specs.declared.control.SentControl.{SentControl}
+use Rattle.enet_senders.specs.Controlling as controlling
 use Rattle.enet_sender.specs.declared.sent.Sent.{Sent}
 use Rattle.enet_sender.specs.Sender as sender
 use Rattle.enet_sender.specs.Due.{SendingEnd}

@@ -18,12 +18,12 @@ use Rattle.enet_connect.specs.declared.terms.Terms.{Terms}
 use Rattle.enet_connect.specs.declared.server.Server.{Server}
 use Rattle.enet_connect.specs.Terms.{granted}
 use Rattle.enet_connect.specs.Verification.{asked, confirmed}
-use Rattle.enet_control.specs.declared.control.Control.{Control}
-use Rattle.enet_control.specs.declared.control.Control.TheVariants as control
-use Rattle.enet_control.specs.declared.control.Numbered.{Numbered}
-use Rattle.enet_control.specs.declared.control.SentControl.{SentControl}
-use Rattle.enet_control.specs.Controlling.{Commands}
-use Rattle.enet_control.specs.Controlling as controlling
+use Rattle.enet_senders.specs.declared.control.Control.{Control}
+use Rattle.enet_senders.specs.declared.control.Control.TheVariants as control
+use Rattle.enet_senders.specs.declared.control.Numbered.{Numbered}
+use Rattle.enet_senders.specs.declared.control.SentControl.{SentControl}
+use Rattle.enet_senders.specs.Controlling.{Commands}
+use Rattle.enet_senders.specs.Controlling as controlling
 use Rattle.enet_fragment.specs.declared.data.DataCommand.{DataCommand}
 use Rattle.enet_fragment.specs.DataCommand.{data_of}
 use Rattle.enet_receiver.specs.declared.took.Took.{Took}

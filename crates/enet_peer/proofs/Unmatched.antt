@@ -3,8 +3,8 @@ use Rattle.std.proofs.Common.{◌≡◌, ℕ, zero, suc, ◌==◌, Bool, true, f
 use Rattle.std.specs.Prelude.{slice_get, slice_set}
 use Rattle.std.proofs.lemmas.List.{set-get_or}
 use Rattle.std.proofs.lemmas.Option.{get_or_from_slice_get}
-use Rattle.enet_control.specs.declared.control.SentControl.{SentControl}
-use Rattle.enet_control.specs.Controlling.{Commands, control_at, control_of, without_place, position_of}
+use Rattle.enet_senders.specs.declared.control.SentControl.{SentControl}
+use Rattle.enet_senders.specs.Controlling.{Commands, control_at, control_of, without_place, position_of}
 use Rattle.enet_sender.specs.declared.sent.Sent.{Sent}
 use Rattle.enet_sender.specs.Sender.{size_at, size_of}
 use Rattle.enet_sender.specs.Sender as sender

@@ -9,8 +9,8 @@ use Rattle.enet_rtt.specs.Expiry.{patience_with_defaults, or_default_number}
 use Rattle.enet_rtt.specs.declared.expiry.Expiry.{Expiry}
 use Rattle.enet_rtt.specs.declared.expiry.Expiry.TheVariants.{No, Resend, End}
 use Rattle.enet_throttle.specs.Throttle.{with_interval, limited}
-use Rattle.enet_control.specs.declared.control.Control.TheVariants as control
-use Rattle.enet_control.specs.Controlling.{is_idle}
+use Rattle.enet_senders.specs.declared.control.Control.TheVariants as control
+use Rattle.enet_senders.specs.Controlling.{is_idle}
 use Rattle.enet_fragment.specs.Cutting.{piece_count}
 use Rattle.enet_sender.specs.CommandChoice.{Packet, fragment_limit}
 use Rattle.enet_outbox.specs.declared.parts.Pace.{Pace}

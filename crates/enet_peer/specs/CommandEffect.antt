@@ -11,8 +11,8 @@ use Rattle.enet_throttle.specs.Throttle.{with_interval}
 use Rattle.enet_throttle.specs.Bandwidth.{window_size}
 use Rattle.enet_connect.specs.declared.terms.Terms.{Terms}
 use Rattle.enet_connect.specs.Verification.{confirmed}
-use Rattle.enet_control.specs.declared.control.Control.{Control}
-use Rattle.enet_control.specs.declared.control.Control.TheVariants as control
+use Rattle.enet_senders.specs.declared.control.Control.{Control}
+use Rattle.enet_senders.specs.declared.control.Control.TheVariants as control
 use Rattle.enet_inbox.specs.Inbox as inbox
 use Rattle.enet_inbox.specs.DataEffect.{DataEffect, arrival, passed_over}
 use Rattle.enet_inbox.specs.DataEffect as coming

@@ -1,6 +1,6 @@
 -- How a connection ends.
 use Rattle.std.specs.Prelude.{ℕ, Bool, true, false, ◌&&◌, if◌then◌else◌, None}
-use Rattle.enet_control.specs.declared.control.Control.TheVariants as control
+use Rattle.enet_senders.specs.declared.control.Control.TheVariants as control
 use Rattle.enet_inbox.specs.Inbox.{forgotten}
 use Rattle.enet_inbox.specs.Inbox as inbox
 use Rattle.enet_outbox.specs.Outbox.{with_control, is_done}

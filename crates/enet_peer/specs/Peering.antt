@@ -9,7 +9,7 @@ use Rattle.enet_connect.specs.declared.terms.Terms.{Terms}
 use Rattle.enet_connect.specs.declared.server.Server.{Server}
 use Rattle.enet_connect.specs.Terms.{granted}
 use Rattle.enet_connect.specs.Verification.{asked, verification_of}
-use Rattle.enet_control.specs.declared.control.Control.TheVariants as control
+use Rattle.enet_senders.specs.declared.control.Control.TheVariants as control
 use Rattle.enet_inbox.specs.Inbox.{Inbox, empty_inbox}
 use Rattle.enet_outbox.specs.Outbox.{Outbox, empty_outbox, with_control}
 use Rattle.enet_peer.specs.declared.parts.PeerState.{PeerState}

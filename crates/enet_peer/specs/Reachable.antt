@@ -2,9 +2,9 @@
 use Rattle.std.specs.Prelude.{◌≡◌, ℕ, true, List, [], ◌∷◌, Option, Some, is_some, slice_get}
 use Rattle.enet_codec.specs.declared.command.Head.{Head}
 use Rattle.enet_codec.specs.Message.{Message}
-use Rattle.enet_control.specs.declared.control.Control.TheVariants as control
-use Rattle.enet_control.specs.declared.control.Numbered.{Numbered}
-use Rattle.enet_control.specs.Controlling.{Commands}
+use Rattle.enet_senders.specs.declared.control.Control.TheVariants as control
+use Rattle.enet_senders.specs.declared.control.Numbered.{Numbered}
+use Rattle.enet_senders.specs.Controlling.{Commands}
 use Rattle.enet_receiver.specs.Foresight.{ReceivingEnd}
 use Rattle.enet_sender.specs.Due.{SendingEnd}
 use Rattle.enet_outbox.specs.declared.parts.Acknowledgement.{Acknowledgement}

@@ -11,7 +11,7 @@ ghost use Rattle.enet_peer.specs.CommandEffect.{obeyed, wants_memory, is_kept, O
 use crate::{Peer, PeerState};
 use enet_codec::{Command, Head, Stop, Verify};
 use enet_connect::confirm;
-use enet_control::Control;
+use enet_senders::Control;
 use enet_inbox::Foreseen;
 use enet_outbox::{Acknowledgement, Matched};
 use enet_rtt::round_trip_sample;

@@ -5,7 +5,7 @@ ghost use Rattle.enet_peer.specs.Endings.{dropped, ended, freed, settled, discon
 ghost use Rattle.enet_peer.specs.Peered.{places_of};
 
 use crate::{Peer, PeerState};
-use enet_control::Control;
+use enet_senders::Control;
 
 impl Peer {
     /// Drops all that is undispatched, queued or sent, acknowledgements too. Then there is room for one command of channel

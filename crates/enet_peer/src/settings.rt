@@ -5,7 +5,7 @@ ghost use Rattle.enet_peer.specs.Calls.{is_connected, has_controls, with_bandwid
 
 use crate::Peer;
 use enet_codec::Refusal;
-use enet_control::Control;
+use enet_senders::Control;
 use enet_rtt::Patience;
 
 impl Peer {

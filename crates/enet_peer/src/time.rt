@@ -5,7 +5,7 @@ ghost use Rattle.enet_peer.specs.Endings.{cut_off};
 ghost use Rattle.enet_peer.specs.Calls.{after_timeouts, is_pinged, pinged, ticked};
 
 use crate::{Peer, PeerState};
-use enet_control::Control;
+use enet_senders::Control;
 use enet_rtt::{Expiry, elapsed};
 
 impl Peer {

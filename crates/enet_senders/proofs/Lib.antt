@@ -1,2 +1,4 @@
 pub mod Frames
 pub mod Each
+pub mod Marking
+pub mod Nexts

@@ -1,1 +1,3 @@
 pub mod Senders
+pub mod Controlling
+pub mod Invariant

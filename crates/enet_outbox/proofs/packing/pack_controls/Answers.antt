@@ -1,6 +1,6 @@
 use Rattle.std.proofs.Common.{◌<◌, ℕ, ◌∙◌, ap, sym, subst, arith}
-use Rattle.enet_control.specs.Controlling.{Commands, Did, next}
-use Rattle.enet_control.specs.declared.outgoing.Written.TheVariants as written
+use Rattle.enet_senders.specs.Controlling.{Commands, Did, next}
+use Rattle.enet_senders.specs.declared.outgoing.Written.TheVariants as written
 use Rattle.enet_outbox.specs.Emission.{control_turns, with_one_control}
 use Rattle.enet_outbox.specs.Packing.{place_in}
 use Rattle.enet_outbox.proofs.Fillings.{leads-by}

@@ -1,9 +1,0 @@
--- Commands are marked one by one.
-use Rattle.std.proofs.Common.{◌≡◌, ℕ, ◌+◌, ◌<◌, List, ◌++◌, length, map, set, get_or, take, drop}
-use Rattle.std.proofs.lemmas.List.Edits.{map_over_more}
-use Rattle.enet_control.specs.declared.control.SentControl.{SentControl}
-use Rattle.enet_control.specs.Controlling.{marked}
-
-pub map_marked : (now : ℕ) (xs ys : List SentControl) (i : ℕ) (x : SentControl) → i < length xs → ys ≡ map (marked now) (take i xs) ++ drop i xs → x ≡ get_or ys i x
-    → set ys i (marked now x) ≡ map (marked now) (take (i + 1) xs) ++ drop (i + 1) xs
-map_marked now xs ys i x = map_over_more (marked now) xs ys i x

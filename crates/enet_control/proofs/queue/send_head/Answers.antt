@@ -1,5 +1,0 @@
-use Rattle.std.proofs.Common.{rules}
-use Rattle.enet_control.proofs.queue.send_head.Goals as goal
-
-pub returns-then-is_reliable-clause-sent : goal.returns-then-is_reliable-clause-sent
-returns-then-is_reliable-clause-sent c = search rules

@@ -1,2 +1,0 @@
-pub mod Controlling
-pub mod Invariant

@@ -1,0 +1,173 @@
+//! What is queued and what is sent.
+
+ghost use Rattle.std.specs.Prelude.{◌≡◌, ◌+◌, ◌<◌, ◌≤◌, List, ◌∷◌, [], ◌++◌, IsTrue, IfSome, IfNone, false, if◌then◌else◌, length, drop, slice_get, slice_set, Some, map};
+ghost use Rattle.std.specs.List.{position, list_any};
+ghost use Rattle.std.specs.VecDeque.{deque_len, deque_capacity};
+ghost use Rattle.enet_codec.specs.Message.{IsMessage, canonical};
+ghost use Rattle.enet_codec.specs.Writing.{Puts};
+ghost use Rattle.enet_senders.specs.declared.control.Numbered.{Numbered};
+ghost use Rattle.enet_senders.specs.declared.control.SentControl.{SentControl};
+ghost use Rattle.enet_senders.specs.Controlling.{Commands, again, begun, ends, is_in_span, is_late, is_reliable, lateness, marked, message_of, position_of};
+ghost use Rattle.enet_senders.specs.Invariant.{KeepsRoom, room_of};
+
+use crate::{Numbered, SentControl};
+use enet_codec::write_command;
+use enet_rtt::{Expiry, Patience, Transmission};
+use enet_seq::ahead;
+use std::collections::VecDeque;
+
+/// How many numbers may be unacknowledged at a time (our profile).
+const SPAN: u16 = 8192;
+
+/// Makes room for one command more; whether there is. What has to grow doubles.
+pub fn make_room(queued: &mut VecDeque<Numbered>, sent: &mut VecDeque<SentControl>) -> bool
+    requires { KeepsRoom (deque_len queued.old) (deque_capacity queued.old) (deque_len sent.old) (deque_capacity sent.old) }
+    ensures kept { KeepsRoom (deque_len queued.new) (deque_capacity queued.new) (deque_len sent.new) (deque_capacity sent.new) }
+    ensures queued { queued.new.items ≡ queued.old.items }
+    ensures sent { sent.new.items ≡ sent.old.items }
+    ensures room { IsTrue result → 1 ≤ room_of (deque_len queued.new) (deque_capacity queued.new) (deque_len sent.new) (deque_capacity sent.new) }
+    ensures refused { result ≡ false → room_of (deque_len queued.new) (deque_capacity queued.new) (deque_len sent.new) (deque_capacity sent.new)
+        ≡ room_of (deque_len queued.old) (deque_capacity queued.old) (deque_len sent.old) (deque_capacity sent.old) }
+    ensures full { result ≡ false → room_of (deque_len queued.old) (deque_capacity queued.old) (deque_len sent.old) (deque_capacity sent.old) ≡ 0 }
+    ensures grows { room_of (deque_len queued.old) (deque_capacity queued.old) (deque_len sent.old) (deque_capacity sent.old)
+        ≤ room_of (deque_len queued.new) (deque_capacity queued.new) (deque_len sent.new) (deque_capacity sent.new) }
+    ensures idle { 1 ≤ room_of (deque_len queued.old) (deque_capacity queued.old) (deque_len sent.old) (deque_capacity sent.old)
+        → room_of (deque_len queued.new) (deque_capacity queued.new) (deque_len sent.new) (deque_capacity sent.new)
+        ≡ room_of (deque_len queued.old) (deque_capacity queued.old) (deque_len sent.old) (deque_capacity sent.old) }
+{
+    let more = queued.len() + 1;
+    let is_sent_full = sent.capacity() - sent.len() < more;
+    if is_sent_full && sent.reserve_exact(sent.len() + more).is_err() {
+        return false;
+    }
+    let is_queue_full = queued.capacity() == queued.len();
+    !is_queue_full || queued.reserve_exact(more).is_ok()
+}
+
+/// The first sent command that is due to go again.
+pub fn position_of_due(sent: &VecDeque<SentControl>) -> Option<usize>
+    ensures place { result ≡ position (λ (p : SentControl). p.transmission.due) sent.now.items }
+    ensures bound { IfSome result (λ place. place < deque_len sent.now) }
+{
+    sent.iter().position(|sent| sent.transmission.due)
+}
+
+/// Where the sent command of this number stands.
+pub fn position_of(sent: &VecDeque<SentControl>, number: u16) -> Option<usize>
+    ensures { result ≡ position_of number sent.now.items }
+{
+    sent.iter().position(|sent| sent.command.number == number)
+}
+
+/// Whether the span lets a command of this number go for the first time.
+pub fn is_in_span(sent: &VecDeque<SentControl>, number: u16) -> bool
+    ensures { result ≡ is_in_span sent.now.items number }
+{
+    match sent.front() {
+        None => true,
+        Some(oldest) => ahead(oldest.command.number, number) < SPAN,
+    }
+}
+
+/// Writes a command at a place, where it fits.
+pub fn put(buf: &mut [u8], at: usize, command: &Numbered) -> Option<usize>
+    ensures some { IfSome result (λ past. Puts buf.old at (canonical (message_of command.now)) buf.new past) }
+    ensures message { IfSome result (λ past. IsMessage (message_of command.now)) }
+    ensures none { IfNone result (buf.new ≡ buf.old) }
+    ensures room { IfNone result (length buf.old < at + length (canonical (message_of command.now))) }
+{
+    write_command(buf, at, &command.command())
+}
+
+/// The command at this place goes once more.
+pub fn send_again(sent: &mut VecDeque<SentControl>, place: usize, now: u32)
+    requires { place < deque_len sent.old }
+    ensures sent { (p : SentControl) → slice_get sent.old.items place ≡ Some p → sent.new.items ≡ slice_set sent.old.items place (again now p) }
+    ensures len { deque_len sent.new ≡ deque_len sent.old }
+    ensures capacity { deque_capacity sent.new ≡ deque_capacity sent.old }
+{
+    sent[place].transmission.send_again(now);
+}
+
+/// The head of the queue goes for the first time, and is kept where it is acknowledged.
+pub fn send_head(
+    queued: &mut VecDeque<Numbered>,
+    sent: &mut VecDeque<SentControl>,
+    now: u32,
+    timeout: u32,
+)
+    requires some { 0 < deque_len queued.old }
+    requires kept { KeepsRoom (deque_len queued.old) (deque_capacity queued.old) (deque_len sent.old) (deque_capacity sent.old) }
+    ensures kept { KeepsRoom (deque_len queued.new) (deque_capacity queued.new) (deque_len sent.new) (deque_capacity sent.new) }
+    ensures queued { queued.new.items ≡ drop 1 queued.old.items }
+    ensures sent { (n : Numbered) (rest : List Numbered) → queued.old.items ≡ n ∷ rest
+        → sent.new.items ≡ (if is_reliable n.control then sent.old.items ++ begun now timeout n ∷ [] else sent.old.items) }
+    ensures room { room_of (deque_len queued.old) (deque_capacity queued.old) (deque_len sent.old) (deque_capacity sent.old)
+        ≤ room_of (deque_len queued.new) (deque_capacity queued.new) (deque_len sent.new) (deque_capacity sent.new) }
+{
+    let Some(command) = queued.pop_front() else {
+        unreachable!()
+    };
+    if command.control.is_reliable() {
+        sent.push_back_reserved(SentControl {
+            command,
+            transmission: Transmission::begin(now, timeout),
+        });
+    }
+}
+
+/// The first sent command over which the peer has timed out.
+fn place_of_end(sent: &VecDeque<SentControl>, now: u32, patience: &Patience) -> Option<usize>
+    ensures { result ≡ position (ends now patience.now) sent.now.items }
+{
+    sent.iter()
+        .position(|sent| sent.transmission.ends(now, patience))
+}
+
+/// The first sent command that is late.
+fn place_of_late(sent: &VecDeque<SentControl>, now: u32) -> Option<usize>
+    ensures { result ≡ position (is_late now) sent.now.items }
+{
+    sent.iter().position(|sent| sent.transmission.is_late(now))
+}
+
+/// Whether the peer has timed out over a sent command.
+pub fn any_ends(sent: &VecDeque<SentControl>, now: u32, patience: &Patience) -> bool
+    ensures { result ≡ list_any (ends now patience.now) sent.now.items }
+{
+    sent.iter()
+        .any(|sent| sent.transmission.ends(now, patience))
+}
+
+/// Whether a sent command is late.
+pub fn any_late(sent: &VecDeque<SentControl>, now: u32) -> bool
+    ensures { result ≡ list_any (is_late now) sent.now.items }
+{
+    sent.iter().any(|sent| sent.transmission.is_late(now))
+}
+
+/// Marks all that is late as due to go again.
+#[tactic(auto, using(crate::proofs::Marking::map_marked))]
+pub fn mark(sent: &mut VecDeque<SentControl>, now: u32)
+    ensures sent { sent.new.items ≡ map (marked now) sent.old.items }
+    ensures len { deque_len sent.new ≡ deque_len sent.old }
+    ensures capacity { deque_capacity sent.new ≡ deque_capacity sent.old }
+{
+    for place in 0..sent.len() {
+        sent[place].transmission.mark(now);
+    }
+}
+
+/// What a moment brings.
+pub fn lateness(sent: &VecDeque<SentControl>, now: u32, patience: &Patience) -> Expiry
+    ensures { (c : Commands) → c.sent ≡ sent.now.items → result ≡ lateness now patience.now c }
+{
+    if place_of_end(sent, now, patience).is_some() {
+        return Expiry::End;
+    }
+    if place_of_late(sent, now).is_some() {
+        Expiry::Resend
+    } else {
+        Expiry::No
+    }
+}
