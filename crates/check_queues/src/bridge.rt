@@ -2,10 +2,9 @@
 
 use crate::opening::{bell, one_seat};
 use bytes::Bytes;
-use enet_bridge::{Desk, Pumped, QueueSource, Source};
+use enet_bridge::{Bell, Desk, Pumped, QueueSource, Source};
 use enet_submit::Order;
 use enet_types::{PeerRef, Refusal};
-use enet_wire::Bell;
 use std::alloc::Global;
 use std::net::Net;
 use std::sync::Wait;

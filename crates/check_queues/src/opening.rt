@@ -4,7 +4,7 @@ ghost use Rattle.enet_submit.specs.Words.{IsSeatOf, IsDrainOf};
 
 use enet_submit::{Drain, Seat, SubmitQueue};
 use enet_types::{Addr, Refusal};
-use enet_wire::{Bell, MioWire};
+use enet_bridge::{Bell, MioWire};
 use std::alloc::Global;
 use std::net::Net;
 use std::sync::Arc;

@@ -6,7 +6,7 @@ ghost use Rattle.enet_bridge.specs.Ends.{orders};
 use crate::waiting::{Pumped, pump};
 use enet_submit::{Finished, Order, Seat, SubmitQueue};
 use enet_types::Refusal;
-use enet_wire::Bell;
+use crate::Bell;
 use std::alloc::Global;
 use std::collections::VecDeque;
 use std::sync::Wait;

@@ -3,7 +3,7 @@ ghost use Rattle.std.specs.Prelude.{◌≡◌};
 ghost use Rattle.enet_submit.specs.Words.{IsDrainOf};
 
 use enet_submit::{Drain, Submission, SubmitQueue};
-use enet_wire::Bell;
+use crate::Bell;
 use std::collections::VecDeque;
 use std::marker::Model;
 use std::sync::Wait;

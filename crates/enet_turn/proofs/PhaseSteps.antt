@@ -7,8 +7,8 @@ use Rattle.enet_types.specs.declared.event.Event.{Event}
 use Rattle.enet_types.specs.declared.refusal.Refusal.{Refusal}
 use Rattle.enet_submit.specs.declared.order.Order.{Order}
 use Rattle.enet_submit.specs.declared.order.Submission.{Submission}
-use Rattle.enet_wire.specs.declared.told.Told.{Told}
-use Rattle.enet_wire.specs.declared.told.Told.TheVariants.{Came, Went}
+use Rattle.enet_bridge.specs.declared.told.Told.{Told}
+use Rattle.enet_bridge.specs.declared.told.Told.TheVariants.{Came, Went}
 use Rattle.enet_turn.specs.Phases.{Chain, HearsAll, SendsAll, Orders, CarriesOut, TellsAll, left_over}
 
 one_less : (turn : ℕ) → 256 - (turn + 1) ≡ 256 - turn - 1

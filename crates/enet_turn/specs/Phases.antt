@@ -7,8 +7,8 @@ use Rattle.enet_types.specs.declared.event.Event.TheVariants.{Refused}
 use Rattle.enet_types.specs.declared.refusal.Refusal.{Refusal}
 use Rattle.enet_submit.specs.declared.order.Order.{Order}
 use Rattle.enet_submit.specs.declared.order.Submission.{Submission}
-use Rattle.enet_wire.specs.declared.told.Told.{Told}
-use Rattle.enet_wire.specs.declared.told.Told.TheVariants.{Came, NothingCame, Went, Blocked}
+use Rattle.enet_bridge.specs.declared.told.Told.{Told}
+use Rattle.enet_bridge.specs.declared.told.Told.TheVariants.{Came, NothingCame, Went, Blocked}
 
 -- steps one after another
 abbrev pub Chain : {S A : Type 0} → (S → A → S → Type 0) → S → List A → S → Type 0

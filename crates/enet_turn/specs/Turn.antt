@@ -6,7 +6,7 @@ use Rattle.enet_types.specs.declared.refusal.Refusal.{Refusal}
 use Rattle.enet_types.specs.declared.refusal.Refusal.TheVariants.{WireFault}
 use Rattle.enet_submit.specs.declared.order.Order.{Order}
 use Rattle.enet_submit.specs.declared.order.Submission.{Submission}
-use Rattle.enet_wire.specs.declared.told.Told.{Told}
+use Rattle.enet_bridge.specs.declared.told.Told.{Told}
 use Rattle.enet_turn.specs.declared.report.Report.{Report}
 use Rattle.enet_turn.specs.declared.report.Fault.{Fault}
 use Rattle.enet_turn.specs.Phases.{Offers, Orders, HearsAll, SendsAll, TellsAll}

@@ -1,6 +1,6 @@
 //! Turns between the two queues.
 ghost use Rattle.std.specs.Prelude.{◌≡◌, ◌+◌, List, is_err};
-ghost use Rattle.enet_wire.specs.Wires.{also, unless_spent};
+ghost use Rattle.enet_bridge.specs.Wires.{also, unless_spent};
 ghost use Rattle.enet_turn.specs.Run.{Round, Rounds, Ends, all_gave, all_told, all_puts};
 ghost use Rattle.enet_turn.specs.Queues.{given, accepted, DrainsOn, PostsOn};
 ghost use Rattle.enet_bridge.specs.Serving.{queue_of, drain_of, poster_of};
@@ -10,8 +10,7 @@ use crate::host::Core;
 use crate::report::{Fault, Report};
 use crate::running::run;
 use crate::service::Service;
-use enet_bridge::{QueueSink, QueueSource};
-use enet_wire::Wire;
+use enet_bridge::{QueueSink, QueueSource, Wire};
 use std::sync::Wait;
 use std::time::Clock;
 

@@ -1,13 +1,13 @@
 //! Datagrams that come.
 ghost use Rattle.std.specs.Prelude.{◌≡◌, ◌+◌, List};
-ghost use Rattle.enet_wire.specs.declared.told.Told.{Told as Call};
-ghost use Rattle.enet_wire.specs.Wires.{also, unless_spent};
+ghost use Rattle.enet_bridge.specs.declared.told.Told.{Told as Call};
+ghost use Rattle.enet_bridge.specs.Wires.{also, unless_spent};
 ghost use Rattle.enet_turn.specs.Phases.{HearsAll};
 ghost use Rattle.enet_turn.specs.Counts.{came_in, count_of};
 
 use crate::MOST;
 use crate::host::Core;
-use enet_wire::Wire;
+use enet_bridge::Wire;
 
 /// How many datagrams came, and whether the wire failed then.
 #[derive(Clone, Copy)]

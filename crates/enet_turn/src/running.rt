@@ -1,6 +1,6 @@
 //! Turns one after another.
 ghost use Rattle.std.specs.Prelude.{◌≡◌, ◌+◌, List, is_err};
-ghost use Rattle.enet_wire.specs.Wires.{also, unless_spent};
+ghost use Rattle.enet_bridge.specs.Wires.{also, unless_spent};
 ghost use Rattle.enet_turn.specs.Phases.{Chain};
 ghost use Rattle.enet_turn.specs.Run.{Round, Rounds, Ends, all_gave, all_told, all_puts};
 ghost use Rattle.enet_turn.specs.Counts.{count_of};
@@ -8,8 +8,7 @@ ghost use Rattle.enet_turn.specs.Counts.{count_of};
 use crate::host::Core;
 use crate::report::{Fault, Report};
 use crate::service::Service;
-use enet_bridge::{Sink, Source};
-use enet_wire::Wire;
+use enet_bridge::{Sink, Source, Wire};
 use std::sync::Wait;
 use std::time::Clock;
 

@@ -2,8 +2,8 @@
 ghost use Rattle.std.specs.Prelude.{◌≡◌, ◌+◌, List, Bool, Option, None, is_err};
 ghost use Rattle.enet_types.specs.declared.event.Event.{Event as Telling};
 ghost use Rattle.enet_submit.specs.declared.order.Submission.{Submission as Item};
-ghost use Rattle.enet_wire.specs.declared.told.Told.{Told as Call};
-ghost use Rattle.enet_wire.specs.Wires.{also, unless_spent};
+ghost use Rattle.enet_bridge.specs.declared.told.Told.{Told as Call};
+ghost use Rattle.enet_bridge.specs.Wires.{also, unless_spent};
 ghost use Rattle.enet_turn.specs.declared.report.Report.{Report as Done};
 ghost use Rattle.enet_turn.specs.Phases.{Chain};
 ghost use Rattle.enet_turn.specs.Turn.{Turn, Reports};
@@ -15,9 +15,8 @@ use crate::orders::take_orders;
 use crate::report::{Fault, Report};
 use crate::sending::send_all;
 use crate::telling::{offer_again, tell_all};
-use enet_bridge::{Sink, Source};
+use enet_bridge::{Sink, Source, Wire};
 use enet_types::{Event, Refusal};
-use enet_wire::Wire;
 use std::sync::Wait;
 
 /// A host, and the event that waits for room in the sink, if there is one.

@@ -2,7 +2,7 @@
 
 use enet_host::{Config, HostCore};
 use enet_types::{Addr, Refusal};
-use enet_wire::{MioWire, Wire};
+use enet_bridge::{MioWire, Wire};
 use std::net::Net;
 use std::rt::Clock;
 use std::sync::Wait;

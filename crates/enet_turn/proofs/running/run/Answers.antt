@@ -4,7 +4,7 @@ use Rattle.std.proofs.lemmas.List.Elements.{All-nil, All-push}
 use Rattle.std.proofs.lemmas.Result.{err_from_is_err_and}
 use Rattle.enet_types.specs.declared.event.Event.{Event}
 use Rattle.enet_submit.specs.declared.order.Submission.{Submission}
-use Rattle.enet_wire.specs.declared.told.Told.{Told}
+use Rattle.enet_bridge.specs.declared.told.Told.{Told}
 use Rattle.enet_turn.specs.Phases.{Chain}
 use Rattle.enet_turn.specs.Run.{Round, IsSound}
 use Rattle.enet_turn.proofs.PhaseSteps.{chain_more, chain_step}

@@ -2,7 +2,7 @@ use Rattle.std.proofs.Common.{◌≡◌, ℕ, ◌+◌, List, [], ◌++◌, Bool,
 use Rattle.std.proofs.lemmas.List.{append-nil}
 use Rattle.enet_types.specs.declared.event.Event.{Event}
 use Rattle.enet_submit.specs.declared.order.Submission.{Submission}
-use Rattle.enet_wire.specs.declared.told.Told.{Told}
+use Rattle.enet_bridge.specs.declared.told.Told.{Told}
 use Rattle.enet_turn.specs.Phases.{HearsAll, SendsAll}
 use Rattle.enet_turn.specs.Counts.{count_of, stopped, taken_in, blocked_in}
 use Rattle.enet_turn.proofs.PhaseSteps.{chain_more}

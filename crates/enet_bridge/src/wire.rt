@@ -1,6 +1,6 @@
 //! Datagrams in and out.
 ghost use Rattle.std.specs.Prelude.{◌≡◌, ℕ, ◌≤◌, List, Option, None, IfOk, IfSome, IfErr, Ok, false};
-ghost use Rattle.enet_wire.specs.Wires.{also, came, went, waited, unless_spent, faults_after, last_fault};
+ghost use Rattle.enet_bridge.specs.Wires.{also, came, went, waited, unless_spent, faults_after, last_fault};
 
 use enet_types::{Addr, Refusal};
 use std::sync::Wait;
@@ -11,7 +11,7 @@ use std::time::Clock;
 /// A call that fails answers E14 and tells nothing; `failures` rises by one, and the call can be repeated. Once `failures` is
 /// 18,446,744,073,709,551,615 the wire is spent: its calls do nothing and answer None, false and 0.
 pub trait Wire {
-    ghost use Rattle.enet_wire.specs.declared.told.Told.{Told as Call};
+    ghost use Rattle.enet_bridge.specs.declared.told.Told.{Told as Call};
 
     /// What the calls did so far, in order, if the wire tells.
     ghost told: { Self → Option (List Call) };

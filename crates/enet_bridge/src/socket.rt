@@ -1,6 +1,6 @@
 //! A UDP socket as a wire.
 ghost use Rattle.std.specs.Prelude.{◌≡◌, ◌⊎◌, ◌+◌, ◌<◌, Err, IfOk, IfErr, None};
-ghost use Rattle.enet_wire.specs.Socket.{failures_of};
+ghost use Rattle.enet_bridge.specs.Socket.{failures_of};
 
 use crate::bell::Bell;
 use crate::wire::Wire;

@@ -1,9 +1,9 @@
 -- A wire in memory.
 use Rattle.std.specs.Prelude.{◌≡◌, ◌⊎◌, ℕ, Bool, true, false, List, [], ◌∷◌, take, Option, Some, None}
 use Rattle.enet_types.specs.declared.address.Addr.{Addr}
-use Rattle.enet_wire.specs.declared.told.Told.{Told}
-use Rattle.enet_wire.specs.declared.told.Step.{Step}
-use Rattle.enet_wire.specs.declared.told.Step.TheVariants.{Datagram, Block, Wait, Fault}
+use Rattle.enet_bridge.specs.declared.told.Told.{Told}
+use Rattle.enet_bridge.specs.declared.told.Step.{Step}
+use Rattle.enet_bridge.specs.declared.told.Step.TheVariants.{Datagram, Block, Wait, Fault}
 
 -- what it is still to do, what it told, and how often it failed
 pub record Memory : Type 0 where

@@ -1,6 +1,6 @@
 //! A wire in memory.
 ghost use Rattle.std.specs.Prelude.{◌≡◌, ◌∷◌, ◌+◌, ◌<◌, ◌≤◌, IfOk, IfErr, IfSome, take, length};
-ghost use Rattle.enet_wire.specs.Memory.{NextIs, Takes, Waits};
+ghost use Rattle.enet_bridge.specs.WireMemory.{NextIs, Takes, Waits};
 
 use crate::told::{Step, Told};
 use crate::wire::Wire;
@@ -24,7 +24,7 @@ pub struct MemoryWire {
 }
 
 impl Model for MemoryWire {
-    ghost use Rattle.enet_wire.specs.Memory.{Memory};
+    ghost use Rattle.enet_bridge.specs.WireMemory.{Memory};
 
     ghost Value = { Memory };
 
@@ -33,7 +33,7 @@ impl Model for MemoryWire {
 
 impl MemoryWire {
     ghost use Rattle.std.specs.Prelude.{◌≡◌};
-    ghost use Rattle.enet_wire.specs.Memory.{fresh};
+    ghost use Rattle.enet_bridge.specs.WireMemory.{fresh};
 
     /// A wire with this script.
     pub fn new(alloc: Global, script: VecDeque<Step>) -> MemoryWire
@@ -56,8 +56,8 @@ impl MemoryWire {
 
 impl Wire for MemoryWire {
     ghost use Rattle.std.specs.Prelude.{◌≡◌, ◌≤◌, ◌++◌, ◌<◌, Some, None, Ok, false, IfOk, IfSome, IfErr};
-    ghost use Rattle.enet_wire.specs.Wires.{came, went, waited, unless_spent, faults_after, last_fault};
-    ghost use Rattle.enet_wire.specs.Memory.{NextIs, Takes, Waits, Fails, given_of};
+    ghost use Rattle.enet_bridge.specs.Wires.{came, went, waited, unless_spent, faults_after, last_fault};
+    ghost use Rattle.enet_bridge.specs.WireMemory.{NextIs, Takes, Waits, Fails, given_of};
 
     ghost told = { λ w. Some w.told };
 

@@ -1,6 +1,6 @@
 -- A socket.
 use Rattle.std.specs.Prelude.{ℕ}
-use Rattle.enet_wire.specs.declared.socket.MioWire.{MioWire}
+use Rattle.enet_bridge.specs.declared.socket.MioWire.{MioWire}
 
 -- how often a call of it failed
 abbrev pub failures_of : MioWire → ℕ

@@ -1,3 +1,0 @@
-pub mod Memory
-pub mod Socket
-pub mod Wires
