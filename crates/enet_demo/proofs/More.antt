@@ -30,8 +30,8 @@ use Rattle.enet_turn.specs.Counts.{stopped}
 use Rattle.enet_turn.specs.Queues.{given, accepted}
 use Rattle.enet_turn.specs.Run.{all_gave, all_puts}
 use Rattle.enet_chat.specs.Relaying.{events}
-use Rattle.enet_shift.specs.declared.shift.Shift.TheVariants.{Turns}
-use Rattle.enet_shift.specs.Shifts.{HasTurned}
+use Rattle.enet_service.specs.declared.shift.Shift.TheVariants.{Turns}
+use Rattle.enet_service.specs.Shifts.{HasTurned}
 use Rattle.enet_demo.specs.declared.client.Guest.{Guest}
 use Rattle.enet_demo.specs.declared.demonstration.Demonstration.{Demonstration}
 use Rattle.enet_demo.specs.declared.orders.Plan.{Plan}

@@ -10,7 +10,7 @@ use Rattle.enet_bridge.specs.Ends.{orders}
 use Rattle.enet_bridge.specs.Holding.{desk_queue, inbox_queue, asked, received}
 use Rattle.enet_turn.specs.Counts.{stopped}
 use Rattle.enet_chat.specs.Relaying.{events}
-use Rattle.enet_shift.specs.declared.settling.Returned.{Returned}
+use Rattle.enet_service.specs.declared.settling.Returned.{Returned}
 use Rattle.enet_demo.specs.declared.client.Guest.{Guest}
 use Rattle.enet_demo.specs.declared.demonstration.Demonstration.{Demonstration}
 use Rattle.enet_demo.specs.declared.orders.Plan.{Plan}

@@ -14,8 +14,8 @@ use Rattle.enet_bridge.specs.Ends.{orders}
 use Rattle.enet_turn.specs.Counts.{stopped}
 use Rattle.enet_turn.specs.Queues.{given, accepted}
 use Rattle.enet_turn.specs.Run.{Round, IsSound, all_gave, all_puts}
-use Rattle.enet_shift.specs.Shifts.{TakesTurns}
-use Rattle.enet_shift.specs.Shifts as shifts
+use Rattle.enet_service.specs.Shifts.{TakesTurns}
+use Rattle.enet_service.specs.Shifts as shifts
 use Rattle.enet_serve.specs.Serving.{EndsShift}
 use Rattle.enet_demo.specs.declared.demonstration.Demonstration.{Demonstration}
 use Rattle.enet_demo.specs.declared.orders.Plan.{Plan}

@@ -1,6 +1,6 @@
 //! A client: its service's thread, and its game thread.
 ghost use Rattle.std.specs.Prelude.{◌≡◌, ◌<◌, OnOk, IfOk, IfErr};
-ghost use Rattle.enet_shift.specs.Shifts.{AreNew, CanSettle, IsNotSettled, state_of};
+ghost use Rattle.enet_service.specs.Shifts.{AreNew, CanSettle, IsNotSettled, state_of};
 ghost use Rattle.enet_serve.specs.Serving.{EndsShift};
 ghost use Rattle.enet_demo.specs.Visits.{Visits, beginning};
 ghost use Rattle.enet_demo.specs.Playing.{HasPlayed, IsFresh, IsGuest, IsSame, IsSettled, returned};
@@ -8,10 +8,7 @@ ghost use Rattle.enet_demo.specs.Playing.{HasPlayed, IsFresh, IsGuest, IsSame, I
 use crate::orders::{CHANNELS, Plan};
 use crate::player::{Company, Played, Player, Visit};
 use enet_events::Poster;
-use enet_service::{Desk, Inbox, MioWire, QueueSink, QueueSource};
-use enet_shift::{
-    Ends, Queues, Returned, Shared, Shift, Signals, Station, Unwatched, beside_turns, settle,
-};
+use enet_service::{Desk, Ends, Inbox, MioWire, QueueSink, QueueSource, Queues, Returned, Shared, Shift, Signals, Station, Unwatched, beside_turns, settle};
 use enet_submit::Drain;
 use enet_types::{Addr, Config, Refusal};
 use std::alloc::Global;

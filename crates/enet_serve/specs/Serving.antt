@@ -15,8 +15,8 @@ use Rattle.enet_turn.specs.declared.report.Report.{Report}
 use Rattle.enet_turn.specs.Queues.{given, accepted}
 use Rattle.enet_turn.specs.Run.{Round, IsSound, all_gave, all_puts, total}
 use Rattle.enet_chat.specs.Relaying.{noted_all, relayed_all, SameForEach, AreBehind}
-use Rattle.enet_shift.specs.declared.shift.Shift.{Shift}
-use Rattle.enet_shift.specs.Shifts.{Lasts, TakesTurns, IsRoom}
+use Rattle.enet_service.specs.declared.shift.Shift.{Shift}
+use Rattle.enet_service.specs.Shifts.{Lasts, TakesTurns, IsRoom}
 use Rattle.enet_serve.specs.declared.server.Server.{Server}
 use Rattle.enet_serve.specs.declared.server.Settings.{Settings}
 

@@ -10,7 +10,7 @@ use Rattle.enet_bridge.specs.Holding.{desk_queue, asked}
 use Rattle.enet_chat.specs.declared.relaying.RelayParts.{RelayParts}
 use Rattle.enet_chat.specs.declared.relaying.Relay.{Relay}
 use Rattle.enet_chat.specs.Relaying.{peers_of, backlog_of, desk_of, inbox_of}
-use Rattle.enet_shift.specs.declared.settling.Returned.{Returned}
+use Rattle.enet_service.specs.declared.settling.Returned.{Returned}
 use Rattle.enet_serve.specs.declared.threads.Carryover.{Carryover}
 
 -- a relay that goes on from what was kept: of this desk the orders that were kept are asked

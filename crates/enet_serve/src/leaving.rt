@@ -1,7 +1,6 @@
 //! How the clients of a server are told that it ends.
 
-use enet_service::{Fault, MemorySink, MemorySource, run};
-use enet_shift::Station;
+use enet_service::{Fault, MemorySink, MemorySource, Station, run};
 use enet_types::DisconnectMode;
 use std::alloc::Global;
 use std::collections::VecDeque;

@@ -16,6 +16,5 @@ mod server;
 mod threads;
 
 pub use enet_chat::Gauge;
-pub use enet_service::Unopened;
-pub use enet_shift::{Met, Note, Shift, Unwatched, Watch, WatchedHost};
+pub use enet_service::{Met, Note, Shift, Unopened, Unwatched, Watch, WatchedHost};
 pub use server::{Server, Settings};

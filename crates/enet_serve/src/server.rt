@@ -1,7 +1,7 @@
 //! A server: a service thread, and a thread that relays.
 ghost use Rattle.std.specs.Prelude.{◌≡◌, ◌⊎◌, OnOk, IfOk, IfErr};
 ghost use Rattle.enet_chat.specs.Relaying.{Relays, IsThrough};
-ghost use Rattle.enet_shift.specs.Shifts.{CanSettle, IsNotSettled};
+ghost use Rattle.enet_service.specs.Shifts.{CanSettle, IsNotSettled};
 ghost use Rattle.enet_serve.specs.Threads.{IsLeft, returned};
 
 use crate::leaving::take_leave;
@@ -9,10 +9,7 @@ use crate::threads::{Carryover, begin_relay, relay_on};
 use enet_chat::{Gauge, RelayParts};
 use enet_events::Poster;
 use enet_host::HostCore;
-use enet_service::{Desk, Inbox, MioWire, QueueSink, QueueSource, Report, Unopened};
-use enet_shift::{
-    Ends, Queues, Returned, Shared, Shift, Signals, Station, Watch, beside_turns, settle,
-};
+use enet_service::{Desk, Ends, Inbox, MioWire, QueueSink, QueueSource, Queues, Report, Returned, Shared, Shift, Signals, Station, Unopened, Watch, beside_turns, settle};
 use enet_submit::Drain;
 use enet_types::{Addr, Config, Refusal};
 use std::alloc::Global;
@@ -45,7 +42,7 @@ pub struct Server {
 
 impl Server {
     ghost use Rattle.std.specs.Prelude.{◌≡◌, ◌⊎◌, true, false, None, IfOk, IfErr, Err};
-    ghost use Rattle.enet_shift.specs.Shifts.{AreNew};
+    ghost use Rattle.enet_service.specs.Shifts.{AreNew};
     ghost use Rattle.enet_serve.specs.Serving.{Serves, EndsShift, IsNotServed, IsOpened, is_in_range, host_of};
 
     /// A server at this address, with no peer.

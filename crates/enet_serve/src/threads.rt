@@ -4,8 +4,7 @@ ghost use Rattle.enet_chat.specs.Relaying.{Relays, IsThrough};
 ghost use Rattle.enet_serve.specs.Threads.{IsBegun};
 
 use enet_chat::{Gauge, Relay, Table};
-use enet_service::{Desk, Inbox};
-use enet_shift::Signals;
+use enet_service::{Desk, Inbox, Signals};
 use enet_submit::Order;
 use enet_types::{Event, Refusal};
 use std::alloc::Global;

@@ -1,6 +1,6 @@
 use Rattle.std.proofs.Common.{rules}
-use Rattle.enet_shift.specs.declared.shift.Shift.TheVariants.{Turns}
-use Rattle.enet_shift.specs.Shifts.{HasTurned, state_of}
+use Rattle.enet_service.specs.declared.shift.Shift.TheVariants.{Turns}
+use Rattle.enet_service.specs.Shifts.{HasTurned, state_of}
 use Rattle.enet_demo.specs.Playing.{HasVisited}
 use Rattle.enet_demo.proofs.More.{visited_or_fault}
 use Rattle.enet_demo.proofs.client.run_client.Goals as goal

@@ -1,7 +1,7 @@
 use Rattle.std.proofs.Common.{refl}
-use Rattle.enet_shift.proofs.Settled.{taken_is_sent}
-use Rattle.enet_shift.proofs.settling.settle_orders.Goals.{in-Ok-settle, in-Err}
-use Rattle.enet_shift.proofs.settling.settle_orders.Goals as goal
+use Rattle.enet_service.proofs.Settled.{taken_is_sent}
+use Rattle.enet_service.proofs.settling.settle_orders.Goals.{in-Ok-settle, in-Err}
+use Rattle.enet_service.proofs.settling.settle_orders.Goals as goal
 
 pub returns-clause-taken : goal.returns-clause-taken
 returns-clause-taken c = elim c.match-settle.branch [

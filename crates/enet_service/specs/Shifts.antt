@@ -15,11 +15,11 @@ use Rattle.enet_turn.specs.declared.report.Report.{Report}
 use Rattle.enet_turn.specs.Hosting.{Ticks, Obeys, Hears, Gives, Tells}
 use Rattle.enet_turn.specs.Queues.{given, accepted, PostsOn}
 use Rattle.enet_turn.specs.Run.{Round, Rounds, IsSound, all_gave, all_puts, total}
-use Rattle.enet_shift.specs.declared.queues.Ends.{Ends}
-use Rattle.enet_shift.specs.declared.settling.Returned.{Returned}
-use Rattle.enet_shift.specs.declared.shift.Shift.{Shift}
-use Rattle.enet_shift.specs.declared.shift.Shift.TheVariants.{Turns, Time}
-use Rattle.enet_shift.specs.declared.station.Station.{Station}
+use Rattle.enet_service.specs.declared.queues.Ends.{Ends}
+use Rattle.enet_service.specs.declared.settling.Returned.{Returned}
+use Rattle.enet_service.specs.declared.shift.Shift.{Shift}
+use Rattle.enet_service.specs.declared.shift.Shift.TheVariants.{Turns, Time}
+use Rattle.enet_service.specs.declared.station.Station.{Station}
 
 -- how many places a queue may have
 abbrev pub IsRoom : ℕ → Type 0

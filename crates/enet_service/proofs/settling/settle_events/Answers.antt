@@ -1,8 +1,8 @@
 use Rattle.std.proofs.Common.{ap, ◌∙◌}
 use Rattle.enet_events.specs.Words.{QueueId}
-use Rattle.enet_shift.proofs.Settled.{taken_is_posted}
-use Rattle.enet_shift.proofs.settling.settle_events.Goals.{in-Ok-settle, in-Err}
-use Rattle.enet_shift.proofs.settling.settle_events.Goals as goal
+use Rattle.enet_service.proofs.Settled.{taken_is_posted}
+use Rattle.enet_service.proofs.settling.settle_events.Goals.{in-Ok-settle, in-Err}
+use Rattle.enet_service.proofs.settling.settle_events.Goals as goal
 
 pub returns-clause-taken : goal.returns-clause-taken
 returns-clause-taken c = elim c.match-settle.branch [

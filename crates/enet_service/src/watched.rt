@@ -1,7 +1,7 @@
 //! A host whose operator is told who came and went, and which orders were refused.
 
 use enet_host::HostCore;
-use enet_service::Core;
+use crate::Core;
 use enet_submit::Order;
 use enet_types::{Addr, Config, DisconnectMode, Event, PeerRef, Refusal};
 use std::alloc::Global;

@@ -1,7 +1,7 @@
 //! A service over our host, with the socket at which it is reached.
 
 use crate::watched::WatchedHost;
-use enet_service::{MioWire, Service};
+use crate::{MioWire, Service};
 use enet_types::{Config, Refusal};
 use std::alloc::Global;
 
@@ -14,7 +14,7 @@ pub struct Station {
 impl Station {
     ghost use Rattle.std.specs.Prelude.{◌≡◌, true, false, IfOk, IfErr, Err};
     ghost use Rattle.enet_types.specs.Config.{is_in_range};
-    ghost use Rattle.enet_shift.specs.Shifts.{state_of, beginning};
+    ghost use Rattle.enet_service.specs.Shifts.{state_of, beginning};
 
     /// A host of this configuration, which did nothing yet, at this socket.
     ///

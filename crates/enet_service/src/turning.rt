@@ -1,13 +1,13 @@
 //! The service's thread of a shift.
 ghost use Rattle.std.specs.Prelude.{◌≡◌, IfOk, IfErr};
 ghost use Rattle.enet_bridge.specs.Serving.{queue_of, drain_of, poster_of};
-ghost use Rattle.enet_shift.specs.Shifts.{HasTurned, state_of};
+ghost use Rattle.enet_service.specs.Shifts.{HasTurned, state_of};
 
 use crate::shift::{Shift, take_turns};
 use crate::station::Station;
 use crate::watch::Watch;
 use enet_events::EventQueue;
-use enet_service::{Bell, QueueSink, QueueSource, Report, TakerBell};
+use crate::{Bell, QueueSink, QueueSource, Report, TakerBell};
 use enet_submit::SubmitQueue;
 use enet_types::Refusal;
 use std::rt::Clock;

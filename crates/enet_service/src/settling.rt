@@ -2,7 +2,7 @@
 ghost use Rattle.std.specs.Prelude.{◌≡◌, ◌++◌, OnOk, IfOk, IfErr};
 ghost use Rattle.enet_submit.specs.Words.{IsDrainOf, IsFinishedOf, seats_of, taken, all_sent};
 ghost use Rattle.enet_bridge.specs.Ends.{orders};
-ghost use Rattle.enet_shift.specs.Shifts.{CanSettle, IsNotSettled};
+ghost use Rattle.enet_service.specs.Shifts.{CanSettle, IsNotSettled};
 
 use enet_events::{EventQueue, Poster, Taker};
 use enet_submit::{Drain, Finished, Order, SubmitQueue};

@@ -1,7 +1,7 @@
 //! Who is told of a service's turns while they are taken.
 
 use crate::watched::WatchedHost;
-use enet_service::Report;
+use crate::Report;
 
 /// Is told of a service's turns while they are taken, by the thread that takes them.
 pub trait Watch {

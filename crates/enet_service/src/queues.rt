@@ -27,7 +27,7 @@ pub struct Ends {
 
 impl Queues {
     ghost use Rattle.std.specs.Prelude.{IfOk, IfErr, OnOk};
-    ghost use Rattle.enet_shift.specs.Shifts.{AreNew, IsRoom, AreNotOpened};
+    ghost use Rattle.enet_service.specs.Shifts.{AreNew, IsRoom, AreNotOpened};
 
     /// Queues of so many places each, in which nothing was put. E8 where the places are out of 1 to 65,536, E1 for want of memory.
     pub fn open(alloc: Global, room: u32) -> Result<Queues, Refusal>

@@ -2,12 +2,12 @@
 ghost use Rattle.std.specs.Prelude.{◌≡◌, ◌≤◌, List, length, IfOk, IfErr};
 ghost use Rattle.enet_turn.specs.Run.{Round as OneTurn};
 ghost use Rattle.enet_bridge.specs.Serving.{queue_of, drain_of, poster_of};
-ghost use Rattle.enet_shift.specs.Shifts.{Lasts, Spell};
+ghost use Rattle.enet_service.specs.Shifts.{Lasts, Spell};
 
 use crate::turning::Signals;
 use crate::watch::Watch;
 use crate::watched::WatchedHost;
-use enet_service::{MioWire, QueueSink, QueueSource, Report, Service, run_between_queues};
+use crate::{MioWire, QueueSink, QueueSource, Report, Service, run_between_queues};
 use enet_types::Refusal;
 use std::io;
 use std::rt::Clock;
