@@ -2,7 +2,7 @@
 
 use crate::command_line::DemoOptions;
 use crate::failure::Failure;
-use enet_demo::Demonstration;
+use enet_serve::Demonstration;
 use enet_types::Addr;
 use std::net::Net;
 use std::rt::Clock;
@@ -22,7 +22,7 @@ where
         turns: options.turns,
         server: options.port.map(|port| Addr { ip: HERE, port }),
     };
-    let visits = enet_demo::demonstrate(rt, shown)?;
+    let visits = enet_serve::demonstrate(rt, shown)?;
     for (client, visit) in visits.iter().enumerate() {
         let received = visit.received;
         println!(rt; "client {client} got {received}").map_err(|_| Failure::Io)?;

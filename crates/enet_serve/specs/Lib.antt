@@ -1,2 +1,5 @@
 pub mod Serving
 pub mod Threads
+pub mod Plans
+pub mod Visits
+pub mod Playing
