@@ -1,2 +1,5 @@
 pub mod Lines
 pub mod Scripts
+pub mod Answers
+pub mod Hosts
+pub mod EnetLines

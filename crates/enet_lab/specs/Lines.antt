@@ -19,12 +19,12 @@ use Rattle.enet_fleet.specs.declared.event.Node.{Node}
 use Rattle.enet_fleet.specs.Fleets.{Fleet, place_of, node_of, sent_by, open_fleet}
 use Rattle.enet_fleet.specs.Fleets as fleet
 use Rattle.enet_fleet.specs.Reached.{fit}
-use Rattle.enet_lines.specs.declared.host.Host.TheVariants.{OfWorld, OfFleet}
-use Rattle.enet_lines.specs.declared.line.Line.{Line}
-use Rattle.enet_lines.specs.declared.line.Line.TheVariants as spelled
-use Rattle.enet_lines.specs.Answers.{outcome_text}
-use Rattle.enet_lines.specs.Hosts.{recipient_at}
-use Rattle.enet_lines.specs.Lines.{spells}
+use Rattle.enet_lab.specs.declared.host.Host.TheVariants.{OfWorld, OfFleet}
+use Rattle.enet_lab.specs.declared.line.Line.{Line}
+use Rattle.enet_lab.specs.declared.line.Line.TheVariants as spelled
+use Rattle.enet_lab.specs.Answers.{outcome_text}
+use Rattle.enet_lab.specs.Hosts.{recipient_at}
+use Rattle.enet_lab.specs.EnetLines.{spells}
 use Rattle.enet_lab.specs.declared.fault.LabFault.{LabFault}
 use Rattle.enet_lab.specs.declared.fault.LabFault.TheVariants as faults
 use Rattle.enet_lab.specs.declared.stage.Stage.{Stage}

@@ -4,7 +4,7 @@ ghost use Rattle.std.specs.Prelude.{◌≡◌, ◌+◌, min, true, false, replic
 ghost use Rattle.std.specs.Option.{option_map};
 ghost use Rattle.std.specs.String.{string_bytes};
 ghost use Rattle.enet_types.specs.Config.{standard_config};
-ghost use Rattle.enet_lines.specs.declared.line.Line.TheVariants as spelled;
+ghost use Rattle.enet_lab.specs.declared.line.Line.TheVariants as spelled;
 ghost use Rattle.enet_lab.specs.declared.stage.Stage.TheVariants as stages;
 ghost use Rattle.enet_lab.specs.Lines.{Begins, Does, IsRefused, MakesFleet, MakesWorld, Opens, RunsLine, can_do, can_read, is_empty};
 
@@ -12,7 +12,7 @@ use crate::fault::LabFault;
 use crate::stage::Stage;
 use crate::step::{fleet_step, world_step};
 use enet_fleet::FleetEvent;
-use enet_lines::{Line, read_line};
+use crate::{Line, read_line};
 use enet_network::WorldEvent;
 use enet_script::refusal_text;
 use enet_types::{Config, Refusal};

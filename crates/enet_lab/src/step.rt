@@ -6,7 +6,7 @@ ghost use Rattle.std.specs.String.{string_bytes};
 ghost use Rattle.enet_lab.specs.Lines.{FleetSteps, StepsTo, WorldSteps, bytes_shown, fleet_text, sent_shown, world_text};
 
 use enet_fleet::{Fleet, FleetEvent, Node, node_of};
-use enet_lines::{Host, Recipient, outcome_text};
+use crate::{Host, Recipient, outcome_text};
 use enet_network::{Answer, Side, WorldEvent};
 use enet_types::{Addr, Refusal};
 use enet_world::{World, side_of};

@@ -6,9 +6,9 @@ use Rattle.enet_types.specs.Refusal.{label_of}
 use Rattle.enet_network.specs.declared.event.Answer.{Answer}
 use Rattle.enet_network.specs.declared.event.Answer.TheVariants.{Peer, Done, Received, Sent, Taken}
 use Rattle.enet_script.specs.Texts.{bytes_text, event_text, peer_text, received_text}
-use Rattle.enet_lines.specs.declared.host.Host.{Host}
-use Rattle.enet_lines.specs.declared.host.Recipient.{Recipient}
-use Rattle.enet_lines.specs.Hosts.{host_text, recipient_text}
+use Rattle.enet_lab.specs.declared.host.Host.{Host}
+use Rattle.enet_lab.specs.declared.host.Recipient.{Recipient}
+use Rattle.enet_lab.specs.Hosts.{host_text, recipient_text}
 
 -- Whom a datagram went to. In a world that goes without saying.
 abbrev pub to_text : Option Recipient → List ℕ

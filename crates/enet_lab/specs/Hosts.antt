@@ -11,10 +11,10 @@ use Rattle.enet_fleet.specs.declared.event.Node.TheVariants.{Server, Client}
 use Rattle.enet_fleet.specs.Fleets.{address_of, is_host}
 use Rattle.enet_script.specs.Words.{number_below}
 use Rattle.enet_script.specs.Texts.{address_text}
-use Rattle.enet_lines.specs.declared.host.Host.{Host}
-use Rattle.enet_lines.specs.declared.host.Host.TheVariants.{OfWorld, OfFleet}
-use Rattle.enet_lines.specs.declared.host.Recipient.{Recipient}
-use Rattle.enet_lines.specs.declared.host.Recipient.TheVariants as recipient
+use Rattle.enet_lab.specs.declared.host.Host.{Host}
+use Rattle.enet_lab.specs.declared.host.Host.TheVariants.{OfWorld, OfFleet}
+use Rattle.enet_lab.specs.declared.host.Recipient.{Recipient}
+use Rattle.enet_lab.specs.declared.host.Recipient.TheVariants as recipient
 
 -- A side of a world: `A` or `B`.
 abbrev pub side_named : List ℕ → Option Side

@@ -1,7 +1,7 @@
 use Rattle.std.proofs.Common.{◌≡◌, ◌∷◌, IfOk, rules, subst}
 use Rattle.enet_script.specs.Words.{words}
-use Rattle.enet_lines.specs.Lines.{line_of, spells}
-use Rattle.enet_lines.proofs.line.read_line.Goals as goal
+use Rattle.enet_lab.specs.EnetLines.{line_of, spells}
+use Rattle.enet_lab.proofs.line.read_line.Goals as goal
 
 pub returns-then-starts_with : goal.returns-then-starts_with
 unfolding spells

@@ -1,7 +1,7 @@
 use Rattle.std.proofs.Common.{◌≡◌, ◌∷◌, IfOk, rules, subst}
 use Rattle.enet_script.specs.Words.{words}
-use Rattle.enet_lines.specs.Lines.{event_of, line_of}
-use Rattle.enet_lines.proofs.line.read_form.Goals as goal
+use Rattle.enet_lab.specs.EnetLines.{event_of, line_of}
+use Rattle.enet_lab.proofs.line.read_form.Goals as goal
 
 pub returns-then-is : goal.returns-then-is
 unfolding line_of

@@ -1,7 +1,7 @@
 use Rattle.std.proofs.Common.{◌≡◌, IfOk, rules, subst}
 use Rattle.enet_script.specs.Words.{words}
-use Rattle.enet_lines.specs.Lines.{submit_of, stranger_of, event_of}
-use Rattle.enet_lines.proofs.line.read_event.Goals as goal
+use Rattle.enet_lab.specs.EnetLines.{submit_of, stranger_of, event_of}
+use Rattle.enet_lab.proofs.line.read_event.Goals as goal
 
 pub returns-then-is : goal.returns-then-is
 unfolding event_of

@@ -2,7 +2,7 @@
 
 ghost use Rattle.std.specs.Prelude.{◌≡◌, bytes_eq, IfOk};
 ghost use Rattle.std.specs.String.{string_bytes};
-ghost use Rattle.enet_lines.specs.Hosts.{side_named, client_named, node_named, host_named, node_text, host_text, recipient_at, recipient_text, address_to};
+ghost use Rattle.enet_lab.specs.Hosts.{side_named, client_named, node_named, host_named, node_text, host_text, recipient_at, recipient_text, address_to};
 
 use enet_fleet::Node;
 use enet_network::Side;

@@ -10,11 +10,11 @@ use Rattle.enet_network.specs.declared.event.WorldEvent.TheVariants as world
 use Rattle.enet_fleet.specs.declared.event.FleetEvent.TheVariants as fleet
 use Rattle.enet_fleet.specs.declared.event.Node.TheVariants.{Server, Client}
 use Rattle.enet_script.specs.Words.{words, number_below, peer_of, ip_of, bytes_of, id_of, of_one, of_two, of_three, of_four, of_five, ◌>>=◌}
-use Rattle.enet_lines.specs.declared.host.Host.{Host}
-use Rattle.enet_lines.specs.declared.host.Host.TheVariants.{OfWorld, OfFleet}
-use Rattle.enet_lines.specs.declared.line.Line.{Line}
-use Rattle.enet_lines.specs.declared.line.Line.TheVariants.{PassedOver, Pair, Open, Fleet, InWorld, InFleet}
-use Rattle.enet_lines.specs.Hosts.{side_named, node_named, host_named}
+use Rattle.enet_lab.specs.declared.host.Host.{Host}
+use Rattle.enet_lab.specs.declared.host.Host.TheVariants.{OfWorld, OfFleet}
+use Rattle.enet_lab.specs.declared.line.Line.{Line}
+use Rattle.enet_lab.specs.declared.line.Line.TheVariants.{PassedOver, Pair, Open, Fleet, InWorld, InFleet}
+use Rattle.enet_lab.specs.Hosts.{side_named, node_named, host_named}
 
 -- How a connection is ended, by the first word of the line.
 abbrev pub mode_named : List ℕ → Option DisconnectMode

@@ -2,9 +2,9 @@ use Rattle.std.proofs.Common.{◌≡◌}
 use Rattle.std.specs.String.{string_bytes}
 use Rattle.std.proofs.lemmas.List.{append_assoc}
 use Rattle.enet_script.specs.Texts.{bytes_text}
-use Rattle.enet_lines.specs.Answers.{to_text}
-use Rattle.enet_lines.specs.Hosts.{host_text}
-use Rattle.enet_lines.proofs.answer.datagram_text.Goals as goal
+use Rattle.enet_lab.specs.Answers.{to_text}
+use Rattle.enet_lab.specs.Hosts.{host_text}
+use Rattle.enet_lab.proofs.answer.datagram_text.Goals as goal
 
 pub returns : goal.returns
 returns c =

@@ -1,7 +1,7 @@
 //! What a line makes happen at a host, of whichever kind of network it is.
 
 ghost use Rattle.std.specs.Prelude.{◌≡◌};
-ghost use Rattle.enet_lines.specs.Lines.{connect_at, submit_at, turn_at, tick_at, take_at, disconnect_at};
+ghost use Rattle.enet_lab.specs.EnetLines.{connect_at, submit_at, turn_at, tick_at, take_at, disconnect_at};
 
 use crate::host::Host;
 use crate::line::Line;
