@@ -1,6 +1,6 @@
 //! What is counted of the lists.
 
-use check_drawing::{CHANNELS, Lives, Told};
+use check_outcome::{CHANNELS, Lives, Told};
 use enet_fleet::{End, Fleet};
 use enet_types::{Event, Received, Refusal, Stop};
 use std::fmt;

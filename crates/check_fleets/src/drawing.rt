@@ -2,7 +2,7 @@
 
 use crate::seen::{CLIENTS, Seen};
 use crate::stranger;
-use check_drawing::{Doing, Draw, SLOTS, Setting};
+use check_outcome::{Doing, Draw, SLOTS, Setting};
 use enet_fleet::{Fleet, FleetEvent, Node};
 use std::alloc::{AllocError, Global};
 

@@ -5,7 +5,7 @@ use crate::drawing;
 use crate::drawing::Hosts;
 use crate::seen::{CLIENTS, Seen};
 use anyhow::Result;
-use check_drawing::{Draw, Setting};
+use check_outcome::{Draw, Setting};
 use enet_fleet::{Answer, Fleet, FleetEvent, Node, node_of};
 use enet_types::Refusal;
 use std::alloc::Global;

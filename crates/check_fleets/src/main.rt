@@ -22,8 +22,7 @@ mod seen;
 mod stranger;
 
 use anyhow::{Result, bail};
-use check_drawing::{CHANNELS, Draw, Setting};
-use check_outcome::{is_end_sound, is_fleet_sound};
+use check_outcome::{CHANNELS, Draw, Setting, is_end_sound, is_fleet_sound};
 use counting::Counts;
 use enet_fleet::{End, Fleet};
 use std::alloc::Global;

@@ -1,6 +1,6 @@
 //! What was seen of the hosts of a fleet.
 
-use check_drawing::{Known, Peers, SLOTS, Way};
+use check_outcome::{Known, Peers, SLOTS, Way};
 use enet_fleet::{Fleet, Node};
 use enet_types::{Addr, Event, PeerRef};
 

@@ -2,7 +2,7 @@
 
 use crate::seen::{CLIENTS, FIRST_CLIENT, Guest, SERVER, Seen};
 use bytes::Bytes;
-use check_drawing::Draw;
+use check_outcome::Draw;
 use enet_fleet::{Fleet, FleetEvent, Node};
 use enet_types::Addr;
 use std::alloc::{AllocError, Global};

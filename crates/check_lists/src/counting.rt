@@ -1,7 +1,7 @@
 //! What is counted of the lists.
 
 use crate::list::Happened;
-use check_drawing::{CHANNELS, Lives, Told};
+use check_outcome::{CHANNELS, Lives, Told};
 use enet_world::{Side, World};
 use std::fmt;
 

@@ -1,6 +1,6 @@
 //! What is drawn of a list: its hosts, and its events.
 
-use check_drawing::{Doing, Draw, Known, Peers, Setting, Way};
+use check_outcome::{Doing, Draw, Known, Peers, Setting, Way};
 use enet_world::{Side, WorldEvent};
 use std::alloc::{AllocError, Global};
 

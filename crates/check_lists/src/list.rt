@@ -4,7 +4,7 @@ use crate::counting::told_of;
 use crate::drawing;
 use crate::drawing::{Hosts, nothing_known};
 use anyhow::bail;
-use check_drawing::{Draw, Known, Setting, Told};
+use check_outcome::{Draw, Known, Setting, Told};
 use enet_types::{Refusal, Stop};
 use enet_world::{Answer, Side, World, WorldEvent};
 use std::alloc::Global;

@@ -20,8 +20,7 @@ mod list;
 mod settings;
 
 use anyhow::{Result, bail};
-use check_drawing::{CHANNELS, Draw, Setting};
-use check_outcome::{is_side_sound, is_sound};
+use check_outcome::{CHANNELS, Draw, Setting, is_side_sound, is_sound};
 use counting::Counts;
 use enet_world::{Side, World};
 use input::Alone;

@@ -6,14 +6,29 @@
 //! (`IsSomeLife`), and `is_sound` exactly where both hold at each connection, side and channel (`IsSound`), as does `is_fleet_sound` of a
 //! fleet's connections and ends (`IsFleetSound`).
 //! Only tested, by `check_lists`: that worked cases are judged as by hand.
+//!
+//! What lists of events are drawn of, and what is counted of them: settings, packets, peers and datagrams, by a generator whose draws
+//! are the same in each run. `check_lists` draws lists of two hosts by it, `check_fleets` those of a fleet.
+//!
+//! Only tested, by what these programs print: no clause says what is drawn.
 #![tactic(auto)]
 
+mod doing;
+mod draw;
 mod fleet;
 mod following;
 mod life;
+mod lives;
+mod peers;
+mod setting;
 mod sound;
 
+pub use doing::{Doing, Known};
+pub use draw::{CHANNELS, Draw, Way};
 pub use fleet::{is_end_sound, is_fleet_sound};
 pub use following::follows;
 pub use life::is_life;
+pub use lives::{Lives, Told};
+pub use peers::{Peers, SLOTS};
+pub use setting::Setting;
 pub use sound::{is_side_sound, is_sound};
