@@ -28,7 +28,6 @@ mod watched;
 
 pub use enet_bridge::{Bell, Desk, Inbox, MemorySink, MemorySource, MemoryWire, MioWire, Pumped, QueueSink, QueueSource, Sink, Source, Step, TakerBell, Told, Unopened, Wire};
 pub use enet_host::HostCore;
-pub use enet_turn::{Core, Fault, Report, Service, run, run_between_queues};
 pub use queues::{Ends, Queues};
 pub use settling::{Returned, settle};
 pub use shift::Shift;
