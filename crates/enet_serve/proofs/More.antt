@@ -25,10 +25,10 @@ use Rattle.enet_host.specs.Host.{Host}
 use Rattle.enet_bridge.specs.Ends.{orders}
 use Rattle.enet_bridge.specs.Holding.{asked, received}
 use Rattle.enet_serve.specs.Serving.{EndsShift}
-use Rattle.enet_turn.specs.declared.report.Report.{Report}
-use Rattle.enet_turn.specs.Counts.{stopped}
-use Rattle.enet_turn.specs.Queues.{given, accepted}
-use Rattle.enet_turn.specs.Run.{all_gave, all_puts}
+use Rattle.enet_service.specs.declared.report.Report.{Report}
+use Rattle.enet_service.specs.Counts.{stopped}
+use Rattle.enet_service.specs.Queues.{given, accepted}
+use Rattle.enet_service.specs.Run.{all_gave, all_puts}
 use Rattle.enet_chat.specs.Relaying.{events}
 use Rattle.enet_service.specs.declared.shift.Shift.TheVariants.{Turns}
 use Rattle.enet_service.specs.Shifts.{HasTurned}

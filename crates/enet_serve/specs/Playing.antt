@@ -8,7 +8,7 @@ use Rattle.enet_submit.specs.Words.{IsFinishedOf, all_sent, taken}
 use Rattle.enet_events.specs.Words.{PosterState, QueueId}
 use Rattle.enet_bridge.specs.Ends.{orders}
 use Rattle.enet_bridge.specs.Holding.{desk_queue, inbox_queue, asked, received}
-use Rattle.enet_turn.specs.Counts.{stopped}
+use Rattle.enet_service.specs.Counts.{stopped}
 use Rattle.enet_chat.specs.Relaying.{events}
 use Rattle.enet_service.specs.declared.settling.Returned.{Returned}
 use Rattle.enet_serve.specs.declared.client.Guest.{Guest}

@@ -11,9 +11,9 @@ use Rattle.enet_submit.specs.declared.order.Order.{Order}
 use Rattle.enet_host.specs.Host.{Host}
 use Rattle.enet_host.specs.Opening.{opened}
 use Rattle.enet_bridge.specs.Ends.{orders}
-use Rattle.enet_turn.specs.declared.report.Report.{Report}
-use Rattle.enet_turn.specs.Queues.{given, accepted}
-use Rattle.enet_turn.specs.Run.{Round, IsSound, all_gave, all_puts, total}
+use Rattle.enet_service.specs.declared.report.Report.{Report}
+use Rattle.enet_service.specs.Queues.{given, accepted}
+use Rattle.enet_service.specs.Run.{Round, IsSound, all_gave, all_puts, total}
 use Rattle.enet_chat.specs.Relaying.{noted_all, relayed_all, SameForEach, AreBehind}
 use Rattle.enet_service.specs.declared.shift.Shift.{Shift}
 use Rattle.enet_service.specs.Shifts.{Lasts, TakesTurns, IsRoom}

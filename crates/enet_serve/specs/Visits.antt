@@ -11,9 +11,9 @@ use Rattle.enet_types.specs.Config.{standard_config}
 use Rattle.enet_host.specs.Host.{Host}
 use Rattle.enet_submit.specs.declared.order.Order.{Order}
 use Rattle.enet_bridge.specs.Ends.{orders}
-use Rattle.enet_turn.specs.Counts.{stopped}
-use Rattle.enet_turn.specs.Queues.{given, accepted}
-use Rattle.enet_turn.specs.Run.{Round, IsSound, all_gave, all_puts}
+use Rattle.enet_service.specs.Counts.{stopped}
+use Rattle.enet_service.specs.Queues.{given, accepted}
+use Rattle.enet_service.specs.Run.{Round, IsSound, all_gave, all_puts}
 use Rattle.enet_service.specs.Shifts.{TakesTurns}
 use Rattle.enet_service.specs.Shifts as shifts
 use Rattle.enet_serve.specs.Serving.{EndsShift}

@@ -1,6 +1,6 @@
 //! The game thread of a client.
 ghost use Rattle.std.specs.Prelude.{◌≡◌, ◌+◌, ◌∷◌, []};
-ghost use Rattle.enet_turn.specs.Counts.{stopped};
+ghost use Rattle.enet_service.specs.Counts.{stopped};
 ghost use Rattle.enet_serve.specs.Visits.{packets};
 
 use crate::orders::{Plan, chat_orders, connect_order};

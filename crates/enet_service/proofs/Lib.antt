@@ -1,2 +1,9 @@
 pub mod Settled
 pub mod Spells
+pub mod Options
+pub mod PhaseSteps
+pub mod Queues
+pub mod Reporting
+pub mod Runs
+pub mod Tellings
+pub mod Untold

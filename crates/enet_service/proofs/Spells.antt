@@ -14,13 +14,13 @@ use Rattle.enet_events.specs.declared.numbered.Numbered.{Numbered}
 use Rattle.enet_events.specs.Words.{PosterState}
 use Rattle.enet_host.specs.Host.{Host}
 use Rattle.enet_types.specs.declared.refusal.Refusal.TheVariants.{WireFault}
-use Rattle.enet_turn.specs.declared.report.Fault.{Fault}
-use Rattle.enet_turn.specs.declared.report.Report.{Report}
-use Rattle.enet_turn.specs.Counts.{stopped}
-use Rattle.enet_turn.specs.Queues.{given, accepted}
-use Rattle.enet_turn.specs.Run.{Round, IsSound, EndsInTurn, EndsInWait, all_gave, all_puts, total}
-use Rattle.enet_turn.proofs.PhaseSteps.{chain_more}
-use Rattle.enet_turn.proofs.Reporting.{same_report}
+use Rattle.enet_service.specs.declared.report.Fault.{Fault}
+use Rattle.enet_service.specs.declared.report.Report.{Report}
+use Rattle.enet_service.specs.Counts.{stopped}
+use Rattle.enet_service.specs.Queues.{given, accepted}
+use Rattle.enet_service.specs.Run.{Round, IsSound, EndsInTurn, EndsInWait, all_gave, all_puts, total}
+use Rattle.enet_service.proofs.PhaseSteps.{chain_more}
+use Rattle.enet_service.proofs.Reporting.{same_report}
 use Rattle.enet_service.specs.Shifts.{Spell}
 
 -- events without their numbers

@@ -1,1 +1,7 @@
 pub mod Shifts
+pub mod Counts
+pub mod Hosting
+pub mod Phases
+pub mod Queues
+pub mod Run
+pub mod Turn

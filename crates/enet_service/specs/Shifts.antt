@@ -11,10 +11,10 @@ use Rattle.enet_submit.specs.Words.{IsSeatOf, IsDrainOf, IsFinishedOf, seats_of,
 use Rattle.enet_events.specs.Words.{Queue, PosterState}
 use Rattle.enet_host.specs.Host.{Host}
 use Rattle.enet_host.specs.Opening.{opened}
-use Rattle.enet_turn.specs.declared.report.Report.{Report}
-use Rattle.enet_turn.specs.Hosting.{Ticks, Obeys, Hears, Gives, Tells}
-use Rattle.enet_turn.specs.Queues.{given, accepted, PostsOn}
-use Rattle.enet_turn.specs.Run.{Round, Rounds, IsSound, all_gave, all_puts, total}
+use Rattle.enet_service.specs.declared.report.Report.{Report}
+use Rattle.enet_service.specs.Hosting.{Ticks, Obeys, Hears, Gives, Tells}
+use Rattle.enet_service.specs.Queues.{given, accepted, PostsOn}
+use Rattle.enet_service.specs.Run.{Round, Rounds, IsSound, all_gave, all_puts, total}
 use Rattle.enet_service.specs.declared.queues.Ends.{Ends}
 use Rattle.enet_service.specs.declared.settling.Returned.{Returned}
 use Rattle.enet_service.specs.declared.shift.Shift.{Shift}

@@ -1,6 +1,6 @@
 //! How long a service takes turns.
 ghost use Rattle.std.specs.Prelude.{◌≡◌, ◌≤◌, List, length, IfOk, IfErr};
-ghost use Rattle.enet_turn.specs.Run.{Round as OneTurn};
+ghost use Rattle.enet_service.specs.Run.{Round as OneTurn};
 ghost use Rattle.enet_bridge.specs.Serving.{queue_of, drain_of, poster_of};
 ghost use Rattle.enet_service.specs.Shifts.{Lasts, Spell};
 

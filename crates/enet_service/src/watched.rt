@@ -173,7 +173,7 @@ impl WatchedHost {
 }
 
 impl Core for WatchedHost {
-    ghost use Rattle.enet_turn.specs.Hosting.{Ticks, Obeys, Hears, Gives, Tells, untold};
+    ghost use Rattle.enet_service.specs.Hosting.{Ticks, Obeys, Hears, Gives, Tells, untold};
 
     ghost ticks = { Ticks };
 

@@ -1,6 +1,6 @@
 use Rattle.std.proofs.Common.{List, [], ◌++◌, refl, ◌∙◌, arith}
 use Rattle.std.proofs.lemmas.List.{length-append}
-use Rattle.enet_turn.specs.Run.{Round}
+use Rattle.enet_service.specs.Run.{Round}
 use Rattle.enet_service.proofs.Spells.{no_turn, further}
 use Rattle.enet_service.proofs.shift.turns_for.Goals as goal
 

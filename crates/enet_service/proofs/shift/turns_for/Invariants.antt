@@ -1,6 +1,6 @@
 use Rattle.std.proofs.Common.{◌≡◌, List}
 use Rattle.enet_bridge.specs.Serving.{queue_of, drain_of, poster_of}
-use Rattle.enet_turn.specs.Run.{Round}
+use Rattle.enet_service.specs.Run.{Round}
 use Rattle.enet_service.specs.Shifts.{Spell}
 use Rattle.enet_service.proofs.shift.turns_for.Given as goal
 

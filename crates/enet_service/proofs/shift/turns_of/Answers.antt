@@ -1,6 +1,6 @@
 use Rattle.std.proofs.Common.{List, sym, subst}
 use Rattle.enet_host.specs.Host.{Host}
-use Rattle.enet_turn.specs.Run.{Round}
+use Rattle.enet_service.specs.Run.{Round}
 use Rattle.enet_service.specs.Shifts.{TakesTurns}
 use Rattle.enet_service.proofs.Spells.{fault_of_wire}
 use Rattle.enet_service.proofs.shift.turns_of.Goals as goal

@@ -1,0 +1,14 @@
+use Rattle.std.proofs.Common.{◌≡◌, ◌≤◌, List, Bool, Option}
+use Rattle.enet_types.specs.declared.event.Event.{Event}
+use Rattle.enet_submit.specs.declared.order.Submission.{Submission}
+use Rattle.enet_service.specs.Phases.{Chain}
+use Rattle.enet_service.specs.Counts.{taken_in, given_in}
+use Rattle.enet_service.proofs.PhaseSteps.{OrdersOn}
+use Rattle.enet_service.proofs.orders.take_orders.Given as goal
+
+abbrev pub invariant-loop-turn : goal.invariant-loop-turn
+invariant-loop-turn g l =
+    (gave : List (Option Submission)) × Chain g.S.Source.gives l.initial.source gave l.source
+    × (puts : List (Event × Bool)) × Chain (λ s x t. g.K.Sink.puts s x.0 x.1 t) l.initial.sink puts l.sink
+    × (l.orders ≡ given_in gave) × (l.events ≡ taken_in puts) × (l.orders ≡ l._turn) × (l.events ≤ l._turn)
+    × OrdersOn g.H.Core.obeys l._turn l.initial.host l.initial.waiting gave puts l.host l.waiting

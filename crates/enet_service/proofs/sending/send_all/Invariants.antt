@@ -1,0 +1,14 @@
+use Rattle.std.proofs.Common.{◌≡◌, List}
+use Rattle.enet_bridge.specs.declared.told.Told.{Told}
+use Rattle.enet_bridge.specs.Wires.{also, unless_spent}
+use Rattle.enet_service.specs.Counts.{went_in, blocked_in}
+use Rattle.enet_service.proofs.PhaseSteps.{SendsOn}
+use Rattle.enet_service.proofs.sending.send_all.Given as goal
+
+abbrev pub invariant-loop-turn : goal.invariant-loop-turn
+invariant-loop-turn g l =
+    (told : List Told)
+    × (g.W.Wire.told l.wire ≡ also (g.W.Wire.told l.initial.wire) (unless_spent (g.W.Wire.faults l.initial.wire) told))
+    × (g.W.Wire.faults l.wire ≡ g.W.Wire.faults l.initial.wire)
+    × (l.sent ≡ went_in told) × (blocked_in told ≡ 0) × (l.sent ≡ l._turn)
+    × SendsOn g.H.Core.gives l._turn l.initial.host told l.host

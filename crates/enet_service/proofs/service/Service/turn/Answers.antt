@@ -1,0 +1,159 @@
+use Rattle.std.proofs.Common.{◌≡◌, ℕ, ◌+◌, List, [], ◌++◌, Bool, true, false, Option, refl, ap, subst, ◌∙◌, sym, arith}
+use Rattle.std.proofs.lemmas.List.{append-nil}
+use Rattle.enet_types.specs.declared.event.Event.{Event}
+use Rattle.enet_submit.specs.declared.order.Submission.{Submission}
+use Rattle.enet_bridge.specs.declared.told.Told.{Told}
+use Rattle.enet_service.specs.Phases.{HearsAll, SendsAll}
+use Rattle.enet_service.specs.Counts.{count_of, stopped, taken_in, blocked_in}
+use Rattle.enet_service.proofs.PhaseSteps.{chain_more}
+use Rattle.enet_service.proofs.Tellings.{told_on}
+use Rattle.enet_service.proofs.Reporting.{same_report, all_taken, some_taken}
+use Rattle.enet_service.proofs.service.Service.turn.Goals as goal
+
+pub returns-then-heard-clause-turn : goal.returns-then-heard-clause-turn
+returns-then-heard-clause-turn g c =
+    let offered = c.offer_again-again.ensures in
+    let taken = c.take_orders-orders.ensures in
+    let heard = c.hear_all-heard.ensures in
+    let again : List (Event × Bool) = offered.0 in
+    let of_orders : List (Event × Bool) = taken.2 in
+    let gave : List (Option Submission) = taken.0 in
+    let came : List Told = heard.0 in
+    let hearing : HearsAll g.H.Core.hears 256 c.take_orders-orders.new.host came true c.hear_all-heard.new.host =
+    subst (λ (b : Bool). HearsAll g.H.Core.hears 256 c.take_orders-orders.new.host came b c.hear_all-heard.new.host) c.if-heard.true heard.2 in (
+      gave,
+      taken.1,
+      came,
+      heard.1,
+      again ++ (of_orders ++ []),
+      chain_more _ _ _ _ _ _ offered.1 (chain_more _ _ _ _ [] _ taken.3 refl),
+      c.report_of.result,
+      record {
+        ticked = c.tick.new.self;
+        tick = c.tick.ensures;
+        again = again;
+        waits_first = c.offer_again-again.new.waiting;
+        offered = offered.2;
+        of_orders = of_orders;
+        ordered = c.take_orders-orders.new.host;
+        waits = c.take_orders-orders.new.waiting;
+        orders = taken.4;
+        came = came;
+        hearing_failed = true;
+        heard = c.hear_all-heard.new.host;
+        hearing = hearing;
+        went = [];
+        of_events = [];
+        rest = (refl, refl, refl, refl, refl);
+        all_told = sym (append-nil came);
+        all_put = refl;
+        counts = same_report _ _ _ _ _ _ _ _ _ _ _ c.report_of.ensures taken.5 heard.3 refl refl
+            (c.saturating_add-before.ensures ∙ (some_taken again of_orders _ _ offered.3 taken.6 ∙ ap (λ (xs : List (Event × Bool)). stopped (taken_in (again ++ xs))) (sym (append-nil of_orders))));
+      },
+      c.fault.ensures,
+    )
+
+pub returns-then-sent-clause-turn : goal.returns-then-sent-clause-turn
+returns-then-sent-clause-turn g c =
+    let offered = c.offer_again-again.ensures in
+    let taken = c.take_orders-orders.ensures in
+    let heard = c.hear_all-heard.ensures in
+    let sent = c.send_all-sent.ensures in
+    let again : List (Event × Bool) = offered.0 in
+    let of_orders : List (Event × Bool) = taken.2 in
+    let gave : List (Option Submission) = taken.0 in
+    let came : List Told = heard.0 in
+    let went : List Told = sent.0 in
+    let hearing : HearsAll g.H.Core.hears 256 c.take_orders-orders.new.host came false c.hear_all-heard.new.host =
+    subst (λ (b : Bool). HearsAll g.H.Core.hears 256 c.take_orders-orders.new.host came b c.hear_all-heard.new.host) c.if-heard.false heard.2 in
+    let sending : SendsAll g.H.Core.gives 256 c.hear_all-heard.new.host went true c.send_all-sent.new.host =
+    subst (λ (b : Bool). SendsAll g.H.Core.gives 256 c.hear_all-heard.new.host went b c.send_all-sent.new.host) c.if-sent.true sent.2 in
+    let none_yet : g.W.Wire.faults c.hear_all-heard.new.wire ≡ g.W.Wire.faults c.args.wire.now + 0 =
+    heard.4 ∙ ap (λ (b : Bool). g.W.Wire.faults c.args.wire.now + count_of b) c.if-heard.false in
+    let sound : g.W.Wire.faults c.hear_all-heard.new.wire ≡ g.W.Wire.faults c.args.wire.now = omega (arith, none_yet) in
+    let lost : c.send_all-sent.result.lost ≡ blocked_in went + 1 = sent.4 ∙ ap (λ (b : Bool). blocked_in went + count_of b) c.if-sent.true in (
+      gave,
+      taken.1,
+      came ++ went,
+      told_on _ _ _ _ _ came went heard.1 sound sent.1,
+      again ++ (of_orders ++ []),
+      chain_more _ _ _ _ _ _ offered.1 (chain_more _ _ _ _ [] _ taken.3 refl),
+      c.report_of-report.result,
+      record {
+        ticked = c.tick.new.self;
+        tick = c.tick.ensures;
+        again = again;
+        waits_first = c.offer_again-again.new.waiting;
+        offered = offered.2;
+        of_orders = of_orders;
+        ordered = c.take_orders-orders.new.host;
+        waits = c.take_orders-orders.new.waiting;
+        orders = taken.4;
+        came = came;
+        hearing_failed = false;
+        heard = c.hear_all-heard.new.host;
+        hearing = hearing;
+        went = went;
+        of_events = [];
+        rest = (c.send_all-sent.new.host, sending, (refl, refl, refl));
+        all_told = refl;
+        all_put = refl;
+        counts = same_report _ _ _ _ _ _ _ _ _ _ _ c.report_of-report.ensures taken.5 heard.3 sent.3 lost
+            (c.saturating_add-before.ensures ∙ (some_taken again of_orders _ _ offered.3 taken.6 ∙ ap (λ (xs : List (Event × Bool)). stopped (taken_in (again ++ xs))) (sym (append-nil of_orders))));
+      },
+      c.fault-then-sent.ensures,
+    )
+
+pub returns-clause-turn : goal.returns-clause-turn
+returns-clause-turn g c =
+    let offered = c.offer_again-again.ensures in
+    let taken = c.take_orders-orders.ensures in
+    let heard = c.hear_all-heard.ensures in
+    let sent = c.send_all-sent.ensures in
+    let told = c.tell_all-after.ensures in
+    let again : List (Event × Bool) = offered.0 in
+    let of_orders : List (Event × Bool) = taken.2 in
+    let of_events : List (Event × Bool) = told.0 in
+    let gave : List (Option Submission) = taken.0 in
+    let came : List Told = heard.0 in
+    let went : List Told = sent.0 in
+    let hearing : HearsAll g.H.Core.hears 256 c.take_orders-orders.new.host came false c.hear_all-heard.new.host =
+    subst (λ (b : Bool). HearsAll g.H.Core.hears 256 c.take_orders-orders.new.host came b c.hear_all-heard.new.host) c.if-heard.false heard.2 in
+    let sending : SendsAll g.H.Core.gives 256 c.hear_all-heard.new.host went false c.send_all-sent.new.host =
+    subst (λ (b : Bool). SendsAll g.H.Core.gives 256 c.hear_all-heard.new.host went b c.send_all-sent.new.host) c.if-sent.false sent.2 in
+    let none_yet : g.W.Wire.faults c.hear_all-heard.new.wire ≡ g.W.Wire.faults c.args.wire.now + 0 =
+    heard.4 ∙ ap (λ (b : Bool). g.W.Wire.faults c.args.wire.now + count_of b) c.if-heard.false in
+    let sound : g.W.Wire.faults c.hear_all-heard.new.wire ≡ g.W.Wire.faults c.args.wire.now = omega (arith, none_yet) in
+    let lost : c.send_all-sent.result.lost ≡ blocked_in went + 0 = sent.4 ∙ ap (λ (b : Bool). blocked_in went + count_of b) c.if-sent.false in (
+      gave,
+      taken.1,
+      came ++ went,
+      told_on _ _ _ _ _ came went heard.1 sound sent.1,
+      again ++ (of_orders ++ of_events),
+      chain_more _ _ _ _ _ _ offered.1 (chain_more _ _ _ _ _ _ taken.3 told.1),
+      c.report_of-2.result,
+      record {
+        ticked = c.tick.new.self;
+        tick = c.tick.ensures;
+        again = again;
+        waits_first = c.offer_again-again.new.waiting;
+        offered = offered.2;
+        of_orders = of_orders;
+        ordered = c.take_orders-orders.new.host;
+        waits = c.take_orders-orders.new.waiting;
+        orders = taken.4;
+        came = came;
+        hearing_failed = false;
+        heard = c.hear_all-heard.new.host;
+        hearing = hearing;
+        went = went;
+        of_events = of_events;
+        rest = (c.send_all-sent.new.host, sending, told.2);
+        all_told = refl;
+        all_put = refl;
+        counts = same_report _ _ _ _ _ _ _ _ _ _ _ c.report_of-2.ensures taken.5 heard.3 sent.3 lost
+            (c.saturating_add-events.ensures ∙ (ap (λ (n : ℕ). stopped (n + c.tell_all-after.result)) c.saturating_add-before.ensures
+            ∙ all_taken again of_orders of_events _ _ _ offered.3 taken.6 told.3));
+      },
+      refl,
+    )

@@ -1,0 +1,15 @@
+use Rattle.std.proofs.Common.{◌≡◌, List, Bool}
+use Rattle.enet_types.specs.declared.event.Event.{Event}
+use Rattle.enet_service.specs.Phases.{Chain}
+use Rattle.enet_service.specs.Counts.{taken_in, stopped}
+use Rattle.enet_service.proofs.PhaseSteps.{TellsOn}
+use Rattle.enet_service.proofs.telling.tell_all.Given as goal
+
+abbrev pub invariant-loop-host : goal.invariant-loop-host
+invariant-loop-host g l =
+    (puts : List (Event × Bool)) × Chain (λ s x t. g.K.Sink.puts s x.0 x.1 t) l.initial.sink puts l.sink
+    × (l.events ≡ stopped (taken_in puts))
+    × TellsOn g.H.Core.tells l.initial.host l.initial.waiting puts l.host l.waiting
+
+abbrev pub decreases-loop-host : goal.decreases-loop-host
+decreases-loop-host g l = g.H.Core.untold l.host

@@ -1,0 +1,51 @@
+//! Datagrams that come.
+ghost use Rattle.std.specs.Prelude.{◌≡◌, ◌+◌, List};
+ghost use Rattle.enet_bridge.specs.declared.told.Told.{Told as Call};
+ghost use Rattle.enet_bridge.specs.Wires.{also, unless_spent};
+ghost use Rattle.enet_service.specs.Phases.{HearsAll};
+ghost use Rattle.enet_service.specs.Counts.{came_in, count_of};
+
+use crate::MOST;
+use crate::host::Core;
+use enet_bridge::Wire;
+
+/// How many datagrams came, and whether the wire failed then.
+#[derive(Clone, Copy)]
+pub struct Heard {
+    pub received: u32,
+    pub failed: bool,
+}
+
+/// Receives until the wire gives none or fails, at most 256 datagrams.
+pub fn hear_all<H: Core, W: Wire>(host: &mut H, wire: &mut W) -> Heard
+    ensures { (told : List Call) × (W.told wire.new ≡ also (W.told wire.old) (unless_spent (W.faults wire.old) told))
+        × HearsAll H.hears 256 host.old told result.failed host.new × (result.received ≡ came_in told)
+        × (W.faults wire.new ≡ W.faults wire.old + count_of result.failed) }
+{
+    let mut buf = [0u8; 4096];
+    let mut received = 0u32;
+    for _turn in 0..MOST {
+        match wire.recv(&mut buf) {
+            Ok(Some((from, len))) => {
+                host.hear(from, &buf[..len]);
+                received += 1;
+            }
+            Ok(None) => {
+                return Heard {
+                    received,
+                    failed: false,
+                };
+            }
+            Err(_) => {
+                return Heard {
+                    received,
+                    failed: true,
+                };
+            }
+        }
+    }
+    Heard {
+        received,
+        failed: false,
+    }
+}

@@ -1,0 +1,67 @@
+//! Orders that are taken from the source and carried out.
+ghost use Rattle.std.specs.Prelude.{◌≡◌, ◌≤◌, List, Bool, Option, None};
+ghost use Rattle.enet_types.specs.declared.event.Event.{Event as Told};
+ghost use Rattle.enet_submit.specs.declared.order.Submission.{Submission as Item};
+ghost use Rattle.enet_service.specs.Phases.{Chain, CarriesOut, Orders};
+ghost use Rattle.enet_service.specs.Counts.{taken_in, given_in};
+
+use crate::MOST;
+use crate::host::Core;
+use crate::telling::offer;
+use enet_bridge::{Sink, Source};
+use enet_submit::Submission;
+use enet_types::Event;
+use std::sync::Wait;
+
+// Carries an order out; a refusal is told. How many events were taken.
+fn carry_out<H: Core, K: Sink, R: Wait>(
+    rt: &R,
+    host: &mut H,
+    waiting: &mut Option<Event>,
+    sink: &mut K,
+    submission: Submission,
+) -> u32
+    requires { waiting.old ≡ None }
+    ensures { (puts : List (Told × Bool)) × Chain (λ s x t. K.puts s x.0 x.1 t) sink.old puts sink.new
+        × CarriesOut H.obeys host.old submission puts host.new waiting.new × (result ≡ taken_in puts) × (result ≤ 1) }
+{
+    let Submission {
+        seat,
+        number,
+        order,
+    } = submission;
+    match host.obey(order) {
+        Ok(()) => 0,
+        Err(why) => offer(rt, sink, waiting, Event::Refused { seat, number, why }),
+    }
+}
+
+/// Takes orders while no event waits, at most 256, and carries them out: how many orders, and how many events were taken.
+pub fn take_orders<H: Core, S: Source, K: Sink, R: Wait>(
+    rt: &R,
+    host: &mut H,
+    waiting: &mut Option<Event>,
+    source: &mut S,
+    sink: &mut K,
+) -> (u32, u32)
+    ensures { (gave : List (Option Item)) × Chain S.gives source.old gave source.new
+        × (puts : List (Told × Bool)) × Chain (λ s x t. K.puts s x.0 x.1 t) sink.old puts sink.new
+        × Orders H.obeys 256 host.old waiting.old gave puts host.new waiting.new
+        × (result.0 ≡ given_in gave) × (result.1 ≡ taken_in puts) }
+{
+    let mut orders = 0u32;
+    let mut events = 0u32;
+    for _turn in 0..MOST {
+        if waiting.is_some() {
+            return (orders, events);
+        }
+        match source.next(rt) {
+            Some(submission) => {
+                orders += 1;
+                events += carry_out(rt, host, waiting, sink, submission);
+            }
+            None => return (orders, events),
+        }
+    }
+    (orders, events)
+}

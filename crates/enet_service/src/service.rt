@@ -1,0 +1,97 @@
+//! The service and its turns.
+ghost use Rattle.std.specs.Prelude.{◌≡◌, ◌+◌, List, Bool, Option, None, is_err};
+ghost use Rattle.enet_types.specs.declared.event.Event.{Event as Telling};
+ghost use Rattle.enet_submit.specs.declared.order.Submission.{Submission as Item};
+ghost use Rattle.enet_bridge.specs.declared.told.Told.{Told as Call};
+ghost use Rattle.enet_bridge.specs.Wires.{also, unless_spent};
+ghost use Rattle.enet_service.specs.declared.report.Report.{Report as Done};
+ghost use Rattle.enet_service.specs.Phases.{Chain};
+ghost use Rattle.enet_service.specs.Turn.{Turn, Reports};
+ghost use Rattle.enet_service.specs.Counts.{count_of};
+
+use crate::hearing::hear_all;
+use crate::host::Core;
+use crate::orders::take_orders;
+use crate::report::{Fault, Report};
+use crate::sending::send_all;
+use crate::telling::{offer_again, tell_all};
+use enet_bridge::{Sink, Source, Wire};
+use enet_types::{Event, Refusal};
+use std::sync::Wait;
+
+/// A host, and the event that waits for room in the sink, if there is one.
+#[derive(Drop)]
+pub struct Service<H> {
+    pub host: H,
+    pub waiting: Option<Event>,
+}
+
+impl<H: Core> Service<H> {
+    /// A service of this host, with no event waiting.
+    pub fn new(host: H) -> Service<H>
+        ensures { (result.host ≡ host) × (result.waiting ≡ None) }
+    {
+        Service {
+            host,
+            waiting: None,
+        }
+    }
+
+    /// One turn: the tick; one offer of the event that waits; while none waits, at most 256 orders; at most 256 datagrams in; at
+    /// most 256 datagrams out; and while no event waits, the host's events.
+    ///
+    /// E14 where the wire fails: the turn ends there, and the report says what was done before.
+    pub fn turn<W: Wire, S: Source, K: Sink, R: Wait>(
+        &mut self,
+        rt: &R,
+        wire: &mut W,
+        source: &mut S,
+        sink: &mut K,
+        ms: u32,
+    ) -> Result<Report, Fault>
+        ensures turn { (gave : List (Option Item)) × Chain S.gives source.old gave source.new
+            × (told : List Call) × (W.told wire.new ≡ also (W.told wire.old) (unless_spent (W.faults wire.old) told))
+            × (puts : List (Telling × Bool)) × Chain (λ s x t. K.puts s x.0 x.1 t) sink.old puts sink.new
+            × (report : Done) × Turn H.ticks H.obeys H.hears H.gives H.tells ms self.old.host self.old.waiting gave told puts (is_err result) self.new.host self.new.waiting report
+            × Reports result report }
+        ensures faults { W.faults wire.new ≡ W.faults wire.old + count_of (is_err result) }
+    {
+        self.host.tick(ms);
+        let again = offer_again(rt, sink, &mut self.waiting);
+        let (orders, told) = take_orders(rt, &mut self.host, &mut self.waiting, source, sink);
+        let before = again.saturating_add(told);
+        let heard = hear_all(&mut self.host, wire);
+        if heard.failed {
+            return Err(fault(report_of(orders, heard.received, 0, 0, before)));
+        }
+        let sent = send_all(&mut self.host, wire);
+        if sent.failed {
+            let report = report_of(orders, heard.received, sent.sent, sent.lost, before);
+            return Err(fault(report));
+        }
+        let after = tell_all(rt, &mut self.host, &mut self.waiting, sink);
+        let events = before.saturating_add(after);
+        Ok(report_of(orders, heard.received, sent.sent, sent.lost, events))
+    }
+}
+
+fn report_of(orders: u32, received: u32, sent: u32, lost: u32, events: u32) -> Report
+    ensures { result ≡ record { orders = orders; received = received; sent = sent; lost = lost; events = events } }
+{
+    Report {
+        orders,
+        received,
+        sent,
+        lost,
+        events,
+    }
+}
+
+fn fault(report: Report) -> Fault
+    ensures { result ≡ record { why = Refusal.WireFault; report = report } }
+{
+    Fault {
+        why: Refusal::WireFault,
+        report,
+    }
+}

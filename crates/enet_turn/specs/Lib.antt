@@ -1,6 +1,0 @@
-pub mod Counts
-pub mod Hosting
-pub mod Phases
-pub mod Queues
-pub mod Run
-pub mod Turn
