@@ -8,7 +8,7 @@
 //! (`one_spelling`). The same of headers (`read_header`, `write_header`, `one_header`), of lists of commands and of whole
 //! datagrams (`what_is_written_is_spelled`, `one_datagram`). What 'spells' means is specs/Message and specs/Header, a line a
 //! command.
-//! Only tested, by `check_captures`: that these definitions are ENet 1.3's, on 446 captured datagrams of the reference
+//! Only tested, by `check_peer`: that these definitions are ENet 1.3's, on 446 captured datagrams of the reference
 //! library.
 #![tactic(auto)]
 

@@ -1,13 +1,7 @@
-//! The program `check_captures`: datagrams that two ends of the reference library sent one another, captured in the files
-//! NAME.txt, which lie where the program runs.
-//!
-//! Each of them is read as its remark says, and written again byte for byte. For each file it prints how many these were; at the
-//! first that differs it ends with status 1. What hosts of ours make of them `check_hosts` shows.
-#![tactic(auto)]
+//! Datagrams that two ends of the reference library sent one another, captured in the files NAME.txt, which lie where the program runs:
+//! each is read as its remark says, and written again byte for byte. What hosts of ours make of them `check_hosts` shows.
 
-mod spelling;
-mod telling;
-
+use crate::spelling;
 use anyhow::{Context, Result};
 use std::fs;
 use std::rt::Files;
@@ -28,12 +22,8 @@ const FILES: [&str; 12] = [
     "timeout",
 ];
 
-fn main(rt: HostRuntime) -> Result<()> {
-    run(&rt)
-}
-
-/// Reads and writes the datagrams of each file. An error at the first that differs.
-fn run<R: Files + Print + AllocGlobal>(rt: &R) -> Result<()> {
+/// Reads and writes the datagrams of each file, and prints how many it has. An error at the first that differs.
+pub fn run_files<R: Files + Print + AllocGlobal>(rt: &R) -> Result<()> {
     for name in FILES {
         run_file(rt, name)?;
     }
