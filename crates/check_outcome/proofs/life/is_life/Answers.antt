@@ -2,7 +2,7 @@ use Rattle.std.proofs.Common.{◌≡◌, ◌∷◌, [], rules, length, sym, subs
 use Rattle.std.proofs.lemmas.Grind.{common_steps}
 use Rattle.enet_types.specs.declared.event.Event.TheVariants as events
 use Rattle.check_outcome.specs.Life.{IsSomeLife}
-use Rattle.check_outcome.proofs.Lives.{is-empty, life_none, life_connect, connect_life, life_disconnect, disconnect_life}
+use Rattle.check_outcome.proofs.SomeLife.{is-empty, life_none, life_connect, connect_life, life_disconnect, disconnect_life}
 use Rattle.check_outcome.proofs.life.is_life.Goals as goal
 
 pub returns-in_default : goal.returns-in_default
