@@ -1,2 +1,5 @@
 pub mod TextLemmas
 pub mod WordLemmas
+pub mod Joins
+pub mod Steps
+pub mod Whole

@@ -1,2 +1,6 @@
 pub mod Texts
 pub mod Words
+pub mod InspectTexts
+pub mod Described
+pub mod Lines
+pub mod Faults

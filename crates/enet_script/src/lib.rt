@@ -3,12 +3,31 @@
 //! Proved, by the definitions of specs/: which words a line has (`word`, `one` to `five`, `end`); which number, peer,
 //! address, connect id or bytes a word spells, and that no other word spells one (`u8_of` and its kin); and the text of each answer.
 //! Only tested, by scripts/rows: that the texts find memory.
+//!
+//! Datagrams of ENet 1.3 in words, for whoever looks at what a game sent.
+//!
+//! Proved: what is told of a datagram (`describe`, by `Describes` over the definitions of `enet_codec`): its header, each command that the
+//! bytes behind it spell, one after another, with all its fields, and from which byte on and why the rest can't be read; what a line in hex
+//! spells (`read_line`); that reading captures is safe for every input and ends.
+//! Only tested, by scripts/check-inspect.sh: that the lines tell of 446 captured datagrams what their remarks say, which packets of a
+//! capture are datagrams, and what is written around the lines.
+//! Neither: what was written before reading or writing failed.
 #![tactic(auto)]
 
 mod answers;
+mod datagram;
+mod fault;
+mod inspecting;
+mod line;
+mod pcap;
+mod texts;
 mod words;
 
 pub use answers::{address_text, bytes_text, event_text, peer_text, received_text, refusal_text};
+pub use datagram::describe;
+pub use fault::InspectFault;
+pub use inspecting::inspect;
+pub use line::{Line, read_line};
 pub use words::{
     bytes_of, bytes_word, end, five, four, id_of, ip_of, one, peer_of, peer_word, three, two,
     u8_of, u8_word, u16_of, u32_of, u32_word, u64_of, u64_word, word,

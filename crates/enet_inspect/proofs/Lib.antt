@@ -1,3 +1,0 @@
-pub mod Joins
-pub mod Steps
-pub mod Whole

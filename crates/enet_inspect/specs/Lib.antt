@@ -1,4 +1,0 @@
-pub mod Texts
-pub mod Described
-pub mod Lines
-pub mod Faults
