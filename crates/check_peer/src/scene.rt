@@ -4,7 +4,7 @@ use crate::datagrams::named;
 use bytes::Bytes;
 use enet_codec::read_header;
 use enet_peer::{Peer, PeerEvent, PeerState, obey};
-use enet_script::{
+use enet_text::{
     bytes_text, bytes_word, end, event_text, received_text, refusal_text, u8_word, u32_word, word,
 };
 use enet_types::{Event, PeerRef, Received, Refusal, Stop};

@@ -5,7 +5,7 @@ use crate::scene::{Scene, name_word};
 use enet_codec::{Command, Offer, read_command, read_header};
 use enet_connect::{Server, Terms};
 use enet_peer::{Limits, Peer};
-use enet_script::{bytes_word, end, u32_word};
+use enet_text::{bytes_word, end, u32_word};
 use std::alloc::Global;
 
 /// What a client's first connection asks for.

@@ -3,7 +3,7 @@
 use crate::scene::Scene;
 use crate::starts::start;
 use enet_codec::{Command, read_command, read_header};
-use enet_script::{bytes_word, word};
+use enet_text::{bytes_word, word};
 use std::alloc::Global;
 
 /// What `disconnect`, `disconnect_now` and `disconnect_later` leave of a peer in the state that the text names, with E3 where it is

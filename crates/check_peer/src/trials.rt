@@ -4,7 +4,7 @@ use crate::datagrams::named;
 use crate::scene::{Scene, name_word};
 use crate::starts::start;
 use crate::states;
-use enet_script::u32_word;
+use enet_text::u32_word;
 use std::alloc::Global;
 
 /// What came of trials. Lines are counted from 1.

@@ -1,7 +1,7 @@
 //! The words of a line.
 
 use crate::fault::{Fault, UNREADABLE};
-use enet_script::{id_of, peer_of, u8_of, u16_of, u32_of};
+use enet_text::{id_of, peer_of, u8_of, u16_of, u32_of};
 use enet_types::{Addr, PeerRef};
 use std::str::SplitWhitespace;
 

@@ -5,7 +5,7 @@ use Rattle.enet_types.specs.declared.refusal.Refusal.{Refusal}
 use Rattle.enet_types.specs.Refusal.{label_of}
 use Rattle.enet_network.specs.declared.event.Answer.{Answer}
 use Rattle.enet_network.specs.declared.event.Answer.TheVariants.{Peer, Done, Received, Sent, Taken}
-use Rattle.enet_script.specs.Texts.{bytes_text, event_text, peer_text, received_text}
+use Rattle.enet_text.specs.Texts.{bytes_text, event_text, peer_text, received_text}
 use Rattle.enet_lab.specs.declared.host.Host.{Host}
 use Rattle.enet_lab.specs.declared.host.Recipient.{Recipient}
 use Rattle.enet_lab.specs.Hosts.{host_text, recipient_text}

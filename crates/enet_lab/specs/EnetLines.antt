@@ -9,7 +9,7 @@ use Rattle.enet_types.specs.declared.event.PeerRef.{PeerRef}
 use Rattle.enet_network.specs.declared.event.WorldEvent.TheVariants as world
 use Rattle.enet_fleet.specs.declared.event.FleetEvent.TheVariants as fleet
 use Rattle.enet_fleet.specs.declared.event.Node.TheVariants.{Server, Client}
-use Rattle.enet_script.specs.Words.{words, number_below, peer_of, ip_of, bytes_of, id_of, of_one, of_two, of_three, of_four, of_five, ◌>>=◌}
+use Rattle.enet_text.specs.Words.{words, number_below, peer_of, ip_of, bytes_of, id_of, of_one, of_two, of_three, of_four, of_five, ◌>>=◌}
 use Rattle.enet_lab.specs.declared.host.Host.{Host}
 use Rattle.enet_lab.specs.declared.host.Host.TheVariants.{OfWorld, OfFleet}
 use Rattle.enet_lab.specs.declared.line.Line.{Line}

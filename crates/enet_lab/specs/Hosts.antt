@@ -9,8 +9,8 @@ use Rattle.enet_network.specs.declared.event.Side.TheVariants.{A, B}
 use Rattle.enet_fleet.specs.declared.event.Node.{Node}
 use Rattle.enet_fleet.specs.declared.event.Node.TheVariants.{Server, Client}
 use Rattle.enet_fleet.specs.Fleets.{address_of, is_host}
-use Rattle.enet_script.specs.Words.{number_below}
-use Rattle.enet_script.specs.Texts.{address_text}
+use Rattle.enet_text.specs.Words.{number_below}
+use Rattle.enet_text.specs.Texts.{address_text}
 use Rattle.enet_lab.specs.declared.host.Host.{Host}
 use Rattle.enet_lab.specs.declared.host.Host.TheVariants.{OfWorld, OfFleet}
 use Rattle.enet_lab.specs.declared.host.Recipient.{Recipient}

@@ -3,13 +3,13 @@
 ghost use Rattle.std.specs.Prelude.{◌≡◌, ◌++◌, codes, IfOk};
 ghost use Rattle.std.specs.Fmt.{decimal};
 ghost use Rattle.std.specs.String.{string_bytes};
-ghost use Rattle.enet_script.specs.Texts.{bytes_text, peer_text};
+ghost use Rattle.enet_text.specs.Texts.{bytes_text, peer_text};
 ghost use Rattle.enet_lab.specs.Answers.{to_text, text_of, outcome_text};
 ghost use Rattle.enet_lab.specs.Hosts.{host_text};
 
 use crate::host::{Host, Recipient, host_text, recipient_text};
 use enet_network::Answer;
-use enet_script::{bytes_text, event_text, peer_text, received_text, refusal_text};
+use enet_text::{bytes_text, event_text, peer_text, received_text, refusal_text};
 use enet_types::Refusal;
 use std::alloc::{AllocError, Global};
 

@@ -6,7 +6,7 @@ ghost use Rattle.enet_lab.specs.Hosts.{side_named, client_named, node_named, hos
 
 use enet_fleet::Node;
 use enet_network::Side;
-use enet_script::{address_text, u16_of};
+use enet_text::{address_text, u16_of};
 use enet_types::Addr;
 use std::alloc::{AllocError, Global};
 

@@ -14,7 +14,7 @@ use crate::step::{fleet_step, world_step};
 use enet_fleet::FleetEvent;
 use crate::{Line, read_line};
 use enet_network::WorldEvent;
-use enet_script::refusal_text;
+use enet_text::refusal_text;
 use enet_types::{Config, Refusal};
 use std::alloc::Global;
 use std::mem::replace;

@@ -1,6 +1,6 @@
 //! Why the program ends with a status other than 0.
 
-use enet_script::InspectFault;
+use enet_text::InspectFault;
 use enet_lab::LabFault;
 use enet_serve::Unopened;
 use enet_types::Refusal;

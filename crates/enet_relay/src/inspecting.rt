@@ -1,7 +1,7 @@
 //! What `inspect` reads.
 
 use crate::failure::Failure;
-use enet_script::inspect;
+use enet_text::inspect;
 use std::rt::Files;
 use std::{fs, io};
 

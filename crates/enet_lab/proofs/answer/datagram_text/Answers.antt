@@ -1,7 +1,7 @@
 use Rattle.std.proofs.Common.{◌≡◌}
 use Rattle.std.specs.String.{string_bytes}
 use Rattle.std.proofs.lemmas.List.{append_assoc}
-use Rattle.enet_script.specs.Texts.{bytes_text}
+use Rattle.enet_text.specs.Texts.{bytes_text}
 use Rattle.enet_lab.specs.Answers.{to_text}
 use Rattle.enet_lab.specs.Hosts.{host_text}
 use Rattle.enet_lab.proofs.answer.datagram_text.Goals as goal

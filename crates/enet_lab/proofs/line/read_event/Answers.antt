@@ -1,5 +1,5 @@
 use Rattle.std.proofs.Common.{◌≡◌, IfOk, rules, subst}
-use Rattle.enet_script.specs.Words.{words}
+use Rattle.enet_text.specs.Words.{words}
 use Rattle.enet_lab.specs.EnetLines.{submit_of, stranger_of, event_of}
 use Rattle.enet_lab.proofs.line.read_event.Goals as goal
 

@@ -1,5 +1,5 @@
 use Rattle.std.proofs.Common.{◌≡◌, ◌∷◌, IfOk, rules, subst}
-use Rattle.enet_script.specs.Words.{words}
+use Rattle.enet_text.specs.Words.{words}
 use Rattle.enet_lab.specs.EnetLines.{line_of, spells}
 use Rattle.enet_lab.proofs.line.read_line.Goals as goal
 

@@ -1,5 +1,0 @@
-use Rattle.std.proofs.Common.{rules}
-use Rattle.enet_script.proofs.answers.event_text.Goals as goal
-
-pub returns-in-Disconnect : goal.returns-in-Disconnect
-returns-in-Disconnect c = search rules

@@ -1,0 +1,96 @@
+//! The texts of answers, without the line feed that ends a line.
+
+ghost use Rattle.std.specs.Prelude.{◌≡◌, ◌++◌, codes, IfOk};
+ghost use Rattle.std.specs.Fmt.{decimal};
+ghost use Rattle.std.specs.String.{string_bytes};
+ghost use Rattle.enet_types.specs.Refusal.{label_of};
+ghost use Rattle.enet_text.specs.Texts.{address_text, bytes_text, event_text, peer_text, received_text};
+
+use enet_types::{Addr, Event, Packet, PeerRef, Received, Refusal};
+use std::alloc::{AllocError, Global};
+
+/// A refusal: its number and its name. An error where there is no memory for the text.
+pub fn refusal_text(alloc: Global, refusal: Refusal) -> Result<String, AllocError>
+    ensures { IfOk result (λ text. string_bytes text ≡ label_of refusal) }
+{
+    String::from_str(alloc, refusal.label())
+}
+
+/// A peer as `slot.generation`. An error where there is no memory for the text.
+pub fn peer_text(alloc: Global, peer: PeerRef) -> Result<String, AllocError>
+    ensures { IfOk result (λ text. string_bytes text ≡ peer_text peer) }
+{
+    let PeerRef { slot, generation } = peer;
+    format!(in alloc; "{slot}.{generation}")
+}
+
+/// An address in dotted decimals, and its port behind a colon. An error where there is no memory for the text.
+pub fn address_text(alloc: Global, addr: Addr) -> Result<String, AllocError>
+    ensures { IfOk result (λ text. string_bytes text ≡ address_text addr) }
+{
+    let [first, second, third, fourth] = addr.ip.to_be_bytes();
+    let port = addr.port;
+    format!(in alloc; "{first}.{second}.{third}.{fourth}:{port}")
+}
+
+/// What came of a datagram: how many commands were handled, and the number of the stop, if there was one. An error
+/// where there is no memory for the text.
+pub fn received_text(alloc: Global, received: Received) -> Result<String, AllocError>
+    ensures { IfOk result (λ text. string_bytes text ≡ received_text received) }
+{
+    let handled = received.handled;
+    match received.stop {
+        None => format!(in alloc; "handled {handled}"),
+        Some(stop) => {
+            let number = stop.number();
+            format!(in alloc; "handled {handled} stop S{number}")
+        }
+    }
+}
+
+/// An event that was taken. An error where there is no memory for the text.
+pub fn event_text(alloc: Global, event: &Event) -> Result<String, AllocError>
+    ensures { IfOk result (λ text. string_bytes text ≡ event_text event.now) }
+{
+    match event {
+        Event::Connect { peer, info } => connection_text(alloc, "connect", *peer, *info),
+        Event::Receive { peer, packet } => receive_text(alloc, *peer, packet),
+        Event::Disconnect { peer, info } => connection_text(alloc, "disconnect", *peer, *info),
+        Event::Refused { why, .. } => refusal_text(alloc, *why),
+    }
+}
+
+fn connection_text(
+    alloc: Global,
+    name: &str,
+    peer: PeerRef,
+    info: u32,
+) -> Result<String, AllocError>
+    ensures { IfOk result (λ text. string_bytes text
+        ≡ name.now ++ codes " " ++ peer_text peer ++ codes " data " ++ decimal info) }
+{
+    let PeerRef { slot, generation } = peer;
+    format!(in alloc; "{name} {slot}.{generation} data {info}")
+}
+
+fn receive_text(alloc: Global, peer: PeerRef, packet: &Packet) -> Result<String, AllocError>
+    ensures { IfOk result (λ text. string_bytes text
+        ≡ codes "receive " ++ peer_text peer ++ codes " ch " ++ decimal packet.now.channel ++ codes " flags "
+        ++ decimal packet.now.flags ++ codes " " ++ bytes_text packet.now.body) }
+{
+    let PeerRef { slot, generation } = peer;
+    let channel = packet.channel;
+    let flags = packet.flags;
+    let body = bytes_text(alloc, packet.body.as_slice())?;
+    format!(in alloc; "receive {slot}.{generation} ch {channel} flags {flags} {body}")
+}
+
+/// Bytes in hex of lower case, or `-` for none. An error where there is no memory for the text.
+pub fn bytes_text(alloc: Global, bytes: &[u8]) -> Result<String, AllocError>
+    ensures { IfOk result (λ text. string_bytes text ≡ bytes_text bytes.now) }
+{
+    if bytes.is_empty() {
+        return String::from_str(alloc, "-");
+    }
+    hex::encode(alloc, bytes)
+}
