@@ -22,7 +22,6 @@ mod table;
 mod write;
 
 pub use command::{Command, Fragment, Head, Offer, Verify};
-pub use enet_types::{Addr, Packet, Refusal, Stop};
 pub use header::Header;
 pub use header_read::{one_header, read_header};
 pub use header_write::write_header;
