@@ -2,7 +2,7 @@
 
 use check_outcome::{CHANNELS, Lives, Told};
 use enet_fleet::{End, Fleet};
-use enet_types::{Event, Received, Refusal, Stop};
+use enet_codec::{Event, Received, Refusal, Stop};
 use std::fmt;
 
 /// The refusals that a step of a fleet may answer, in the order of their numbers.

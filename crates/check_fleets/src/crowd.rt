@@ -5,7 +5,7 @@ use crate::seen::{FIRST_CLIENT, SERVER};
 use anyhow::{Result, bail};
 use bytes::Bytes;
 use enet_fleet::{Answer, Fleet, FleetEvent, Node};
-use enet_types::{Addr, Config, Event, PeerRef};
+use enet_codec::{Addr, Config, Event, PeerRef};
 use std::alloc::Global;
 
 /// What hosts do by turns.

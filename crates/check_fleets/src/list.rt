@@ -7,7 +7,7 @@ use crate::seen::{CLIENTS, Seen};
 use anyhow::Result;
 use check_outcome::{Draw, Setting};
 use enet_fleet::{Answer, Fleet, FleetEvent, Node, node_of};
-use enet_types::Refusal;
+use enet_codec::Refusal;
 use std::alloc::Global;
 
 /// How many events a list has.

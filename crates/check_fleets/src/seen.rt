@@ -2,7 +2,7 @@
 
 use check_outcome::{Known, Peers, SLOTS, Way};
 use enet_fleet::{Fleet, Node};
-use enet_types::{Addr, Event, PeerRef};
+use enet_codec::{Addr, Event, PeerRef};
 
 /// How many clients a fleet has.
 pub const CLIENTS: u16 = 4;

@@ -3,7 +3,7 @@
 use anyhow::{Result, bail};
 use bytes::Bytes;
 use check_outcome::follows;
-use enet_types::Packet;
+use enet_codec::Packet;
 use std::alloc::{AllocError, Global};
 
 /// A packet of a case: its flags and its body.

@@ -5,7 +5,7 @@ use crate::drawing;
 use crate::drawing::{Hosts, nothing_known};
 use anyhow::bail;
 use check_outcome::{Draw, Known, Setting, Told};
-use enet_types::{Refusal, Stop};
+use enet_codec::{Refusal, Stop};
 use enet_world::{Answer, Side, World, WorldEvent};
 use std::alloc::Global;
 

@@ -3,7 +3,7 @@
 use crate::list::stepped;
 use anyhow::{Result, bail};
 use bytes::Bytes;
-use enet_types::{Config, PeerRef, Received, Refusal, Stop};
+use enet_codec::{Config, PeerRef, Received, Refusal, Stop};
 use enet_world::{Answer, Side, World, WorldEvent};
 use std::alloc::Global;
 

@@ -6,7 +6,7 @@ use crate::row::{Outcome, is_for_want_of_memory};
 use crate::seen::Seen;
 use bytes::Bytes;
 use enet_fleet::{Answer, Fleet, FleetEvent, Node, node_of};
-use enet_types::{Addr, Config, DisconnectMode, Event, PeerRef, Received, Refusal, Stop};
+use enet_codec::{Addr, Config, DisconnectMode, Event, PeerRef, Received, Refusal, Stop};
 use std::alloc::Global;
 
 const C0: Node = Node::Client(0);

@@ -1,5 +1,5 @@
 use bytes::Bytes;
-use enet_types::{Config, Packet, Refusal, Stop};
+use enet_codec::{Config, Packet, Refusal, Stop};
 use std::alloc::{AllocError, Global};
 use std::test::Fail;
 

@@ -1,6 +1,6 @@
 -- Lists of packets of one channel, packet by packet.
 use Rattle.std.proofs.Common.{◌≡◌, ℕ, List, ◌∷◌, inl, inr, refl, sym, ap, ◌∙◌}
-use Rattle.enet_types.specs.declared.packet.Packet.{Packet}
+use Rattle.enet_codec.specs.declared.packet.Packet.{Packet}
 use Rattle.enet_network.specs.Headline.{AreOn}
 
 pub on-cons : (channel : ℕ) (p : Packet) (ps : List Packet) → p.channel ≡ channel → AreOn channel ps → AreOn channel (p ∷ ps)

@@ -1,6 +1,6 @@
 -- When what a user took of a channel follows what the other user submitted on it.
 use Rattle.std.specs.Prelude.{ℕ, ◌&&◌, ◌==◌, not, Bool, List}
-use Rattle.enet_types.specs.declared.packet.Packet.{Packet}
+use Rattle.enet_codec.specs.declared.packet.Packet.{Packet}
 use Rattle.enet_sender.specs.CommandChoice as command_choice
 use Rattle.enet_sender.specs.CommandChoice.{carried_from}
 use Rattle.enet_outbox.specs.Outbox.{is_unsequenced}

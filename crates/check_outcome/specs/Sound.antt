@@ -1,6 +1,6 @@
 -- What is to hold of a world or a fleet that was opened, whatever happened in it.
 use Rattle.std.specs.Prelude.{◌<◌, ℕ, List, Option}
-use Rattle.enet_types.specs.declared.packet.Packet.{Packet}
+use Rattle.enet_codec.specs.declared.packet.Packet.{Packet}
 use Rattle.enet_connection.specs.Follows.{Follows}
 use Rattle.enet_connection.specs.LinkSteps.{bodies_of}
 use Rattle.enet_connection.specs.Connection.{of_channel, in_sequence}

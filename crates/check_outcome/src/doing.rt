@@ -3,7 +3,7 @@
 use crate::draw::{Draw, Way};
 use crate::peers::Peers;
 use crate::setting::Setting;
-use enet_types::{DisconnectMode, Packet, PeerRef};
+use enet_codec::{DisconnectMode, Packet, PeerRef};
 use std::alloc::{AllocError, Global};
 
 /// What is known of a host.

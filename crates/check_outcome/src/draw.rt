@@ -5,7 +5,7 @@ ghost use Rattle.std.specs.Prelude.{◌<◌, ◌≤◌};
 use crate::peers::Peers;
 use crate::setting::Setting;
 use bytes::Bytes;
-use enet_types::{DisconnectMode, Packet, PeerRef};
+use enet_codec::{DisconnectMode, Packet, PeerRef};
 use rand_core::{Rng, SeedableRng};
 use rand_pcg::Pcg32;
 use std::alloc::{AllocError, Global};

@@ -4,7 +4,7 @@ ghost use Rattle.std.specs.Prelude.{◌≡◌, ◌≤◌, ◌↔◌, IsTrue};
 ghost use Rattle.enet_sender.specs.CommandChoice.{is_long, goes_reliable};
 ghost use Rattle.check_outcome.specs.Following.{submission, goes_in_sequence, came_in_sequence, FollowsFrom};
 
-use enet_types::Packet;
+use enet_codec::Packet;
 
 /// What a datagram needs in bytes beside a piece of a packet.
 const OVERHEAD: u32 = 28;

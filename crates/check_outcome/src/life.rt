@@ -3,7 +3,7 @@
 ghost use Rattle.std.specs.Prelude.{◌↔◌, IsTrue};
 ghost use Rattle.check_outcome.specs.Life.{AreLastOf, IsSomeLife};
 
-use enet_types::{Event, PeerRef};
+use enet_codec::{Event, PeerRef};
 
 /// Whether these are packets of a peer, and then at most one Disconnect of it.
 fn are_last_of(name: PeerRef, events: &[Event]) -> bool

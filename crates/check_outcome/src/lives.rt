@@ -1,6 +1,6 @@
 //! What is counted of the connections of lists.
 
-use enet_types::{Event, Packet};
+use enet_codec::{Event, Packet};
 use std::fmt;
 
 /// The flags of a packet that came unsequenced.

@@ -1,6 +1,6 @@
 //! What is known of a host's peers.
 
-use enet_types::{Event, PeerRef};
+use enet_codec::{Event, PeerRef};
 
 /// How many slots a host has at most.
 pub const SLOTS: u16 = 6;

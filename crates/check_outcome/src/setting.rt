@@ -2,7 +2,7 @@
 
 ghost use Rattle.std.specs.Prelude.{◌≤◌};
 
-use enet_types::Config;
+use enet_codec::Config;
 
 /// What the hosts of a list have in common.
 #[derive(Clone, Copy)]

@@ -7,7 +7,7 @@ ghost use Rattle.check_outcome.specs.Sound.{AreInOrder, IsFollowed, IsSideSound,
 
 use crate::following::follows;
 use crate::life::is_life;
-use enet_types::Packet;
+use enet_codec::Packet;
 use enet_world::{Side, World};
 
 /// Whether all packets are of this channel.

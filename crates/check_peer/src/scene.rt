@@ -2,12 +2,11 @@
 
 use crate::datagrams::named;
 use bytes::Bytes;
-use enet_codec::read_header;
+use enet_codec::{Event, PeerRef, Received, Refusal, Stop, read_header};
 use enet_peer::{Peer, PeerEvent, PeerState, obey};
 use enet_text::{
     bytes_text, bytes_word, end, event_text, received_text, refusal_text, u8_word, u32_word, word,
 };
-use enet_types::{Event, PeerRef, Received, Refusal, Stop};
 use std::alloc::Global;
 
 /// How many bytes of a datagram are shown.

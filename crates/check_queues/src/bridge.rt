@@ -4,7 +4,7 @@ use crate::opening::{bell, one_seat};
 use bytes::Bytes;
 use enet_bridge::{Bell, Desk, Pumped, QueueSource, Source};
 use enet_submit::Order;
-use enet_types::{PeerRef, Refusal};
+use enet_codec::{PeerRef, Refusal};
 use std::alloc::Global;
 use std::net::Net;
 use std::sync::Wait;

@@ -1,7 +1,7 @@
 use bytes::Bytes;
 use enet_chat::{Table, relay_step};
 use enet_submit::Order;
-use enet_types::{Event, Packet, PeerRef, Refusal};
+use enet_codec::{Event, Packet, PeerRef, Refusal};
 use std::alloc::Global;
 use std::test::Fail;
 

@@ -3,7 +3,7 @@
 use enet_connect::Terms;
 use enet_host::HostCore;
 use enet_peer::PeerState;
-use enet_types::{Addr, PeerRef};
+use enet_codec::{Addr, PeerRef};
 
 /// How many hosts, slots of each and generations of each slot are looked at.
 pub(crate) const HOSTS: usize = 2;

@@ -2,7 +2,7 @@
 
 use crate::fault::{Fault, UNREADABLE};
 use crate::words::Words;
-use enet_types::Config;
+use enet_codec::Config;
 
 /// Settings as `PEERS CHANNELS`, the standard ones beside, then words and numbers that set others.
 pub(crate) fn read_config(words: &mut Words<'_>) -> Result<Config, Fault> {

@@ -5,7 +5,7 @@ use crate::fault::Fault;
 use enet_connect::Terms;
 use enet_host::{HostCore, Totals};
 use enet_peer::PeerState;
-use enet_types::{Event, Packet, PeerRef, Received, Refusal};
+use enet_codec::{Event, Packet, PeerRef, Received, Refusal};
 use std::alloc::AllocError;
 
 /// `ok`, or a refusal's number and name.

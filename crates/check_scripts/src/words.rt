@@ -2,7 +2,7 @@
 
 use crate::fault::{Fault, UNREADABLE};
 use enet_text::{id_of, peer_of, u8_of, u16_of, u32_of};
-use enet_types::{Addr, PeerRef};
+use enet_codec::{Addr, PeerRef};
 use std::str::SplitWhitespace;
 
 /// The address of the host A; the letter after it has the next address and the next port.

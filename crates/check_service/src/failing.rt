@@ -4,7 +4,7 @@ use crate::stand::{FAR, PEER, Stand, done, packet, stand_of, turn, wire_fault};
 use bytes::Bytes;
 use enet_service::{Fault, Report, Wire};
 use enet_submit::Order;
-use enet_types::{Addr, Refusal};
+use enet_codec::{Addr, Refusal};
 use std::alloc::{AllocError, Global};
 use std::sync::Wait;
 use std::time::Clock;

@@ -9,7 +9,7 @@ use enet_service::{
     Bell, Desk, HostCore, Inbox, QueueSink, QueueSource, Report, Service, TakerBell, Wire,
     run_between_queues,
 };
-use enet_types::{Addr, Refusal};
+use enet_codec::{Addr, Refusal};
 use std::alloc::Global;
 use std::net::Net;
 use std::sync::Wait;

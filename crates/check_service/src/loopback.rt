@@ -2,7 +2,7 @@
 
 use crate::stand::source;
 use enet_service::{HostCore, MemorySink, MioWire, Service, run};
-use enet_types::{Addr, Config, Refusal};
+use enet_codec::{Addr, Config, Refusal};
 use std::alloc::Global;
 use std::io;
 use std::net::{Ipv4Addr, Net, SocketAddr, UdpSocket};

@@ -1,6 +1,6 @@
 -- A wire in memory.
 use Rattle.std.specs.Prelude.{◌≡◌, ◌⊎◌, ℕ, Bool, true, false, List, [], ◌∷◌, take, Option, Some, None}
-use Rattle.enet_types.specs.declared.address.Addr.{Addr}
+use Rattle.enet_codec.specs.declared.address.Addr.{Addr}
 use Rattle.enet_bridge.specs.declared.told.Told.{Told}
 use Rattle.enet_bridge.specs.declared.told.Step.{Step}
 use Rattle.enet_bridge.specs.declared.told.Step.TheVariants.{Datagram, Block, Wait, Fault}

@@ -1,7 +1,7 @@
 -- What a wire tells of its calls.
 use Rattle.std.specs.Prelude.{ℕ, ◌+◌, ◌==◌, if◌then◌else◌, Bool, true, false, List, [], ◌∷◌, ◌++◌, take, Option, Some, None, Result, Ok, Err}
-use Rattle.enet_types.specs.declared.address.Addr.{Addr}
-use Rattle.enet_types.specs.declared.refusal.Refusal.{Refusal}
+use Rattle.enet_codec.specs.declared.address.Addr.{Addr}
+use Rattle.enet_codec.specs.declared.refusal.Refusal.{Refusal}
 use Rattle.enet_bridge.specs.declared.told.Told.{Told}
 use Rattle.enet_bridge.specs.declared.told.Told.TheVariants.{Came, NothingCame, Went, Blocked, Waited}
 

@@ -5,7 +5,7 @@ ghost use Rattle.enet_bridge.specs.Ends.{orders};
 
 use crate::waiting::{Pumped, pump};
 use enet_submit::{Finished, Order, Seat, SubmitQueue};
-use enet_types::Refusal;
+use enet_codec::Refusal;
 use crate::Bell;
 use std::alloc::Global;
 use std::collections::VecDeque;

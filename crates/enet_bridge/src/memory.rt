@@ -5,7 +5,7 @@ ghost use Rattle.enet_bridge.specs.WireMemory.{NextIs, Takes, Waits};
 use crate::told::{Step, Told};
 use crate::wire::Wire;
 use bytes::Bytes;
-use enet_types::{Addr, Refusal};
+use enet_codec::{Addr, Refusal};
 use std::alloc::Global;
 use std::collections::VecDeque;
 use std::marker::Model;

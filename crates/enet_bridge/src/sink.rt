@@ -3,7 +3,7 @@ ghost use Rattle.std.specs.Prelude.{◌≡◌};
 
 use crate::inbox::TakerBell;
 use enet_events::{EventQueue, Poster};
-use enet_types::Event;
+use enet_codec::Event;
 use std::alloc::Global;
 use std::collections::VecDeque;
 use std::marker::Model;
@@ -12,7 +12,7 @@ use std::sync::Wait;
 /// Takes events, one by one.
 pub trait Sink {
     ghost use Rattle.std.specs.Prelude.{◌≡◌, Bool, IfErr, is_ok};
-    ghost use Rattle.enet_types.specs.declared.event.Event.{Event as Told};
+    ghost use Rattle.enet_codec.specs.declared.event.Event.{Event as Told};
 
     /// What a call of `put` may do with an event, between the sink before it and the sink after it: whether it was taken.
     ghost puts: { Self → Told → Bool → Self → Type 0 };

@@ -4,7 +4,7 @@ ghost use Rattle.enet_bridge.specs.Socket.{failures_of};
 
 use crate::bell::Bell;
 use crate::wire::Wire;
-use enet_types::{Addr, Refusal};
+use enet_codec::{Addr, Refusal};
 use libc::net as c;
 use mio::net::UdpSocket;
 use mio::{Events, Interest, Poll, Token};

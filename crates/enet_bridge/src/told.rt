@@ -1,7 +1,7 @@
 //! What a wire tells of its calls, and what a wire in memory is to do.
 
 use bytes::Bytes;
-use enet_types::Addr;
+use enet_codec::Addr;
 
 /// What one call of a wire did. A call that failed isn't told; the wire counts it.
 #[derive(Drop)]

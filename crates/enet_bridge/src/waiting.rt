@@ -5,7 +5,7 @@ ghost use Rattle.enet_submit.specs.Words.{IsSeatOf, sent, limit_of, capacity_of,
 ghost use Rattle.enet_bridge.specs.Ends.{orders};
 
 use enet_submit::{Order, Seat, SubmitQueue};
-use enet_types::Refusal;
+use enet_codec::Refusal;
 use std::collections::VecDeque;
 use std::sync::Wait;
 

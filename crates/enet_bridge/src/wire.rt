@@ -2,7 +2,7 @@
 ghost use Rattle.std.specs.Prelude.{◌≡◌, ℕ, ◌≤◌, List, Option, None, IfOk, IfSome, IfErr, Ok, false};
 ghost use Rattle.enet_bridge.specs.Wires.{also, came, went, waited, unless_spent, faults_after, last_fault};
 
-use enet_types::{Addr, Refusal};
+use enet_codec::{Addr, Refusal};
 use std::sync::Wait;
 use std::time::Clock;
 

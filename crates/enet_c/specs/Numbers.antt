@@ -1,7 +1,7 @@
 -- The numbers that stand for refusals at the border: those of their names.
 use Rattle.std.specs.Prelude.{◌≡◌, ℕ, ◌<◌, ◌≤◌, ◌++◌, List, Result, Ok, Err, length, drop}
-use Rattle.enet_types.specs.declared.refusal.Refusal.{Refusal}
-use Rattle.enet_types.specs.declared.refusal.Refusal.TheVariants.{Memory, NoSuchPeer, NotConnected, NoSuchChannel, TooLarge, WindowEnd, NoSlot, BadConfig, Full, SeatSpent, Late, Earlier, NoSuchDatagram, WireFault, BadScript, StillHeld, NoSuchHost}
+use Rattle.enet_codec.specs.declared.refusal.Refusal.{Refusal}
+use Rattle.enet_codec.specs.declared.refusal.Refusal.TheVariants.{Memory, NoSuchPeer, NotConnected, NoSuchChannel, TooLarge, WindowEnd, NoSlot, BadConfig, Full, SeatSpent, Late, Earlier, NoSuchDatagram, WireFault, BadScript, StillHeld, NoSuchHost}
 
 abbrev pub number_of : Refusal → ℕ
 number_of Memory = 1

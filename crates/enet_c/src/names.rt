@@ -1,11 +1,11 @@
 //! The names of refusals and stops.
 
 ghost use Rattle.std.specs.Prelude.{◌≡◌, ◌≢◌, IfSome, IfNone};
-ghost use Rattle.enet_types.specs.Stop.{stop_label, stop_number};
-ghost use Rattle.enet_types.specs.Refusal.{label_of};
+ghost use Rattle.enet_codec.specs.Stop.{stop_label, stop_number};
+ghost use Rattle.enet_codec.specs.Refusal.{label_of};
 ghost use Rattle.enet_c.specs.Numbers.{number_of, Names, Writes};
-ghost use Rattle.enet_types.specs.declared.refusal.Refusal.{Refusal};
-ghost use Rattle.enet_types.specs.declared.stop.Stop.{Stop};
+ghost use Rattle.enet_codec.specs.declared.refusal.Refusal.{Refusal};
+ghost use Rattle.enet_codec.specs.declared.stop.Stop.{Stop};
 
 use enet_host::{Refusal, Stop};
 

@@ -1,7 +1,7 @@
 //! Hosts begin and end.
 
 ghost use Rattle.std.specs.Prelude.{◌≡◌, None, Ok, Err, IfOk, IfErr};
-ghost use Rattle.enet_types.specs.Config.{standard_config};
+ghost use Rattle.enet_codec.specs.Config.{standard_config};
 ghost use Rattle.enet_host.specs.Opening.{Opens, opened};
 ghost use Rattle.enet_c.specs.Border.{Begins, new_held};
 ghost use Rattle.enet_c.specs.Shapes.{config_shown, config_meant};

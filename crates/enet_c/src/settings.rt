@@ -1,7 +1,7 @@
 //! Connections end, and what can be set.
 
 ghost use Rattle.std.specs.Prelude.{◌≡◌};
-ghost use Rattle.enet_types.specs.declared.event.DisconnectMode.TheVariants.{Ask, Later, Now};
+ghost use Rattle.enet_codec.specs.declared.event.DisconnectMode.TheVariants.{Ask, Later, Now};
 ghost use Rattle.enet_slot.specs.Calls.{leaving, pinging, throttling, waiting};
 ghost use Rattle.enet_host.specs.Calls.{on_named};
 ghost use Rattle.enet_c.specs.Border.{Crosses, Settles, SettlesWithMemory, SetsBandwidth};

@@ -22,7 +22,7 @@ const _: () = prove!(size_of::<CoreReading>() == 60);
 
 const _: () = prove!(size_of::<CoreTotals>() == 32);
 
-/// The settings of a host: those of `enet_types::Config`.
+/// The settings of a host: those of `enet_codec::Config`.
 #[repr(C)]
 #[derive(Clone, Copy)]
 pub struct CoreConfig {

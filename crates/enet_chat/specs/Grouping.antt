@@ -1,7 +1,7 @@
 -- The orders of events, receiver by receiver.
 use Rattle.std.specs.Prelude.{List, [], ◌∷◌, flat_map}
-use Rattle.enet_types.specs.declared.event.PeerRef.{PeerRef}
-use Rattle.enet_types.specs.declared.event.Event.{Event}
+use Rattle.enet_codec.specs.declared.event.PeerRef.{PeerRef}
+use Rattle.enet_codec.specs.declared.event.Event.{Event}
 use Rattle.enet_submit.specs.declared.order.Order.{Order}
 use Rattle.enet_chat.specs.Chat.{relayed}
 

@@ -1,7 +1,7 @@
 -- Lists of peers.
 use Rattle.std.specs.Prelude.{ℕ, ◌+◌, eqb, Bool, true, ◌&&◌, not, if◌then◌else◌, List, [], ◌∷◌}
 use Rattle.std.specs.List.{filter, list_any}
-use Rattle.enet_types.specs.declared.event.PeerRef.{PeerRef}
+use Rattle.enet_codec.specs.declared.event.PeerRef.{PeerRef}
 
 -- the same slot and the same generation of it
 abbrev pub is_same : PeerRef → PeerRef → Bool

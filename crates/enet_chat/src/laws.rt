@@ -3,7 +3,7 @@ ghost use Rattle.std.specs.Prelude.{◌≡◌, ◌&&◌, not, if◌then◌else�
 ghost use Rattle.enet_chat.specs.Peers.{has, is_same, count, others};
 
 use crate::table::Table;
-use enet_types::PeerRef;
+use enet_codec::PeerRef;
 
 /// A law: among those to whom a packet of `from` goes, each other peer of the table is once, and no one else is: neither
 /// `from` itself nor a peer that the table doesn't have. It does nothing.

@@ -10,7 +10,7 @@ use crate::table::Table;
 use enet_bridge::{Desk, Inbox, Pumped, TakerBell};
 use enet_events::Taker;
 use enet_submit::{Finished, Order};
-use enet_types::{Event, Refusal};
+use enet_codec::{Event, Refusal};
 use std::alloc::Global;
 use std::collections::VecDeque;
 use std::sync::Wait;

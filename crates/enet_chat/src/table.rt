@@ -1,6 +1,6 @@
 //! The peers that are connected.
 
-use enet_types::{Event, PeerRef, Refusal};
+use enet_codec::{Event, PeerRef, Refusal};
 use std::alloc::Global;
 use std::marker::Model;
 
@@ -12,7 +12,7 @@ pub struct Table {
 
 impl Model for Table {
     ghost use Rattle.std.specs.Prelude.{◌≡◌, List, true};
-    ghost use Rattle.enet_types.specs.declared.event.PeerRef.{PeerRef as Peer};
+    ghost use Rattle.enet_codec.specs.declared.event.PeerRef.{PeerRef as Peer};
     ghost use Rattle.enet_chat.specs.Peers.{has_each_once};
 
     ghost Value = { List Peer };

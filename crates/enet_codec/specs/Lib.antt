@@ -3,3 +3,7 @@ pub mod Reading
 pub mod Writing
 pub mod Header
 pub mod Datagram
+pub mod Config
+pub mod Packet
+pub mod Refusal
+pub mod Stop

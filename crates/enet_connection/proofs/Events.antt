@@ -2,8 +2,8 @@
 use Rattle.std.proofs.Common.{◌≡◌, ℕ, zero, suc, ◌<◌, ◌≤◌, Bool, true, false, cond, ltb, leb, ◌||◌, not, List, [], ◌∷◌, ◌++◌, refl, sym, ap, subst, ◌∙◌, arith, Option, Some, None, length}
 use Rattle.std.proofs.lemmas.Bool.Decides.{nat_tests}
 use Rattle.std.specs.List.{slice_get}
-use Rattle.enet_types.specs.declared.packet.Packet.{Packet}
-use Rattle.enet_types.specs.declared.refusal.Refusal.TheVariants.{NotConnected, NoSuchChannel, TooLarge}
+use Rattle.enet_codec.specs.declared.packet.Packet.{Packet}
+use Rattle.enet_codec.specs.declared.refusal.Refusal.TheVariants.{NotConnected, NoSuchChannel, TooLarge}
 use Rattle.enet_fragment.specs.Cutting.{piece_count}
 use Rattle.enet_sender.specs.CommandChoice.{fragment_limit}
 use Rattle.enet_peer.specs.Peering.{Peering}

@@ -1,7 +1,7 @@
 -- What an end keeps of its own, whatever happens: its peer is tidy, its log is clean, and its packets are of channels below 255.
 use Rattle.std.proofs.Common.{◌≡◌, ℕ, true, false, ltb, leb, ◌||◌, List, [], ◌∷◌, ◌++◌, refl, sym, subst, ◌∙◌, Option, Some, None, length}
 use Rattle.std.specs.Prelude.{min, IsTrue}
-use Rattle.enet_types.specs.declared.packet.Packet.{Packet}
+use Rattle.enet_codec.specs.declared.packet.Packet.{Packet}
 use Rattle.enet_codec.specs.declared.command.Offer.{Offer}
 use Rattle.enet_connect.specs.declared.server.Server.{Server}
 use Rattle.enet_connect.specs.Terms.{is_channel_count}

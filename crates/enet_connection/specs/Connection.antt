@@ -1,7 +1,7 @@
 -- One connection between two peers, and all that either has put out.
 use Rattle.std.specs.Prelude.{ℕ, Bool, true, false, ◌&&◌, ◌==◌, not, if◌then◌else◌, List, [], ◌∷◌, map, Option}
 use Rattle.std.specs.Option.{is_some}
-use Rattle.enet_types.specs.declared.packet.Packet.{Packet}
+use Rattle.enet_codec.specs.declared.packet.Packet.{Packet}
 use Rattle.enet_codec.specs.Message.{Message, Body, acknowledge}
 use Rattle.enet_sender.specs.CommandChoice as command_choice
 use Rattle.enet_packets.specs.declared.incoming_packet.Dispatched.{Dispatched}

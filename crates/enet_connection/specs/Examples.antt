@@ -1,6 +1,6 @@
 -- Short runs that do happen, so that the laws speak of something.
 use Rattle.std.specs.Prelude.{◌≡◌, List, [], ◌∷◌, map, Some}
-use Rattle.enet_types.specs.declared.packet.Packet.{Packet}
+use Rattle.enet_codec.specs.declared.packet.Packet.{Packet}
 use Rattle.enet_codec.specs.declared.command.Offer.{Offer}
 use Rattle.enet_connect.specs.declared.terms.Terms.{Terms}
 use Rattle.enet_peer.specs.declared.parts.Limits.{Limits}

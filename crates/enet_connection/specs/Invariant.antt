@@ -1,6 +1,6 @@
 -- What every run of a connection keeps: the invariant from which its law comes. One event more keeps it.
 use Rattle.std.specs.Prelude.{◌≡◌, ℕ, ◌<◌, ◌≤◌, Bool, true, false, List, [], length, Option, Some, None, slice_get}
-use Rattle.enet_types.specs.declared.packet.Packet.{Packet}
+use Rattle.enet_codec.specs.declared.packet.Packet.{Packet}
 use Rattle.enet_receiver.specs.Foresight.{ReceivingEnd}
 use Rattle.enet_receiver.specs.Receiver.{nothing_received}
 use Rattle.enet_receiver.specs.Sequenced.{HasSequenced}

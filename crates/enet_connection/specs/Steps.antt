@@ -1,6 +1,6 @@
 -- What can happen to a connection, one thing after another. Each happens at one end; where memory is wanting nothing happens.
 use Rattle.std.specs.Prelude.{◌≡◌, ℕ, ◌<◌, true, false, List, [], ◌∷◌, ◌++◌, length, map, Option, Some, None, IsTrue}
-use Rattle.enet_types.specs.declared.packet.Packet.{Packet}
+use Rattle.enet_codec.specs.declared.packet.Packet.{Packet}
 use Rattle.enet_codec.specs.declared.command.Offer.{Offer}
 use Rattle.enet_codec.specs.Message.{Message, acknowledge, connect}
 use Rattle.enet_fragment.specs.declared.data.DataCommand.{DataCommand}

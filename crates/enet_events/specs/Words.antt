@@ -3,9 +3,9 @@ use Rattle.std.specs.Prelude.{◌≡◌, ℕ, zero, suc, ◌+◌, ◌<◌, ◌�
 use Rattle.std.specs.List.{All}
 use Rattle.atomic_table.specs.Seated.{TableId}
 use Rattle.crossbeam_queue.specs.Fifo.{Held}
-use Rattle.enet_types.specs.declared.refusal.Refusal.{Refusal}
-use Rattle.enet_types.specs.declared.refusal.Refusal.TheVariants.{Memory, BadConfig, Full, SeatSpent}
-use Rattle.enet_types.specs.declared.event.Event.{Event}
+use Rattle.enet_codec.specs.declared.refusal.Refusal.{Refusal}
+use Rattle.enet_codec.specs.declared.refusal.Refusal.TheVariants.{Memory, BadConfig, Full, SeatSpent}
+use Rattle.enet_codec.specs.declared.event.Event.{Event}
 use Rattle.enet_events.specs.declared.numbered.Numbered.{Numbered}
 use Rattle.enet_events.specs.History.{IsNumbered, part, AreWith, Moment}
 

@@ -1,6 +1,6 @@
 //! An event with its number.
 
-use enet_types::Event;
+use enet_codec::Event;
 
 /// An event with its number: the first posted event has 0, each later one the next number.
 #[derive(Debug, Drop)]

@@ -1,7 +1,7 @@
 -- A run of a fleet, of the things that happen in the example of a world: client 0 is where B is, and the server where A is.
 use Rattle.std.proofs.Common.{◌≡◌, ℕ, zero, suc, List, [], ◌∷◌, ◌++◌, length, refl, Some, None, Ok}
-use Rattle.enet_types.specs.declared.event.Event.TheVariants as events
-use Rattle.enet_types.specs.declared.stop.Stop.TheVariants.{Short}
+use Rattle.enet_codec.specs.declared.event.Event.TheVariants as events
+use Rattle.enet_codec.specs.declared.stop.Stop.TheVariants.{Short}
 use Rattle.enet_codec.specs.Message.{Message}
 use Rattle.enet_peer.specs.declared.parts.PeerEvent.TheVariants as told
 use Rattle.enet_peer.specs.Peering.{Peering}

@@ -1,11 +1,11 @@
 -- Whatever happens in a fleet, the law of one connection holds of each connection.
 use Rattle.std.proofs.Common.{◌≡◌, ℕ, zero, suc, ◌+◌, Bool, true, false, cond, List, [], ◌∷◌, length, refl, sym, ap, subst, ◌∙◌, arith, Option, Some, None, Result, Ok, Err, slice_get}
 use Rattle.std.specs.List.{list_all}
-use Rattle.enet_types.specs.declared.address.Addr.{Addr}
-use Rattle.enet_types.specs.declared.config.Config.{Config}
-use Rattle.enet_types.specs.declared.event.Received.{Received}
-use Rattle.enet_types.specs.declared.refusal.Refusal.{Refusal}
-use Rattle.enet_types.specs.Config.{is_in_range}
+use Rattle.enet_codec.specs.declared.address.Addr.{Addr}
+use Rattle.enet_codec.specs.declared.config.Config.{Config}
+use Rattle.enet_codec.specs.declared.event.Received.{Received}
+use Rattle.enet_codec.specs.declared.refusal.Refusal.{Refusal}
+use Rattle.enet_codec.specs.Config.{is_in_range}
 use Rattle.enet_connection.specs.LinkSteps.{Has}
 use Rattle.enet_slot.specs.Hearing.{is_same_address}
 use Rattle.enet_network.specs.Calls.{Call}

@@ -1,9 +1,9 @@
 -- A list of a fleet's events that does happen, so that the law speaks of something.
 use Rattle.std.specs.Prelude.{◌≡◌, List, [], ◌∷◌, ◌++◌, Some, Result, Ok, Err}
-use Rattle.enet_types.specs.declared.address.Addr.{Addr}
-use Rattle.enet_types.specs.declared.refusal.Refusal.{Refusal}
-use Rattle.enet_types.specs.declared.refusal.Refusal.TheVariants.{NoSuchDatagram, NoSuchHost}
-use Rattle.enet_types.specs.declared.stop.Stop.TheVariants.{Short}
+use Rattle.enet_codec.specs.declared.address.Addr.{Addr}
+use Rattle.enet_codec.specs.declared.refusal.Refusal.{Refusal}
+use Rattle.enet_codec.specs.declared.refusal.Refusal.TheVariants.{NoSuchDatagram, NoSuchHost}
+use Rattle.enet_codec.specs.declared.stop.Stop.TheVariants.{Short}
 use Rattle.enet_connection.specs.Examples.{example_packet}
 use Rattle.enet_slot.specs.Hearing.{stopped}
 use Rattle.enet_network.specs.declared.event.Answer.{Answer}

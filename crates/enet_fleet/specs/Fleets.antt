@@ -1,11 +1,11 @@
 -- A server and its clients, with strangers around them, and the events of such a fleet one by one.
 use Rattle.std.specs.Prelude.{◌≡◌, ℕ, ◌+◌, ◌==◌, ◌&&◌, ◌||◌, nat_le, nat_lt, Bool, true, false, if◌then◌else◌, List, [], ◌∷◌, ◌++◌, length, take, Option, Some, None, is_none, Result, Ok, Err, slice_get, slice_set}
 use Rattle.std.specs.Option.{option_map, option_flatten}
-use Rattle.enet_types.specs.declared.address.Addr.{Addr}
-use Rattle.enet_types.specs.declared.config.Config.{Config}
-use Rattle.enet_types.specs.declared.event.PeerRef.{PeerRef}
-use Rattle.enet_types.specs.declared.refusal.Refusal.{Refusal}
-use Rattle.enet_types.specs.declared.refusal.Refusal.TheVariants.{Memory, NoSuchDatagram, NoSuchHost}
+use Rattle.enet_codec.specs.declared.address.Addr.{Addr}
+use Rattle.enet_codec.specs.declared.config.Config.{Config}
+use Rattle.enet_codec.specs.declared.event.PeerRef.{PeerRef}
+use Rattle.enet_codec.specs.declared.refusal.Refusal.{Refusal}
+use Rattle.enet_codec.specs.declared.refusal.Refusal.TheVariants.{Memory, NoSuchDatagram, NoSuchHost}
 use Rattle.enet_slot.specs.Hearing.{is_same_address}
 use Rattle.enet_network.specs.Calls.{Call}
 use Rattle.enet_network.specs.Calls as call

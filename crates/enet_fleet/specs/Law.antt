@@ -1,9 +1,9 @@
 -- The law of one connection, of each connection of a fleet.
 use Rattle.std.specs.Prelude.{◌≡◌, ℕ, false, true, List, Some, Result, slice_get}
 use Rattle.std.specs.List.{list_all}
-use Rattle.enet_types.specs.declared.config.Config.{Config}
-use Rattle.enet_types.specs.declared.refusal.Refusal.{Refusal}
-use Rattle.enet_types.specs.Config.{is_in_range}
+use Rattle.enet_codec.specs.declared.config.Config.{Config}
+use Rattle.enet_codec.specs.declared.refusal.Refusal.{Refusal}
+use Rattle.enet_codec.specs.Config.{is_in_range}
 use Rattle.enet_network.specs.declared.event.Answer.{Answer}
 use Rattle.enet_connection.specs.LinkSteps.{Has}
 use Rattle.enet_network.specs.Law.{IsPaired}

@@ -1,9 +1,9 @@
 -- How every fleet comes about.
 use Rattle.std.specs.Prelude.{◌≡◌, ◌&&◌, nat_le, Bool, true, List, length, Result}
 use Rattle.std.specs.List.{list_all}
-use Rattle.enet_types.specs.declared.config.Config.{Config}
-use Rattle.enet_types.specs.declared.refusal.Refusal.{Refusal}
-use Rattle.enet_types.specs.Config.{is_in_range}
+use Rattle.enet_codec.specs.declared.config.Config.{Config}
+use Rattle.enet_codec.specs.declared.refusal.Refusal.{Refusal}
+use Rattle.enet_codec.specs.Config.{is_in_range}
 use Rattle.enet_network.specs.declared.event.Answer.{Answer}
 use Rattle.enet_fleet.specs.declared.event.FleetEvent.{FleetEvent}
 use Rattle.enet_fleet.specs.Fleets.{Fleet, Runs, open_fleet}

@@ -1,7 +1,7 @@
 //! A client asks the server for a connection.
 
 ghost use Rattle.std.specs.Prelude.{◌≡◌, ℕ, ◌++◌, ◌∷◌, [], length, Ok, Err, IfOk, IfErr, OnErr};
-ghost use Rattle.enet_types.specs.declared.address.Addr.{Addr};
+ghost use Rattle.enet_codec.specs.declared.address.Addr.{Addr};
 ghost use Rattle.enet_network.specs.Calls as call;
 ghost use Rattle.enet_network.specs.Steps.{Calls, Happens};
 ghost use Rattle.enet_network.specs.World.{RefusesCall};
@@ -12,7 +12,7 @@ ghost use Rattle.enet_fleet.specs.Reached.{IsReached};
 use crate::hosts::Hosts;
 use enet_network::Answer;
 use enet_site::Site;
-use enet_types::{PeerRef, Refusal};
+use enet_codec::{PeerRef, Refusal};
 use std::alloc::Global;
 
 /// Why a client's question for so many channels is refused where there is no memory to note it.

@@ -14,7 +14,7 @@ use crate::hosts::Hosts;
 use enet_network::Answer;
 use enet_records::Around;
 use enet_site::{Place, Sent, Turned};
-use enet_types::Refusal;
+use enet_codec::Refusal;
 use std::alloc::Global;
 
 /// What a turn put out, as it is kept.

@@ -1,10 +1,10 @@
 -- A datagram comes to a slot.
 use Rattle.std.proofs.Common.{◌≡◌, ◌≢◌, ℕ, ◌<◌, false, Option, Some, None, List, length, slice_get, slice_set, get_or, refl, sym, ap, subst, ◌∙◌}
 use Rattle.enet_codec.specs.declared.header.Header.{Header}
-use Rattle.enet_types.specs.declared.address.Addr.{Addr}
-use Rattle.enet_types.specs.declared.config.Config.{Config}
-use Rattle.enet_types.specs.declared.event.Received.{Received}
-use Rattle.enet_types.specs.declared.stop.Stop.{Stop}
+use Rattle.enet_codec.specs.declared.address.Addr.{Addr}
+use Rattle.enet_codec.specs.declared.config.Config.{Config}
+use Rattle.enet_codec.specs.declared.event.Received.{Received}
+use Rattle.enet_codec.specs.declared.stop.Stop.{Stop}
 use Rattle.enet_peer.specs.Peering.{Peering}
 use Rattle.enet_peer.specs.Heading.{IsRead}
 use Rattle.enet_slot.specs.declared.slot.Slot.{Slot}

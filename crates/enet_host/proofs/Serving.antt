@@ -1,8 +1,8 @@
 -- One slot is asked for a datagram, or gives an event.
 use Rattle.std.proofs.Common.{◌≡◌, ℕ, ◌<◌, false, Option, Some, None, IfSome, IfNone, List, length, slice_get, slice_set, get_or, ap, subst, ◌∙◌}
-use Rattle.enet_types.specs.declared.address.Addr.{Addr}
-use Rattle.enet_types.specs.declared.event.Event.{Event}
-use Rattle.enet_types.specs.declared.packet.Packet.{Packet}
+use Rattle.enet_codec.specs.declared.address.Addr.{Addr}
+use Rattle.enet_codec.specs.declared.event.Event.{Event}
+use Rattle.enet_codec.specs.declared.packet.Packet.{Packet}
 use Rattle.enet_slot.specs.declared.slot.Slot.{Slot}
 use Rattle.enet_slot.specs.Serving.{Gives, Passes}
 use Rattle.enet_slot.specs.Calls.{tells, peer_packet, GivesEvent}

@@ -1,8 +1,8 @@
 -- The first slot in turn gave its event, or its datagram.
 use Rattle.std.proofs.Common.{◌≡◌, ℕ, Some, List, length, slice_get, ap₂, subst}
-use Rattle.enet_types.specs.declared.address.Addr.{Addr}
-use Rattle.enet_types.specs.declared.event.Event.{Event}
-use Rattle.enet_types.specs.declared.event.PeerRef.{PeerRef}
+use Rattle.enet_codec.specs.declared.address.Addr.{Addr}
+use Rattle.enet_codec.specs.declared.event.Event.{Event}
+use Rattle.enet_codec.specs.declared.event.PeerRef.{PeerRef}
 use Rattle.enet_slot.specs.Slot.{SlotState}
 use Rattle.enet_host.specs.Host.{Host}
 use Rattle.enet_host.specs.Turns.{IsFirst, slot_after}

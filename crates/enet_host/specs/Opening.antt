@@ -1,12 +1,12 @@
 -- How a host begins, and which of its slots is given out.
 use Rattle.std.specs.Prelude.{◌≡◌, ◌≢◌, ℕ, true, false, Option, Some, None, Result, Ok, Err, List, slice_get, slice_set, replicate}
 use Rattle.std.specs.List.{position}
-use Rattle.enet_types.specs.declared.address.Addr.{Addr}
-use Rattle.enet_types.specs.declared.config.Config.{Config}
-use Rattle.enet_types.specs.declared.event.PeerRef.{PeerRef}
-use Rattle.enet_types.specs.declared.refusal.Refusal.{Refusal}
-use Rattle.enet_types.specs.declared.refusal.Refusal.TheVariants.{Memory, NoSlot, BadConfig}
-use Rattle.enet_types.specs.Config.{is_in_range}
+use Rattle.enet_codec.specs.declared.address.Addr.{Addr}
+use Rattle.enet_codec.specs.declared.config.Config.{Config}
+use Rattle.enet_codec.specs.declared.event.PeerRef.{PeerRef}
+use Rattle.enet_codec.specs.declared.refusal.Refusal.{Refusal}
+use Rattle.enet_codec.specs.declared.refusal.Refusal.TheVariants.{Memory, NoSlot, BadConfig}
+use Rattle.enet_codec.specs.Config.{is_in_range}
 use Rattle.enet_slot.specs.Slot.{SlotState, name_of}
 use Rattle.enet_slot.specs.Giving.{unused_slot, joined_slots, is_available, asking}
 use Rattle.enet_host.specs.declared.totals.Totals.{Totals}

@@ -1,7 +1,7 @@
 -- A host puts out a datagram.
 use Rattle.std.specs.Prelude.{◌≡◌, ℕ, ◌<◌, Option, Some, None, List, length, slice_get}
-use Rattle.enet_types.specs.declared.address.Addr.{Addr}
-use Rattle.enet_types.specs.declared.event.PeerRef.{PeerRef}
+use Rattle.enet_codec.specs.declared.address.Addr.{Addr}
+use Rattle.enet_codec.specs.declared.event.PeerRef.{PeerRef}
 use Rattle.enet_slot.specs.Slot.{SlotState, name_of}
 use Rattle.enet_slot.specs.Serving.{Gives, Passes}
 use Rattle.enet_host.specs.declared.totals.Totals.{Totals}

@@ -9,7 +9,7 @@ ghost use Rattle.enet_host.specs.Shown.{SlotGivesEvent, SlotIsMute, SlotIsNamed,
 
 use crate::service::slot_after;
 use enet_slot::Slot;
-use enet_types::{Event, Packet, PeerRef};
+use enet_codec::{Event, Packet, PeerRef};
 
 /// The first slot in turn that has an event.
 pub(crate) fn first_telling(slots: &[Slot], peers: u16, from: u16) -> Option<u16>

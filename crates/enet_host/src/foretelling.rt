@@ -10,7 +10,7 @@ use crate::events::{first_telling, name_at, packet_of};
 use crate::host::HostCore;
 use bytes::Bytes;
 use enet_slot::first_available;
-use enet_types::{Packet, PeerRef};
+use enet_codec::{Packet, PeerRef};
 
 impl HostCore {
     /// The name that the next peer gets: that of the lowest slot that is free and has a generation left. None where there is

@@ -21,7 +21,7 @@ use enet_rtt::elapsed;
 use enet_slot::{
     Question, Slot, Start, joined_slots, set_bandwidth, share_out, tick_all, unused_slots,
 };
-use enet_types::{Addr, Config, Event, PeerRef, Received, Refusal};
+use enet_codec::{Addr, Config, Event, PeerRef, Received, Refusal};
 use std::alloc::Global;
 use std::marker::Model;
 

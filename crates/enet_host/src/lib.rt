@@ -29,7 +29,7 @@ mod totals;
 
 pub use enet_connect::Terms;
 pub use enet_peer::{PeerState, RoundTrip};
-pub use enet_types::{
+pub use enet_codec::{
     Addr, Config, DisconnectMode, Event, Packet, PeerRef, Received, Refusal, Stop,
 };
 pub use host::HostCore;

@@ -3,7 +3,7 @@
 
 ghost use Rattle.std.specs.Prelude.{◌≡◌, true, length, IfErr};
 ghost use Rattle.std.specs.Option.{option_map};
-ghost use Rattle.enet_types.specs.declared.event.DisconnectMode.TheVariants.{Now, Ask, Later};
+ghost use Rattle.enet_codec.specs.declared.event.DisconnectMode.TheVariants.{Now, Ask, Later};
 ghost use Rattle.enet_outbox.specs.Outbox.{transit_of};
 ghost use Rattle.enet_sender.specs.CommandChoice.{Packet};
 ghost use Rattle.enet_host.specs.Host.{KeepsRest, named};
@@ -19,7 +19,7 @@ use bytes::Bytes;
 use enet_connect::Terms;
 use enet_peer::{PeerState, RoundTrip};
 use enet_slot::Setting;
-use enet_types::{Addr, DisconnectMode, PeerRef, Refusal};
+use enet_codec::{Addr, DisconnectMode, PeerRef, Refusal};
 
 impl HostCore {
     /// Submits a packet to a peer on a channel; `flags` are its flags (RELIABLE 1, UNSEQUENCED 2, UNRELIABLE_FRAGMENT 8, others

@@ -5,11 +5,10 @@ ghost use Rattle.enet_slot.specs.Hearing.{stopped};
 ghost use Rattle.enet_host.specs.Receiving.{refused_by, offer_refused, Offers, Arrives};
 ghost use Rattle.enet_slot.specs.Slotted.{all_shown};
 
-use enet_codec::Header;
+use enet_codec::{Addr, Header, Received, Stop};
 use enet_connect::Offer;
 use enet_peer::{read_heading, read_offer};
 use enet_slot::{Slot, Start, any_is_connection, first_available};
-use enet_types::{Addr, Received, Stop};
 
 /// The peer id in the header of one who has no peer yet (ENet 1.3).
 const NO_PEER: u16 = 0xFFF;

@@ -1,8 +1,8 @@
 -- A stop changes nothing, and none is for want of memory where there is enough.
 use Rattle.std.proofs.Common.{◌≡◌, ◌≢◌, ℕ, Bool, true, false, cond, ltb, leb, Option, Some, None, Result, Ok, Err, List, length, refl}
 use Rattle.std.specs.Prelude.{not, slice_get}
-use Rattle.enet_types.specs.declared.stop.Stop.{Stop}
-use Rattle.enet_types.specs.declared.stop.Stop.TheVariants as stop
+use Rattle.enet_codec.specs.declared.stop.Stop.{Stop}
+use Rattle.enet_codec.specs.declared.stop.Stop.TheVariants as stop
 use Rattle.enet_codec.specs.Message.{Message, Body, acknowledge, connect, verify_connect, disconnect, ping, send_reliable, send_unreliable, send_fragment, send_unsequenced, bandwidth_limit, throttle_configure, send_unreliable_fragment}
 use Rattle.enet_unsequenced.specs.Groups.{dispatches}
 use Rattle.enet_fragment.specs.declared.data.DataCommand.{DataCommand}

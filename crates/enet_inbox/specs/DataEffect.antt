@@ -1,8 +1,8 @@
 -- What a data command makes of an inbox.
 use Rattle.std.specs.Prelude.{◌≡◌, ℕ, not, Bool, true, false, nat_lt, nat_le, if◌then◌else◌, Option, Some, None, Result, Ok, Err, List, [], ◌∷◌, ◌++◌, length, map, slice_get, slice_set}
-use Rattle.enet_types.specs.declared.packet.Packet.{Packet}
-use Rattle.enet_types.specs.declared.stop.Stop.{Stop}
-use Rattle.enet_types.specs.declared.stop.Stop.TheVariants as stop
+use Rattle.enet_codec.specs.declared.packet.Packet.{Packet}
+use Rattle.enet_codec.specs.declared.stop.Stop.{Stop}
+use Rattle.enet_codec.specs.declared.stop.Stop.TheVariants as stop
 use Rattle.enet_codec.specs.Message.{Message, Body, send_unsequenced}
 use Rattle.enet_seq.specs.Windows.{acknowledges}
 use Rattle.enet_unsequenced.specs.Groups.{dispatches, mark}

@@ -1,7 +1,7 @@
 -- All that comes to a peer.
 use Rattle.std.specs.Prelude.{ℕ, ◌+◌, Bool, nat_le, List, [], length, map, take, sum_by}
 use Rattle.std.specs.List.{range_with_len}
-use Rattle.enet_types.specs.declared.packet.Packet.{Packet}
+use Rattle.enet_codec.specs.declared.packet.Packet.{Packet}
 use Rattle.enet_unsequenced.specs.Groups.{Seen, nothing_seen}
 use Rattle.enet_receiver.specs.Receiver.{held_bytes}
 use Rattle.enet_receiver.specs.Receiver as receiver

@@ -2,9 +2,9 @@
 use Rattle.std.specs.Prelude.{ℕ, Bool, true, false, not, nat_le, nat_lt, if◌then◌else◌, Option, Some, None, Result, Ok, Err, List, length, slice_get}
 use Rattle.enet_codec.specs.Message.{Message, Body, send_unsequenced}
 use Rattle.enet_fragment.specs.DataCommand.{data_of}
-use Rattle.enet_types.specs.declared.packet.Packet.{Packet}
-use Rattle.enet_types.specs.declared.stop.Stop.{Stop}
-use Rattle.enet_types.specs.declared.stop.Stop.TheVariants as stop
+use Rattle.enet_codec.specs.declared.packet.Packet.{Packet}
+use Rattle.enet_codec.specs.declared.stop.Stop.{Stop}
+use Rattle.enet_codec.specs.declared.stop.Stop.TheVariants as stop
 use Rattle.enet_unsequenced.specs.Groups.{Seen, dispatches}
 use Rattle.enet_fragment.specs.declared.data.DataCommand.{DataCommand}
 use Rattle.enet_receiver.specs.declared.took.Took.{Took}

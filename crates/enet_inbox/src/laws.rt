@@ -2,8 +2,8 @@
 //! compute.
 
 ghost use Rattle.std.specs.Prelude.{◌≡◌, ◌≢◌, Err, false};
-ghost use Rattle.enet_types.specs.declared.stop.Stop.{Stop};
-ghost use Rattle.enet_types.specs.declared.stop.Stop.TheVariants as stop;
+ghost use Rattle.enet_codec.specs.declared.stop.Stop.{Stop};
+ghost use Rattle.enet_codec.specs.declared.stop.Stop.TheVariants as stop;
 ghost use Rattle.enet_codec.specs.Message.{Message};
 ghost use Rattle.enet_inbox.specs.Inbox.{Inbox};
 ghost use Rattle.enet_inbox.specs.DataEffect.{arrival, is_kept, passed_over};

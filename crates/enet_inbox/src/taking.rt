@@ -3,7 +3,7 @@
 ghost use Rattle.std.specs.Prelude.{◌≡◌, ◌+◌, ◌++◌, ◌≤◌, [], ◌∷◌, All, IsTrue, IfSome, IfNone, false, length, map};
 ghost use Rattle.std.specs.VecDeque.{deque_len, deque_capacity};
 ghost use Rattle.enet_codec.specs.Message.{view};
-ghost use Rattle.enet_types.specs.declared.packet.Packet.{Packet};
+ghost use Rattle.enet_codec.specs.declared.packet.Packet.{Packet};
 ghost use Rattle.enet_fragment.specs.DataCommand.{data_of};
 ghost use Rattle.enet_receiver.specs.declared.took.Took.TheVariants.{Held};
 ghost use Rattle.enet_receiver.specs.Foresight.{outcome_for, after_command, foreseen};

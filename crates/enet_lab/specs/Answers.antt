@@ -1,8 +1,8 @@
 -- The text of each answer, without the line feed that ends a line.
 use Rattle.std.specs.Prelude.{ℕ, List, [], ◌++◌, codes, Option, Some, None, Result, Ok, Err}
 use Rattle.std.specs.Fmt.{decimal}
-use Rattle.enet_types.specs.declared.refusal.Refusal.{Refusal}
-use Rattle.enet_types.specs.Refusal.{label_of}
+use Rattle.enet_codec.specs.declared.refusal.Refusal.{Refusal}
+use Rattle.enet_codec.specs.Refusal.{label_of}
 use Rattle.enet_network.specs.declared.event.Answer.{Answer}
 use Rattle.enet_network.specs.declared.event.Answer.TheVariants.{Peer, Done, Received, Sent, Taken}
 use Rattle.enet_text.specs.Texts.{bytes_text, event_text, peer_text, received_text}

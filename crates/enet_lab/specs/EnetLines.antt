@@ -3,9 +3,9 @@
 use Rattle.std.specs.Prelude.{ℕ, ◌^◌, nat_eq, if◌then◌else◌, List, [], ◌∷◌, codes, bytes_eq, Option, Some, None, option_map}
 use Rattle.std.specs.List.{starts_with}
 use Rattle.std.specs.Option.{option_or}
-use Rattle.enet_types.specs.declared.event.DisconnectMode.{DisconnectMode}
-use Rattle.enet_types.specs.declared.event.DisconnectMode.TheVariants.{Now, Ask, Later}
-use Rattle.enet_types.specs.declared.event.PeerRef.{PeerRef}
+use Rattle.enet_codec.specs.declared.event.DisconnectMode.{DisconnectMode}
+use Rattle.enet_codec.specs.declared.event.DisconnectMode.TheVariants.{Now, Ask, Later}
+use Rattle.enet_codec.specs.declared.event.PeerRef.{PeerRef}
 use Rattle.enet_network.specs.declared.event.WorldEvent.TheVariants as world
 use Rattle.enet_fleet.specs.declared.event.FleetEvent.TheVariants as fleet
 use Rattle.enet_fleet.specs.declared.event.Node.TheVariants.{Server, Client}

@@ -1,11 +1,11 @@
 -- What a line of a script does to what the lines so far have made.
 use Rattle.std.specs.Prelude.{◌≡◌, ℕ, ◌&&◌, Bool, true, false, List, [], codes, Option, Some, None, Result, Ok, Err, ⊤, length, replicate, slice_get}
-use Rattle.enet_types.specs.declared.address.Addr.{Addr}
-use Rattle.enet_types.specs.declared.config.Config.{Config}
-use Rattle.enet_types.specs.declared.refusal.Refusal.{Refusal}
-use Rattle.enet_types.specs.declared.refusal.Refusal.TheVariants.{Memory, BadConfig}
-use Rattle.enet_types.specs.Config.{is_in_range, standard_config}
-use Rattle.enet_types.specs.Refusal.{label_of}
+use Rattle.enet_codec.specs.declared.address.Addr.{Addr}
+use Rattle.enet_codec.specs.declared.config.Config.{Config}
+use Rattle.enet_codec.specs.declared.refusal.Refusal.{Refusal}
+use Rattle.enet_codec.specs.declared.refusal.Refusal.TheVariants.{Memory, BadConfig}
+use Rattle.enet_codec.specs.Config.{is_in_range, standard_config}
+use Rattle.enet_codec.specs.Refusal.{label_of}
 use Rattle.enet_network.specs.declared.event.Answer.{Answer}
 use Rattle.enet_network.specs.declared.event.Answer.TheVariants.{Sent}
 use Rattle.enet_network.specs.declared.event.Side.{Side}

@@ -7,7 +7,7 @@ ghost use Rattle.enet_lab.specs.Hosts.{side_named, client_named, node_named, hos
 use enet_fleet::Node;
 use enet_network::Side;
 use enet_text::{address_text, u16_of};
-use enet_types::Addr;
+use enet_codec::Addr;
 use std::alloc::{AllocError, Global};
 
 /// A host, whose name tells of which kind of network it is.

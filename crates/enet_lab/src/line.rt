@@ -11,7 +11,7 @@ use enet_text::{
     bytes_of, five, four, id_of, ip_of, one, peer_of, three, two, u8_of, u16_of, u32_of, u64_of,
     word,
 };
-use enet_types::{Addr, DisconnectMode};
+use enet_codec::{Addr, DisconnectMode};
 use std::alloc::{AllocError, Global};
 
 /// What a line spells.

@@ -3,7 +3,7 @@
 ghost use Rattle.std.specs.Prelude.{◌≡◌, ◌+◌, min, true, false, replicate, IfOk, IfErr};
 ghost use Rattle.std.specs.Option.{option_map};
 ghost use Rattle.std.specs.String.{string_bytes};
-ghost use Rattle.enet_types.specs.Config.{standard_config};
+ghost use Rattle.enet_codec.specs.Config.{standard_config};
 ghost use Rattle.enet_lab.specs.declared.line.Line.TheVariants as spelled;
 ghost use Rattle.enet_lab.specs.declared.stage.Stage.TheVariants as stages;
 ghost use Rattle.enet_lab.specs.Lines.{Begins, Does, IsRefused, MakesFleet, MakesWorld, Opens, RunsLine, can_do, can_read, is_empty};
@@ -15,7 +15,7 @@ use enet_fleet::FleetEvent;
 use crate::{Line, read_line};
 use enet_network::WorldEvent;
 use enet_text::refusal_text;
-use enet_types::{Config, Refusal};
+use enet_codec::{Config, Refusal};
 use std::alloc::Global;
 use std::mem::replace;
 

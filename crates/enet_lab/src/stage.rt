@@ -4,7 +4,7 @@ ghost use Rattle.std.specs.Prelude.{true, false};
 ghost use Rattle.enet_lab.specs.Lines.{MakesFleet, MakesWorld};
 
 use enet_fleet::Fleet;
-use enet_types::{Config, Refusal};
+use enet_codec::{Config, Refusal};
 use enet_world::World;
 use std::alloc::Global;
 

@@ -8,7 +8,7 @@ ghost use Rattle.enet_lab.specs.Lines.{FleetSteps, StepsTo, WorldSteps, bytes_sh
 use enet_fleet::{Fleet, FleetEvent, Node, node_of};
 use crate::{Host, Recipient, outcome_text};
 use enet_network::{Answer, Side, WorldEvent};
-use enet_types::{Addr, Refusal};
+use enet_codec::{Addr, Refusal};
 use enet_world::{World, side_of};
 use std::alloc::{AllocError, Global};
 

@@ -1,8 +1,8 @@
 -- At which address an end's peer stands.
 use Rattle.std.proofs.Common.{◌≡◌, ◌≢◌, ◌==◌, ◌&&◌, Bool, true, false, List, refl, sym, ap, subst, ◌∙◌, arith, Option, Some, None}
 use Rattle.std.proofs.lemmas.Bool.Decides.{nat_tests}
-use Rattle.enet_types.specs.declared.address.Addr.{Addr}
-use Rattle.enet_types.specs.declared.event.PeerRef.{PeerRef}
+use Rattle.enet_codec.specs.declared.address.Addr.{Addr}
+use Rattle.enet_codec.specs.declared.event.PeerRef.{PeerRef}
 use Rattle.enet_peer.specs.Peering.{Peering}
 use Rattle.enet_slot.specs.Hearing.{is_same_address}
 use Rattle.enet_slot.specs.Slot.{SlotState}

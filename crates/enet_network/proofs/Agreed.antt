@@ -1,6 +1,6 @@
 -- The peers of both ends of a connection agree on the numbers, since the ends of the law that their hosts show do.
 use Rattle.std.proofs.Common.{◌≡◌, ◌<◌, ◌≤◌, ◌++◌, ℕ, inl, inr, Bool, List, refl, sym, ap, subst, ◌∙◌, arith, Option, Some, None, slice_get}
-use Rattle.enet_types.specs.declared.event.PeerRef.{PeerRef}
+use Rattle.enet_codec.specs.declared.event.PeerRef.{PeerRef}
 use Rattle.enet_codec.specs.Message.{Message}
 use Rattle.enet_codec.proofs.Datagrams.{one-datagram}
 use Rattle.enet_fragment.specs.DataCommand.{data_of}

@@ -3,13 +3,13 @@ use Rattle.std.proofs.Common.{◌≡◌, ◌≢◌, ◌<◌, ◌≤◌, ℕ, suc
 use Rattle.std.proofs.lemmas.List.{append_cancel_left}
 use Rattle.std.specs.Int.{w16, to_be_bytes}
 use Rattle.std.specs.List.{slice_get}
-use Rattle.enet_types.specs.declared.address.Addr.{Addr}
-use Rattle.enet_types.specs.declared.event.Received.{Received}
-use Rattle.enet_types.specs.declared.packet.Packet as codec
-use Rattle.enet_types.specs.declared.refusal.Refusal.{Refusal}
-use Rattle.enet_types.specs.declared.refusal.Refusal.TheVariants as refusal
-use Rattle.enet_types.specs.declared.stop.Stop.{Stop}
-use Rattle.enet_types.specs.declared.stop.Stop.TheVariants as stop
+use Rattle.enet_codec.specs.declared.address.Addr.{Addr}
+use Rattle.enet_codec.specs.declared.event.Received.{Received}
+use Rattle.enet_codec.specs.declared.packet.Packet as codec
+use Rattle.enet_codec.specs.declared.refusal.Refusal.{Refusal}
+use Rattle.enet_codec.specs.declared.refusal.Refusal.TheVariants as refusal
+use Rattle.enet_codec.specs.declared.stop.Stop.{Stop}
+use Rattle.enet_codec.specs.declared.stop.Stop.TheVariants as stop
 use Rattle.enet_codec.specs.declared.command.Offer.{Offer}
 use Rattle.enet_codec.specs.declared.header.Header.{Header}
 use Rattle.enet_codec.specs.Header.{header_word, header_text, sent_text}

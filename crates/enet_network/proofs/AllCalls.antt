@@ -1,7 +1,7 @@
 -- Lists of calls, one call after another.
 use Rattle.std.proofs.Common.{◌≡◌, ◌≢◌, ◌≤◌, ℕ, ◌⊎◌, inl, inr, List, [], ◌∷◌, ◌++◌, refl, sym, ap, subst, ◌∙◌, arith, Option, Some, None}
 use Rattle.std.specs.List.{slice_get}
-use Rattle.enet_types.specs.declared.event.PeerRef.{PeerRef}
+use Rattle.enet_codec.specs.declared.event.PeerRef.{PeerRef}
 use Rattle.enet_peer.specs.declared.parts.PeerState.{PeerState}
 use Rattle.enet_peer.specs.declared.parts.PeerState.TheVariants as state
 use Rattle.enet_peer.specs.Peering.{Peering}

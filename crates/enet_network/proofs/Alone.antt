@@ -1,7 +1,7 @@
 -- The calls of each host of a run.
 use Rattle.std.proofs.Common.{◌≡◌, ◌≤◌, ℕ, ◌+◌, List, [], ◌∷◌, ◌++◌, length, refl, sym, ap, subst, arith, Result, Ok, Err}
 use Rattle.std.proofs.lemmas.List.{length-append}
-use Rattle.enet_types.specs.declared.refusal.Refusal.{Refusal}
+use Rattle.enet_codec.specs.declared.refusal.Refusal.{Refusal}
 use Rattle.enet_host.specs.Host.{Host}
 use Rattle.enet_network.specs.Calls.{Call, Steps}
 use Rattle.enet_network.proofs.Beginning.{lived-all}

@@ -2,12 +2,12 @@
 use Rattle.std.proofs.Common.{◌≡◌, ◌≢◌, ℕ, zero, suc, inl, inr, Bool, true, false, cond, not, nat_le, List, [], ◌∷◌, ◌++◌, replicate, refl, sym, ap, subst, ◌∙◌, append-nil, Option, Some, None, Result, Ok, slice_get, slice_set}
 use Rattle.std.specs.Prelude.{IsTrue}
 use Rattle.std.proofs.lemmas.List.Quantifiers.{position-Some}
-use Rattle.enet_types.specs.declared.address.Addr.{Addr}
-use Rattle.enet_types.specs.declared.config.Config.{Config}
-use Rattle.enet_types.specs.declared.event.PeerRef.{PeerRef}
-use Rattle.enet_types.specs.declared.event.Received.{Received}
-use Rattle.enet_types.specs.declared.refusal.Refusal.{Refusal}
-use Rattle.enet_types.specs.declared.stop.Stop.TheVariants as stop
+use Rattle.enet_codec.specs.declared.address.Addr.{Addr}
+use Rattle.enet_codec.specs.declared.config.Config.{Config}
+use Rattle.enet_codec.specs.declared.event.PeerRef.{PeerRef}
+use Rattle.enet_codec.specs.declared.event.Received.{Received}
+use Rattle.enet_codec.specs.declared.refusal.Refusal.{Refusal}
+use Rattle.enet_codec.specs.declared.stop.Stop.TheVariants as stop
 use Rattle.enet_codec.specs.declared.command.Offer.{Offer}
 use Rattle.enet_codec.specs.declared.header.Header.{Header}
 use Rattle.enet_codec.specs.Message.{Message, connect}

@@ -1,7 +1,7 @@
 -- The packets of a channel, among all.
 use Rattle.std.proofs.Common.{◌≡◌, ◌≤◌, ℕ, zero, suc, inl, inr, ◌&&◌, ◌==◌, not, Bool, true, false, cond, List, [], ◌∷◌, length, refl, sym, ap, ◌∙◌, arith}
 use Rattle.std.proofs.lemmas.Bool.Decides.{nat_tests}
-use Rattle.enet_types.specs.declared.packet.Packet.{Packet}
+use Rattle.enet_codec.specs.declared.packet.Packet.{Packet}
 use Rattle.enet_sender.specs.CommandChoice as command_choice
 use Rattle.enet_outbox.specs.Outbox.{is_unsequenced}
 use Rattle.enet_packets.specs.declared.incoming_packet.Dispatched.{Dispatched}

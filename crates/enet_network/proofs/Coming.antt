@@ -1,6 +1,6 @@
 -- The commands of a datagram that came to a peer, as deeds of a peer alone.
 use Rattle.std.proofs.Common.{ℕ, List, [], ◌∷◌, refl, Option, Ok, Err}
-use Rattle.enet_types.specs.declared.event.Received.{Received}
+use Rattle.enet_codec.specs.declared.event.Received.{Received}
 use Rattle.enet_peer.specs.Peering.{Peering}
 use Rattle.enet_peer.specs.Handling.{Handles, one_more}
 use Rattle.enet_peer.specs.Handling as handling

@@ -4,7 +4,7 @@ use Rattle.std.proofs.lemmas.Bool.Decides.{nat_tests}
 use Rattle.std.specs.Prelude.{nat_lt}
 use Rattle.std.specs.Int.{byte_len}
 use Rattle.std.specs.List.{AllByRecursion, list_all}
-use Rattle.enet_types.specs.declared.event.Event.TheVariants as events
+use Rattle.enet_codec.specs.declared.event.Event.TheVariants as events
 use Rattle.enet_codec.specs.declared.command.Head.{Head}
 use Rattle.enet_codec.specs.declared.command.Offer.{Offer}
 use Rattle.enet_codec.specs.Message.{Message, Field, Fits, IsMessage, fields_of, acknowledge, connect, verify_connect}

@@ -3,7 +3,7 @@ use Rattle.std.proofs.Common.{◌≡◌, ◌≢◌, ℕ, zero, suc, ◌<◌, ◌
 use Rattle.std.proofs.lemmas.Bool.Decides.{nat_tests}
 use Rattle.std.proofs.lemmas.List.{length-set}
 use Rattle.std.proofs.lemmas.List.Elements.{filter-append}
-use Rattle.enet_types.specs.declared.packet.Packet.{Packet}
+use Rattle.enet_codec.specs.declared.packet.Packet.{Packet}
 use Rattle.enet_network.specs.Log.{ChannelPackets, packets_at, with_packets}
 use Rattle.enet_network.specs.Shown.{on_channel}
 

@@ -1,9 +1,9 @@
 -- Each call, slot by slot.
 use Rattle.std.proofs.Common.{◌≡◌, ℕ, List, length, refl, sym, ap, subst, ◌∙◌, Option, Some, None, Result, Ok, Err}
-use Rattle.enet_types.specs.declared.event.DisconnectMode.{DisconnectMode}
-use Rattle.enet_types.specs.declared.event.DisconnectMode.TheVariants as mode
-use Rattle.enet_types.specs.declared.refusal.Refusal.{Refusal}
-use Rattle.enet_types.specs.declared.refusal.Refusal.TheVariants as refusal
+use Rattle.enet_codec.specs.declared.event.DisconnectMode.{DisconnectMode}
+use Rattle.enet_codec.specs.declared.event.DisconnectMode.TheVariants as mode
+use Rattle.enet_codec.specs.declared.refusal.Refusal.{Refusal}
+use Rattle.enet_codec.specs.declared.refusal.Refusal.TheVariants as refusal
 use Rattle.enet_sender.specs.CommandChoice.{Packet}
 use Rattle.enet_peer.specs.Peering.{Peering}
 use Rattle.enet_peer.specs.Calls.{Refuses, submission_refusal, submitted, left}

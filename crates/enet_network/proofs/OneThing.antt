@@ -1,9 +1,9 @@
 -- Each thing that happens at a host, end by end.
 use Rattle.std.proofs.Common.{◌≡◌, ◌≤◌, ℕ, ◌⊎◌, inl, inr, Bool, true, false, cond, List, [], ◌∷◌, ◌++◌, refl, sym, ap, subst, ◌∙◌, Option, Some, None, Ok, Err, slice_get}
-use Rattle.enet_types.specs.declared.address.Addr.{Addr}
-use Rattle.enet_types.specs.declared.event.Event.{Event as Told}
-use Rattle.enet_types.specs.declared.event.PeerRef.{PeerRef}
-use Rattle.enet_types.specs.declared.event.Received.{Received}
+use Rattle.enet_codec.specs.declared.address.Addr.{Addr}
+use Rattle.enet_codec.specs.declared.event.Event.{Event as Told}
+use Rattle.enet_codec.specs.declared.event.PeerRef.{PeerRef}
+use Rattle.enet_codec.specs.declared.event.Received.{Received}
 use Rattle.enet_peer.specs.declared.parts.PeerEvent.{PeerEvent}
 use Rattle.enet_peer.specs.declared.parts.PeerEvent.TheVariants as told
 use Rattle.enet_connection.specs.LinkSteps.{Has}
@@ -113,7 +113,7 @@ calling w from old new (call.NextEvent (Some event)) x low e h apart own far k f
 
 -- a datagram that comes
 
-pub in-none : (earlier late : Bool) → cond earlier (Some Rattle.enet_types.specs.declared.refusal.Refusal.TheVariants.Earlier) (cond late (Some Rattle.enet_types.specs.declared.refusal.Refusal.TheVariants.Late) None) ≡ None → (earlier ≡ false) × (late ≡ false)
+pub in-none : (earlier late : Bool) → cond earlier (Some Rattle.enet_codec.specs.declared.refusal.Refusal.TheVariants.Earlier) (cond late (Some Rattle.enet_codec.specs.declared.refusal.Refusal.TheVariants.Late) None) ≡ None → (earlier ≡ false) × (late ≡ false)
 in-none true late h = absurd (cc)
 in-none false true h = absurd (cc)
 in-none false false h = (refl, refl)

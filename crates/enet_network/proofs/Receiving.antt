@@ -5,14 +5,14 @@ use Rattle.std.proofs.lemmas.List.{append_cancel_left}
 use Rattle.std.proofs.lemmas.List.Quantifiers.{position-Some}
 use Rattle.std.proofs.lemmas.Option.{get_or_from_slice_get}
 use Rattle.std.specs.List.{slice_get, position}
-use Rattle.enet_types.specs.declared.address.Addr.{Addr}
-use Rattle.enet_types.specs.declared.config.Config.{Config}
-use Rattle.enet_types.specs.declared.event.PeerRef.{PeerRef}
-use Rattle.enet_types.specs.declared.event.Received.{Received}
-use Rattle.enet_types.specs.declared.refusal.Refusal.{Refusal}
-use Rattle.enet_types.specs.declared.refusal.Refusal.TheVariants as refusal
-use Rattle.enet_types.specs.declared.stop.Stop.{Stop}
-use Rattle.enet_types.specs.declared.stop.Stop.TheVariants as stop
+use Rattle.enet_codec.specs.declared.address.Addr.{Addr}
+use Rattle.enet_codec.specs.declared.config.Config.{Config}
+use Rattle.enet_codec.specs.declared.event.PeerRef.{PeerRef}
+use Rattle.enet_codec.specs.declared.event.Received.{Received}
+use Rattle.enet_codec.specs.declared.refusal.Refusal.{Refusal}
+use Rattle.enet_codec.specs.declared.refusal.Refusal.TheVariants as refusal
+use Rattle.enet_codec.specs.declared.stop.Stop.{Stop}
+use Rattle.enet_codec.specs.declared.stop.Stop.TheVariants as stop
 use Rattle.enet_codec.specs.declared.command.Offer.{Offer}
 use Rattle.enet_codec.specs.declared.header.Header.{Header}
 use Rattle.enet_codec.specs.Message.{Message, connect}

@@ -1,8 +1,8 @@
 -- Each datagram of a host goes where the other host of its connection is.
 use Rattle.std.proofs.Common.{◌≡◌, ℕ, Bool, true, false, List, take, inl, inr, refl, sym, ap, subst, ◌∙◌, Option, Some, None, slice_get}
-use Rattle.enet_types.specs.declared.address.Addr.{Addr}
-use Rattle.enet_types.specs.declared.event.PeerRef.{PeerRef}
-use Rattle.enet_types.specs.declared.event.Received.{Received}
+use Rattle.enet_codec.specs.declared.address.Addr.{Addr}
+use Rattle.enet_codec.specs.declared.event.PeerRef.{PeerRef}
+use Rattle.enet_codec.specs.declared.event.Received.{Received}
 use Rattle.enet_connection.specs.LinkSteps.{Has}
 use Rattle.enet_connection.proofs.Lists.{Has-push_cases}
 use Rattle.enet_slot.specs.Serving.{Gives}

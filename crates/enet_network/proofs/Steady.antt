@@ -1,6 +1,6 @@
 -- A peer whose connection stands, or stood, keeps the mtu of its datagrams.
 use Rattle.std.proofs.Common.{◌≡◌, ℕ, ltb, leb, ◌||◌, Bool, true, false, cond, inl, inr, List, [], ◌∷◌, length, refl, sym, ap, subst, ◌∙◌, Option, Some, None, slice_get}
-use Rattle.enet_types.specs.declared.packet.Packet.{Packet}
+use Rattle.enet_codec.specs.declared.packet.Packet.{Packet}
 use Rattle.enet_fragment.specs.Cutting.{piece_count}
 use Rattle.enet_sender.specs.CommandChoice.{fragment_limit}
 use Rattle.enet_sender.specs.CommandChoice as command_choice

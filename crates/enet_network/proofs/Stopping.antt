@@ -1,8 +1,8 @@
 -- A command that stops its datagram leaves its peer as it was, save for want of a sent time.
 use Rattle.std.proofs.Common.{◌≡◌, ℕ, ◌⊎◌, inl, inr, Bool, true, false, cond, ◌&&◌, not, nat_le, nat_lt, List, length, refl, ap, Option, Some, None, Result, Ok, Err}
 use Rattle.std.specs.List.{slice_get}
-use Rattle.enet_types.specs.declared.stop.Stop.{Stop}
-use Rattle.enet_types.specs.declared.stop.Stop.TheVariants as stop
+use Rattle.enet_codec.specs.declared.stop.Stop.{Stop}
+use Rattle.enet_codec.specs.declared.stop.Stop.TheVariants as stop
 use Rattle.enet_codec.specs.Message.{Message, Body, acknowledge, connect, verify_connect, disconnect, ping, bandwidth_limit, throttle_configure, send_unsequenced}
 use Rattle.enet_fragment.specs.declared.data.DataCommand.{DataCommand}
 use Rattle.enet_fragment.specs.DataCommand.{data_of}

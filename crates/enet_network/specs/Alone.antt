@@ -1,7 +1,7 @@
 -- A host of a run is where a list of its own calls leads, of which isolation speaks: each of its peers is where one peer alone would be.
 use Rattle.std.specs.Prelude.{◌≡◌, ◌≤◌, ℕ, List, length, Some, Result}
-use Rattle.enet_types.specs.declared.event.PeerRef.{PeerRef}
-use Rattle.enet_types.specs.declared.refusal.Refusal.{Refusal}
+use Rattle.enet_codec.specs.declared.event.PeerRef.{PeerRef}
+use Rattle.enet_codec.specs.declared.refusal.Refusal.{Refusal}
 use Rattle.enet_peer.specs.Peering.{Peering}
 use Rattle.enet_host.specs.Host.{Host, named}
 use Rattle.enet_network.specs.Beginnings.{Lived}

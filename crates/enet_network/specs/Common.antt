@@ -2,8 +2,8 @@
 -- bandwidth is shared out: `set_bandwidth` and `tick` do, by their arguments and these alone.
 use Rattle.std.specs.Prelude.{ℕ, Bool, Option, length}
 use Rattle.std.specs.List.{count_by, list_any}
-use Rattle.enet_types.specs.declared.address.Addr.{Addr}
-use Rattle.enet_types.specs.declared.config.Config.{Config}
+use Rattle.enet_codec.specs.declared.address.Addr.{Addr}
+use Rattle.enet_codec.specs.declared.config.Config.{Config}
 use Rattle.enet_slot.specs.Hearing.{is_connection}
 use Rattle.enet_slot.specs.Sharing.{is_standing}
 use Rattle.enet_host.specs.Host.{Host}

@@ -1,8 +1,8 @@
 -- What one peer alone is asked, one thing after another, and what it answers.
 use Rattle.std.specs.Prelude.{◌≡◌, ℕ, List, [], ◌∷◌, Option, Some, None, Result, Ok}
-use Rattle.enet_types.specs.declared.packet.Packet.{Packet}
-use Rattle.enet_types.specs.declared.refusal.Refusal.{Refusal}
-use Rattle.enet_types.specs.declared.stop.Stop.{Stop}
+use Rattle.enet_codec.specs.declared.packet.Packet.{Packet}
+use Rattle.enet_codec.specs.declared.refusal.Refusal.{Refusal}
+use Rattle.enet_codec.specs.declared.stop.Stop.{Stop}
 use Rattle.enet_codec.specs.Message.{Message}
 use Rattle.enet_outbox.specs.Emission.{filled, datagram}
 use Rattle.enet_peer.specs.declared.parts.PeerEvent.{PeerEvent}

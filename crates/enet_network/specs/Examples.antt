@@ -1,10 +1,10 @@
 -- Lists of a world's events that do happen, so that the laws speak of something.
 use Rattle.std.specs.Prelude.{◌≡◌, ◌&&◌, ℕ, true, List, [], ◌∷◌, ◌++◌, Some, Result, Ok}
-use Rattle.enet_types.specs.declared.config.Config.{Config}
-use Rattle.enet_types.specs.Config.{is_in_range}
-use Rattle.enet_types.specs.declared.event.Event.TheVariants as events
-use Rattle.enet_types.specs.declared.event.PeerRef.{PeerRef}
-use Rattle.enet_types.specs.declared.refusal.Refusal.{Refusal}
+use Rattle.enet_codec.specs.declared.config.Config.{Config}
+use Rattle.enet_codec.specs.Config.{is_in_range}
+use Rattle.enet_codec.specs.declared.event.Event.TheVariants as events
+use Rattle.enet_codec.specs.declared.event.PeerRef.{PeerRef}
+use Rattle.enet_codec.specs.declared.refusal.Refusal.{Refusal}
 use Rattle.enet_connection.specs.Examples.{example_packet}
 use Rattle.enet_host.specs.Receiving.{handled_one}
 use Rattle.enet_network.specs.declared.event.Answer.{Answer}

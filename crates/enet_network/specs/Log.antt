@@ -1,8 +1,8 @@
 -- What is kept of all that hosts put out, submitted and took.
 use Rattle.std.specs.Prelude.{ℕ, List, [], ◌∷◌, ◌++◌, replicate, slice_set}
 use Rattle.std.specs.List.{slice_index_or, fold}
-use Rattle.enet_types.specs.declared.address.Addr.{Addr}
-use Rattle.enet_types.specs.declared.packet.Packet.{Packet}
+use Rattle.enet_codec.specs.declared.address.Addr.{Addr}
+use Rattle.enet_codec.specs.declared.packet.Packet.{Packet}
 use Rattle.enet_connection.specs.Greatest.{greatest_after}
 use Rattle.enet_network.specs.declared.mark.Mark.{Mark}
 use Rattle.enet_network.specs.declared.mark.MarkKind.{MarkKind}

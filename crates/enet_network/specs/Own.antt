@@ -1,6 +1,6 @@
 -- What a host has of its own, which no connection changes.
 use Rattle.std.specs.Prelude.{◌≡◌, ℕ, if◌then◌else◌, Ok, []}
-use Rattle.enet_types.specs.declared.config.Config.{Config}
+use Rattle.enet_codec.specs.declared.config.Config.{Config}
 use Rattle.enet_host.specs.Host.{Host}
 use Rattle.enet_host.specs.Ticking.{clock_after, is_due}
 use Rattle.enet_network.specs.Calls.{Call, SetBandwidth, Tick, Acts}

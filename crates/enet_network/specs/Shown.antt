@@ -1,7 +1,7 @@
 -- How the two hosts of a world show the two ends of a connection, as the law of one connection has them.
 use Rattle.std.specs.Prelude.{◌≡◌, ◌<◌, ◌≤◌, ℕ, ◌==◌, ◌⊎◌, false, List, [], ◌∷◌, length, map, filter, Some, None, slice_get}
-use Rattle.enet_types.specs.declared.event.PeerRef.{PeerRef}
-use Rattle.enet_types.specs.declared.packet.Packet.{Packet}
+use Rattle.enet_codec.specs.declared.event.PeerRef.{PeerRef}
+use Rattle.enet_codec.specs.declared.packet.Packet.{Packet}
 use Rattle.enet_codec.specs.declared.header.Header.{Header}
 use Rattle.enet_codec.specs.Datagram.{SpellsDatagram}
 use Rattle.enet_fragment.specs.declared.data.DataCommand.{DataCommand}

@@ -1,7 +1,7 @@
 //! What can happen in a world of two hosts, and what is answered.
 
 use bytes::Bytes;
-use enet_types::{DisconnectMode, Event, PeerRef, Received};
+use enet_codec::{DisconnectMode, Event, PeerRef, Received};
 
 /// One of the two sides.
 #[derive(Clone, Copy)]

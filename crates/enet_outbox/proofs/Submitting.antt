@@ -2,8 +2,8 @@
 use Rattle.std.proofs.Common.{◌≡◌, ℕ, zero, suc, ◌<◌, ◌≤◌, Bool, true, false, not, ◌&&◌, cond, ltb, List, [], ◌∷◌, length, refl, sym, ap, ◌∙◌, arith, Some, Result, Ok, Err, IfErr, IsErrAnd}
 use Rattle.std.specs.List.{slice_get, slice_set}
 use Rattle.std.proofs.lemmas.Bool.{and_parts, ltb-false}
-use Rattle.enet_types.specs.declared.refusal.Refusal.{Refusal}
-use Rattle.enet_types.specs.declared.refusal.Refusal.TheVariants.{Memory, TooLarge}
+use Rattle.enet_codec.specs.declared.refusal.Refusal.{Refusal}
+use Rattle.enet_codec.specs.declared.refusal.Refusal.TheVariants.{Memory, TooLarge}
 use Rattle.enet_fragment.specs.Cutting.{piece_length, piece_count}
 use Rattle.enet_sender.proofs.Courses.{piece_count-one}
 use Rattle.enet_sender.specs.CommandChoice.{Packet, fragment_limit}

@@ -12,7 +12,7 @@ use Rattle.std.proofs.lemmas.Bool.Decides.{nat_tests}
 use Rattle.std.proofs.lemmas.Map.{keys-set_value}
 use Rattle.std.proofs.lemmas.Map.Entries.{sum_by-insert_entry, sum_by-remove_entry, sum_by-set_value}
 use Rattle.std.proofs.lemmas.Map.Views.{IfSome-lookup_from_All, All-keys-insert_entry, All-values-insert_entry, All-map-remove_entry, All-values-set_value}
-use Rattle.enet_types.specs.declared.refusal.Refusal.{Refusal}
+use Rattle.enet_codec.specs.declared.refusal.Refusal.{Refusal}
 use Rattle.enet_fragment.specs.declared.place.Place.{Place}
 use Rattle.enet_fragment.specs.PartialPacket.{with_piece, belongs, piece_at}
 use Rattle.enet_packets.specs.declared.incoming_packet.IncomingPacket.{IncomingPacket}

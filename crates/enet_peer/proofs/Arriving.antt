@@ -1,8 +1,8 @@
 -- What a command does, cut into what is foreseen of it, what it does, and its acknowledgement.
 use Rattle.std.proofs.Common.{◌≡◌, ◌≢◌, ℕ, ◌⊎◌, inl, inr, Bool, true, false, cond, Option, Some, None, Result, Ok, Err, refl, sym, ap, subst, ◌∙◌}
 use Rattle.std.specs.Prelude.{◌&&◌, not, is_some}
-use Rattle.enet_types.specs.declared.stop.Stop.{Stop}
-use Rattle.enet_types.specs.declared.stop.Stop.TheVariants as stop
+use Rattle.enet_codec.specs.declared.stop.Stop.{Stop}
+use Rattle.enet_codec.specs.declared.stop.Stop.TheVariants as stop
 use Rattle.enet_codec.specs.Message.{Message, Body, acknowledge, connect, verify_connect, disconnect, ping, send_reliable, send_unreliable, send_fragment, send_unsequenced, bandwidth_limit, throttle_configure, send_unreliable_fragment}
 use Rattle.enet_inbox.specs.Inbox.{Inbox}
 use Rattle.enet_inbox.specs.DataEffect.{arrival, passed_over}

@@ -1,7 +1,7 @@
 -- The commands that bytes spell are those that come.
 use Rattle.std.proofs.Common.{◌≡◌, ℕ, inl, inr, List, [], ◌∷◌, ◌++◌, Option, Ok, Err, refl, sym, ap, subst, ◌∙◌}
 use Rattle.std.proofs.lemmas.List.{append_cancel_left}
-use Rattle.enet_types.specs.declared.event.Received.{Received}
+use Rattle.enet_codec.specs.declared.event.Received.{Received}
 use Rattle.enet_codec.specs.Message.{Message, Spells}
 use Rattle.enet_codec.specs.Datagram.{SpellsAll}
 use Rattle.enet_codec.proofs.Laws.{one_spelling}

@@ -1,7 +1,7 @@
 -- What a command leaves of a peer.
 use Rattle.std.proofs.Common.{◌≡◌, Bool, sym, subst, Result, Ok, Err}
-use Rattle.enet_types.specs.declared.stop.Stop.{Stop}
-use Rattle.enet_types.specs.declared.stop.Stop.TheVariants as stop
+use Rattle.enet_codec.specs.declared.stop.Stop.{Stop}
+use Rattle.enet_codec.specs.declared.stop.Stop.TheVariants as stop
 use Rattle.enet_peer.specs.Peering.{Peering}
 use Rattle.enet_peer.specs.CommandEffect.{Outcome, Obeys}
 

@@ -5,10 +5,10 @@ use Rattle.std.specs.List.{slice_get, range_with_len}
 use Rattle.enet_codec.specs.declared.command.Head.{Head}
 use Rattle.enet_codec.specs.declared.command.Offer.{Offer}
 use Rattle.enet_codec.specs.declared.command.Verify.{Verify}
-use Rattle.enet_types.specs.declared.refusal.Refusal.{Refusal}
-use Rattle.enet_types.specs.declared.stop.Stop.{Stop}
-use Rattle.enet_types.specs.declared.stop.Stop.TheVariants as stop
-use Rattle.enet_types.specs.declared.packet.Packet as codec
+use Rattle.enet_codec.specs.declared.refusal.Refusal.{Refusal}
+use Rattle.enet_codec.specs.declared.stop.Stop.{Stop}
+use Rattle.enet_codec.specs.declared.stop.Stop.TheVariants as stop
+use Rattle.enet_codec.specs.declared.packet.Packet as codec
 use Rattle.enet_codec.specs.Message.{Message, Body, acknowledge, connect, verify_connect, disconnect, ping, send_reliable, send_unreliable, send_fragment, send_unsequenced, bandwidth_limit, throttle_configure, send_unreliable_fragment}
 use Rattle.enet_seq.specs.Numbering.{wire}
 use Rattle.enet_rtt.specs.declared.expiry.Expiry.{Expiry}
@@ -580,7 +580,7 @@ submitted-places p channel q h = by (is_unsequenced p.terms.mtu q)
     by true = h
     by false = sequenced-places p channel q (slice_get p.outbox.senders channel) refl h
 
-not-refused : (s : PeerState) (rest : Option Refusal) → cond (not (is_connected s)) (Some Rattle.enet_types.specs.declared.refusal.Refusal.TheVariants.NotConnected) rest ≡ None → is_connected s ≡ true
+not-refused : (s : PeerState) (rest : Option Refusal) → cond (not (is_connected s)) (Some Rattle.enet_codec.specs.declared.refusal.Refusal.TheVariants.NotConnected) rest ≡ None → is_connected s ≡ true
 not-refused state.Connected rest e = refl
 not-refused s rest e = absurd cc
 

@@ -1,9 +1,9 @@
 -- One command more of a datagram.
 use Rattle.std.proofs.Common.{◌≡◌, ℕ, List, [], ◌++◌, take, drop, Option, Some, None, Ok, Err, sym, subst}
 use Rattle.std.proofs.lemmas.List.{take-append-drop}
-use Rattle.enet_types.specs.declared.stop.Stop.{Stop}
+use Rattle.enet_codec.specs.declared.stop.Stop.{Stop}
 use Rattle.enet_codec.specs.Message.{Message, Spells}
-use Rattle.enet_types.specs.declared.event.Received.{Received}
+use Rattle.enet_codec.specs.declared.event.Received.{Received}
 use Rattle.enet_peer.specs.Peering.{Peering}
 use Rattle.enet_peer.specs.CommandEffect.{obeyed, wants_memory, Obeys}
 use Rattle.enet_peer.specs.Handling.{Handles, nothing_left, stops, goes_on, counted, one_more}

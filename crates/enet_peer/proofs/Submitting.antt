@@ -1,8 +1,8 @@
 -- What submitting a packet comes to.
 use Rattle.std.proofs.Common.{◌≡◌, ℕ, ◌<◌, Bool, true, false, ◌||◌, cond, ltb, List, length, refl, sym, subst, arith, ◌⊎◌, inl, inr, Some, None, Result, Ok, Err, IfErr, IsErrAnd, OnOk}
 use Rattle.std.proofs.lemmas.Bool.{ltb-false}
-use Rattle.enet_types.specs.declared.refusal.Refusal.{Refusal}
-use Rattle.enet_types.specs.declared.refusal.Refusal.TheVariants.{NotConnected, NoSuchChannel, TooLarge, Memory}
+use Rattle.enet_codec.specs.declared.refusal.Refusal.{Refusal}
+use Rattle.enet_codec.specs.declared.refusal.Refusal.TheVariants.{NotConnected, NoSuchChannel, TooLarge, Memory}
 use Rattle.enet_fragment.specs.Cutting.{piece_count}
 use Rattle.enet_sender.specs.CommandChoice.{Packet, fragment_limit}
 use Rattle.enet_peer.specs.Peering.{Peering}

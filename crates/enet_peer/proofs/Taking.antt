@@ -1,7 +1,7 @@
 -- What the next event comes to.
 use Rattle.std.proofs.Common.{◌≡◌, List, [], ◌∷◌, Some, None, refl, sym, ap, drop}
 use Rattle.std.specs.List.{slice_get}
-use Rattle.enet_types.specs.declared.packet.Packet.{Packet}
+use Rattle.enet_codec.specs.declared.packet.Packet.{Packet}
 use Rattle.enet_peer.specs.declared.parts.PeerEvent.TheVariants as event
 use Rattle.enet_peer.specs.Peering.{Peering}
 use Rattle.enet_peer.specs.Calls.{Taken, packet_event}

@@ -1,8 +1,8 @@
 -- The steps in which `command` does what `obeyed` of CommandEffect says: what is foreseen of a command, room for its acknowledgement,
 -- what it does, and that acknowledgement. The proof that these steps are `obeyed` stands on them, and nothing else.
 use Rattle.std.specs.Prelude.{◌≡◌, ℕ, ◌&&◌, ◌||◌, not, Bool, true, false, if◌then◌else◌, nat_lt, length, Option, Some, None, is_some, Result, Ok, Err}
-use Rattle.enet_types.specs.declared.stop.Stop.{Stop}
-use Rattle.enet_types.specs.declared.stop.Stop.TheVariants as stop
+use Rattle.enet_codec.specs.declared.stop.Stop.{Stop}
+use Rattle.enet_codec.specs.declared.stop.Stop.TheVariants as stop
 use Rattle.enet_codec.specs.Message.{Message, Body, acknowledge, connect, verify_connect, disconnect, ping, bandwidth_limit, throttle_configure}
 use Rattle.enet_inbox.specs.DataEffect.{arrival, passed_over}
 use Rattle.enet_connect.specs.Verification.{confirmed}

@@ -1,8 +1,8 @@
 -- What the user's calls and the clock make of a peer.
 use Rattle.std.specs.Prelude.{◌≡◌, ℕ, ◌&&◌, ◌||◌, not, Bool, true, false, nat_lt, nat_le, max, min, if◌then◌else◌, Option, Some, None, Result, Ok, Err, List, [], ◌∷◌, length}
-use Rattle.enet_types.specs.declared.refusal.Refusal.{Refusal}
-use Rattle.enet_types.specs.declared.refusal.Refusal.TheVariants.{NotConnected, NoSuchChannel, TooLarge, Memory}
-use Rattle.enet_types.specs.declared.packet.Packet as codec
+use Rattle.enet_codec.specs.declared.refusal.Refusal.{Refusal}
+use Rattle.enet_codec.specs.declared.refusal.Refusal.TheVariants.{NotConnected, NoSuchChannel, TooLarge, Memory}
+use Rattle.enet_codec.specs.declared.packet.Packet as codec
 use Rattle.enet_rtt.specs.Clock.{elapsed_time}
 use Rattle.enet_rtt.specs.Timing.{timeout}
 use Rattle.enet_rtt.specs.Expiry.{patience_with_defaults, or_default_number}

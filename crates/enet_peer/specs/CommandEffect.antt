@@ -2,8 +2,8 @@
 use Rattle.std.specs.Prelude.{◌≡◌, ℕ, ◌&&◌, ◌||◌, not, Bool, true, false, if◌then◌else◌, nat_lt, length, Option, Some, None, Result, Ok, Err, is_some, ◌⊎◌}
 use Rattle.enet_codec.specs.declared.command.Head.{Head}
 use Rattle.enet_codec.specs.declared.command.Verify.{Verify}
-use Rattle.enet_types.specs.declared.stop.Stop.{Stop}
-use Rattle.enet_types.specs.declared.stop.Stop.TheVariants as stop
+use Rattle.enet_codec.specs.declared.stop.Stop.{Stop}
+use Rattle.enet_codec.specs.declared.stop.Stop.TheVariants as stop
 use Rattle.enet_codec.specs.Message.{Message, Body, acknowledge, connect, verify_connect, disconnect, ping, send_fragment, send_unreliable_fragment, bandwidth_limit, throttle_configure}
 use Rattle.enet_rtt.specs.Clock.{sample_of}
 use Rattle.enet_rtt.specs.Timing.{Estimate, after_sample}

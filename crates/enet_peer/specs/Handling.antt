@@ -1,9 +1,9 @@
 -- The commands of a datagram, one after another.
 use Rattle.std.specs.Prelude.{◌≡◌, ℕ, ◌+◌, ◌≢◌, ◌⊎◌, min, List, [], ◌∷◌, ◌++◌, Option, Some, None, Ok, Err}
-use Rattle.enet_types.specs.declared.stop.Stop.{Stop}
-use Rattle.enet_types.specs.declared.stop.Stop.TheVariants as stop
+use Rattle.enet_codec.specs.declared.stop.Stop.{Stop}
+use Rattle.enet_codec.specs.declared.stop.Stop.TheVariants as stop
 use Rattle.enet_codec.specs.Message.{Message, Spells}
-use Rattle.enet_types.specs.declared.event.Received.{Received}
+use Rattle.enet_codec.specs.declared.event.Received.{Received}
 use Rattle.enet_peer.specs.Peering.{Peering}
 use Rattle.enet_peer.specs.CommandEffect.{obeyed, wants_memory, Obeys}
 

@@ -1,6 +1,6 @@
 -- The packet that the next event of a peer hands out.
 use Rattle.std.specs.Prelude.{ℕ, Option, Some, None, List, slice_get}
-use Rattle.enet_types.specs.declared.packet.Packet as codec
+use Rattle.enet_codec.specs.declared.packet.Packet as codec
 use Rattle.enet_peer.specs.Peering.{Peering}
 
 -- none where a Connect event comes first

@@ -7,15 +7,14 @@
 //! Only tested, by `check_peer`: that commands find memory, and worked datagrams.
 
 ghost use Rattle.std.specs.Prelude.{◌≡◌, ℕ, ◌≤◌, List, Option, drop, length};
-ghost use Rattle.enet_types.specs.declared.event.Received.{Received};
+ghost use Rattle.enet_codec.specs.declared.event.Received.{Received};
 ghost use Rattle.enet_codec.specs.Message.{Message};
 ghost use Rattle.enet_codec.specs.Datagram.{SpellsAll};
 ghost use Rattle.enet_peer.specs.Peering.{Peering};
 ghost use Rattle.enet_peer.specs.Handling.{Handles, HandlesEach, counted};
 
-use enet_codec::{Stop, read_command};
+use enet_codec::{Received, Stop, read_command};
 use crate::Peer;
-use enet_types::Received;
 
 /// The commands of a datagram come to a peer at the time `now`, in milliseconds, one after another, until none is left or
 /// one stops the datagram. `sent` is the sent time that the datagram's header tells, and `commands` is all that stands behind

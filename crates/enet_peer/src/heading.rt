@@ -5,8 +5,7 @@ ghost use Rattle.enet_peer.specs.Heading.{is_compressed, IsUnreadable, IsRead, I
 ghost use Rattle.enet_codec.specs.Message.{view};
 
 use crate::datagram::bytes_after;
-use enet_codec::{Command, Header, Offer, read_command, read_header};
-use enet_types::Stop;
+use enet_codec::{Command, Header, Offer, Stop, read_command, read_header};
 
 /// The bit of the first byte that says that the datagram is compressed.
 const COMPRESSED: u8 = 0x40;

@@ -4,8 +4,8 @@ ghost use Rattle.std.specs.Prelude.{◌≡◌, ℕ, ◌⊎◌, List, Option, Som
 ghost use Rattle.enet_codec.specs.Message.{Message, disconnect};
 ghost use Rattle.enet_codec.specs.declared.command.Head.{Head};
 ghost use Rattle.enet_codec.specs.declared.command.Offer.{Offer};
-ghost use Rattle.enet_types.specs.declared.refusal.Refusal.{Refusal};
-ghost use Rattle.enet_types.specs.declared.stop.Stop.{Stop};
+ghost use Rattle.enet_codec.specs.declared.refusal.Refusal.{Refusal};
+ghost use Rattle.enet_codec.specs.declared.stop.Stop.{Stop};
 ghost use Rattle.enet_connect.specs.declared.server.Server.{Server};
 ghost use Rattle.enet_connect.specs.declared.terms.Terms.{Terms};
 ghost use Rattle.enet_sender.specs.CommandChoice.{Packet};

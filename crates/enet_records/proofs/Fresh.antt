@@ -1,6 +1,6 @@
 -- What is kept of a host at first.
 use Rattle.std.proofs.Common.{◌≡◌, ℕ, zero, suc, ◌+◌, ◌*◌, ◌^◌, ◌<◌, List, [], ◌∷◌, ◌++◌, length, replicate, Some, None, Option, refl, sym, ap, subst, ◌∙◌, inl, inr, arith}
-use Rattle.enet_types.specs.declared.event.PeerRef.{PeerRef}
+use Rattle.enet_codec.specs.declared.event.PeerRef.{PeerRef}
 use Rattle.enet_connection.specs.LinkSteps.{Has}
 use Rattle.enet_network.specs.Log.{Logged, ChannelPackets, no_packets, fresh_channels, fresh_greatest, joined_greatest, greatest_at}
 use Rattle.enet_network.specs.Network.{HostEnd, fresh_end}

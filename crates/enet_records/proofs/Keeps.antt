@@ -1,11 +1,11 @@
 -- What is kept of a host stays in its bounds.
 use Rattle.std.proofs.Common.{◌≡◌, ◌≢◌, ℕ, zero, suc, ◌+◌, ◌*◌, ◌^◌, Bool, true, false, cond, List, [], ◌∷◌, ◌++◌, length, map, refl, sym, ap, subst, ◌∙◌, arith, inl, inr, ◌⊎◌, Option, Some, None, slice_get, slice_set}
 use Rattle.std.proofs.lemmas.List.{length-append, length-set}
-use Rattle.enet_types.specs.declared.address.Addr.{Addr}
-use Rattle.enet_types.specs.declared.event.Event.{Event}
-use Rattle.enet_types.specs.declared.event.Event.TheVariants as events
-use Rattle.enet_types.specs.declared.event.PeerRef.{PeerRef}
-use Rattle.enet_types.specs.declared.packet.Packet.{Packet}
+use Rattle.enet_codec.specs.declared.address.Addr.{Addr}
+use Rattle.enet_codec.specs.declared.event.Event.{Event}
+use Rattle.enet_codec.specs.declared.event.Event.TheVariants as events
+use Rattle.enet_codec.specs.declared.event.PeerRef.{PeerRef}
+use Rattle.enet_codec.specs.declared.packet.Packet.{Packet}
 use Rattle.enet_connection.specs.LinkSteps.{Has}
 use Rattle.enet_connection.proofs.Lists.{Has-push_cases, Has-slice_get}
 use Rattle.enet_connection.proofs.Emits.{Has-from_map}

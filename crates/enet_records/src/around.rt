@@ -2,12 +2,12 @@
 
 ghost use Rattle.std.specs.Prelude.{◌≡◌, ℕ, Bool, List};
 
-use enet_types::Addr;
+use enet_codec::Addr;
 
 /// What is around a host in a network: at which addresses there are hosts, and how far the numbers of the other end of each
 /// connection have come.
 pub trait Around {
-    ghost use Rattle.enet_types.specs.declared.address.Addr.{Addr};
+    ghost use Rattle.enet_codec.specs.declared.address.Addr.{Addr};
 
     /// At which addresses there are hosts; at all others there are strangers.
     ghost hosts: { Self → Addr → Bool };

@@ -7,7 +7,7 @@ ghost use Rattle.enet_network.specs.Log.{packets_at};
 ghost use Rattle.enet_network.specs.Network.{HostEnd, is_same_name, end_of, numbers_in};
 ghost use Rattle.enet_network.specs.Headline.{submitted_at, taken_at, events_at};
 
-use enet_types::{Event, Packet, PeerRef};
+use enet_codec::{Event, Packet, PeerRef};
 use std::marker::Model;
 
 /// What is kept of a channel at one end of a connection.

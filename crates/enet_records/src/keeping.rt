@@ -2,12 +2,12 @@
 
 ghost use Rattle.std.specs.Prelude.{◌≡◌, OnOk, OnErr, IfOk, IfErr, IsTrue};
 ghost use Rattle.std.specs.Bool.{OnFalse};
-ghost use Rattle.enet_types.specs.declared.event.Event.TheVariants as events;
+ghost use Rattle.enet_codec.specs.declared.event.Event.TheVariants as events;
 ghost use Rattle.enet_network.specs.Log.{with_packets, with_taken};
 ghost use Rattle.enet_network.specs.Steps.{with_event};
 
 use crate::end::{Channel, End};
-use enet_types::{Event, Packet, Refusal};
+use enet_codec::{Event, Packet, Refusal};
 
 /// A second owner of the same packet. E1 where memory is refused.
 fn copy_of(packet: &Packet) -> Result<Packet, Refusal>

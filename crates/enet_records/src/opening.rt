@@ -8,7 +8,7 @@ ghost use Rattle.enet_records.specs.Records.{first_numbers};
 
 use crate::end::{Channel, End};
 use crate::records::Records;
-use enet_types::{PeerRef, Refusal};
+use enet_codec::{PeerRef, Refusal};
 use std::alloc::Global;
 
 /// The peer that a host has from the start, of connection 0.

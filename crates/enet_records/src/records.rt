@@ -13,7 +13,7 @@ use crate::end::{End, position_of};
 use crate::numbers::marks_of;
 use enet_peer::read_heading;
 use enet_network::Mark;
-use enet_types::{Addr, PeerRef};
+use enet_codec::{Addr, PeerRef};
 use std::marker::Model;
 
 /// A datagram that was put out.

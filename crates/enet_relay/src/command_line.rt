@@ -3,7 +3,7 @@
 use crate::failure::Failure;
 use clap::error::ErrorKind;
 use clap::{Arg, ArgAction, ArgMatches, Command, Error, value_parser};
-use enet_types::Addr;
+use enet_codec::Addr;
 use std::alloc::{AllocError, Global};
 use std::net::Ipv4Addr;
 use std::rt::Env;

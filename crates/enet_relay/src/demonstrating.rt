@@ -3,7 +3,7 @@
 use crate::command_line::DemoOptions;
 use crate::failure::Failure;
 use enet_serve::Demonstration;
-use enet_types::Addr;
+use enet_codec::Addr;
 use std::net::Net;
 use std::rt::Clock;
 use std::sync::Wait;

@@ -3,7 +3,7 @@
 use enet_text::InspectFault;
 use enet_lab::LabFault;
 use enet_serve::Unopened;
-use enet_types::Refusal;
+use enet_codec::Refusal;
 use std::alloc::AllocError;
 use std::io;
 use thiserror::Error;

@@ -1,6 +1,6 @@
 -- What a client's game thread does, and how its queues are settled.
 use Rattle.std.specs.Prelude.{◌≡◌, ℕ, ◌<◌, List, [], ◌++◌, length, slice_index_or}
-use Rattle.enet_types.specs.declared.event.Event.{Event}
+use Rattle.enet_codec.specs.declared.event.Event.{Event}
 use Rattle.enet_submit.specs.declared.order.Order.{Order}
 use Rattle.enet_submit.specs.declared.queue.SubmitQueue.{SubmitQueue}
 use Rattle.enet_submit.specs.declared.token.Drain.{Drain}

@@ -1,12 +1,12 @@
 -- What a server does in a shift.
 use Rattle.std.specs.Prelude.{◌≡◌, ◌⊎◌, ℕ, Bool, List, [], ◌++◌, Option, None}
 use Rattle.std.specs.List.{All}
-use Rattle.enet_types.specs.declared.event.PeerRef.{PeerRef}
-use Rattle.enet_types.specs.declared.event.Event.{Event}
-use Rattle.enet_types.specs.declared.refusal.Refusal.{Refusal}
-use Rattle.enet_types.specs.declared.refusal.Refusal.TheVariants.{Memory, BadConfig, SeatSpent, WireFault, StillHeld}
-use Rattle.enet_types.specs.Config.{standard_config}
-use Rattle.enet_types.specs.Config as configs
+use Rattle.enet_codec.specs.declared.event.PeerRef.{PeerRef}
+use Rattle.enet_codec.specs.declared.event.Event.{Event}
+use Rattle.enet_codec.specs.declared.refusal.Refusal.{Refusal}
+use Rattle.enet_codec.specs.declared.refusal.Refusal.TheVariants.{Memory, BadConfig, SeatSpent, WireFault, StillHeld}
+use Rattle.enet_codec.specs.Config.{standard_config}
+use Rattle.enet_codec.specs.Config as configs
 use Rattle.enet_submit.specs.declared.order.Order.{Order}
 use Rattle.enet_host.specs.Host.{Host}
 use Rattle.enet_host.specs.Opening.{opened}

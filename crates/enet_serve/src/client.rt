@@ -10,7 +10,7 @@ use crate::player::{Company, Played, Player, Visit};
 use enet_events::Poster;
 use enet_service::{Desk, Ends, Inbox, MioWire, QueueSink, QueueSource, Queues, Returned, Shared, Shift, Signals, Station, Unwatched, beside_turns, settle};
 use enet_submit::Drain;
-use enet_types::{Addr, Config, Refusal};
+use enet_codec::{Addr, Config, Refusal};
 use std::alloc::Global;
 use std::net::Net;
 use std::rt::Clock;

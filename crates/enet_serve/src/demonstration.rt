@@ -11,7 +11,7 @@ use crate::orders::{CHANNELS, Plan};
 use crate::player::{Company, Visit};
 use crate::{Gauge, Server, Settings, Unwatched};
 use enet_service::{Report, Shift};
-use enet_types::{Addr, Refusal};
+use enet_codec::{Addr, Refusal};
 use std::alloc::Global;
 use std::net::Net;
 use std::rt::Clock;

@@ -8,7 +8,7 @@ use crate::stage::Stage;
 use enet_events::Taker;
 use enet_service::{Desk, Inbox, TakerBell};
 use enet_submit::Finished;
-use enet_types::{Event, Refusal};
+use enet_codec::{Event, Refusal};
 use std::alloc::Global;
 use std::sync::Wait;
 use std::sync::atomic::Ordering::SeqCst;

@@ -1,6 +1,6 @@
 //! How far a client has come.
 
-use enet_types::{Event, PeerRef};
+use enet_codec::{Event, PeerRef};
 
 /// How far a client has come.
 #[derive(Clone, Copy)]

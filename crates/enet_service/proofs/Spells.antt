@@ -6,14 +6,14 @@ use Rattle.std.proofs.lemmas.List.{append-nil, map-append}
 use Rattle.std.proofs.lemmas.List.Elements.{All-nil, All-append, filter-append, filter_map-append}
 use Rattle.std.proofs.lemmas.List.Sums.{sum_by-append}
 use Rattle.std.proofs.lemmas.Grind.{flat_map-append}
-use Rattle.enet_types.specs.declared.event.Event.{Event}
+use Rattle.enet_codec.specs.declared.event.Event.{Event}
 use Rattle.enet_submit.specs.declared.order.Submission.{Submission}
 use Rattle.enet_submit.specs.declared.token.Drain.{Drain}
 use Rattle.enet_submit.specs.Words.{taken}
 use Rattle.enet_events.specs.declared.numbered.Numbered.{Numbered}
 use Rattle.enet_events.specs.Words.{PosterState}
 use Rattle.enet_host.specs.Host.{Host}
-use Rattle.enet_types.specs.declared.refusal.Refusal.TheVariants.{WireFault}
+use Rattle.enet_codec.specs.declared.refusal.Refusal.TheVariants.{WireFault}
 use Rattle.enet_service.specs.declared.report.Fault.{Fault}
 use Rattle.enet_service.specs.declared.report.Report.{Report}
 use Rattle.enet_service.specs.Counts.{stopped}

@@ -1,6 +1,6 @@
 -- What a report counts.
 use Rattle.std.specs.Prelude.{ℕ, ◌+◌, min, Bool, true, false, List, [], ◌∷◌, Option, Some, None}
-use Rattle.enet_types.specs.declared.event.Event.{Event}
+use Rattle.enet_codec.specs.declared.event.Event.{Event}
 use Rattle.enet_submit.specs.declared.order.Submission.{Submission}
 use Rattle.enet_bridge.specs.declared.told.Told.{Told}
 use Rattle.enet_bridge.specs.declared.told.Told.TheVariants.{Came, Went, Blocked}

@@ -1,11 +1,11 @@
 -- What a turn's calls do with a host: each is one call of it.
 use Rattle.std.specs.Prelude.{◌≡◌, ℕ, ◌+◌, List, length, take, Option, Some, None, Result, sum_by}
 use Rattle.std.specs.Option.{option_map}
-use Rattle.enet_types.specs.declared.address.Addr.{Addr}
-use Rattle.enet_types.specs.declared.event.Event.{Event}
-use Rattle.enet_types.specs.declared.event.PeerRef.{PeerRef}
-use Rattle.enet_types.specs.declared.event.Received.{Received}
-use Rattle.enet_types.specs.declared.refusal.Refusal.{Refusal}
+use Rattle.enet_codec.specs.declared.address.Addr.{Addr}
+use Rattle.enet_codec.specs.declared.event.Event.{Event}
+use Rattle.enet_codec.specs.declared.event.PeerRef.{PeerRef}
+use Rattle.enet_codec.specs.declared.event.Received.{Received}
+use Rattle.enet_codec.specs.declared.refusal.Refusal.{Refusal}
 use Rattle.enet_submit.specs.declared.order.Order.{Order}
 use Rattle.enet_submit.specs.declared.order.Order.TheVariants.{Connect, Submit, Disconnect}
 use Rattle.enet_peer.specs.declared.parts.PeerState.{PeerState}

@@ -1,10 +1,10 @@
 -- The phases of a turn, over any host. `left` is how many of their steps may still come; a turn begins each with 256. What was
 -- put is a list of the events that were offered, each with whether it was taken.
 use Rattle.std.specs.Prelude.{◌≡◌, ◌⊎◌, ℕ, ◌-◌, ◌<◌, Bool, true, false, List, [], ◌∷◌, ◌++◌, Option, Some, None, Result, Ok, Err, IsSome}
-use Rattle.enet_types.specs.declared.address.Addr.{Addr}
-use Rattle.enet_types.specs.declared.event.Event.{Event}
-use Rattle.enet_types.specs.declared.event.Event.TheVariants.{Refused}
-use Rattle.enet_types.specs.declared.refusal.Refusal.{Refusal}
+use Rattle.enet_codec.specs.declared.address.Addr.{Addr}
+use Rattle.enet_codec.specs.declared.event.Event.{Event}
+use Rattle.enet_codec.specs.declared.event.Event.TheVariants.{Refused}
+use Rattle.enet_codec.specs.declared.refusal.Refusal.{Refusal}
 use Rattle.enet_submit.specs.declared.order.Order.{Order}
 use Rattle.enet_submit.specs.declared.order.Submission.{Submission}
 use Rattle.enet_bridge.specs.declared.told.Told.{Told}

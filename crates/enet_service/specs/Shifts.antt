@@ -1,10 +1,10 @@
 -- What a service's thread does in a shift.
 use Rattle.std.specs.Prelude.{◌≡◌, ◌⊎◌, ℕ, ◌≤◌, List, [], ◌++◌, length, Option, None}
 use Rattle.std.specs.List.{All}
-use Rattle.enet_types.specs.declared.config.Config.{Config}
-use Rattle.enet_types.specs.declared.event.Event.{Event}
-use Rattle.enet_types.specs.declared.refusal.Refusal.{Refusal}
-use Rattle.enet_types.specs.declared.refusal.Refusal.TheVariants.{Memory, BadConfig, StillHeld}
+use Rattle.enet_codec.specs.declared.config.Config.{Config}
+use Rattle.enet_codec.specs.declared.event.Event.{Event}
+use Rattle.enet_codec.specs.declared.refusal.Refusal.{Refusal}
+use Rattle.enet_codec.specs.declared.refusal.Refusal.TheVariants.{Memory, BadConfig, StillHeld}
 use Rattle.enet_submit.specs.declared.token.Drain.{Drain}
 use Rattle.enet_submit.specs.declared.queue.SubmitQueue.{SubmitQueue}
 use Rattle.enet_submit.specs.Words.{IsSeatOf, IsDrainOf, IsFinishedOf, seats_of, sent, taken}

@@ -3,13 +3,13 @@ ghost use Rattle.std.specs.Prelude.{ℕ, ◌<◌, ◌≤◌, List, Option, IfSom
 ghost use Rattle.std.specs.Option.{option_map};
 
 use enet_submit::Order;
-use enet_types::{Addr, Event, Refusal};
+use enet_codec::{Addr, Event, Refusal};
 
 /// The calls of a host that a turn makes. Each says by a relation what it may do.
 pub trait Core {
-    ghost use Rattle.enet_types.specs.declared.address.Addr.{Addr as Address};
-    ghost use Rattle.enet_types.specs.declared.event.Event.{Event as Telling};
-    ghost use Rattle.enet_types.specs.declared.refusal.Refusal.{Refusal as Why};
+    ghost use Rattle.enet_codec.specs.declared.address.Addr.{Addr as Address};
+    ghost use Rattle.enet_codec.specs.declared.event.Event.{Event as Telling};
+    ghost use Rattle.enet_codec.specs.declared.refusal.Refusal.{Refusal as Why};
     ghost use Rattle.enet_submit.specs.declared.order.Order.{Order as Asked};
     ghost use Rattle.enet_service.specs.Phases.{why_of};
 

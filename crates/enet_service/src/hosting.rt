@@ -3,7 +3,7 @@
 use crate::host::Core;
 use enet_host::HostCore;
 use enet_submit::Order;
-use enet_types::{Addr, DisconnectMode, Event, Refusal};
+use enet_codec::{Addr, DisconnectMode, Event, Refusal};
 
 impl Core for HostCore {
     ghost use Rattle.enet_service.specs.Hosting.{Ticks, Obeys, Hears, Gives, Tells, untold};

@@ -1,6 +1,6 @@
 //! Orders that are taken from the source and carried out.
 ghost use Rattle.std.specs.Prelude.{◌≡◌, ◌≤◌, List, Bool, Option, None};
-ghost use Rattle.enet_types.specs.declared.event.Event.{Event as Told};
+ghost use Rattle.enet_codec.specs.declared.event.Event.{Event as Told};
 ghost use Rattle.enet_submit.specs.declared.order.Submission.{Submission as Item};
 ghost use Rattle.enet_service.specs.Phases.{Chain, CarriesOut, Orders};
 ghost use Rattle.enet_service.specs.Counts.{taken_in, given_in};
@@ -10,7 +10,7 @@ use crate::host::Core;
 use crate::telling::offer;
 use enet_bridge::{Sink, Source};
 use enet_submit::Submission;
-use enet_types::Event;
+use enet_codec::Event;
 use std::sync::Wait;
 
 // Carries an order out; a refusal is told. How many events were taken.

@@ -5,7 +5,7 @@ ghost use Rattle.enet_submit.specs.Words.{EachFrom, IsNew, IsSeatOf, sent};
 
 use enet_events::{EventQueue, Poster, Taker};
 use enet_submit::{Drain, Seat, SubmitQueue};
-use enet_types::Refusal;
+use enet_codec::Refusal;
 use std::alloc::Global;
 
 /// Both queues with their ends.

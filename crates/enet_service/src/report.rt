@@ -1,6 +1,6 @@
 //! What a turn or a run did.
 
-use enet_types::Refusal;
+use enet_codec::Refusal;
 
 /// What was done: in a turn, or in all turns of a run. Each count stops at 4,294,967,295.
 #[derive(Clone, Copy, Debug, PartialEq, Eq)]

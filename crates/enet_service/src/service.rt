@@ -1,6 +1,6 @@
 //! The service and its turns.
 ghost use Rattle.std.specs.Prelude.{◌≡◌, ◌+◌, List, Bool, Option, None, is_err};
-ghost use Rattle.enet_types.specs.declared.event.Event.{Event as Telling};
+ghost use Rattle.enet_codec.specs.declared.event.Event.{Event as Telling};
 ghost use Rattle.enet_submit.specs.declared.order.Submission.{Submission as Item};
 ghost use Rattle.enet_bridge.specs.declared.told.Told.{Told as Call};
 ghost use Rattle.enet_bridge.specs.Wires.{also, unless_spent};
@@ -16,7 +16,7 @@ use crate::report::{Fault, Report};
 use crate::sending::send_all;
 use crate::telling::{offer_again, tell_all};
 use enet_bridge::{Sink, Source, Wire};
-use enet_types::{Event, Refusal};
+use enet_codec::{Event, Refusal};
 use std::sync::Wait;
 
 /// A host, and the event that waits for room in the sink, if there is one.

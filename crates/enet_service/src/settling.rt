@@ -6,7 +6,7 @@ ghost use Rattle.enet_service.specs.Shifts.{CanSettle, IsNotSettled};
 
 use enet_events::{EventQueue, Poster, Taker};
 use enet_submit::{Drain, Finished, Order, SubmitQueue};
-use enet_types::Refusal;
+use enet_codec::Refusal;
 use std::alloc::Global;
 use std::collections::VecDeque;
 use std::sync::Wait;

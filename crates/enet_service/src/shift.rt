@@ -8,7 +8,7 @@ use crate::turning::Signals;
 use crate::watch::Watch;
 use crate::watched::WatchedHost;
 use crate::{MioWire, QueueSink, QueueSource, Report, Service, run_between_queues};
-use enet_types::Refusal;
+use enet_codec::Refusal;
 use std::io;
 use std::rt::Clock;
 use std::sync::Wait;

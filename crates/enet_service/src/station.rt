@@ -2,7 +2,7 @@
 
 use crate::watched::WatchedHost;
 use crate::{MioWire, Service};
-use enet_types::{Config, Refusal};
+use enet_codec::{Config, Refusal};
 use std::alloc::Global;
 
 /// A service over our host, and the socket at which it is reached. It is given up by [`Station::close`] alone.
@@ -13,7 +13,7 @@ pub struct Station {
 
 impl Station {
     ghost use Rattle.std.specs.Prelude.{◌≡◌, true, false, IfOk, IfErr, Err};
-    ghost use Rattle.enet_types.specs.Config.{is_in_range};
+    ghost use Rattle.enet_codec.specs.Config.{is_in_range};
     ghost use Rattle.enet_service.specs.Shifts.{state_of, beginning};
 
     /// A host of this configuration, which did nothing yet, at this socket.

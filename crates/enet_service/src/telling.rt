@@ -1,12 +1,12 @@
 //! Events that are offered to the sink.
 ghost use Rattle.std.specs.Prelude.{◌≡◌, List, Bool};
-ghost use Rattle.enet_types.specs.declared.event.Event.{Event as Told};
+ghost use Rattle.enet_codec.specs.declared.event.Event.{Event as Told};
 ghost use Rattle.enet_service.specs.Phases.{Chain, Offers, left_over, TellsAll};
 ghost use Rattle.enet_service.specs.Counts.{count_of, taken_in, stopped};
 
 use crate::host::Core;
 use enet_bridge::Sink;
-use enet_types::Event;
+use enet_codec::Event;
 use std::sync::Wait;
 
 /// Offers an event to the sink. One that is handed back waits. Answers how many were taken: 1 or 0.

@@ -9,7 +9,7 @@ use crate::watch::Watch;
 use enet_events::EventQueue;
 use crate::{Bell, QueueSink, QueueSource, Report, TakerBell};
 use enet_submit::SubmitQueue;
-use enet_types::Refusal;
+use enet_codec::Refusal;
 use std::rt::Clock;
 use std::sync::Wait;
 use std::sync::atomic::AtomicBool;

@@ -3,7 +3,7 @@
 use enet_host::HostCore;
 use crate::Core;
 use enet_submit::Order;
-use enet_types::{Addr, Config, DisconnectMode, Event, PeerRef, Refusal};
+use enet_codec::{Addr, Config, DisconnectMode, Event, PeerRef, Refusal};
 use std::alloc::Global;
 use std::marker::Model;
 
@@ -55,7 +55,7 @@ impl Model for WatchedHost {
 
 impl WatchedHost {
     ghost use Rattle.std.specs.Prelude.{◌≡◌, true, false, IfOk, IfErr, Err};
-    ghost use Rattle.enet_types.specs.Config.{is_in_range};
+    ghost use Rattle.enet_codec.specs.Config.{is_in_range};
     ghost use Rattle.enet_host.specs.Opening.{opened};
 
     /// A host of this configuration, which did nothing yet.

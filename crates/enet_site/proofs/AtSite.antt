@@ -1,10 +1,10 @@
 -- What a call said of a host and what is kept of it, it says of the site.
 use Rattle.std.proofs.Common.{◌≡◌, ℕ, false, List, [], refl, subst, Option, Result, Ok, Err, IfOk, IfErr, OnErr, slice_get}
-use Rattle.enet_types.specs.declared.address.Addr.{Addr}
-use Rattle.enet_types.specs.declared.event.Event.{Event}
-use Rattle.enet_types.specs.declared.event.PeerRef.{PeerRef}
-use Rattle.enet_types.specs.declared.event.Received.{Received}
-use Rattle.enet_types.specs.declared.refusal.Refusal.{Refusal}
+use Rattle.enet_codec.specs.declared.address.Addr.{Addr}
+use Rattle.enet_codec.specs.declared.event.Event.{Event}
+use Rattle.enet_codec.specs.declared.event.PeerRef.{PeerRef}
+use Rattle.enet_codec.specs.declared.event.Received.{Received}
+use Rattle.enet_codec.specs.declared.refusal.Refusal.{Refusal}
 use Rattle.enet_sender.specs.CommandChoice.{Packet}
 use Rattle.enet_host.specs.Host.{Host}
 use Rattle.enet_slot.specs.Giving.{no_address}

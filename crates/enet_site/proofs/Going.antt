@@ -1,7 +1,7 @@
 -- What holds of each site stays, whatever happens at it.
 use Rattle.std.proofs.Common.{◌≡◌, ℕ, refl, sym, ap, subst, ◌∙◌, inl, inr, Option, Some, None, Result, Ok, Err, IfOk, OnErr, slice_get}
-use Rattle.enet_types.specs.declared.event.PeerRef.{PeerRef}
-use Rattle.enet_types.specs.declared.refusal.Refusal.{Refusal}
+use Rattle.enet_codec.specs.declared.event.PeerRef.{PeerRef}
+use Rattle.enet_codec.specs.declared.refusal.Refusal.{Refusal}
 use Rattle.enet_peer.specs.Peering.{Peering}
 use Rattle.enet_connection.specs.LinkSteps.{Has}
 use Rattle.enet_slot.specs.Slot.{SlotState}

@@ -1,8 +1,8 @@
 -- Hosts are opened one by one.
 use Rattle.std.proofs.Common.{◌≡◌, ◌<◌, ℕ, ◌+◌, List, [], ◌∷◌, ◌++◌, length, take, get_or, sym, ap, ◌∙◌, arith}
 use Rattle.std.proofs.lemmas.List.{take_more, length-take}
-use Rattle.enet_types.specs.declared.address.Addr.{Addr}
-use Rattle.enet_types.specs.declared.config.Config.{Config}
+use Rattle.enet_codec.specs.declared.address.Addr.{Addr}
+use Rattle.enet_codec.specs.declared.config.Config.{Config}
 use Rattle.enet_site.specs.Places.{Place, opened_at, all_opened}
 
 opened-last : (address : ℕ → Addr) (i : ℕ) (configs : List Config) (c : Config) → all_opened address i (configs ++ c ∷ []) ≡ all_opened address i configs ++ opened_at (address (i + length configs)) c ∷ []

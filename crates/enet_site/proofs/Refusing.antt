@@ -1,6 +1,6 @@
 -- Why a delivery is refused, test by test.
 use Rattle.std.proofs.Common.{◌≡◌, Bool, true, false, cond, sym, ap, subst, Option, Some, None}
-use Rattle.enet_types.specs.declared.refusal.Refusal.TheVariants.{Late, Earlier}
+use Rattle.enet_codec.specs.declared.refusal.Refusal.TheVariants.{Late, Earlier}
 use Rattle.enet_network.specs.Log.{Logged}
 use Rattle.enet_network.specs.Network.{Site, is_earlier, is_late, delivery_refusal}
 

@@ -1,9 +1,9 @@
 -- A submission, at its site.
 use Rattle.std.proofs.Common.{◌≡◌, ◌<◌, ℕ, true, List, length, refl, sym, ap, subst, ◌∙◌, arith, Option, Some, None, Result, Ok, Err, IfOk, IfErr, OnErr, is_ok, slice_set}
 use Rattle.std.specs.List.{position, slice_index_or}
-use Rattle.enet_types.specs.declared.event.PeerRef.{PeerRef}
-use Rattle.enet_types.specs.declared.packet.Packet.{Packet}
-use Rattle.enet_types.specs.declared.refusal.Refusal.{Refusal}
+use Rattle.enet_codec.specs.declared.event.PeerRef.{PeerRef}
+use Rattle.enet_codec.specs.declared.packet.Packet.{Packet}
+use Rattle.enet_codec.specs.declared.refusal.Refusal.{Refusal}
 use Rattle.enet_sender.specs.CommandChoice as command_choice
 use Rattle.enet_connection.specs.Law.{mtu_in}
 use Rattle.enet_host.specs.Host.{Host, named}

@@ -1,8 +1,8 @@
 //! The network brings a datagram.
 
 ghost use Rattle.std.specs.Prelude.{◌≡◌, ℕ, ◌==◌, List, [], Some, IfSome, IfNone, IfOk, IfErr, OnErr, slice_get};
-ghost use Rattle.enet_types.specs.declared.address.Addr.{Addr};
-ghost use Rattle.enet_types.specs.declared.event.Received.{Received};
+ghost use Rattle.enet_codec.specs.declared.address.Addr.{Addr};
+ghost use Rattle.enet_codec.specs.declared.event.Received.{Received};
 ghost use Rattle.enet_codec.specs.declared.header.Header.{Header};
 ghost use Rattle.enet_peer.specs.Heading.{IsRead};
 ghost use Rattle.enet_host.specs.Host.{Host};
@@ -19,7 +19,7 @@ use crate::delivery::{NO_PEER, refused_delivery};
 use enet_peer::read_heading;
 use enet_host::HostCore;
 use enet_records::{Datagram, Records, fresh_end};
-use enet_types::{Addr, PeerRef, Received, Refusal};
+use enet_codec::{Addr, PeerRef, Received, Refusal};
 use std::alloc::Global;
 
 /// Whether the header of a datagram names no peer, as that of a CONNECT alone does.

@@ -1,7 +1,7 @@
 //! A user asks the other host for a connection.
 
 ghost use Rattle.std.specs.Prelude.{◌≡◌, ℕ, Some, Ok, Err, IfSome, IfNone, IfOk, IfErr, OnErr};
-ghost use Rattle.enet_types.specs.declared.address.Addr.{Addr};
+ghost use Rattle.enet_codec.specs.declared.address.Addr.{Addr};
 ghost use Rattle.enet_host.specs.Foretelling.{next_name};
 ghost use Rattle.enet_network.specs.Calls.{Acts};
 ghost use Rattle.enet_network.specs.Calls as call;
@@ -9,7 +9,7 @@ ghost use Rattle.enet_site.specs.Sites.{IsWhole, CallsOn};
 
 use enet_host::HostCore;
 use enet_records::{Records, fresh_end};
-use enet_types::{Addr, PeerRef, Refusal};
+use enet_codec::{Addr, PeerRef, Refusal};
 use std::alloc::Global;
 
 /// Whom a host asks for a connection, and for what.

@@ -4,7 +4,7 @@ ghost use Rattle.enet_network.specs.Calls.{Acts};
 ghost use Rattle.enet_network.specs.Calls as call;
 
 use enet_host::HostCore;
-use enet_types::{DisconnectMode, PeerRef, Refusal};
+use enet_codec::{DisconnectMode, PeerRef, Refusal};
 
 /// Ends the connection of the peer of this name in this way.
 pub(crate) fn disconnect(

@@ -1,12 +1,12 @@
 //! A host with all that it put out.
 
 ghost use Rattle.std.specs.Prelude.{◌≡◌, true, false, Err, IfOk, IfErr};
-ghost use Rattle.enet_types.specs.Config.{is_in_range};
+ghost use Rattle.enet_codec.specs.Config.{is_in_range};
 ghost use Rattle.enet_site.specs.Places.{opened_at};
 
 use crate::put_out::Sent;
 use crate::site::Site;
-use enet_types::{Addr, Config, Refusal};
+use enet_codec::{Addr, Config, Refusal};
 use std::alloc::Global;
 use std::marker::Model;
 

@@ -2,11 +2,11 @@
 
 ghost use Rattle.std.specs.Prelude.{◌≡◌, ◌+◌, ◌≤◌, ◌^◌, true, length, IfOk, IfErr};
 ghost use Rattle.std.specs.List.{list_all};
-ghost use Rattle.enet_types.specs.Config.{is_in_range};
+ghost use Rattle.enet_codec.specs.Config.{is_in_range};
 ghost use Rattle.enet_site.specs.Places.{all_opened};
 
 use crate::place::Place;
-use enet_types::{Addr, Config, Refusal};
+use enet_codec::{Addr, Config, Refusal};
 use std::alloc::Global;
 
 /// As many hosts as there are settings, at one IP address and at ports in order from the first, whose slots are all free. E1

@@ -1,6 +1,6 @@
 //! What a host put out.
 
-use enet_types::Addr;
+use enet_codec::Addr;
 use std::marker::Model;
 
 /// The bytes of a datagram.

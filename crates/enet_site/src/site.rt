@@ -2,7 +2,7 @@
 
 ghost use Rattle.std.specs.Prelude.{◌≡◌, ◌<◌, ◌^◌, ℕ, [], length, ◌∷◌, true, false, Ok, Err, IfSome, IfNone, IfOk, IfErr, OnErr, slice_get};
 ghost use Rattle.std.specs.Option.{option_copied, option_map};
-ghost use Rattle.enet_types.specs.Config.{is_in_range};
+ghost use Rattle.enet_codec.specs.Config.{is_in_range};
 ghost use Rattle.enet_host.specs.Opening.{opened, joined};
 ghost use Rattle.enet_network.specs.Headline.{AreEnds, submitted_at, taken_at, events_at};
 ghost use Rattle.enet_network.specs.Network.{end_of, delivery_refusal};
@@ -23,7 +23,7 @@ use crate::turn::turn;
 use bytes::Bytes;
 use enet_host::HostCore;
 use enet_records::{Around, Records, numbers_of};
-use enet_types::{Addr, Config, DisconnectMode, Event, Packet, PeerRef, Received, Refusal};
+use enet_codec::{Addr, Config, DisconnectMode, Event, Packet, PeerRef, Received, Refusal};
 use std::alloc::Global;
 use std::marker::Model;
 

@@ -8,7 +8,7 @@ ghost use Rattle.enet_site.specs.Sites.{IsWhole, CallsOn, told};
 
 use enet_host::HostCore;
 use enet_records::{End, Records, position_of};
-use enet_types::{Event, Refusal};
+use enet_codec::{Event, Refusal};
 
 /// An event that is no packet, twice over.
 fn twice(event: Event) -> Option<(Event, Event)>

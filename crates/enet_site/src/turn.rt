@@ -8,7 +8,7 @@ ghost use Rattle.enet_site.specs.Turning.{Rests, Gives, Turns};
 use crate::put_out::{Text, Turned};
 use enet_host::HostCore;
 use enet_records::{Around, MAX_COMMANDS, Records, note};
-use enet_types::{Addr, PeerRef, Refusal};
+use enet_codec::{Addr, PeerRef, Refusal};
 use std::alloc::Global;
 
 /// The greatest length of a datagram, in bytes.

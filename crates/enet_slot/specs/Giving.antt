@@ -1,8 +1,8 @@
 -- How a slot is given out.
 use Rattle.std.specs.Prelude.{ℕ, ◌&&◌, Bool, true, false, nat_lt, Option, Some, None, List, replicate, slice_set}
 use Rattle.enet_codec.specs.declared.command.Offer.{Offer}
-use Rattle.enet_types.specs.declared.address.Addr.{Addr}
-use Rattle.enet_types.specs.declared.config.Config.{Config}
+use Rattle.enet_codec.specs.declared.address.Addr.{Addr}
+use Rattle.enet_codec.specs.declared.config.Config.{Config}
 use Rattle.enet_throttle.specs.Bandwidth.{window_size}
 use Rattle.enet_connect.specs.declared.server.Server.{Server}
 use Rattle.enet_connect.specs.declared.terms.Terms.{Terms}

@@ -3,7 +3,7 @@
 
 ghost use Rattle.std.specs.Prelude.{◌≡◌, ◌<◌, ◌≤◌, true, map, replicate, length, All, OnOk, OnErr, IfOk, IfErr, IfSome};
 ghost use Rattle.std.specs.List.{count_by, list_any, position};
-ghost use Rattle.enet_types.specs.Config.{is_in_range};
+ghost use Rattle.enet_codec.specs.Config.{is_in_range};
 ghost use Rattle.enet_peer.specs.Peering.{Peering};
 ghost use Rattle.enet_peer.specs.Calls as peers;
 ghost use Rattle.enet_slot.specs.Slot.{changed};
@@ -13,7 +13,7 @@ ghost use Rattle.enet_slot.specs.Sharing.{is_standing, wants_room, shared};
 ghost use Rattle.enet_slot.specs.Slotted.{HasRoom, shown, all_shown};
 
 use crate::Slot;
-use enet_types::{Addr, Config, Refusal};
+use enet_codec::{Addr, Config, Refusal};
 use std::alloc::Global;
 
 /// So many slots that held no peer yet. E1 where memory is refused.

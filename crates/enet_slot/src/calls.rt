@@ -7,7 +7,7 @@ ghost use Rattle.enet_slot.specs.Calls.{on_peer, Submits, Does, DoesWithMemory, 
 use crate::Slot;
 use bytes::Bytes;
 use enet_peer::PeerState;
-use enet_types::{DisconnectMode, Refusal};
+use enet_codec::{DisconnectMode, Refusal};
 
 /// What a user may set of a peer in any state. Times are in milliseconds.
 #[derive(Clone, Copy)]

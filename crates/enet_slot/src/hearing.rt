@@ -6,7 +6,7 @@ ghost use Rattle.enet_slot.specs.Hearing.{is_deaf, stopped, refused_by_slot, is_
 
 use crate::Slot;
 use enet_peer::{PeerState, obey};
-use enet_types::{Addr, Received, Stop};
+use enet_codec::{Addr, Received, Stop};
 
 /// What stands for the slot of one that isn't known yet (ENet 1.3).
 const NO_PEER: u16 = 0xFFF;

@@ -10,7 +10,7 @@ ghost use Rattle.enet_slot.specs.Slotted.{HasRoom};
 use crate::Slot;
 use enet_peer::PeerState;
 use enet_throttle::{budget_of, limit_of};
-use enet_types::Refusal;
+use enet_codec::Refusal;
 
 impl Slot {
     /// Time has come to `now`, in milliseconds.

@@ -1,8 +1,7 @@
 //! What goes through the queue, and what its calls answer.
 
 use bytes::Bytes;
-use enet_codec::Addr;
-use enet_types::{DisconnectMode, PeerRef};
+use enet_codec::{Addr, DisconnectMode, PeerRef};
 
 /// What a game thread asks of the host. The queue looks at nothing in it: the host's call says what it refuses.
 #[derive(Debug, Drop)]

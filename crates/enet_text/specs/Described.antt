@@ -1,7 +1,7 @@
 -- The text of a datagram, by what its bytes spell.
 use Rattle.std.specs.Prelude.{◌≡◌, ◌+◌, ◌==◌, not, bit_and, ℕ, Bool, true, false, nat_lt, List, [], ◌∷◌, ◌++◌, length, slice_index, flat_map, if◌then◌else◌}
-use Rattle.enet_types.specs.declared.stop.Stop.{Stop}
-use Rattle.enet_types.specs.declared.stop.Stop.TheVariants as stop
+use Rattle.enet_codec.specs.declared.stop.Stop.{Stop}
+use Rattle.enet_codec.specs.declared.stop.Stop.TheVariants as stop
 use Rattle.enet_codec.specs.declared.header.Header.{Header}
 use Rattle.enet_codec.specs.Header.{SpellsHeader}
 use Rattle.enet_codec.specs.Message.{Message, Spells}

@@ -7,7 +7,7 @@ use Rattle.std.specs.List.{slice_split, before_first, after_first, list_all}
 use Rattle.std.specs.Result.{result_ok}
 use Rattle.std.specs.Str.Parse.{digits_value}
 use Rattle.hex.specs.Hex.{decode_of, decode_sized}
-use Rattle.enet_types.specs.declared.event.PeerRef.{PeerRef}
+use Rattle.enet_codec.specs.declared.event.PeerRef.{PeerRef}
 
 -- The words of a line: what stands between its spaces, without the empty pieces.
 unfoldable pub words : List ℕ → List (List ℕ)

@@ -3,10 +3,10 @@
 ghost use Rattle.std.specs.Prelude.{◌≡◌, ◌++◌, codes, IfOk};
 ghost use Rattle.std.specs.Fmt.{decimal};
 ghost use Rattle.std.specs.String.{string_bytes};
-ghost use Rattle.enet_types.specs.Refusal.{label_of};
+ghost use Rattle.enet_codec.specs.Refusal.{label_of};
 ghost use Rattle.enet_text.specs.Texts.{address_text, bytes_text, event_text, peer_text, received_text};
 
-use enet_types::{Addr, Event, Packet, PeerRef, Received, Refusal};
+use enet_codec::{Addr, Event, Packet, PeerRef, Received, Refusal};
 use std::alloc::{AllocError, Global};
 
 /// A refusal: its number and its name. An error where there is no memory for the text.

@@ -5,8 +5,7 @@ ghost use Rattle.std.specs.String.{string_bytes};
 ghost use Rattle.enet_text.specs.Described.{Describes, Tells, is_compressed, why_unread};
 
 use crate::texts::{command_line, header_line, stop_line};
-use enet_codec::{read_command, read_header};
-use enet_types::Stop;
+use enet_codec::{Stop, read_command, read_header};
 use std::alloc::{AllocError, Global};
 
 /// The bit of the first byte that says that the datagram is compressed.

@@ -1,7 +1,7 @@
 //! Captures in the classic pcap format: its packets, and the UDP datagrams over IPv4 in them.
 
 use crate::fault::InspectFault;
-use enet_types::Addr;
+use enet_codec::Addr;
 
 /// The order of the bytes of a capture's numbers.
 #[derive(Clone, Copy, PartialEq, Eq)]

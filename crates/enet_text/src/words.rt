@@ -7,7 +7,7 @@ ghost use Rattle.std.specs.Str.Parse.{IsNumeral, digits_value};
 ghost use Rattle.enet_text.specs.Words.{words, parts, number_below, peer_of, ip_of, bytes_of, id_of, Reads};
 
 use bytes::Bytes;
-use enet_types::PeerRef;
+use enet_codec::PeerRef;
 use hex::{FromHex, FromHexError};
 use std::alloc::{AllocError, Global};
 

@@ -1,6 +1,6 @@
 -- The worlds that are reached.
 use Rattle.std.proofs.Common.{Bool, true, false, [], ◌∷◌, ◌++◌, Result}
-use Rattle.enet_types.specs.declared.refusal.Refusal.{Refusal}
+use Rattle.enet_codec.specs.declared.refusal.Refusal.{Refusal}
 use Rattle.enet_network.specs.declared.event.Answer.{Answer}
 use Rattle.enet_network.specs.declared.event.WorldEvent.{WorldEvent}
 use Rattle.enet_network.specs.Headline.{HasHeadline}

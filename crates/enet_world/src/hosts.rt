@@ -1,7 +1,7 @@
 //! Both hosts, and how many connections there have been.
 
 ghost use Rattle.std.specs.Prelude.{◌≡◌, ◌&&◌, true, IfOk, IfErr};
-ghost use Rattle.enet_types.specs.Config.{is_in_range};
+ghost use Rattle.enet_codec.specs.Config.{is_in_range};
 ghost use Rattle.enet_network.specs.declared.event.Side.{Side};
 ghost use Rattle.enet_network.specs.Headline.{AreEnds};
 ghost use Rattle.enet_network.specs.World.{Steps, joined_config, open_world, joined_world, site_of};
@@ -9,7 +9,7 @@ ghost use Rattle.enet_network.specs.World.{Steps, joined_config, open_world, joi
 use crate::happening::{happen, side_of};
 use enet_network::{Answer, Side, WorldEvent};
 use enet_site::Site;
-use enet_types::{Addr, Config, Refusal};
+use enet_codec::{Addr, Config, Refusal};
 use std::alloc::Global;
 use std::marker::Model;
 

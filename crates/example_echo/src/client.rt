@@ -3,7 +3,7 @@
 use crate::node::Node;
 use bytes::Bytes;
 use enet_host::Config;
-use enet_types::{Addr, Event, PeerRef, Refusal};
+use enet_codec::{Addr, Event, PeerRef, Refusal};
 use std::alloc::Global;
 use std::net::Net;
 use std::rt::Clock;

@@ -13,7 +13,7 @@ mod node;
 mod server;
 
 use client::Visit;
-use enet_types::{Addr, Refusal};
+use enet_codec::{Addr, Refusal};
 use node::Node;
 use server::Server;
 use std::env;

@@ -1,7 +1,7 @@
 //! A host with the socket at which it is reached.
 
 use enet_host::{Config, HostCore};
-use enet_types::{Addr, Refusal};
+use enet_codec::{Addr, Refusal};
 use enet_bridge::{MioWire, Wire};
 use std::net::Net;
 use std::rt::Clock;

@@ -2,7 +2,7 @@
 
 use crate::node::Node;
 use enet_host::Config;
-use enet_types::{Addr, Event, Refusal};
+use enet_codec::{Addr, Event, Refusal};
 use std::net::Net;
 use std::rt::Clock;
 use std::sync::Wait;

@@ -4,7 +4,7 @@ use super::fault::Fault;
 use super::told::Told;
 use check_scripts::{connect, next_event, put_out, receive};
 use enet_host::{HostCore, Totals};
-use enet_types::{Addr, Config, Event};
+use enet_codec::{Addr, Config, Event};
 use std::alloc::Global;
 
 /// The slots of the peers; a fourth is free.

@@ -3,7 +3,7 @@
 use enet_connect::Terms;
 use enet_host::HostCore;
 use enet_peer::{PeerState, RoundTrip};
-use enet_types::{Addr, PeerRef};
+use enet_codec::{Addr, PeerRef};
 
 /// What a host tells of one peer.
 #[derive(Clone, Copy, PartialEq, Eq)]

@@ -1,9 +1,8 @@
 ghost use Rattle.std.specs.Prelude.{◌≡◌, IfSome};
 ghost use Rattle.std.specs.List.{All};
 
-use enet_codec::Refusal;
+use enet_codec::{Event, PeerRef, Refusal};
 use enet_events::{EventQueue, Poster, Taker};
-use enet_types::{Event, PeerRef};
 use std::alloc::Global;
 use std::sync::Wait;
 

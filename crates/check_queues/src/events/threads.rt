@@ -1,9 +1,8 @@
 ghost use Rattle.std.specs.Prelude.{◌≡◌, IfOk};
 ghost use Rattle.std.specs.List.{All};
 
-use enet_codec::Refusal;
+use enet_codec::{Event, PeerRef, Refusal};
 use enet_events::{Account, EventQueue, Poster, Taker};
-use enet_types::{Event, PeerRef};
 use std::alloc::{AllocError, Global};
 use std::sync::Wait;
 use std::sync::atomic::{AtomicBool, AtomicU64, Ordering};

@@ -4,9 +4,8 @@ ghost use Rattle.std.specs.List.{All};
 ghost use Rattle.enet_submit.specs.Words.{IsSeatOf, IsDrainOf, IsFinishedOf};
 
 use bytes::Bytes;
-use enet_codec::{Addr, Refusal};
+use enet_codec::{Addr, DisconnectMode, PeerRef, Refusal};
 use enet_submit::{Account, Drain, Finished, Order, Seat, SubmitQueue, Ticket};
-use enet_types::{DisconnectMode, PeerRef};
 use std::alloc::{AllocError, Global};
 use std::sync::Wait;
 

@@ -1,6 +1,6 @@
 use Rattle.std.proofs.Common.{◌≡◌, ◌∷◌, [], rules, length, sym, subst, arith}
 use Rattle.std.proofs.lemmas.Grind.{common_steps}
-use Rattle.enet_types.specs.declared.event.Event.TheVariants as events
+use Rattle.enet_codec.specs.declared.event.Event.TheVariants as events
 use Rattle.check_outcome.specs.Life.{IsSomeLife}
 use Rattle.check_outcome.proofs.SomeLife.{is-empty, life_none, life_connect, connect_life, life_disconnect, disconnect_life}
 use Rattle.check_outcome.proofs.life.is_life.Goals as goal

@@ -1,5 +1,5 @@
 use Rattle.std.proofs.Common.{rules, ◌≡◌, sym, refl, ap, ◌∙◌, subst, Option, Some, None, Ok, Err}
-use Rattle.enet_types.specs.declared.config.Config.{Config}
+use Rattle.enet_codec.specs.declared.config.Config.{Config}
 use Rattle.enet_host.specs.Opening.{Opens, opened}
 use Rattle.enet_c.specs.declared.held.Held.{Held}
 use Rattle.enet_c.specs.Border.{Begins}

@@ -1,5 +1,5 @@
 use Rattle.std.proofs.Common.{◌≡◌, true, List, take, sym, ◌∙◌, ap, subst}
-use Rattle.enet_types.specs.declared.event.PeerRef.{PeerRef}
+use Rattle.enet_codec.specs.declared.event.PeerRef.{PeerRef}
 use Rattle.enet_submit.specs.declared.order.Order.{Order}
 use Rattle.enet_chat.specs.Peers.{has_each_once}
 use Rattle.enet_chat.specs.Relaying.{relayed_all, SameForEach}

@@ -1,5 +1,5 @@
 use Rattle.std.proofs.Common.{arith, sym, subst}
-use Rattle.enet_types.specs.declared.event.Received.{Received}
+use Rattle.enet_codec.specs.declared.event.Received.{Received}
 use Rattle.enet_host.specs.Receiving.{Arrives, unreadable, no_offer, offered, turned_away}
 use Rattle.enet_slot.specs.Slotted.{all_shown}
 use Rattle.enet_host.proofs.Hearing.{refused-in, heard-at}

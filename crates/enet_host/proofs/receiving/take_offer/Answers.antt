@@ -1,5 +1,5 @@
 use Rattle.std.proofs.Common.{arith, sym, subst, ◌∙◌}
-use Rattle.enet_types.specs.declared.event.Received.{Received}
+use Rattle.enet_codec.specs.declared.event.Received.{Received}
 use Rattle.enet_host.specs.Receiving.{Offers, refused, repeated, no_slot}
 use Rattle.enet_slot.specs.Slotted.{all_shown}
 use Rattle.enet_host.proofs.Offering.{found-in, known-in, answers-at, no-memory-at}

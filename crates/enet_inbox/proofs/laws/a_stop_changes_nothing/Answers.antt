@@ -1,5 +1,5 @@
 use Rattle.std.proofs.Common.{refl}
-use Rattle.enet_types.specs.declared.stop.Stop.TheVariants as stop
+use Rattle.enet_codec.specs.declared.stop.Stop.TheVariants as stop
 use Rattle.enet_inbox.proofs.Stops.{quiet_stays, arrival_stays, arrival_tells, passed_tells}
 use Rattle.enet_inbox.proofs.laws.a_stop_changes_nothing.Goals as goal
 

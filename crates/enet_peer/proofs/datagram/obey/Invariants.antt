@@ -1,5 +1,5 @@
 use Rattle.std.proofs.Common.{length}
-use Rattle.enet_types.specs.declared.event.Received.{Received}
+use Rattle.enet_codec.specs.declared.event.Received.{Received}
 use Rattle.enet_peer.specs.Peering.{Peering}
 use Rattle.enet_peer.specs.Handling.{Handles}
 use Rattle.enet_peer.proofs.datagram.obey.Given as goal

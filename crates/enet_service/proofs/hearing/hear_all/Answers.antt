@@ -1,6 +1,6 @@
 use Rattle.std.proofs.Common.{◌≡◌, ◌+◌, ℕ, List, [], ◌∷◌, ◌++◌, take, true, false, Option, Ok, refl, ap, subst, ◌∙◌, inl, inr, arith}
 use Rattle.std.proofs.lemmas.List.{append-nil}
-use Rattle.enet_types.specs.declared.address.Addr.{Addr}
+use Rattle.enet_codec.specs.declared.address.Addr.{Addr}
 use Rattle.enet_bridge.specs.declared.told.Told.{Told}
 use Rattle.enet_bridge.specs.declared.told.Told.TheVariants.{Came, NothingCame}
 use Rattle.enet_bridge.specs.Wires.{also, unless_spent, came}

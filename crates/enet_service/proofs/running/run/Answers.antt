@@ -2,7 +2,7 @@ use Rattle.std.proofs.Common.{◌≡◌, ◌+◌, List, [], ◌∷◌, ◌++◌,
 use Rattle.std.proofs.lemmas.List.{length-append}
 use Rattle.std.proofs.lemmas.List.Elements.{All-nil, All-push}
 use Rattle.std.proofs.lemmas.Result.{err_from_is_err_and}
-use Rattle.enet_types.specs.declared.event.Event.{Event}
+use Rattle.enet_codec.specs.declared.event.Event.{Event}
 use Rattle.enet_submit.specs.declared.order.Submission.{Submission}
 use Rattle.enet_bridge.specs.declared.told.Told.{Told}
 use Rattle.enet_service.specs.Phases.{Chain}

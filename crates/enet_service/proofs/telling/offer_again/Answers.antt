@@ -1,5 +1,5 @@
 use Rattle.std.proofs.Common.{◌≡◌, [], ◌∷◌, Bool, Option, refl, subst, ◌∙◌, sym, arith}
-use Rattle.enet_types.specs.declared.event.Event.{Event}
+use Rattle.enet_codec.specs.declared.event.Event.{Event}
 use Rattle.enet_service.specs.Counts.{count_of}
 use Rattle.enet_service.specs.Phases.{Offers}
 use Rattle.enet_service.proofs.telling.offer_again.Goals as goal

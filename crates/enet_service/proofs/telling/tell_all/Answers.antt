@@ -1,6 +1,6 @@
 use Rattle.std.proofs.Common.{rules, ◌≡◌, List, [], ◌∷◌, ◌++◌, Bool, None, arith}
 use Rattle.std.specs.Prelude.{IsSome}
-use Rattle.enet_types.specs.declared.event.Event.{Event}
+use Rattle.enet_codec.specs.declared.event.Event.{Event}
 use Rattle.enet_service.specs.Counts.{count_of}
 use Rattle.enet_service.proofs.Options.{some_is, none_is}
 use Rattle.enet_service.proofs.PhaseSteps.{tells_on, tells_end, tells_none, chain_step}

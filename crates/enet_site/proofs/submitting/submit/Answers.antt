@@ -1,7 +1,7 @@
 use Rattle.enet_slot.specs.Calls.{submission}
 use Rattle.enet_host.specs.Calls.{on_named}
 use Rattle.enet_sender.specs.CommandChoice as command_choice
-use Rattle.enet_types.specs.declared.event.PeerRef.{PeerRef}
+use Rattle.enet_codec.specs.declared.event.PeerRef.{PeerRef}
 use Rattle.enet_site.proofs.Submits.{place-of, is-open, refused-so, submitted-on, submitted-off, kept-submitted, channel-inside}
 use Rattle.enet_site.proofs.submitting.submit.Goals as goal
 

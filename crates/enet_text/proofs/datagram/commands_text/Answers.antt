@@ -1,6 +1,6 @@
 use Rattle.std.proofs.Common.{◌≡◌, ◌≤◌, ◌+◌, ◌++◌, List, ℕ, length, length-drop, drop, refl, sym, ap, subst, ◌∙◌, append_assoc, append-nil, rules, arith}
 use Rattle.std.specs.String.{string_bytes}
-use Rattle.enet_types.specs.declared.stop.Stop.TheVariants as stop
+use Rattle.enet_codec.specs.declared.stop.Stop.TheVariants as stop
 use Rattle.enet_codec.specs.Message.{view}
 use Rattle.enet_text.specs.InspectTexts.{command_line, stop_line}
 use Rattle.enet_text.specs.Described.{Tells}

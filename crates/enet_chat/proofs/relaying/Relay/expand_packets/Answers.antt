@@ -1,5 +1,5 @@
 use Rattle.std.proofs.Common.{List, ◌++◌, take, take-append-drop, refl, sym, ◌∙◌, ap}
-use Rattle.enet_types.specs.declared.event.Event.{Event}
+use Rattle.enet_codec.specs.declared.event.Event.{Event}
 use Rattle.enet_submit.specs.declared.order.Order.{Order}
 use Rattle.enet_bridge.specs.Holding.{asked}
 use Rattle.enet_chat.proofs.Relays.{relays_none, relays_packets}

@@ -1,5 +1,5 @@
 use Rattle.std.proofs.Common.{List, [], ◌∷◌, ◌++◌, refl, ◌∙◌, ap}
-use Rattle.enet_types.specs.declared.event.Event.{Event}
+use Rattle.enet_codec.specs.declared.event.Event.{Event}
 use Rattle.enet_chat.proofs.Relays.{relays_none, relays_taken}
 use Rattle.enet_chat.proofs.relaying.Relay.take.Goals as goal
 

@@ -1,4 +1,4 @@
-use Rattle.enet_types.specs.declared.event.DisconnectMode.TheVariants as mode
+use Rattle.enet_codec.specs.declared.event.DisconnectMode.TheVariants as mode
 use Rattle.enet_slot.specs.Calls.{leaving}
 use Rattle.enet_slot.specs.Slotted.{all_shown}
 use Rattle.enet_host.proofs.Holding.{keeps-after, does-held}

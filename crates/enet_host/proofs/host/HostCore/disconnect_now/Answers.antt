@@ -1,5 +1,5 @@
 use Rattle.std.proofs.Common.{subst}
-use Rattle.enet_types.specs.declared.event.DisconnectMode.TheVariants as mode
+use Rattle.enet_codec.specs.declared.event.DisconnectMode.TheVariants as mode
 use Rattle.enet_slot.specs.Calls.{leaving, Does}
 use Rattle.enet_slot.specs.Slotted.{all_shown}
 use Rattle.enet_host.specs.Calls.{on_named}

@@ -1,5 +1,5 @@
 use Rattle.std.proofs.Common.{◌≡◌, ◌&&◌, true, [], rules}
-use Rattle.enet_types.specs.Config.{is_in_range}
+use Rattle.enet_codec.specs.Config.{is_in_range}
 use Rattle.enet_world.proofs.world.World.joined.Goals as goal
 
 pub invariant_of-result : goal.invariant_of-result

@@ -1,0 +1,27 @@
+-- The settings of a host.
+use Rattle.std.specs.Prelude.{ℕ, Bool, ◌&&◌, nat_le}
+use Rattle.enet_codec.specs.declared.config.Config.{Config}
+
+-- The numbers of `Config::standard`.
+abbrev pub standard_config : ℕ → ℕ → Config
+standard_config peers channels = record {
+  peers = peers;
+  channels = channels;
+  mtu = 1392;
+  incoming = 0;
+  outgoing = 0;
+  max_packet = 33554432;
+  max_waiting = 33554432;
+  generations = 1000000;
+  clock = 0;
+}
+
+-- Whether a number lies between two others, both included.
+abbrev pub is_between : ℕ → ℕ → ℕ → Bool
+is_between low high n = nat_le low n && nat_le n high
+
+-- Whether each number is in its range.
+abbrev pub is_in_range : Config → Bool
+is_in_range c =
+    is_between 1 4095 c.peers && is_between 1 255 c.channels && is_between 576 4096 c.mtu && is_between 1 33554432 c.max_packet
+    && is_between 1 33554432 c.max_waiting && is_between 1 4294967295 c.generations

@@ -1,0 +1,69 @@
+//! The settings of a host.
+
+ghost use Rattle.std.specs.Prelude.{◌≡◌};
+ghost use Rattle.enet_codec.specs.Config.{standard_config, is_in_range};
+
+const MAX_PEERS: u16 = 4095;
+
+const MIN_MTU: u32 = 576;
+
+const MAX_MTU: u32 = 4096;
+
+const MAX_BYTES: u32 = 33_554_432;
+
+/// The settings of a host. What opens a host answers E8 where one of the numbers is out of its range.
+#[derive(Clone, Copy, Debug, PartialEq, Eq)]
+pub struct Config {
+    /// How many slots there are for peers: 1 to 4,095.
+    pub peers: u16,
+    /// How many channels a connection is granted at most: 1 to 255.
+    pub channels: u8,
+    /// The greatest length of a datagram, in bytes: 576 to 4,096.
+    pub mtu: u32,
+    /// Bytes per second that this host can take in; 0 says that no limit is known.
+    pub incoming: u32,
+    /// Bytes per second that this host can send; 0 says that no limit is known.
+    pub outgoing: u32,
+    /// The greatest packet that is taken in or submitted, in bytes: 1 to 33,554,432.
+    pub max_packet: u32,
+    /// Bytes of a peer's packets, held or not yet taken by the user, at which no further packet begins: 1 to 33,554,432.
+    pub max_waiting: u32,
+    /// How many peers a slot has one after another, before it is used up: 1 to 4,294,967,295 (our profile).
+    pub generations: u32,
+    /// The clock at the opening, in milliseconds.
+    pub clock: u32,
+}
+
+impl Config {
+    /// The settings that serve most hosts: ENet's own mtu of 1,392 bytes, no bandwidth limits, 33,554,432 bytes each for a
+    /// packet and for what waits, 1,000,000 generations, and a clock that begins at 0. It tests nothing: what opens a host
+    /// does.
+    pub fn standard(peers: u16, channels: u8) -> Config
+        ensures { result ≡ standard_config peers channels }
+    {
+        Config {
+            peers,
+            channels,
+            mtu: 1392,
+            incoming: 0,
+            outgoing: 0,
+            max_packet: MAX_BYTES,
+            max_waiting: MAX_BYTES,
+            generations: 1_000_000,
+            clock: 0,
+        }
+    }
+
+    /// Whether each number is in its range, so that a host opens with these settings.
+    pub fn is_in_range(&self) -> bool
+        ensures { result ≡ is_in_range self.now }
+    {
+        let counts = (1..=MAX_PEERS).contains(&self.peers)
+            && self.channels >= 1
+            && self.generations >= 1;
+        let mtu = (MIN_MTU..=MAX_MTU).contains(&self.mtu);
+        let bytes = (1..=MAX_BYTES).contains(&self.max_packet)
+            && (1..=MAX_BYTES).contains(&self.max_waiting);
+        counts && mtu && bytes
+    }
+}

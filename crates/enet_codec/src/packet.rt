@@ -1,0 +1,41 @@
+//! What users submit and receive.
+
+ghost use Rattle.std.specs.Prelude.{◌≡◌, ◌↔◌, IsTrue, length};
+ghost use Rattle.enet_codec.specs.Packet.{IsSamePacket};
+
+use bytes::Bytes;
+
+/// A packet: what a user submits and what the other end's user receives.
+#[derive(Debug, Drop)]
+pub struct Packet {
+    /// Its channel: 0 to 254.
+    pub channel: u8,
+    /// How it is to be carried: RELIABLE 1, UNSEQUENCED 2, UNRELIABLE_FRAGMENT 8, other bits ignored (our profile). On a
+    /// received packet how it was carried: 1 by command 6 or 8, 0 by command 7, 2 by command 9, 8 by command 12.
+    pub flags: u8,
+    /// Its bytes.
+    pub body: Bytes,
+}
+
+impl Packet {
+    /// How many bytes it has.
+    pub fn len(&self) -> usize
+        ensures { result ≡ length self.now.body }
+    {
+        self.body.len()
+    }
+
+    /// It has no bytes. Such a packet is sent and received like any other.
+    pub fn is_empty(&self) -> bool
+        ensures { IsTrue result ↔ (length self.now.body ≡ 0) }
+    {
+        self.body.is_empty()
+    }
+
+    /// Channel and bytes are the same. Flags don't count, since those of a received packet tell how it was carried.
+    pub fn is_same(&self, other: &Packet) -> bool
+        ensures { IsTrue result ↔ IsSamePacket self.now other.now }
+    {
+        self.channel == other.channel && self.body == other.body
+    }
+}

@@ -1,5 +1,0 @@
-use Rattle.std.proofs.Common.{rules}
-use Rattle.enet_types.proofs.config.Config.standard.Goals as goal
-
-pub returns : goal.returns
-returns c = search rules

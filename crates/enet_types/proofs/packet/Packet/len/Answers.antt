@@ -1,5 +1,0 @@
-use Rattle.std.proofs.Common.{rules}
-use Rattle.enet_types.proofs.packet.Packet.len.Goals as goal
-
-pub returns : goal.returns
-returns c = search rules

@@ -1,4 +1,0 @@
-pub mod Config
-pub mod Packet
-pub mod Refusal
-pub mod Stop
