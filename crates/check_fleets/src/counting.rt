@@ -1,8 +1,8 @@
 //! What is counted of the lists.
 
 use check_outcome::{CHANNELS, Lives, Told};
-use enet_fleet::{End, Fleet};
 use enet_codec::{Event, Received, Refusal, Stop};
+use enet_fleet::{End, Fleet};
 use std::fmt;
 
 /// The refusals that a step of a fleet may answer, in the order of their numbers.

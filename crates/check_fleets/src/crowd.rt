@@ -4,8 +4,8 @@ use crate::list::stepped;
 use crate::seen::{FIRST_CLIENT, SERVER};
 use anyhow::{Result, bail};
 use bytes::Bytes;
-use enet_fleet::{Answer, Fleet, FleetEvent, Node};
 use enet_codec::{Addr, Config, Event, PeerRef};
+use enet_fleet::{Answer, Fleet, FleetEvent, Node};
 use std::alloc::Global;
 
 /// What hosts do by turns.

@@ -3,8 +3,8 @@
 use crate::crowd::{Crowd, Part, open};
 use crate::list::stepped;
 use anyhow::{Context, Result, bail};
-use enet_fleet::{Answer, Fleet, FleetEvent, Node};
 use enet_codec::{Received, Refusal};
+use enet_fleet::{Answer, Fleet, FleetEvent, Node};
 use std::alloc::Global;
 
 /// How many packets go by one datagram.

@@ -6,8 +6,8 @@ use crate::drawing::Hosts;
 use crate::seen::{CLIENTS, Seen};
 use anyhow::Result;
 use check_outcome::{Draw, Setting};
-use enet_fleet::{Answer, Fleet, FleetEvent, Node, node_of};
 use enet_codec::Refusal;
+use enet_fleet::{Answer, Fleet, FleetEvent, Node, node_of};
 use std::alloc::Global;
 
 /// How many events a list has.

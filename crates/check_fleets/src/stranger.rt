@@ -3,8 +3,8 @@
 use crate::seen::{CLIENTS, FIRST_CLIENT, Guest, SERVER, Seen};
 use bytes::Bytes;
 use check_outcome::Draw;
-use enet_fleet::{Fleet, FleetEvent, Node};
 use enet_codec::Addr;
+use enet_fleet::{Fleet, FleetEvent, Node};
 use std::alloc::{AllocError, Global};
 
 /// Where the first stranger is; two others are at the ports behind.

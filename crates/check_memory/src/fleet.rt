@@ -5,8 +5,8 @@ use crate::fault::Fault;
 use crate::row::{Outcome, is_for_want_of_memory};
 use crate::seen::Seen;
 use bytes::Bytes;
-use enet_fleet::{Answer, Fleet, FleetEvent, Node, node_of};
 use enet_codec::{Addr, Config, DisconnectMode, Event, PeerRef, Received, Refusal, Stop};
+use enet_fleet::{Answer, Fleet, FleetEvent, Node, node_of};
 use std::alloc::Global;
 
 const C0: Node = Node::Client(0);

@@ -2,8 +2,8 @@
 
 use crate::fault::Fault;
 use crate::seen::Seen;
-use enet_lab::{Host, Line, outcome_text, read_line};
 use enet_codec::{Config, Received, Refusal, Stop};
+use enet_lab::{Host, Line, outcome_text, read_line};
 use enet_world::{Answer, Side, World, WorldEvent, side_of};
 use std::alloc::Global;
 

@@ -1,7 +1,7 @@
 //! What the reading calls of a world or a fleet tell, as one number.
 
-use enet_fleet::{End, Fleet, Node};
 use enet_codec::{Event, Packet};
+use enet_fleet::{End, Fleet, Node};
 use enet_world::{Side, World};
 
 /// How many connections, channels and datagrams of a host are read. No row has more.

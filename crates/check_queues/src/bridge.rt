@@ -3,8 +3,8 @@
 use crate::opening::{bell, one_seat};
 use bytes::Bytes;
 use enet_bridge::{Bell, Desk, Pumped, QueueSource, Source};
-use enet_submit::Order;
 use enet_codec::{PeerRef, Refusal};
+use enet_submit::Order;
 use std::alloc::Global;
 use std::net::Net;
 use std::sync::Wait;

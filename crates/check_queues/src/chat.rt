@@ -1,7 +1,7 @@
 use bytes::Bytes;
 use enet_chat::{Table, relay_step};
-use enet_submit::Order;
 use enet_codec::{Event, Packet, PeerRef, Refusal};
+use enet_submit::Order;
 use std::alloc::Global;
 use std::test::Fail;
 

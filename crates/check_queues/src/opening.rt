@@ -2,9 +2,9 @@
 ghost use Rattle.std.specs.Prelude.{IfSome};
 ghost use Rattle.enet_submit.specs.Words.{IsSeatOf, IsDrainOf};
 
-use enet_submit::{Drain, Seat, SubmitQueue};
-use enet_codec::{Addr, Refusal};
 use enet_bridge::{Bell, MioWire};
+use enet_codec::{Addr, Refusal};
+use enet_submit::{Drain, Seat, SubmitQueue};
 use std::alloc::Global;
 use std::net::Net;
 use std::sync::Arc;

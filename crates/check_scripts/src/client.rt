@@ -1,7 +1,7 @@
 //! Calls of a host, and a client that connects to it. No clause says what they do: callers would carry it along.
 
-use enet_host::HostCore;
 use enet_codec::{Addr, Event, PeerRef, Received};
+use enet_host::HostCore;
 
 /// A client's CONNECT; its count of channels is the byte at `CHANNELS`.
 const OFFER: [u8; 52] = [

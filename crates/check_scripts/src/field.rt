@@ -11,8 +11,8 @@ use crate::telling::{
 };
 use crate::words::{Words, address_of, letter_of};
 use bytes::Bytes;
-use enet_host::HostCore;
 use enet_codec::{Event, PeerRef, Refusal};
+use enet_host::HostCore;
 use std::alloc::Global;
 
 /// More than any script has.

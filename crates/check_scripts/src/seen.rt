@@ -1,9 +1,9 @@
 //! What hosts tell of their peers, to compare it.
 
+use enet_codec::{Addr, PeerRef};
 use enet_connect::Terms;
 use enet_host::HostCore;
 use enet_peer::PeerState;
-use enet_codec::{Addr, PeerRef};
 
 /// How many hosts, slots of each and generations of each slot are looked at.
 pub(crate) const HOSTS: usize = 2;

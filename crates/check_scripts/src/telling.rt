@@ -2,10 +2,10 @@
 
 use crate::bytes_text::push_bytes;
 use crate::fault::Fault;
+use enet_codec::{Event, Packet, PeerRef, Received, Refusal};
 use enet_connect::Terms;
 use enet_host::{HostCore, Totals};
 use enet_peer::PeerState;
-use enet_codec::{Event, Packet, PeerRef, Received, Refusal};
 use std::alloc::AllocError;
 
 /// `ok`, or a refusal's number and name.

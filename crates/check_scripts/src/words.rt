@@ -1,8 +1,8 @@
 //! The words of a line.
 
 use crate::fault::{Fault, UNREADABLE};
-use enet_text::{id_of, peer_of, u8_of, u16_of, u32_of};
 use enet_codec::{Addr, PeerRef};
+use enet_text::{id_of, peer_of, u8_of, u16_of, u32_of};
 use std::str::SplitWhitespace;
 
 /// The address of the host A; the letter after it has the next address and the next port.

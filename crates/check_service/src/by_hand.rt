@@ -2,9 +2,9 @@
 
 use crate::stand::{FAR, PEER, Stand, done, packet, stand_of, turn, wire_fault};
 use bytes::Bytes;
+use enet_codec::{Event, PeerRef, Refusal};
 use enet_service::{Fault, MemorySink, MemoryWire, Report, Sink, Step, Told, Wire, run};
 use enet_submit::Order;
-use enet_codec::{Event, PeerRef, Refusal};
 use std::alloc::{AllocError, Global};
 use std::collections::VecDeque;
 use std::sync::Wait;

@@ -2,9 +2,9 @@
 
 use crate::stand::{FAR, PEER, Stand, done, packet, stand_of, turn, wire_fault};
 use bytes::Bytes;
+use enet_codec::{Addr, Refusal};
 use enet_service::{Fault, Report, Wire};
 use enet_submit::Order;
-use enet_codec::{Addr, Refusal};
 use std::alloc::{AllocError, Global};
 use std::sync::Wait;
 use std::time::Clock;

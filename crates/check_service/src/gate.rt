@@ -4,12 +4,12 @@ ghost use Rattle.std.specs.Prelude.{◌≡◌, IfSome};
 use crate::stand::{FAR, PEER, done, joined, packet};
 use bytes::Bytes;
 use check_queues::{bell, one_seat};
+use enet_codec::{Addr, Refusal};
 use enet_events::{EventQueue, Poster, Taker};
 use enet_service::{
     Bell, Desk, HostCore, Inbox, QueueSink, QueueSource, Report, Service, TakerBell, Wire,
     run_between_queues,
 };
-use enet_codec::{Addr, Refusal};
 use std::alloc::Global;
 use std::net::Net;
 use std::sync::Wait;

@@ -1,8 +1,8 @@
 //! A host on a socket of 127.0.0.1, to which a UDP socket of std speaks.
 
 use crate::stand::source;
-use enet_service::{HostCore, MemorySink, MioWire, Service, run};
 use enet_codec::{Addr, Config, Refusal};
+use enet_service::{HostCore, MemorySink, MioWire, Service, run};
 use std::alloc::Global;
 use std::io;
 use std::net::{Ipv4Addr, Net, SocketAddr, UdpSocket};

@@ -1,9 +1,9 @@
 //! What the tests' turns stand on.
 
 use bytes::Bytes;
+use enet_codec::{Addr, Config, PeerRef, Refusal};
 use enet_service::{Fault, HostCore, MemorySink, MemorySource, Report, Service, Wire};
 use enet_submit::{Order, Submission};
-use enet_codec::{Addr, Config, PeerRef, Refusal};
 use std::alloc::{AllocError, Global};
 use std::collections::VecDeque;
 use std::sync::Wait;

@@ -2,8 +2,8 @@
 ghost use Rattle.std.specs.Prelude.{◌≡◌};
 
 use crate::inbox::TakerBell;
-use enet_events::{EventQueue, Poster};
 use enet_codec::Event;
+use enet_events::{EventQueue, Poster};
 use std::alloc::Global;
 use std::collections::VecDeque;
 use std::marker::Model;

@@ -2,8 +2,8 @@
 ghost use Rattle.std.specs.Prelude.{◌≡◌};
 ghost use Rattle.enet_submit.specs.Words.{IsDrainOf};
 
-use enet_submit::{Drain, Submission, SubmitQueue};
 use crate::Bell;
+use enet_submit::{Drain, Submission, SubmitQueue};
 use std::collections::VecDeque;
 use std::marker::Model;
 use std::sync::Wait;

@@ -4,8 +4,8 @@ ghost use Rattle.crossbeam_queue.specs.Fifo.{Held};
 ghost use Rattle.enet_submit.specs.Words.{IsSeatOf, sent, limit_of, capacity_of, SeatSees};
 ghost use Rattle.enet_bridge.specs.Ends.{orders};
 
-use enet_submit::{Order, Seat, SubmitQueue};
 use enet_codec::Refusal;
+use enet_submit::{Order, Seat, SubmitQueue};
 use std::collections::VecDeque;
 use std::sync::Wait;
 

@@ -6,8 +6,8 @@ ghost use Rattle.enet_chat.specs.Grouping.{relayed_to, grouped};
 
 use crate::relay::push_order;
 use crate::table::Table;
-use enet_submit::Order;
 use enet_codec::{Event, PeerRef, Refusal};
+use enet_submit::Order;
 use std::alloc::Global;
 use std::collections::VecDeque;
 

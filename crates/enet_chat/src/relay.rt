@@ -5,8 +5,8 @@ ghost use Rattle.enet_chat.specs.Chat.{relayed, to_each};
 
 use crate::table::Table;
 use bytes::Bytes;
-use enet_submit::Order;
 use enet_codec::{Event, PeerRef, Refusal};
+use enet_submit::Order;
 use std::alloc::Global;
 
 // RELIABLE of ENet's packet flags.

@@ -10,9 +10,9 @@ ghost use Rattle.enet_fleet.specs.Reached.{IsReached};
 
 use crate::event::Node;
 use crate::hosts::{Hosts, SERVER, client_address};
+use enet_codec::{Addr, Received, Refusal};
 use enet_network::Answer;
 use enet_site::{Place, Sent, Site};
-use enet_codec::{Addr, Received, Refusal};
 use std::alloc::Global;
 
 /// Which datagram of a host's log is its datagram `k`, where that went to this address.

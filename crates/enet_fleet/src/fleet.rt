@@ -13,8 +13,8 @@ use crate::each_connection_of_a_fleet;
 use crate::event::{End, FleetEvent, Node};
 use crate::happening::happen;
 use crate::hosts::{Hosts, sent_by};
-use enet_network::Answer;
 use enet_codec::{Addr, Config, Event, Packet, Refusal};
+use enet_network::Answer;
 use std::alloc::Global;
 use std::marker::Model;
 

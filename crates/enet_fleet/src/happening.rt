@@ -10,8 +10,8 @@ use crate::event::{FleetEvent, Node};
 use crate::hosts::{Hosts, is_host};
 use crate::turning::turn;
 use bytes::Bytes;
-use enet_network::Answer;
 use enet_codec::{Addr, DisconnectMode, PeerRef, Refusal};
+use enet_network::Answer;
 use std::alloc::Global;
 
 /// The user of a host submits a packet.

@@ -11,8 +11,8 @@ ghost use Rattle.enet_fleet.specs.Headline.{place_at};
 ghost use Rattle.enet_fleet.specs.Lending.{LendsPlace};
 
 use crate::event::{End, Node};
-use enet_site::{Place, Sent, close_all, open_clients};
 use enet_codec::{Addr, Config, Refusal};
+use enet_site::{Place, Sent, close_all, open_clients};
 use std::alloc::Global;
 use std::marker::Model;
 

@@ -11,10 +11,10 @@ ghost use Rattle.enet_fleet.specs.Turning.{PutsOut, sent_of};
 use crate::around::{AroundClient, AroundServer};
 use crate::event::Node;
 use crate::hosts::Hosts;
+use enet_codec::Refusal;
 use enet_network::Answer;
 use enet_records::Around;
 use enet_site::{Place, Sent, Turned};
-use enet_codec::Refusal;
 use std::alloc::Global;
 
 /// What a turn put out, as it is kept.

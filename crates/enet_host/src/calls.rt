@@ -9,9 +9,9 @@ ghost use Rattle.enet_host.specs.Calls.{address_named, on_named};
 ghost use Rattle.enet_host.specs.Host.{named, slot_named};
 
 use bytes::Bytes;
+use enet_codec::{Addr, DisconnectMode, PeerRef, Refusal};
 use enet_peer::Peer;
 use enet_slot::{Setting, Slot};
-use enet_codec::{Addr, DisconnectMode, PeerRef, Refusal};
 
 /// The place of the slot of this name, where it has this generation.
 fn position_of(slots: &[Slot], name: PeerRef) -> Option<usize>

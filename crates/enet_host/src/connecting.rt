@@ -4,8 +4,8 @@ ghost use Rattle.std.specs.Prelude.{◌≡◌, ◌≤◌, length};
 ghost use Rattle.enet_host.specs.Opening.{Connects};
 ghost use Rattle.enet_slot.specs.Slotted.{all_shown};
 
-use enet_slot::{Question, Slot, Start, first_available};
 use enet_codec::{PeerRef, Refusal};
+use enet_slot::{Question, Slot, Start, first_available};
 
 /// The lowest available slot asks for a connection. E8 for no channels, E7 where no slot is available, E1
 /// where memory is refused; after each of them nothing has changed.

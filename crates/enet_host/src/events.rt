@@ -8,8 +8,8 @@ ghost use Rattle.enet_slot.specs.Slotted.{all_shown};
 ghost use Rattle.enet_host.specs.Shown.{SlotGivesEvent, SlotIsMute, SlotIsNamed, SlotShows};
 
 use crate::service::slot_after;
-use enet_slot::Slot;
 use enet_codec::{Event, Packet, PeerRef};
+use enet_slot::Slot;
 
 /// The first slot in turn that has an event.
 pub(crate) fn first_telling(slots: &[Slot], peers: u16, from: u16) -> Option<u16>

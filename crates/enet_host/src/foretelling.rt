@@ -9,8 +9,8 @@ ghost use Rattle.enet_host.specs.Foretelling.{next_name, teller_of, packet_of, b
 use crate::events::{first_telling, name_at, packet_of};
 use crate::host::HostCore;
 use bytes::Bytes;
-use enet_slot::first_available;
 use enet_codec::{Packet, PeerRef};
+use enet_slot::first_available;
 
 impl HostCore {
     /// The name that the next peer gets: that of the lowest slot that is free and has a generation left. None where there is

@@ -17,11 +17,11 @@ use crate::events::{first_telling, take_from};
 use crate::receiving::receive;
 use crate::service::{serve, slot_after};
 use crate::totals::Totals;
+use enet_codec::{Addr, Config, Event, PeerRef, Received, Refusal};
 use enet_rtt::elapsed;
 use enet_slot::{
     Question, Slot, Start, joined_slots, set_bandwidth, share_out, tick_all, unused_slots,
 };
-use enet_codec::{Addr, Config, Event, PeerRef, Received, Refusal};
 use std::alloc::Global;
 use std::marker::Model;
 

@@ -27,10 +27,10 @@ mod receiving;
 mod service;
 mod totals;
 
-pub use enet_connect::Terms;
-pub use enet_peer::{PeerState, RoundTrip};
 pub use enet_codec::{
     Addr, Config, DisconnectMode, Event, Packet, PeerRef, Received, Refusal, Stop,
 };
+pub use enet_connect::Terms;
+pub use enet_peer::{PeerState, RoundTrip};
 pub use host::HostCore;
 pub use totals::Totals;

@@ -16,10 +16,10 @@ use crate::calls;
 use crate::host::HostCore;
 use crate::totals::Totals;
 use bytes::Bytes;
+use enet_codec::{Addr, DisconnectMode, PeerRef, Refusal};
 use enet_connect::Terms;
 use enet_peer::{PeerState, RoundTrip};
 use enet_slot::Setting;
-use enet_codec::{Addr, DisconnectMode, PeerRef, Refusal};
 
 impl HostCore {
     /// Submits a packet to a peer on a channel; `flags` are its flags (RELIABLE 1, UNSEQUENCED 2, UNRELIABLE_FRAGMENT 8, others

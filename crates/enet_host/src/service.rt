@@ -6,8 +6,8 @@ ghost use Rattle.enet_host.specs.Turns.{slot_after};
 ghost use Rattle.enet_slot.specs.Slotted.{all_shown};
 ghost use Rattle.enet_host.specs.Shown.{SlotGives, SlotPasses};
 
-use enet_slot::Slot;
 use enet_codec::{Addr, PeerRef};
+use enet_slot::Slot;
 
 /// The slot after one of so many; after the last comes slot 0.
 pub(crate) fn slot_after(peers: u16, slot: u16) -> u16

@@ -6,9 +6,9 @@ ghost use Rattle.enet_lab.specs.EnetLines.{connect_at, submit_at, turn_at, tick_
 use crate::host::Host;
 use crate::line::Line;
 use bytes::Bytes;
+use enet_codec::{DisconnectMode, PeerRef};
 use enet_fleet::{FleetEvent, Node};
 use enet_network::WorldEvent;
-use enet_codec::{DisconnectMode, PeerRef};
 
 impl Host {
     /// Its user asks for a connection; None for a server, which doesn't.

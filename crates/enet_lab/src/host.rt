@@ -4,10 +4,10 @@ ghost use Rattle.std.specs.Prelude.{◌≡◌, bytes_eq, IfOk};
 ghost use Rattle.std.specs.String.{string_bytes};
 ghost use Rattle.enet_lab.specs.Hosts.{side_named, client_named, node_named, host_named, node_text, host_text, recipient_at, recipient_text, address_to};
 
+use enet_codec::Addr;
 use enet_fleet::Node;
 use enet_network::Side;
 use enet_text::{address_text, u16_of};
-use enet_codec::Addr;
 use std::alloc::{AllocError, Global};
 
 /// A host, whose name tells of which kind of network it is.

@@ -5,13 +5,13 @@ ghost use Rattle.enet_text.specs.Words.{words};
 ghost use Rattle.enet_lab.specs.EnetLines.{mode_named, pair_of, open_of, fleet_of, connect_of, submit_of, deliver_of, deliver_side_of, deliver_from_of, stranger_of, turn_of, tick_of, take_of, disconnect_of, event_of, line_of, spells};
 
 use crate::host::{host_named, is, node_named, side_named};
+use enet_codec::{Addr, DisconnectMode};
 use enet_fleet::FleetEvent;
 use enet_network::WorldEvent;
 use enet_text::{
     bytes_of, five, four, id_of, ip_of, one, peer_of, three, two, u8_of, u16_of, u32_of, u64_of,
     word,
 };
-use enet_codec::{Addr, DisconnectMode};
 use std::alloc::{AllocError, Global};
 
 /// What a line spells.

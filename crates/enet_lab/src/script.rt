@@ -11,11 +11,11 @@ ghost use Rattle.enet_lab.specs.Lines.{Begins, Does, IsRefused, MakesFleet, Make
 use crate::fault::LabFault;
 use crate::stage::Stage;
 use crate::step::{fleet_step, world_step};
-use enet_fleet::FleetEvent;
 use crate::{Line, read_line};
+use enet_codec::{Config, Refusal};
+use enet_fleet::FleetEvent;
 use enet_network::WorldEvent;
 use enet_text::refusal_text;
-use enet_codec::{Config, Refusal};
 use std::alloc::Global;
 use std::mem::replace;
 

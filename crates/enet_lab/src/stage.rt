@@ -3,8 +3,8 @@
 ghost use Rattle.std.specs.Prelude.{true, false};
 ghost use Rattle.enet_lab.specs.Lines.{MakesFleet, MakesWorld};
 
-use enet_fleet::Fleet;
 use enet_codec::{Config, Refusal};
+use enet_fleet::Fleet;
 use enet_world::World;
 use std::alloc::Global;
 

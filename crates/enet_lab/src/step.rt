@@ -5,10 +5,10 @@ ghost use Rattle.std.specs.Option.{option_map};
 ghost use Rattle.std.specs.String.{string_bytes};
 ghost use Rattle.enet_lab.specs.Lines.{FleetSteps, StepsTo, WorldSteps, bytes_shown, fleet_text, sent_shown, world_text};
 
-use enet_fleet::{Fleet, FleetEvent, Node, node_of};
 use crate::{Host, Recipient, outcome_text};
-use enet_network::{Answer, Side, WorldEvent};
 use enet_codec::{Addr, Refusal};
+use enet_fleet::{Fleet, FleetEvent, Node, node_of};
+use enet_network::{Answer, Side, WorldEvent};
 use enet_world::{World, side_of};
 use std::alloc::{AllocError, Global};
 

@@ -3,8 +3,8 @@
 
 ghost use Rattle.enet_network.specs.Calls.{Acts, SetBandwidth, ConfigureThrottle, SetPingInterval, SetTimeout};
 
-use enet_host::HostCore;
 use enet_codec::{PeerRef, Refusal};
+use enet_host::HostCore;
 
 /// Sets the host's bandwidths, in bytes per second, as `HostCore::set_bandwidth`. E1 where memory is refused, with nothing
 /// changed; only where some connected peer has a command of channel 0xFF queued or unacknowledged.

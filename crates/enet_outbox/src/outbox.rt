@@ -13,9 +13,9 @@ ghost use Rattle.enet_outbox.specs.Outbox.{after_acknowledgement, after_lateness
 use crate::{Acknowledgement, Matched, Unsequenced, lists};
 use bytes::Bytes;
 use enet_codec::Refusal;
-use enet_senders::{Control, ControlChannel, Senders};
 use enet_fragment::FRAGMENT_OVERHEAD;
 use enet_rtt::{Expiry, Patience};
+use enet_senders::{Control, ControlChannel, Senders};
 use enet_seq::after;
 use enet_throttle::Throttle;
 use std::alloc::Global;

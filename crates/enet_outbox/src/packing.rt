@@ -14,8 +14,8 @@ ghost use Rattle.enet_outbox.specs.Packing.{header_asking, Leads, taken_in, plac
 
 use crate::{Acknowledgement, Destination, Outbox, Pace, Unsequenced, lists};
 use enet_codec::{Command, Head, Header, write_command, write_header};
-use enet_senders::{ControlChannel, Senders, Written};
 use enet_sender::{Due, Kind};
+use enet_senders::{ControlChannel, Senders, Written};
 use enet_throttle::Throttle;
 use std::collections::VecDeque;
 

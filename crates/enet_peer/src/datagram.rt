@@ -13,8 +13,8 @@ ghost use Rattle.enet_codec.specs.Datagram.{SpellsAll};
 ghost use Rattle.enet_peer.specs.Peering.{Peering};
 ghost use Rattle.enet_peer.specs.Handling.{Handles, HandlesEach, counted};
 
-use enet_codec::{Received, Stop, read_command};
 use crate::Peer;
+use enet_codec::{Received, Stop, read_command};
 
 /// The commands of a datagram come to a peer at the time `now`, in milliseconds, one after another, until none is left or
 /// one stops the datagram. `sent` is the sent time that the datagram's header tells, and `commands` is all that stands behind

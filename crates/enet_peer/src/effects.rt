@@ -11,10 +11,10 @@ ghost use Rattle.enet_peer.specs.CommandEffect.{obeyed, wants_memory, is_kept, O
 use crate::{Peer, PeerState};
 use enet_codec::{Command, Head, Stop, Verify};
 use enet_connect::confirm;
-use enet_senders::Control;
 use enet_inbox::Foreseen;
 use enet_outbox::{Acknowledgement, Matched};
 use enet_rtt::round_trip_sample;
+use enet_senders::Control;
 use enet_throttle::window_of;
 
 /// What becomes of a command that is no data: it may be acknowledged, and the inbox keeps nothing of it.

@@ -9,10 +9,10 @@ ghost use Rattle.enet_peer.specs.Peering.{no_offer, throttle_for, joined, connec
 use crate::{Limits, Peer, PeerState};
 use enet_codec::{Offer, Refusal};
 use enet_connect::{Server, Terms, answer, asked_terms, verification};
-use enet_senders::Control;
 use enet_inbox::Inbox;
 use enet_outbox::Outbox;
 use enet_rtt::{Patience, Timing};
+use enet_senders::Control;
 use enet_throttle::Throttle;
 use std::alloc::Global;
 

@@ -5,8 +5,8 @@ ghost use Rattle.enet_peer.specs.Calls.{is_connected, has_controls, with_bandwid
 
 use crate::Peer;
 use enet_codec::Refusal;
-use enet_senders::Control;
 use enet_rtt::Patience;
+use enet_senders::Control;
 
 impl Peer {
     /// Makes room for at least one command of channel 0xFF; where there is some, it takes no memory and makes no second

@@ -5,8 +5,8 @@ ghost use Rattle.enet_peer.specs.Endings.{cut_off};
 ghost use Rattle.enet_peer.specs.Calls.{after_timeouts, is_pinged, pinged, ticked};
 
 use crate::{Peer, PeerState};
-use enet_senders::Control;
 use enet_rtt::{Expiry, elapsed};
+use enet_senders::Control;
 
 impl Peer {
     /// Time has come to `now`, in milliseconds. Where a sent command has waited out its timeout it is due to go again, unless

@@ -11,9 +11,9 @@ ghost use Rattle.enet_records.specs.Records.{AreBelow, AreApart, HasEnd, Notes};
 use crate::around::Around;
 use crate::end::{End, position_of};
 use crate::numbers::marks_of;
-use enet_peer::read_heading;
-use enet_network::Mark;
 use enet_codec::{Addr, PeerRef};
+use enet_network::Mark;
+use enet_peer::read_heading;
 use std::marker::Model;
 
 /// A datagram that was put out.

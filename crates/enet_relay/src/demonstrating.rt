@@ -2,8 +2,8 @@
 
 use crate::command_line::DemoOptions;
 use crate::failure::Failure;
-use enet_serve::Demonstration;
 use enet_codec::Addr;
+use enet_serve::Demonstration;
 use std::net::Net;
 use std::rt::Clock;
 use std::sync::Wait;

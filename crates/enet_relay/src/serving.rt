@@ -3,8 +3,8 @@
 use crate::command_line::{Length, ServeOptions};
 use crate::failure::Failure;
 use crate::watching::Operator;
-use enet_serve::{Gauge, Server, Settings, Shift, Unopened, Watch};
 use enet_codec::Refusal;
+use enet_serve::{Gauge, Server, Settings, Shift, Unopened, Watch};
 use std::net::{Ipv4Addr, Net};
 use std::rt::Clock;
 use std::sync::Wait;

@@ -7,10 +7,13 @@ ghost use Rattle.enet_serve.specs.Playing.{HasPlayed, IsFresh, IsGuest, IsSame, 
 
 use crate::orders::{CHANNELS, Plan};
 use crate::player::{Company, Played, Player, Visit};
-use enet_events::Poster;
-use enet_service::{Desk, Ends, Inbox, MioWire, QueueSink, QueueSource, Queues, Returned, Shared, Shift, Signals, Station, Unwatched, beside_turns, settle};
-use enet_submit::Drain;
 use enet_codec::{Addr, Config, Refusal};
+use enet_events::Poster;
+use enet_service::{
+    Desk, Ends, Inbox, MioWire, QueueSink, QueueSource, Queues, Returned, Shared, Shift, Signals,
+    Station, Unwatched, beside_turns, settle,
+};
+use enet_submit::Drain;
 use std::alloc::Global;
 use std::net::Net;
 use std::rt::Clock;

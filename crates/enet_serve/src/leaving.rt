@@ -1,7 +1,7 @@
 //! How the clients of a server are told that it ends.
 
-use enet_service::{Fault, MemorySink, MemorySource, Station, run};
 use enet_codec::DisconnectMode;
+use enet_service::{Fault, MemorySink, MemorySource, Station, run};
 use std::alloc::Global;
 use std::collections::VecDeque;
 use std::io;

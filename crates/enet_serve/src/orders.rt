@@ -3,8 +3,8 @@ ghost use Rattle.std.specs.Prelude.{◌≡◌, ◌<◌, IfOk, IfErr};
 ghost use Rattle.enet_serve.specs.Plans.{chat, chats, connect, word_of};
 
 use bytes::Bytes;
-use enet_submit::Order;
 use enet_codec::{Addr, PeerRef, Refusal};
+use enet_submit::Order;
 use rand_core::utils::NextWord;
 use rand_pcg::Pcg32;
 use std::alloc::Global;

@@ -5,10 +5,10 @@ ghost use Rattle.enet_serve.specs.Visits.{packets};
 
 use crate::orders::{Plan, chat_orders, connect_order};
 use crate::stage::Stage;
+use enet_codec::{Event, Refusal};
 use enet_events::Taker;
 use enet_service::{Desk, Inbox, TakerBell};
 use enet_submit::Finished;
-use enet_codec::{Event, Refusal};
 use std::alloc::Global;
 use std::sync::Wait;
 use std::sync::atomic::Ordering::SeqCst;

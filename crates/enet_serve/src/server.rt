@@ -7,11 +7,14 @@ ghost use Rattle.enet_serve.specs.Threads.{IsLeft, returned};
 use crate::leaving::take_leave;
 use crate::threads::{Carryover, begin_relay, relay_on};
 use enet_chat::{Gauge, RelayParts};
+use enet_codec::{Addr, Config, Refusal};
 use enet_events::Poster;
 use enet_host::HostCore;
-use enet_service::{Desk, Ends, Inbox, MioWire, QueueSink, QueueSource, Queues, Report, Returned, Shared, Shift, Signals, Station, Unopened, Watch, beside_turns, settle};
+use enet_service::{
+    Desk, Ends, Inbox, MioWire, QueueSink, QueueSource, Queues, Report, Returned, Shared, Shift,
+    Signals, Station, Unopened, Watch, beside_turns, settle,
+};
 use enet_submit::Drain;
-use enet_codec::{Addr, Config, Refusal};
 use std::alloc::Global;
 use std::net::Net;
 use std::rt::Clock;

@@ -4,9 +4,9 @@ ghost use Rattle.enet_chat.specs.Relaying.{Relays, IsThrough};
 ghost use Rattle.enet_serve.specs.Threads.{IsBegun};
 
 use enet_chat::{Gauge, Relay, Table};
+use enet_codec::{Event, Refusal};
 use enet_service::{Desk, Inbox, Signals};
 use enet_submit::Order;
-use enet_codec::{Event, Refusal};
 use std::alloc::Global;
 use std::collections::VecDeque;
 use std::sync::Wait;

@@ -2,8 +2,8 @@
 ghost use Rattle.std.specs.Prelude.{ℕ, ◌<◌, ◌≤◌, List, Option, IfSome, take};
 ghost use Rattle.std.specs.Option.{option_map};
 
-use enet_submit::Order;
 use enet_codec::{Addr, Event, Refusal};
+use enet_submit::Order;
 
 /// The calls of a host that a turn makes. Each says by a relation what it may do.
 pub trait Core {

@@ -1,9 +1,9 @@
 //! The host of this workspace, as a turn calls it.
 
 use crate::host::Core;
+use enet_codec::{Addr, DisconnectMode, Event, Refusal};
 use enet_host::HostCore;
 use enet_submit::Order;
-use enet_codec::{Addr, DisconnectMode, Event, Refusal};
 
 impl Core for HostCore {
     ghost use Rattle.enet_service.specs.Hosting.{Ticks, Obeys, Hears, Gives, Tells, untold};

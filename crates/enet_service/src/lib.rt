@@ -38,7 +38,10 @@ mod watch;
 mod watched;
 
 pub use between::run_between_queues;
-pub use enet_bridge::{Bell, Desk, Inbox, MemorySink, MemorySource, MemoryWire, MioWire, Pumped, QueueSink, QueueSource, Sink, Source, Step, TakerBell, Told, Unopened, Wire};
+pub use enet_bridge::{
+    Bell, Desk, Inbox, MemorySink, MemorySource, MemoryWire, MioWire, Pumped, QueueSink,
+    QueueSource, Sink, Source, Step, TakerBell, Told, Unopened, Wire,
+};
 pub use enet_host::HostCore;
 pub use hearing::{Heard, hear_all};
 pub use host::Core;

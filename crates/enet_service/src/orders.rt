@@ -9,8 +9,8 @@ use crate::MOST;
 use crate::host::Core;
 use crate::telling::offer;
 use enet_bridge::{Sink, Source};
-use enet_submit::Submission;
 use enet_codec::Event;
+use enet_submit::Submission;
 use std::sync::Wait;
 
 // Carries an order out; a refusal is told. How many events were taken.

@@ -3,9 +3,9 @@ ghost use Rattle.std.specs.Prelude.{◌≡◌, [], IfSome};
 ghost use Rattle.std.specs.List.{All};
 ghost use Rattle.enet_submit.specs.Words.{EachFrom, IsNew, IsSeatOf, sent};
 
+use enet_codec::Refusal;
 use enet_events::{EventQueue, Poster, Taker};
 use enet_submit::{Drain, Seat, SubmitQueue};
-use enet_codec::Refusal;
 use std::alloc::Global;
 
 /// Both queues with their ends.

@@ -4,9 +4,9 @@ ghost use Rattle.enet_submit.specs.Words.{IsDrainOf, IsFinishedOf, seats_of, tak
 ghost use Rattle.enet_bridge.specs.Ends.{orders};
 ghost use Rattle.enet_service.specs.Shifts.{CanSettle, IsNotSettled};
 
+use enet_codec::Refusal;
 use enet_events::{EventQueue, Poster, Taker};
 use enet_submit::{Drain, Finished, Order, SubmitQueue};
-use enet_codec::Refusal;
 use std::alloc::Global;
 use std::collections::VecDeque;
 use std::sync::Wait;

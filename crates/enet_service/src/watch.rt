@@ -1,7 +1,7 @@
 //! Who is told of a service's turns while they are taken.
 
-use crate::watched::WatchedHost;
 use crate::Report;
+use crate::watched::WatchedHost;
 
 /// Is told of a service's turns while they are taken, by the thread that takes them.
 pub trait Watch {

@@ -1,9 +1,9 @@
 //! A host whose operator is told who came and went, and which orders were refused.
 
-use enet_host::HostCore;
 use crate::Core;
-use enet_submit::Order;
 use enet_codec::{Addr, Config, DisconnectMode, Event, PeerRef, Refusal};
+use enet_host::HostCore;
+use enet_submit::Order;
 use std::alloc::Global;
 use std::marker::Model;
 

@@ -16,10 +16,10 @@ ghost use Rattle.enet_network.specs.World.{IsRefusedFor};
 ghost use Rattle.enet_site.specs.Sites.{site, IsWhole, begun_if};
 
 use crate::delivery::{NO_PEER, refused_delivery};
-use enet_peer::read_heading;
-use enet_host::HostCore;
-use enet_records::{Datagram, Records, fresh_end};
 use enet_codec::{Addr, PeerRef, Received, Refusal};
+use enet_host::HostCore;
+use enet_peer::read_heading;
+use enet_records::{Datagram, Records, fresh_end};
 use std::alloc::Global;
 
 /// Whether the header of a datagram names no peer, as that of a CONNECT alone does.

@@ -7,9 +7,9 @@ ghost use Rattle.enet_network.specs.Calls.{Acts};
 ghost use Rattle.enet_network.specs.Calls as call;
 ghost use Rattle.enet_site.specs.Sites.{IsWhole, CallsOn};
 
+use enet_codec::{Addr, PeerRef, Refusal};
 use enet_host::HostCore;
 use enet_records::{Records, fresh_end};
-use enet_codec::{Addr, PeerRef, Refusal};
 use std::alloc::Global;
 
 /// Whom a host asks for a connection, and for what.

@@ -3,8 +3,8 @@
 ghost use Rattle.enet_network.specs.Calls.{Acts};
 ghost use Rattle.enet_network.specs.Calls as call;
 
-use enet_host::HostCore;
 use enet_codec::{DisconnectMode, PeerRef, Refusal};
+use enet_host::HostCore;
 
 /// Ends the connection of the peer of this name in this way.
 pub(crate) fn disconnect(

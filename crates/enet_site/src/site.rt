@@ -21,9 +21,9 @@ use crate::submitting::submit;
 use crate::taking::take;
 use crate::turn::turn;
 use bytes::Bytes;
+use enet_codec::{Addr, Config, DisconnectMode, Event, Packet, PeerRef, Received, Refusal};
 use enet_host::HostCore;
 use enet_records::{Around, Records, numbers_of};
-use enet_codec::{Addr, Config, DisconnectMode, Event, Packet, PeerRef, Received, Refusal};
 use std::alloc::Global;
 use std::marker::Model;
 

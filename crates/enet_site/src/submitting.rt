@@ -11,9 +11,9 @@ ghost use Rattle.enet_network.specs.Steps.{with_packet};
 ghost use Rattle.enet_site.specs.Sites.{IsWhole, CallsOn};
 
 use bytes::Bytes;
+use enet_codec::{Packet, PeerRef, Refusal};
 use enet_host::HostCore;
 use enet_records::{End, Records, position_of};
-use enet_codec::{Packet, PeerRef, Refusal};
 
 /// The mtu of the peer of this name, in bytes; 0 where there is none.
 fn mtu_of(host: &HostCore, peer: PeerRef) -> u32

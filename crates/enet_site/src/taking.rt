@@ -6,9 +6,9 @@ ghost use Rattle.enet_host.specs.Foretelling.{teller_of, packet_of, Foretells};
 ghost use Rattle.enet_network.specs.Calls as call;
 ghost use Rattle.enet_site.specs.Sites.{IsWhole, CallsOn, told};
 
+use enet_codec::{Event, Refusal};
 use enet_host::HostCore;
 use enet_records::{End, Records, position_of};
-use enet_codec::{Event, Refusal};
 
 /// An event that is no packet, twice over.
 fn twice(event: Event) -> Option<(Event, Event)>

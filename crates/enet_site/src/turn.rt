@@ -6,9 +6,9 @@ ghost use Rattle.enet_site.specs.Sites.{with_ends};
 ghost use Rattle.enet_site.specs.Turning.{Rests, Gives, Turns};
 
 use crate::put_out::{Text, Turned};
+use enet_codec::{Addr, PeerRef, Refusal};
 use enet_host::HostCore;
 use enet_records::{Around, MAX_COMMANDS, Records, note};
-use enet_codec::{Addr, PeerRef, Refusal};
 use std::alloc::Global;
 
 /// The greatest length of a datagram, in bytes.

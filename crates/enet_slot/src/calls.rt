@@ -6,8 +6,8 @@ ghost use Rattle.enet_slot.specs.Calls.{on_peer, Submits, Does, DoesWithMemory, 
 
 use crate::Slot;
 use bytes::Bytes;
-use enet_peer::PeerState;
 use enet_codec::{DisconnectMode, Refusal};
+use enet_peer::PeerState;
 
 /// What a user may set of a peer in any state. Times are in milliseconds.
 #[derive(Clone, Copy)]

@@ -5,8 +5,8 @@ ghost use Rattle.std.specs.Option.{option_copied};
 ghost use Rattle.enet_slot.specs.Calls.{tells, event_of, peer_packet, GivesEvent};
 
 use crate::Slot;
-use enet_peer::PeerEvent;
 use enet_codec::{Event, Packet, PeerRef};
+use enet_peer::PeerEvent;
 
 /// An event of a peer, as the host tells it.
 fn event_of(peer: PeerRef, event: PeerEvent) -> Event

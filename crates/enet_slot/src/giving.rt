@@ -7,10 +7,10 @@ ghost use Rattle.enet_slot.specs.Slot.{name_of};
 ghost use Rattle.enet_slot.specs.Giving.{limits_of, joined_terms, offer_from, server_from, given, asking, answering};
 
 use crate::Slot;
+use enet_codec::{Addr, Config, PeerRef, Refusal};
 use enet_connect::{Offer, Server, Terms};
 use enet_peer::{Limits, Peer};
 use enet_throttle::window_of;
-use enet_codec::{Addr, Config, PeerRef, Refusal};
 use std::alloc::Global;
 
 /// The throttle's standard numbers (ENet 1.3): its interval in milliseconds, and by how much it rises and falls.

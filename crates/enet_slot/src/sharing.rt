@@ -8,9 +8,9 @@ ghost use Rattle.enet_slot.specs.Sharing.{is_standing, wants_room, shared};
 ghost use Rattle.enet_slot.specs.Slotted.{HasRoom};
 
 use crate::Slot;
+use enet_codec::Refusal;
 use enet_peer::PeerState;
 use enet_throttle::{budget_of, limit_of};
-use enet_codec::Refusal;
 
 impl Slot {
     /// Time has come to `now`, in milliseconds.

@@ -6,8 +6,8 @@ ghost use Rattle.enet_slot.specs.Slot.{changed};
 ghost use Rattle.enet_slot.specs.Giving.{unused_slot, is_available};
 ghost use Rattle.enet_slot.specs.Slotted.{peer_shown};
 
-use enet_peer::{Peer, PeerState};
 use enet_codec::Addr;
+use enet_peer::{Peer, PeerState};
 use std::marker::Model;
 
 /// A slot of a host, which holds a peer or is free. Contracts see it as a `Slotted`: what it is, and for how many more

@@ -1,10 +1,10 @@
 //! An input is read, and its datagrams are told one after another.
 
+use crate::address_text;
 use crate::datagram::describe;
 use crate::fault::InspectFault;
 use crate::line::{Line, read_line};
 use crate::pcap::{Captured, Datagram, Format, datagram_in, is_capture, read_format, read_packet};
-use crate::address_text;
 use std::alloc::Global;
 use std::io::{ErrorKind, Read, Write};
 

@@ -3,8 +3,8 @@
 ghost use Rattle.std.specs.Prelude.{◌≡◌, IfOk};
 ghost use Rattle.enet_text.specs.Lines.{line_of};
 
-use bytes::Bytes;
 use crate::{bytes_of, end, word};
+use bytes::Bytes;
 use std::alloc::{AllocError, Global};
 
 /// What a line spells.

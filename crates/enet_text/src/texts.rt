@@ -6,8 +6,8 @@ ghost use Rattle.std.specs.String.{string_bytes};
 ghost use Rattle.enet_codec.specs.Message.{view};
 ghost use Rattle.enet_text.specs.InspectTexts.{command_line, fields_text, flag_text, fragment_text, head_text, header_line, id_text, limits_text, name_of, offer_text, payload_text, peer_text, sent_text, sessions_text, sizes_text, stop_line, throttle_text, verify_text};
 
-use enet_codec::{Command, Fragment, Head, Header, Offer, Stop, Verify};
 use crate::bytes_text;
+use enet_codec::{Command, Fragment, Head, Header, Offer, Stop, Verify};
 use std::alloc::{AllocError, Global};
 
 /// The peer id that says that the sender doesn't know the receiver's slot yet.

@@ -7,9 +7,9 @@ ghost use Rattle.enet_network.specs.World.{Steps, address_of, other, side_of};
 ghost use Rattle.enet_world.specs.Worlds.{world_of};
 
 use bytes::Bytes;
+use enet_codec::{DisconnectMode, PeerRef, Refusal};
 use enet_network::{Answer, Side, WorldEvent};
 use enet_site::{Site, Turned};
-use enet_codec::{DisconnectMode, PeerRef, Refusal};
 use std::alloc::Global;
 
 /// The user of a side asks for a connection. An accepted one gets the next number.

@@ -7,9 +7,9 @@ ghost use Rattle.enet_network.specs.Headline.{AreEnds};
 ghost use Rattle.enet_network.specs.World.{Steps, joined_config, open_world, joined_world, site_of};
 
 use crate::happening::{happen, side_of};
+use enet_codec::{Addr, Config, Refusal};
 use enet_network::{Answer, Side, WorldEvent};
 use enet_site::Site;
-use enet_codec::{Addr, Config, Refusal};
 use std::alloc::Global;
 use std::marker::Model;
 

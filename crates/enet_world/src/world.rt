@@ -8,8 +8,8 @@ ghost use Rattle.enet_network.specs.World.{Steps, Runs, site_of, other};
 ghost use Rattle.enet_world.specs.Worlds.{begun};
 
 use crate::hosts::Hosts;
-use enet_network::{Answer, Side, WorldEvent, each_connection_in_order};
 use enet_codec::{Config, Event, Packet, Refusal};
+use enet_network::{Answer, Side, WorldEvent, each_connection_in_order};
 use std::alloc::Global;
 use std::marker::Model;
 

@@ -2,8 +2,8 @@
 
 use crate::node::Node;
 use bytes::Bytes;
-use enet_host::Config;
 use enet_codec::{Addr, Event, PeerRef, Refusal};
+use enet_host::Config;
 use std::alloc::Global;
 use std::net::Net;
 use std::rt::Clock;

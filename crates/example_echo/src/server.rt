@@ -1,8 +1,8 @@
 //! The server: what a client says comes back to it.
 
 use crate::node::Node;
-use enet_host::Config;
 use enet_codec::{Addr, Event, Refusal};
+use enet_host::Config;
 use std::net::Net;
 use std::rt::Clock;
 use std::sync::Wait;

@@ -3,9 +3,9 @@
 use super::call::Call;
 use super::fault::Fault;
 use check_scripts::{connect, next_event, put_out, receive};
+use enet_codec::{Addr, Config, PeerRef, Refusal};
 use enet_host::HostCore;
 use enet_peer::PeerState;
-use enet_codec::{Addr, Config, PeerRef, Refusal};
 use std::alloc::Global;
 
 /// How many slots a host has at most.

@@ -3,8 +3,8 @@
 use super::fault::Fault;
 use super::told::Told;
 use check_scripts::{connect, next_event, put_out, receive};
-use enet_host::{HostCore, Totals};
 use enet_codec::{Addr, Config, Event};
+use enet_host::{HostCore, Totals};
 use std::alloc::Global;
 
 /// The slots of the peers; a fourth is free.

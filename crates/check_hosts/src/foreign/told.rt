@@ -1,9 +1,9 @@
 //! What a host tells of a peer.
 
+use enet_codec::{Addr, PeerRef};
 use enet_connect::Terms;
 use enet_host::HostCore;
 use enet_peer::{PeerState, RoundTrip};
-use enet_codec::{Addr, PeerRef};
 
 /// What a host tells of one peer.
 #[derive(Clone, Copy, PartialEq, Eq)]

@@ -1,7 +1,7 @@
 //! A socket's wire and a UDP socket of std on 127.0.0.1.
 
-use enet_codec::{Addr, Refusal};
 use enet_bridge::{Bell, MioWire, Unopened, Wire};
+use enet_codec::{Addr, Refusal};
 use std::io;
 use std::net::{Ipv4Addr, Net, SocketAddr, UdpSocket};
 use std::sync::Wait;
