@@ -1,8 +1,8 @@
-//! A desk whose queue has one place, by hand.
+//! An order sender whose queue has one place, by hand.
 
 use crate::opening::{bell, one_seat};
 use bytes::Bytes;
-use enet_bridge::{Bell, Desk, Pumped, QueueSource, Source};
+use enet_bridge::{Bell, OrderSender, Pumped, QueueSource, Source};
 use enet_codec::{PeerRef, Refusal};
 use enet_submit::Order;
 use std::alloc::Global;
@@ -31,23 +31,23 @@ fn next<R: Wait>(rt: &R, source: &mut QueueSource<'_>) -> Option<u32> {
     }
 }
 
-// What a desk answers to `submit`, how many orders it keeps, and which number the source gives then.
+// What an order sender answers to `submit`, how many orders it keeps, and which number the source gives then.
 type Pumping = (Pumped, usize, Option<u32>);
 
-fn pump<R: Wait>(rt: &R, desk: &mut Desk<'_>, source: &mut QueueSource<'_>) -> Pumping {
-    let pumped = desk.submit(rt);
-    (pumped, desk.len(), next(rt, source))
+fn pump<R: Wait>(rt: &R, sender: &mut OrderSender<'_>, source: &mut QueueSource<'_>) -> Pumping {
+    let pumped = sender.submit(rt);
+    (pumped, sender.len(), next(rt, source))
 }
 
-// Two orders at a desk whose queue has one place.
+// Two orders at an order sender whose queue has one place.
 fn two_orders<R: Wait>(
     rt: &R,
-    desk: &mut Desk<'_>,
+    sender: &mut OrderSender<'_>,
     source: &mut QueueSource<'_>,
 ) -> Result<[Pumping; 2], Refusal> {
-    desk.ask(order())?;
-    desk.ask(order())?;
-    Ok([pump(rt, desk, source), pump(rt, desk, source)])
+    sender.ask(order())?;
+    sender.ask(order())?;
+    Ok([pump(rt, sender, source), pump(rt, sender, source)])
 }
 
 // The same, and what the source gives after both.
@@ -58,8 +58,8 @@ fn through_one_place<R: Wait>(
 ) -> Option<([Pumping; 2], Option<u32>)> {
     let (queue, seat, drain) = one_seat(alloc, 1)?;
     let mut source = QueueSource::new(&queue, drain, bell);
-    let mut desk = Desk::new(alloc, &queue, seat, bell);
-    let pumpings = two_orders(rt, &mut desk, &mut source).ok()?;
+    let mut sender = OrderSender::new(alloc, &queue, seat, bell);
+    let pumpings = two_orders(rt, &mut sender, &mut source).ok()?;
     Some((pumpings, next(rt, &mut source)))
 }
 

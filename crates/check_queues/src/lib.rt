@@ -1,5 +1,5 @@
 //! Tests of what stands between threads: both queues by hand and from several threads, a wire through sockets of 127.0.0.1, a
-//! desk that waits for room, and the relay's rule. They stand here so that these crates are proved once, and what they share is
+//! sender that waits for room, and the relay's rule. They stand here so that these crates are proved once, and what they share is
 //! proved once for all tests. The service with a real host is tested by `check_service`.
 #![tactic(auto)]
 

@@ -7,8 +7,8 @@ use check_queues::{bell, one_seat};
 use enet_codec::{Addr, Refusal};
 use enet_events::{EventQueue, Poster, Taker};
 use enet_service::{
-    Bell, Desk, HostCore, Inbox, QueueSink, QueueSource, Report, Service, TakerBell, Wire,
-    run_between_queues,
+    Bell, EventReceiver, HostCore, OrderSender, QueueSink, QueueSource, Report, Service, TakerBell,
+    Wire, run_between_queues,
 };
 use std::alloc::Global;
 use std::net::Net;
@@ -106,17 +106,22 @@ impl<'a> Wire for GateWire<'a> {
 }
 
 // Submits while the service receives, and takes an event while it sends.
-fn play<R: Wait>(rt: &R, gate: &Gate, mut desk: Desk, mut inbox: Inbox) -> bool {
-    if !comes(&gate.receiving) || desk.ask(packet(PEER, Bytes::from_static(b"a"))).is_err() {
+fn play<R: Wait>(
+    rt: &R,
+    gate: &Gate,
+    mut sender: OrderSender,
+    mut receiver: EventReceiver,
+) -> bool {
+    if !comes(&gate.receiving) || sender.ask(packet(PEER, Bytes::from_static(b"a"))).is_err() {
         return false;
     }
-    let _ = desk.submit(rt);
+    let _ = sender.submit(rt);
     gate.submitted.store(true, SeqCst);
-    if !comes(&gate.sending) || inbox.take(rt).is_none() {
+    if !comes(&gate.sending) || receiver.take(rt).is_none() {
         return false;
     }
     gate.taken.store(true, SeqCst);
-    desk.is_empty()
+    sender.is_empty()
 }
 
 // A queue of one taker.
@@ -166,16 +171,16 @@ type Both = (bool, Option<(Report, u32)>);
 fn side_by_side<R: Threads + Wait + Clock + Sync>(
     rt: &R,
     alloc: Global,
-    game: (Desk<'_>, Inbox<'_>),
+    game: (OrderSender<'_>, EventReceiver<'_>),
     service: (QueueSource<'_>, QueueSink<'_>),
 ) -> Both {
     let gate = Gate::new();
     let gate = &gate;
-    let (desk, inbox) = game;
+    let (sender, receiver) = game;
     let (source, sink) = service;
     thread::join(
         rt,
-        move || play(rt, gate, desk, inbox),
+        move || play(rt, gate, sender, receiver),
         move || serve(rt, alloc, gate, source, sink),
     )
 }
@@ -185,8 +190,8 @@ fn both<R: Threads + Wait + Clock + Sync>(rt: &R, alloc: Global, bell: &Bell) ->
     let (orders, seat, drain) = one_seat(alloc, 9)?;
     let (events, poster, taker) = one_taker(alloc)?;
     let game = (
-        Desk::new(alloc, &orders, seat, bell),
-        Inbox::new(&events, taker),
+        OrderSender::new(alloc, &orders, seat, bell),
+        EventReceiver::new(&events, taker),
     );
     let service = (
         QueueSource::new(&orders, drain, bell),

@@ -7,37 +7,37 @@ use Rattle.enet_submit.specs.declared.queue.SubmitQueue.{SubmitQueue}
 use Rattle.enet_submit.specs.Words.{sent}
 use Rattle.enet_events.specs.declared.numbered.Numbered.{Numbered}
 use Rattle.enet_events.specs.Words.{Queue, TakerState, TakerFits}
-use Rattle.enet_bridge.specs.declared.desk.Desk.{Desk}
-use Rattle.enet_bridge.specs.declared.inbox.Inbox.{Inbox}
+use Rattle.enet_bridge.specs.declared.order_sender.OrderSender.{OrderSender}
+use Rattle.enet_bridge.specs.declared.event_receiver.EventReceiver.{EventReceiver}
 use Rattle.enet_bridge.specs.Ends.{orders}
 
 -- the queues that they belong to
-abbrev pub desk_queue : Desk → SubmitQueue
-desk_queue desk = desk.queue.now
+abbrev pub sender_queue : OrderSender → SubmitQueue
+sender_queue sender = sender.queue.now
 
-abbrev pub inbox_queue : Inbox → Queue
-inbox_queue inbox = inbox.queue.now
+abbrev pub receiver_queue : EventReceiver → Queue
+receiver_queue receiver = receiver.queue.now
 
--- the orders that wait at a desk
-abbrev pub waiting_at : Desk → List Order
-waiting_at desk = desk.waiting.items
+-- the orders that wait at an order sender
+abbrev pub waiting_at : OrderSender → List Order
+waiting_at sender = sender.waiting.items
 
--- what the seat of a desk submitted
-abbrev pub submitted_at : Desk → List Submission
-submitted_at desk = sent desk.seat
+-- what the seat of an order sender submitted
+abbrev pub submitted_at : OrderSender → List Submission
+submitted_at sender = sent sender.seat
 
--- what a desk was asked: what its seat submitted, and then what waits
-abbrev pub asked : Desk → List Order
-asked desk = orders (submitted_at desk) ++ waiting_at desk
+-- what an order sender was asked: what its seat submitted, and then what waits
+abbrev pub asked : OrderSender → List Order
+asked sender = orders (submitted_at sender) ++ waiting_at sender
 
--- by what an inbox takes
-abbrev pub taker_of : Inbox → TakerState
-taker_of inbox = inbox.taker
+-- by what an event receiver takes
+abbrev pub taker_of : EventReceiver → TakerState
+taker_of receiver = receiver.taker
 
--- what an inbox took, in order
-abbrev pub received : Inbox → List Numbered
-received inbox = (taker_of inbox).taken
+-- what an event receiver took, in order
+abbrev pub received : EventReceiver → List Numbered
+received receiver = (taker_of receiver).taken
 
--- at a moment of the call nothing was held, and what the inbox took is just its part of all that was posted until then
-abbrev pub FoundNone : Inbox → Type 0
-FoundNone inbox = Held 0 (λ held. (posted : List Numbered) × TakerFits (taker_of inbox) posted held)
+-- at a moment of the call nothing was held, and what the event receiver took is just its part of all that was posted until then
+abbrev pub FoundNone : EventReceiver → Type 0
+FoundNone receiver = Held 0 (λ held. (posted : List Numbered) × TakerFits (taker_of receiver) posted held)

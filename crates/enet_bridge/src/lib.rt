@@ -1,22 +1,20 @@
-//! Between the service's thread and game threads: where orders come from, where events go, and what a game thread holds.
+//! Between the service's thread, game threads and the network: where orders come from, where events go, what a game thread holds
+//! ([`OrderSender`], [`EventReceiver`]), and the wire: the trait [`Wire`], a wire in memory, and a UDP socket with a bell that ends its wait.
 //!
-//! Proved: a source gives and a sink takes just what its queue or its list says, in order; what a desk was asked is, in order,
-//! what it submitted and what waits, and none is lost or doubled. Only tested, by `check_queues`: that a desk gets on once there is room.
-//! Neither: that a bell wakes a thread, and how long a wait takes.
-//!
-//! Datagrams in and out: the trait [`Wire`], a wire in memory, and a UDP socket with a bell that ends its wait.
-//!
-//! Proved: each wire counts its faults exactly, E14 comes exactly where the count rises, a spent wire does nothing, and a wire
-//! that tells its calls tells them truly. The wire in memory does what its script says; a want of memory is a fault of it.
-//! Only tested, by `check_queues`: that datagrams pass through the socket, that its milliseconds add up, and what the system says of an
-//! address that is taken; by scripts/check-clients.sh: a reception that fails once. Neither: when a datagram comes, that a wait ends
-//! early by the bell, how many datagrams the system keeps, and which of its errors are faults.
+//! Proved: a source gives and a sink takes just what its queue or its list says, in order; what an order sender was asked is, in order,
+//! what it submitted and what waits, and none is lost or doubled. Each wire counts its faults exactly, E14 comes exactly where the count
+//! rises, a spent wire does nothing, and a wire that tells its calls tells them truly. The wire in memory does what its script says; a
+//! want of memory is a fault of it.
+//! Only tested, by `check_queues`: that an order sender gets on once there is room; that datagrams pass through the socket, that its
+//! milliseconds add up, and what the system says of an address that is taken; by scripts/check-clients.sh: a reception that fails once.
+//! Neither: that a bell wakes a thread, how long a wait takes, when a datagram comes, how many datagrams the system keeps, and which of its
+//! errors are faults.
 #![tactic(auto)]
 
 mod bell;
-mod desk;
-mod inbox;
+mod event_receiver;
 mod memory;
+mod order_sender;
 mod sink;
 mod socket;
 mod source;
@@ -25,12 +23,12 @@ mod waiting;
 mod wire;
 
 pub use bell::Bell;
-pub use desk::Desk;
-pub use inbox::{Inbox, TakerBell};
+pub use event_receiver::{EventReceiver, TakerBell};
 pub use memory::MemoryWire;
+pub use order_sender::OrderSender;
 pub use sink::{MemorySink, QueueSink, Sink};
 pub use socket::{MioWire, Unopened};
 pub use source::{MemorySource, QueueSource, Source};
 pub use told::{Step, Told};
-pub use waiting::{Pumped, pump};
+pub use waiting::Pumped;
 pub use wire::Wire;

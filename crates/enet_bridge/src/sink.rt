@@ -1,7 +1,7 @@
 //! Where events go.
 ghost use Rattle.std.specs.Prelude.{◌≡◌};
 
-use crate::inbox::TakerBell;
+use crate::event_receiver::TakerBell;
 use enet_codec::Event;
 use enet_events::{EventQueue, Poster};
 use std::alloc::Global;

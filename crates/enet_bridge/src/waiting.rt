@@ -25,7 +25,7 @@ pub enum Pumped {
 /// would never end once both queues are full.
 ///
 /// What the seat submitted and what waits behind it are together the same as before: none is lost, doubled or moved.
-pub fn pump<R: Wait>(
+pub(crate) fn pump<R: Wait>(
     rt: &R,
     queue: &SubmitQueue,
     seat: &mut Seat,

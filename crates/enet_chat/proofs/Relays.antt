@@ -44,40 +44,40 @@ relays_on a b c p q = record {
   taken = p.taken ++ q.taken;
   expanded = p.expanded ++ q.expanded;
   asked_for = p.asked_for ++ q.asked_for;
-  took = q.took ∙ ap (λ (es : List Event). es ++ q.taken) p.took ∙ append_assoc (events (received a.inbox)) p.taken q.taken;
+  took = q.took ∙ ap (λ (es : List Event). es ++ q.taken) p.took ∙ append_assoc (events (received a.receiver)) p.taken q.taken;
   in_order = joined a.backlog.items b.backlog.items c.backlog.items p.taken q.taken p.expanded q.expanded p.in_order q.in_order;
   peers = q.peers ∙ ap (λ (ps : List PeerRef). noted_all ps q.expanded) p.peers ∙ sym (noted_more a.table p.expanded q.expanded);
-  orders = q.orders ∙ ap (λ (os : List Order). os ++ q.asked_for) p.orders ∙ append_assoc (asked a.desk) p.asked_for q.asked_for;
+  orders = q.orders ∙ ap (λ (os : List Order). os ++ q.asked_for) p.orders ∙ append_assoc (asked a.sender) p.asked_for q.asked_for;
   for_each = on_for_each p.asked_for q.asked_for a.table b.table p.expanded q.expanded p.peers p.for_each q.for_each;
   same_queues = (q.same_queues.0 ∙ p.same_queues.0, q.same_queues.1 ∙ p.same_queues.1);
 }
 
 -- nothing was taken or expanded
-pub relays_none : (a b : Relay) → SameQueues a b → received b.inbox ≡ received a.inbox → b.backlog.items ≡ a.backlog.items → b.table ≡ a.table → asked b.desk ≡ asked a.desk → Relays a b
-relays_none a b same inbox backlog table desk = record {
+pub relays_none : (a b : Relay) → SameQueues a b → received b.receiver ≡ received a.receiver → b.backlog.items ≡ a.backlog.items → b.table ≡ a.table → asked b.sender ≡ asked a.sender → Relays a b
+relays_none a b same receiver backlog table sender = record {
   same_queues = same;
   taken = [];
   expanded = [];
   asked_for = [];
-  took = ap events inbox ∙ sym (append-nil (events (received a.inbox)));
+  took = ap events receiver ∙ sym (append-nil (events (received a.receiver)));
   in_order = append-nil a.backlog.items ∙ sym backlog;
   peers = table;
-  orders = desk ∙ sym (append-nil (asked a.desk));
+  orders = sender ∙ sym (append-nil (asked a.sender));
   for_each = λ (peer : PeerRef). refl;
 }
 
 -- an event was expanded
-pub relays_expanded : (a b : Relay) (e : Event) → SameQueues a b → received b.inbox ≡ received a.inbox → a.backlog.items ≡ e ∷ b.backlog.items → b.table ≡ noted a.table e
-    → asked b.desk ≡ asked a.desk ++ relayed (noted a.table e) e → Relays a b
-relays_expanded a b e same inbox backlog table desk = record {
+pub relays_expanded : (a b : Relay) (e : Event) → SameQueues a b → received b.receiver ≡ received a.receiver → a.backlog.items ≡ e ∷ b.backlog.items → b.table ≡ noted a.table e
+    → asked b.sender ≡ asked a.sender ++ relayed (noted a.table e) e → Relays a b
+relays_expanded a b e same receiver backlog table sender = record {
   same_queues = same;
   taken = [];
   expanded = e ∷ [];
   asked_for = relayed (noted a.table e) e;
-  took = ap events inbox ∙ sym (append-nil (events (received a.inbox)));
+  took = ap events receiver ∙ sym (append-nil (events (received a.receiver)));
   in_order = append-nil a.backlog.items ∙ backlog;
   peers = table;
-  orders = desk;
+  orders = sender;
   for_each = λ (peer : PeerRef). ap (those_for peer) (sym (append-nil (relayed (noted a.table e) e)));
 }
 
@@ -86,30 +86,30 @@ events_more [] n = refl
 events_more (x ∷ xs) n = ap (λ (es : List Event). x.event ∷ es) (events_more xs n)
 
 -- an event was taken
-pub relays_taken : (a b : Relay) (n : Numbered) → SameQueues a b → received b.inbox ≡ received a.inbox ++ n ∷ [] → b.backlog.items ≡ a.backlog.items ++ n.event ∷ [] → b.table ≡ a.table → asked b.desk ≡ asked a.desk → Relays a b
-relays_taken a b n same inbox backlog table desk = record {
+pub relays_taken : (a b : Relay) (n : Numbered) → SameQueues a b → received b.receiver ≡ received a.receiver ++ n ∷ [] → b.backlog.items ≡ a.backlog.items ++ n.event ∷ [] → b.table ≡ a.table → asked b.sender ≡ asked a.sender → Relays a b
+relays_taken a b n same receiver backlog table sender = record {
   same_queues = same;
   taken = n.event ∷ [];
   expanded = [];
   asked_for = [];
-  took = ap events inbox ∙ events_more (received a.inbox) n;
+  took = ap events receiver ∙ events_more (received a.receiver) n;
   in_order = sym backlog;
   peers = table;
-  orders = desk ∙ sym (append-nil (asked a.desk));
+  orders = sender ∙ sym (append-nil (asked a.sender));
   for_each = λ (peer : PeerRef). refl;
 }
 
 -- packets were expanded
-pub relays_packets : (a b : Relay) (es : List Event) (os : List Order) → ArePackets es → SameForEach os (relayed_all a.table es) → SameQueues a b → received b.inbox ≡ received a.inbox
-    → a.backlog.items ≡ es ++ b.backlog.items → b.table ≡ a.table → asked b.desk ≡ asked a.desk ++ os → Relays a b
-relays_packets a b es os packets each same inbox backlog table desk = record {
+pub relays_packets : (a b : Relay) (es : List Event) (os : List Order) → ArePackets es → SameForEach os (relayed_all a.table es) → SameQueues a b → received b.receiver ≡ received a.receiver
+    → a.backlog.items ≡ es ++ b.backlog.items → b.table ≡ a.table → asked b.sender ≡ asked a.sender ++ os → Relays a b
+relays_packets a b es os packets each same receiver backlog table sender = record {
   same_queues = same;
   taken = [];
   expanded = es;
   asked_for = os;
-  took = ap events inbox ∙ sym (append-nil (events (received a.inbox)));
+  took = ap events receiver ∙ sym (append-nil (events (received a.receiver)));
   in_order = append-nil a.backlog.items ∙ backlog;
   peers = table ∙ sym (packets_note a.table es packets);
-  orders = desk;
+  orders = sender;
   for_each = each;
 }

@@ -9,9 +9,9 @@ use Rattle.enet_submit.specs.declared.order.Order.TheVariants as order
 use Rattle.enet_events.specs.declared.numbered.Numbered.{Numbered}
 use Rattle.enet_chat.specs.Peers.{is_same}
 use Rattle.enet_chat.specs.Chat.{noted, relayed}
-use Rattle.enet_bridge.specs.declared.desk.Desk.{Desk}
-use Rattle.enet_bridge.specs.declared.inbox.Inbox.{Inbox}
-use Rattle.enet_bridge.specs.Holding.{desk_queue, inbox_queue, waiting_at, asked, received}
+use Rattle.enet_bridge.specs.declared.order_sender.OrderSender.{OrderSender}
+use Rattle.enet_bridge.specs.declared.event_receiver.EventReceiver.{EventReceiver}
+use Rattle.enet_bridge.specs.Holding.{sender_queue, receiver_queue, waiting_at, asked, received}
 use Rattle.enet_chat.specs.declared.relaying.Relay.{Relay}
 
 -- the peers that a relay knows, the events that it took and has not expanded, and its ends of the queues
@@ -21,18 +21,18 @@ peers_of relay = relay.table
 abbrev pub backlog_of : Relay → List Event
 backlog_of relay = relay.backlog.items
 
-abbrev pub desk_of : Relay → Desk
-desk_of relay = relay.desk
+abbrev pub sender_of : Relay → OrderSender
+sender_of relay = relay.sender
 
-abbrev pub inbox_of : Relay → Inbox
-inbox_of relay = relay.inbox
+abbrev pub receiver_of : Relay → EventReceiver
+receiver_of relay = relay.receiver
 
 -- events are left only where orders wait
 abbrev pub AreBehind : List Event → List Order → Type 0
 AreBehind backlog waiting = (backlog ≡ []) ⊎ (0 < length waiting)
 
 abbrev pub IsThrough : Relay → Type 0
-IsThrough relay = AreBehind (backlog_of relay) (waiting_at (desk_of relay))
+IsThrough relay = AreBehind (backlog_of relay) (waiting_at (sender_of relay))
 
 -- events without their numbers
 abbrev pub events : List Numbered → List Event
@@ -76,7 +76,7 @@ SameForEach orders others = (peer : PeerRef) → those_for peer orders ≡ those
 
 -- between the same queues
 abbrev pub SameQueues : Relay → Relay → Type 0
-SameQueues old new = (desk_queue (desk_of new) ≡ desk_queue (desk_of old)) × (inbox_queue (inbox_of new) ≡ inbox_queue (inbox_of old))
+SameQueues old new = (sender_queue (sender_of new) ≡ sender_queue (sender_of old)) × (receiver_queue (receiver_of new) ≡ receiver_queue (receiver_of old))
 
 -- From one state of a relay to a later one: it took these events, and expanded those, in the order in which they were taken.
 -- The table is what those made of it. It asked for these orders behind those asked for before: for every peer they are what the
@@ -85,9 +85,9 @@ pub record Relays (old new : Relay) : Type 0 where
   pub taken : List Event
   pub expanded : List Event
   pub asked_for : List Order
-  pub took : events (received (inbox_of new)) ≡ events (received (inbox_of old)) ++ taken
+  pub took : events (received (receiver_of new)) ≡ events (received (receiver_of old)) ++ taken
   pub in_order : backlog_of old ++ taken ≡ expanded ++ backlog_of new
   pub peers : peers_of new ≡ noted_all (peers_of old) expanded
-  pub orders : asked (desk_of new) ≡ asked (desk_of old) ++ asked_for
+  pub orders : asked (sender_of new) ≡ asked (sender_of old) ++ asked_for
   pub for_each : SameForEach asked_for (relayed_all (peers_of old) expanded)
   pub same_queues : SameQueues old new

@@ -1,13 +1,13 @@
 //! The thread that takes the service's events and asks for what they give.
 ghost use Rattle.std.specs.Prelude.{◌≡◌, ◌++◌, OnOk, OnErr, IfErr};
-ghost use Rattle.enet_bridge.specs.Holding.{asked, desk_queue};
+ghost use Rattle.enet_bridge.specs.Holding.{asked, sender_queue};
 ghost use Rattle.enet_chat.specs.Chat.{noted, relayed};
 
 use crate::batch::{batch_orders, drop_first, packets_first};
 use crate::gauge::Gauge;
 use crate::relay::relay_step;
 use crate::table::Table;
-use enet_bridge::{Desk, Inbox, Pumped, TakerBell};
+use enet_bridge::{EventReceiver, OrderSender, Pumped, TakerBell};
 use enet_codec::{Event, Refusal};
 use enet_events::Taker;
 use enet_submit::{Finished, Order};
@@ -41,8 +41,8 @@ const BETWEEN_SHOWS: u64 = 32;
 pub struct Relay<'a> {
     alloc: Global,
     table: Table,
-    desk: Desk<'a>,
-    inbox: Inbox<'a>,
+    sender: OrderSender<'a>,
+    receiver: EventReceiver<'a>,
     backlog: VecDeque<Event>,
     tally: Tally,
 }
@@ -95,27 +95,27 @@ impl<'a> Relay<'a> {
     ghost use Rattle.std.specs.Prelude.{◌≡◌, ◌⊎◌, ◌<◌, ◌≤◌, ◌++◌, [], true, false, length, take, OnOk, IfOk, IfErr};
     ghost use Rattle.enet_submit.specs.Words.{IsFinishedOf, all_sent};
     ghost use Rattle.enet_bridge.specs.Ends.{orders};
-    ghost use Rattle.enet_bridge.specs.Holding.{asked, waiting_at, received, desk_queue, inbox_queue, FoundNone};
-    ghost use Rattle.enet_chat.specs.Relaying.{peers_of, backlog_of, desk_of, inbox_of, ArePackets, Relays, IsThrough};
+    ghost use Rattle.enet_bridge.specs.Holding.{asked, waiting_at, received, sender_queue, receiver_queue, FoundNone};
+    ghost use Rattle.enet_chat.specs.Relaying.{peers_of, backlog_of, sender_of, receiver_of, ArePackets, Relays, IsThrough};
 
     /// A relay that goes on from these peers and these events.
     pub fn new(
         alloc: Global,
         table: Table,
-        desk: Desk<'a>,
-        inbox: Inbox<'a>,
+        sender: OrderSender<'a>,
+        receiver: EventReceiver<'a>,
         backlog: VecDeque<Event>,
     ) -> Relay<'a>
         ensures peers { peers_of result ≡ table }
-        ensures desk { desk_of result ≡ desk.entry }
-        ensures inbox { inbox_of result ≡ inbox.entry }
+        ensures sender { sender_of result ≡ sender.entry }
+        ensures receiver { receiver_of result ≡ receiver.entry }
         ensures backlog { backlog_of result ≡ backlog.items }
     {
         Relay {
             alloc,
             table,
-            desk,
-            inbox,
+            sender,
+            receiver,
             backlog,
             tally: Tally {
                 untold: 0,
@@ -129,18 +129,18 @@ impl<'a> Relay<'a> {
     pub fn into_parts(self) -> RelayParts
         ensures peers { result.table ≡ peers_of self.entry }
         ensures backlog { result.backlog.items ≡ backlog_of self.entry }
-        ensures waits { result.orders.items ≡ waiting_at (desk_of self.entry) }
-        ensures orders { asked (desk_of self.entry) ≡ orders (all_sent result.seat) ++ result.orders.items }
-        ensures taken { result.taker.taken ≡ received (inbox_of self.entry) }
-        ensures fits { IsFinishedOf (desk_queue (desk_of self.entry)) result.seat × (result.taker.queue ≡ (inbox_queue (inbox_of self.entry)).id) }
+        ensures waits { result.orders.items ≡ waiting_at (sender_of self.entry) }
+        ensures orders { asked (sender_of self.entry) ≡ orders (all_sent result.seat) ++ result.orders.items }
+        ensures taken { result.taker.taken ≡ received (receiver_of self.entry) }
+        ensures fits { IsFinishedOf (sender_queue (sender_of self.entry)) result.seat × (result.taker.queue ≡ (receiver_queue (receiver_of self.entry)).id) }
     {
-        let (seat, orders) = self.desk.into_parts();
+        let (seat, orders) = self.sender.into_parts();
         RelayParts {
             table: self.table,
             backlog: self.backlog,
             orders,
             seat,
-            taker: self.inbox.into_taker(),
+            taker: self.receiver.into_taker(),
         }
     }
 
@@ -159,7 +159,7 @@ impl<'a> Relay<'a> {
         gauge: &Gauge,
     ) -> Result<(), Refusal>
         ensures relays { Relays self.old self.new }
-        ensures none_left { OnOk result (FoundNone (inbox_of self.new)) }
+        ensures none_left { OnOk result (FoundNone (receiver_of self.new)) }
         ensures through { OnOk result (IsThrough self.new) }
         ensures why { IfErr result (λ why. (why ≡ Refusal.Memory) ⊎ (why ≡ Refusal.SeatSpent)) }
     {
@@ -185,7 +185,7 @@ impl<'a> Relay<'a> {
         gauge: &Gauge,
     ) -> Result<bool, Refusal>
         ensures relays { Relays self.old self.new }
-        ensures none { IfOk result (λ over. over ≡ true → FoundNone (inbox_of self.new)) }
+        ensures none { IfOk result (λ over. over ≡ true → FoundNone (receiver_of self.new)) }
         ensures through { IfOk result (λ over. over ≡ true → IsThrough self.new) }
         ensures why { IfErr result (λ why. (why ≡ Refusal.Memory) ⊎ (why ≡ Refusal.SeatSpent)) }
     {
@@ -219,7 +219,7 @@ impl<'a> Relay<'a> {
     // Submits what waits, and then expands events or takes some.
     fn step<R: Wait>(&mut self, rt: &R, bell: &TakerBell, over: bool) -> Result<Found, Refusal>
         ensures relays { Relays self.old self.new }
-        ensures none { IfOk result (λ found. found ≡ Found.Nothing → FoundNone (inbox_of self.new)) }
+        ensures none { IfOk result (λ found. found ≡ Found.Nothing → FoundNone (receiver_of self.new)) }
         ensures through { IfOk result (λ found. found ≡ Found.Nothing → IsThrough self.new) }
         ensures why { IfErr result (λ why. (why ≡ Refusal.Memory) ⊎ (why ≡ Refusal.SeatSpent)) }
     {
@@ -242,9 +242,9 @@ impl<'a> Relay<'a> {
     // Submits what waits, and tells the service where there is no room or much was submitted.
     fn submit<R: Wait>(&mut self, rt: &R) -> Pumped
         ensures relays { Relays self.old self.new }
-        ensures full { result ≡ Pumped.Full → 0 < length (waiting_at (desk_of self.new)) }
+        ensures full { result ≡ Pumped.Full → 0 < length (waiting_at (sender_of self.new)) }
     {
-        let pumped = self.desk.submit(rt);
+        let pumped = self.sender.submit(rt);
         if pumped == Pumped::Full || self.tally.untold >= MOST_ORDERS {
             self.tell();
             return pumped;
@@ -255,8 +255,8 @@ impl<'a> Relay<'a> {
     // Takes events while there are some, but not too many.
     fn take_some<R: Wait>(&mut self, rt: &R) -> Result<Found, Refusal>
         ensures relays { Relays self.old self.new }
-        ensures none { IfOk result (λ found. found ≡ Found.Nothing → FoundNone (inbox_of self.new)) }
-        ensures same { IfOk result (λ found. found ≡ Found.Nothing → (backlog_of self.new ≡ backlog_of self.old) × (desk_of self.new ≡ desk_of self.old)) }
+        ensures none { IfOk result (λ found. found ≡ Found.Nothing → FoundNone (receiver_of self.new)) }
+        ensures same { IfOk result (λ found. found ≡ Found.Nothing → (backlog_of self.new ≡ backlog_of self.old) × (sender_of self.new ≡ sender_of self.old)) }
         ensures why { IfErr result (λ why. why ≡ Refusal.Memory) }
     {
         if let Found::Nothing = self.take(rt)? {
@@ -273,14 +273,14 @@ impl<'a> Relay<'a> {
     // Takes an event.
     fn take<R: Wait>(&mut self, rt: &R) -> Result<Found, Refusal>
         ensures relays { Relays self.old self.new }
-        ensures none { IfOk result (λ found. found ≡ Found.Nothing → FoundNone (inbox_of self.new)) }
-        ensures same { IfOk result (λ found. found ≡ Found.Nothing → (backlog_of self.new ≡ backlog_of self.old) × (desk_of self.new ≡ desk_of self.old)) }
+        ensures none { IfOk result (λ found. found ≡ Found.Nothing → FoundNone (receiver_of self.new)) }
+        ensures same { IfOk result (λ found. found ≡ Found.Nothing → (backlog_of self.new ≡ backlog_of self.old) × (sender_of self.new ≡ sender_of self.old)) }
         ensures why { IfErr result (λ why. why ≡ Refusal.Memory) }
     {
         if self.backlog.reserve(1).is_err() {
             return Err(Refusal::Memory);
         }
-        match self.inbox.take(rt) {
+        match self.receiver.take(rt) {
             Some(numbered) => {
                 self.backlog.push_back_reserved(numbered.event);
                 Ok(Found::Work)
@@ -313,7 +313,7 @@ impl<'a> Relay<'a> {
     {
         let orders = batch_orders(self.alloc, &self.table, &self.backlog, count)?;
         let asked = orders.len();
-        self.desk.ask_all(VecDeque::from_vec(orders))?;
+        self.sender.ask_all(VecDeque::from_vec(orders))?;
         drop_first(&mut self.backlog, count);
         self.tally.add(count, asked);
         Ok(())
@@ -328,7 +328,7 @@ impl<'a> Relay<'a> {
         let Some(event) = self.backlog.pop_front() else {
             return Ok(false);
         };
-        match relay_event(self.alloc, &mut self.table, &mut self.desk, &event) {
+        match relay_event(self.alloc, &mut self.table, &mut self.sender, &event) {
             Ok(orders) => {
                 self.tally.add(1, orders);
                 Ok(true)
@@ -347,10 +347,10 @@ impl<'a> Relay<'a> {
     // Tells the service that there are orders.
     fn tell(&mut self)
         ensures relays { Relays self.old self.new }
-        ensures same { desk_of self.new ≡ desk_of self.old }
+        ensures same { sender_of self.new ≡ sender_of self.old }
     {
         self.tally.untold = 0;
-        self.desk.ring();
+        self.sender.ring();
     }
 }
 
@@ -358,18 +358,18 @@ impl<'a> Relay<'a> {
 fn relay_event(
     alloc: Global,
     table: &mut Table,
-    desk: &mut Desk<'_>,
+    sender: &mut OrderSender<'_>,
     event: &Event,
 ) -> Result<usize, Refusal>
     ensures peers { OnOk result (table.new ≡ noted table.old event.now) }
-    ensures orders { OnOk result (asked desk.new ≡ asked desk.old ++ relayed (noted table.old event.now) event.now) }
-    ensures same { OnErr result ((table.new ≡ table.old) × (asked desk.new ≡ asked desk.old)) }
-    ensures queue { desk_queue desk.new ≡ desk_queue desk.old }
+    ensures orders { OnOk result (asked sender.new ≡ asked sender.old ++ relayed (noted table.old event.now) event.now) }
+    ensures same { OnErr result ((table.new ≡ table.old) × (asked sender.new ≡ asked sender.old)) }
+    ensures queue { sender_queue sender.new ≡ sender_queue sender.old }
     ensures memory { IfErr result (λ why. why ≡ Refusal.Memory) }
 {
     let orders = relay_step(alloc, table, event)?;
     let count = orders.len();
-    desk.ask_all(VecDeque::from_vec(orders))?;
+    sender.ask_all(VecDeque::from_vec(orders))?;
     table.note(event)?;
     Ok(count)
 }

@@ -1,22 +1,17 @@
-//! ENet 1.3 datagrams as bytes: the header, the twelve commands, reading and writing them. Integers on the wire are
-//! big-endian. The rules are ENet 1.3's; those of our own profile are marked so.
+//! ENet 1.3 datagrams as bytes: the header, the twelve commands, reading and writing them; and the types that all crates share: addresses,
+//! packets, refusals and stops, a host's peers, events and settings. Integers on the wire are big-endian. The rules are ENet 1.3's; those
+//! of our own profile are marked so.
 //!
-//! Proved: reading a command is exact (`read_command`: `found`, `only`, `none`): it gives the command that a front of the
-//! bytes spells and that front's length, and None exactly where no front spells one. Writing puts the canonical spelling and
+//! Proved: reading a command is exact (`read_command`: `found`, `only`, `none`): it gives the command that a prefix of the
+//! bytes spells and that prefix's length, and None exactly where no prefix spells one. Writing puts the canonical spelling and
 //! changes no other byte, and answers None with nothing changed exactly where it doesn't fit (`write_command`: `written`,
 //! `fits`, `unchanged`, `spells`). No spelling begins another's, so what was written is read again, whatever follows
 //! (`one_spelling`). The same of headers (`read_header`, `write_header`, `one_header`), of lists of commands and of whole
 //! datagrams (`what_is_written_is_spelled`, `one_datagram`). What 'spells' means is specs/Message and specs/Header, a line a
-//! command.
-//! Only tested, by `check_peer`: that these definitions are ENet 1.3's, on 446 captured datagrams of the reference
-//! library.
-//!
-//! The types that all crates share: addresses, packets, refusals and stops; a host's peers, events and settings, and what it
-//! answers to a datagram.
-//!
-//! Proved: numbers and names of refusals and stops (`label`, `number`); `Config::standard` gives exactly the stated numbers,
+//! command. Numbers and names of refusals and stops (`label`, `number`); `Config::standard` gives exactly the stated numbers,
 //! and `Config::is_in_range` is exactly the test that opening answers E8 by; `Packet::is_same` compares channel and bytes.
-//! Only tested, in `check_numbers`: worked settings, packets and names. Neither: the text of the derived `Display`.
+//! Only tested, by `check_peer`: that these definitions are ENet 1.3's, on 446 captured datagrams of the reference
+//! library; in `check_numbers`: worked settings, packets and names. Neither: the text of the derived `Display`.
 #![tactic(auto)]
 
 mod address;

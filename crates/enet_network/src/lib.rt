@@ -1,4 +1,5 @@
-//! Hosts with a network between them: the definitions that say what happens there, and laws. No code but the types of events.
+//! The law of isolation of the peers of one host (`isolation`), and hosts with a network between them: the definitions that say what
+//! happens there, and laws. No code but the types of events and the calls that `settings` ties to isolation.
 //!
 //! specs/Network has what is kept of a host: all that it put out, each datagram with its connection and with the marks of its
 //! commands, and its ends of connections, each with the name of its peer, how far its numbers have come, what its user

@@ -1,4 +1,4 @@
-//! The machine of one peer in ENet 1.3: what each command, datagram, moment and call makes of it.
+//! The machine of one peer in ENet 1.3: what each command, datagram ([`obey`]), moment and call makes of it.
 //!
 //! Proved, each exactly by the definitions of specs/ (Peering, CommandEffect, Endings, Calls, Next): `command` makes of the peer
 //! what the rules say of that command in that state, and no other change; the stop is the first that applies, an

@@ -1,19 +1,14 @@
-//! The senders of all channels of a peer, with their commands in one slab.
+//! What a peer of ENet 1.3 sends reliably or in order: the senders of all its channels, with their commands in one slab ([`Senders`]), and
+//! channel 0xFF, the commands that concern the connection itself ([`Control`]).
 //!
 //! Contracts see the list of the channels' ends, as if each had lists of its own. Proved, each exactly by the definitions of
 //! `enet_sender`: `Senders::submit`, `next_due`, `skip` and `acknowledge` do what that call does on their channel, and leave
 //! every other as it was; `any_ends`, `any_late`, `have_no_packet` and `have_no_reliable` ask all channels; `mark` and `clear`
 //! do their work on each; `narrow` keeps the first ones. That each key stands in one ring once is an invariant, so no call
-//! asks it of its caller.
-//! Only tested, by `check_peer`: that calls succeed with ample memory, and worked rows.
-//!
-//! Channel 0xFF of a peer in ENet 1.3: the commands that concern the connection itself, as they are numbered, sent, sent
-//! again and acknowledged.
-//!
-//! Proved, exactly by specs/Controlling: `queue`, `next_due`, `acknowledge`, `late`, `clear`, `is_idle`, `reserve`, `open`
-//! and the calls that only test or only mark (`ends`, `is_late`, `mark`, `has_queued`); a list without commands has room for
-//! one.
-//! Only tested, by `check_peer`: the bytes of each command, and worked rows.
+//! asks it of its caller. Of channel 0xFF, exactly by specs/Controlling: `queue`, `next_due`, `acknowledge`, `late`, `clear`, `is_idle`,
+//! `reserve`, `open` and the calls that only test or only mark (`ends`, `is_late`, `mark`, `has_queued`); a list without commands has
+//! room for one.
+//! Only tested, by `check_peer`: that calls succeed with ample memory, the bytes of each command of channel 0xFF, and worked rows.
 #![tactic(auto)]
 
 mod control;

@@ -60,16 +60,16 @@ packets_more (Refused seat number why ∷ es) e = packets_more es e
 stopped_more : (n k before after sum : ℕ) → before ≡ stopped n → after ≡ stopped (before + k) → sum ≡ n + k → after ≡ stopped sum
 stopped_more n k before after sum e f g = omega (arith, e, f, g)
 
-pub plays_on : (p q : Player) (x : Numbered) → HasPlayed p → received q.inbox ≡ received p.inbox ++ x ∷ [] → q.plan ≡ p.plan → asked q.desk ≡ asked p.desk
+pub plays_on : (p q : Player) (x : Numbered) → HasPlayed p → received q.receiver ≡ received p.receiver ++ x ∷ [] → q.plan ≡ p.plan → asked q.sender ≡ asked p.sender
     → peer_of q.stage ≡ option_or (peer_of p.stage) (first_peer (x.event ∷ [])) → asks q.plan q.stage ≡ asks q.plan p.stage
     → q.received ≡ stopped (p.received + packets (x.event ∷ [])) → HasPlayed q
-plays_on p q x has took plan desk stage asking counted =
-    let more : told q ≡ told p ++ x.event ∷ [] = ap events took ∙ map-append (λ (y : Numbered). y.event) (received p.inbox) (x ∷ []) in
+plays_on p q x has took plan sender stage asking counted =
+    let more : told q ≡ told p ++ x.event ∷ [] = ap events took ∙ map-append (λ (y : Numbered). y.event) (received p.receiver) (x ∷ []) in
     record {
       digit = subst (λ (r : Plan). r.number < 10) (sym plan) has.digit;
       connected = stage ∙ (ap (λ (known : Option PeerRef). option_or known (first_peer (x.event ∷ []))) has.connected
           ∙ (sym (first_peer_more (told p) x.event) ∙ ap first_peer (sym more)));
-      asked_for = desk ∙ (has.asked_for ∙ (ap (λ (r : Plan). asks r p.stage) (sym plan) ∙ sym asking));
+      asked_for = sender ∙ (has.asked_for ∙ (ap (λ (r : Plan). asks r p.stage) (sym plan) ∙ sym asking));
       received_all = stopped_more (packets (told p)) (packets (x.event ∷ [])) p.received q.received (packets (told q)) has.received_all counted (ap packets more ∙ packets_more (told p) x.event);
     }
 

@@ -7,7 +7,7 @@ use Rattle.enet_submit.specs.declared.token.Drain.{Drain}
 use Rattle.enet_submit.specs.Words.{IsFinishedOf, all_sent, taken}
 use Rattle.enet_events.specs.Words.{PosterState, QueueId}
 use Rattle.enet_bridge.specs.Ends.{orders}
-use Rattle.enet_bridge.specs.Holding.{desk_queue, inbox_queue, asked, received}
+use Rattle.enet_bridge.specs.Holding.{sender_queue, receiver_queue, asked, received}
 use Rattle.enet_service.specs.Counts.{stopped}
 use Rattle.enet_chat.specs.Relaying.{events}
 use Rattle.enet_service.specs.declared.settling.Returned.{Returned}
@@ -33,16 +33,16 @@ AreGuests shown guests = (length guests ≡ shown.clients) × ((k : ℕ) (d : Gu
 
 -- the events that a player took
 abbrev pub told : Player → List Event
-told player = events (received player.inbox)
+told player = events (received player.receiver)
 
 -- the same client between the same queues
 abbrev pub IsSame : Player → Player → Type 0
-IsSame old new = (new.plan ≡ old.plan) × (desk_queue new.desk ≡ desk_queue old.desk) × (inbox_queue new.inbox ≡ inbox_queue old.inbox)
+IsSame old new = (new.plan ≡ old.plan) × (sender_queue new.sender ≡ sender_queue old.sender) × (receiver_queue new.receiver ≡ receiver_queue old.receiver)
 
 -- a player who asked for nothing and took nothing
 pub record IsFresh (player : Player) : Type 0 where
   pub digit : player.plan.number < 10
-  pub asked_none : asked player.desk ≡ []
+  pub asked_none : asked player.sender ≡ []
   pub told_none : told player ≡ []
   pub stage : player.stage ≡ Alone
   pub received_none : player.received ≡ 0
@@ -51,7 +51,7 @@ pub record IsFresh (player : Player) : Type 0 where
 pub record HasPlayed (player : Player) : Type 0 where
   pub digit : player.plan.number < 10
   pub connected : peer_of player.stage ≡ first_peer (told player)
-  pub asked_for : asked player.desk ≡ asks player.plan player.stage
+  pub asked_for : asked player.sender ≡ asks player.plan player.stage
   pub received_all : player.received ≡ stopped (packets (told player))
 
 -- what a game thread hands back, of these queues: the visit tells what it took, and it submitted a front of what a client asks for

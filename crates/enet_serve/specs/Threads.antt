@@ -3,23 +3,23 @@ use Rattle.std.specs.Prelude.{◌≡◌, ◌≤◌, ◌++◌, length}
 use Rattle.enet_submit.specs.declared.token.Drain.{Drain}
 use Rattle.enet_submit.specs.Words.{all_sent, taken}
 use Rattle.enet_events.specs.Words.{PosterState}
-use Rattle.enet_bridge.specs.declared.desk.Desk.{Desk}
-use Rattle.enet_bridge.specs.declared.inbox.Inbox.{Inbox}
+use Rattle.enet_bridge.specs.declared.order_sender.OrderSender.{OrderSender}
+use Rattle.enet_bridge.specs.declared.event_receiver.EventReceiver.{EventReceiver}
 use Rattle.enet_bridge.specs.Ends.{orders}
-use Rattle.enet_bridge.specs.Holding.{desk_queue, asked}
+use Rattle.enet_bridge.specs.Holding.{sender_queue, asked}
 use Rattle.enet_chat.specs.declared.relaying.RelayParts.{RelayParts}
 use Rattle.enet_chat.specs.declared.relaying.Relay.{Relay}
-use Rattle.enet_chat.specs.Relaying.{peers_of, backlog_of, desk_of, inbox_of}
+use Rattle.enet_chat.specs.Relaying.{peers_of, backlog_of, sender_of, receiver_of}
 use Rattle.enet_service.specs.declared.settling.Returned.{Returned}
 use Rattle.enet_serve.specs.declared.threads.Carryover.{Carryover}
 
--- a relay that goes on from what was kept: of this desk the orders that were kept are asked
-pub record IsBegun (kept : Carryover) (desk : Desk) (inbox : Inbox) (relay : Relay) : Type 0 where
+-- a relay that goes on from what was kept: of this order sender the orders that were kept are asked
+pub record IsBegun (kept : Carryover) (sender : OrderSender) (receiver : EventReceiver) (relay : Relay) : Type 0 where
   pub peers : peers_of relay ≡ kept.table
   pub backlog : backlog_of relay ≡ kept.backlog.items
-  pub orders_asked : asked (desk_of relay) ≡ asked desk ++ kept.orders.items
-  pub queue : desk_queue (desk_of relay) ≡ desk_queue desk
-  pub inbox_is : inbox_of relay ≡ inbox
+  pub orders_asked : asked (sender_of relay) ≡ asked sender ++ kept.orders.items
+  pub queue : sender_queue (sender_of relay) ≡ sender_queue sender
+  pub receiver_is : receiver_of relay ≡ receiver
 
 -- what both threads hand back of the queues
 abbrev pub returned : RelayParts → Drain → PosterState → Returned

@@ -10,8 +10,8 @@ use crate::player::{Company, Played, Player, Visit};
 use enet_codec::{Addr, Config, Refusal};
 use enet_events::Poster;
 use enet_service::{
-    Desk, Ends, Inbox, MioWire, QueueSink, QueueSource, Queues, Returned, Shared, Shift, Signals,
-    Station, Unwatched, beside_turns, settle,
+    Ends, EventReceiver, MioWire, OrderSender, QueueSink, QueueSource, Queues, Returned, Shared,
+    Shift, Signals, Station, Unwatched, beside_turns, settle,
 };
 use enet_submit::Drain;
 use std::alloc::Global;
@@ -107,9 +107,9 @@ fn run_client<R: Threads + Wait + Clock + Sync>(
         signals,
     } = shared;
     let Company { present, all } = company;
-    let desk = Desk::new(part.alloc, queue, ends.seat, bell);
-    let inbox = Inbox::new(events, ends.taker);
-    let mut player = Player::new(part.alloc, part.plan, desk, inbox);
+    let sender = OrderSender::new(part.alloc, queue, ends.seat, bell);
+    let receiver = EventReceiver::new(events, ends.taker);
+    let mut player = Player::new(part.alloc, part.plan, sender, receiver);
     let mut source = QueueSource::new(queue, ends.drain, bell);
     let mut sink = QueueSink::new(events, ends.poster, &signals.bell);
     let (played, report) = beside_turns(

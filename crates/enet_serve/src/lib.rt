@@ -1,24 +1,21 @@
-//! A server over the service: one thread takes the service's turns, another relays chat.
+//! A server over the service, one of whose threads takes turns and another relays chat ([`Server`]); and a demonstration of it: the server
+//! and its clients in one process ([`demonstrate`]).
 //!
-//! Proved: a shift ([`Server::serve`], `Serves`) is turns of the service, as many as were asked for where a number was, in none of
+//! Proved: one call of [`Server::serve`] (`Serves`) is turns of the service, as many as were asked for where a number was, in none of
 //! which the wire failed, and its report their sums. Each event that the turns told was expanded by the rule of the relay, once and in
-//! order, or waits for the next shift; each order that the events gave was handed to a turn, once and for every receiver in order, or
-//! waits, too; and events wait only where orders do. So nothing is lost or doubled between the threads, nor from one shift to the next.
-//! A shift ends early only for what [`Server::serve`] names. A server opens with the standard host of its settings, with nothing waiting
-//! ([`Server::open`]). After a shift that was refused nothing is said of the server.
-//! Only tested, by scripts/check-rows.sh and scripts/check-clients.sh: what real clients get, that a shift ends, at which address a
-//! server listens, what the system says where it can't, that the queues settle (no E16), that the server ends once its relay has, and that
-//! its clients are told of its end. Neither: what a network gives, and when; what `gauge` shows and `watch` is told.
-//!
-//! A demonstration of the server: it and its clients in one process.
-//!
-//! Proved, of each client ([`demonstrate`], `Visits`): its service took so many turns, in none of which the wire failed; the turns were
-//! given a front of what the client asks for, which is its connection and, over the first that it is told of, three packets of chat; and
-//! what is told of the client is whether the turns told its connection, and how many packets they told. So its game thread missed no
-//! event and counted none twice. A number of clients that is out of its range is refused,
-//! with a refusal that comes for nothing else.
-//! Only tested, by scripts/check-rows.sh: that each client gets all packets of the others, that a port that is taken is a refusal, and
-//! that the threads end. Neither: when a client sees that the others are there.
+//! order, or waits for the next call; each order that the events gave was handed to a turn, once and for every receiver in order, or
+//! waits, too; and events wait only where orders do. So nothing is lost or doubled between the threads, nor from one call to the next.
+//! It ends early only for what [`Server::serve`] names. A server opens with the standard host of its settings, with nothing waiting
+//! ([`Server::open`]). After a call that was refused nothing is said of the server. Of each client of the demonstration (`Visits`): its
+//! service took so many turns, in none of which the wire failed; the turns were given the first part of what the client asks for, which is
+//! its connection and, over the first that it is told of, three packets of chat; and what is told of the client is whether the turns told
+//! its connection, and how many packets they told. So its game thread missed no event and counted none twice. A number of clients that is
+//! out of its range is refused, with a refusal that comes for nothing else.
+//! Only tested, by scripts/check-rows.sh and scripts/check-clients.sh: what real clients get, that a call ends, at which address a
+//! server listens, what the system says where it can't, that the queues settle (no E16), that the server ends once its relay has, that its
+//! clients are told of its end; that each client of the demonstration gets all packets of the others, that a port that is taken is a
+//! refusal, and that the threads end. Neither: what a network gives, and when; what `gauge` shows and `watch` is told; when a client sees
+//! that the others are there.
 #![tactic(auto)]
 
 mod client;

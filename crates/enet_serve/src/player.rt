@@ -7,7 +7,7 @@ use crate::orders::{Plan, chat_orders, connect_order};
 use crate::stage::Stage;
 use enet_codec::{Event, Refusal};
 use enet_events::Taker;
-use enet_service::{Desk, Inbox, TakerBell};
+use enet_service::{EventReceiver, OrderSender, TakerBell};
 use enet_submit::Finished;
 use std::alloc::Global;
 use std::sync::Wait;
@@ -37,8 +37,8 @@ pub(crate) struct Company<'a> {
 pub(crate) struct Player<'a> {
     alloc: Global,
     plan: Plan,
-    desk: Desk<'a>,
-    inbox: Inbox<'a>,
+    sender: OrderSender<'a>,
+    receiver: EventReceiver<'a>,
     stage: Stage,
     received: u32,
 }
@@ -53,22 +53,27 @@ pub(crate) struct Played {
 
 impl<'a> Player<'a> {
     ghost use Rattle.std.specs.Prelude.{◌≡◌, ◌<◌, [], OnOk, IfErr};
-    ghost use Rattle.enet_bridge.specs.Holding.{asked, received, desk_queue, inbox_queue};
+    ghost use Rattle.enet_bridge.specs.Holding.{asked, received, sender_queue, receiver_queue};
     ghost use Rattle.enet_serve.specs.Playing.{IsFresh, IsSame, HasPlayed, HasVisited, told};
 
     /// A player who has asked for nothing yet.
-    pub(crate) fn new(alloc: Global, plan: Plan, desk: Desk<'a>, inbox: Inbox<'a>) -> Player<'a>
+    pub(crate) fn new(
+        alloc: Global,
+        plan: Plan,
+        sender: OrderSender<'a>,
+        receiver: EventReceiver<'a>,
+    ) -> Player<'a>
         requires digit { plan.number < 10 }
-        requires desk { asked desk ≡ [] }
-        requires inbox { received inbox ≡ [] }
+        requires sender { asked sender ≡ [] }
+        requires receiver { received receiver ≡ [] }
         ensures fresh { IsFresh result }
-        ensures same { (result.plan ≡ plan) × (result.desk ≡ desk.entry) × (result.inbox ≡ inbox.entry) }
+        ensures same { (result.plan ≡ plan) × (result.sender ≡ sender.entry) × (result.receiver ≡ receiver.entry) }
     {
         Player {
             alloc,
             plan,
-            desk,
-            inbox,
+            sender,
+            receiver,
             stage: Stage::Alone,
             received: 0,
         }
@@ -88,7 +93,7 @@ impl<'a> Player<'a> {
         ensures same { IsSame self.old self.new }
         ensures memory { IfErr result (λ why. why ≡ Refusal.Memory) }
     {
-        self.desk.ask(connect_order(self.plan))?;
+        self.sender.ask(connect_order(self.plan))?;
         for _ in rt.forever() {
             if self.round(rt, bell, ended, company)? {
                 return Ok(());
@@ -131,9 +136,9 @@ impl<'a> Player<'a> {
         ensures same { IsSame self.old self.new }
         ensures events { told self.new ≡ told self.old }
     {
-        if !self.desk.is_empty() {
-            let _ = self.desk.submit(rt);
-            self.desk.ring();
+        if !self.sender.is_empty() {
+            let _ = self.sender.submit(rt);
+            self.sender.ring();
         }
     }
 
@@ -143,7 +148,7 @@ impl<'a> Player<'a> {
         ensures played { HasPlayed self.new }
         ensures same { IsSame self.old self.new }
     {
-        let Some(numbered) = self.inbox.take(rt) else {
+        let Some(numbered) = self.receiver.take(rt) else {
             return false;
         };
         self.stage = self.stage.after(&numbered.event);
@@ -162,7 +167,7 @@ impl<'a> Player<'a> {
             return Ok(());
         };
         let orders = chat_orders(self.alloc, self.plan.number, peer)?;
-        self.desk.ask_all(orders)?;
+        self.sender.ask_all(orders)?;
         self.stage = Stage::Chatted(peer);
         Ok(())
     }
@@ -170,16 +175,16 @@ impl<'a> Player<'a> {
     /// What came of it, and the ends of the queues.
     pub(crate) fn into_played(self) -> Played
         requires { HasPlayed self }
-        ensures { HasVisited (desk_queue self.entry.desk) (inbox_queue self.entry.inbox).id self.entry.plan result }
+        ensures { HasVisited (sender_queue self.entry.sender) (receiver_queue self.entry.receiver).id self.entry.plan result }
     {
-        let (seat, _) = self.desk.into_parts();
+        let (seat, _) = self.sender.into_parts();
         Played {
             visit: Visit {
                 connected: self.stage.is_connected(),
                 received: self.received,
             },
             seat,
-            taker: self.inbox.into_taker(),
+            taker: self.receiver.into_taker(),
         }
     }
 }

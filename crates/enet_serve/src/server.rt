@@ -11,8 +11,8 @@ use enet_codec::{Addr, Config, Refusal};
 use enet_events::Poster;
 use enet_host::HostCore;
 use enet_service::{
-    Desk, Ends, Inbox, MioWire, QueueSink, QueueSource, Queues, Report, Returned, Shared, Shift,
-    Signals, Station, Unopened, Watch, beside_turns, settle,
+    Ends, EventReceiver, MioWire, OrderSender, QueueSink, QueueSource, Queues, Report, Returned,
+    Shared, Shift, Signals, Station, Unopened, Watch, beside_turns, settle,
 };
 use enet_submit::Drain;
 use std::alloc::Global;
@@ -132,9 +132,9 @@ impl Server {
             signals,
         } = shared;
         let kept = mem::replace(&mut self.kept, Carryover::new(self.alloc));
-        let desk = Desk::new(self.alloc, queue, ends.seat, bell);
-        let inbox = Inbox::new(events, ends.taker);
-        let mut relay = begin_relay(self.alloc, kept, desk, inbox)?;
+        let sender = OrderSender::new(self.alloc, queue, ends.seat, bell);
+        let receiver = EventReceiver::new(events, ends.taker);
+        let mut relay = begin_relay(self.alloc, kept, sender, receiver)?;
         let mut source = QueueSource::new(queue, ends.drain, bell);
         let mut sink = QueueSink::new(events, ends.poster, &signals.bell);
         let (relayed, report) = beside_turns(

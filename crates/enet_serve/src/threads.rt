@@ -5,7 +5,7 @@ ghost use Rattle.enet_serve.specs.Threads.{IsBegun};
 
 use enet_chat::{Gauge, Relay, Table};
 use enet_codec::{Event, Refusal};
-use enet_service::{Desk, Inbox, Signals};
+use enet_service::{EventReceiver, OrderSender, Signals};
 use enet_submit::Order;
 use std::alloc::Global;
 use std::collections::VecDeque;
@@ -38,15 +38,15 @@ impl Carryover {
 pub(crate) fn begin_relay<'a>(
     alloc: Global,
     kept: Carryover,
-    desk: Desk<'a>,
-    inbox: Inbox<'a>,
+    sender: OrderSender<'a>,
+    receiver: EventReceiver<'a>,
 ) -> Result<Relay<'a>, Refusal>
-    ensures begun { IfOk result (IsBegun kept desk.entry inbox.entry) }
+    ensures begun { IfOk result (IsBegun kept sender.entry receiver.entry) }
     ensures memory { IfErr result (λ why. why ≡ Refusal.Memory) }
 {
-    let mut desk = desk;
-    desk.ask_all(kept.orders)?;
-    Ok(Relay::new(alloc, kept.table, desk, inbox, kept.backlog))
+    let mut sender = sender;
+    sender.ask_all(kept.orders)?;
+    Ok(Relay::new(alloc, kept.table, sender, receiver, kept.backlog))
 }
 
 /// Relays until the service has ended. Where the relay ends before, the service's thread is told.

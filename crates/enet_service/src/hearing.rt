@@ -17,7 +17,7 @@ pub struct Heard {
 }
 
 /// Receives until the wire gives none or fails, at most 256 datagrams.
-pub fn hear_all<H: Core, W: Wire>(host: &mut H, wire: &mut W) -> Heard
+pub(crate) fn hear_all<H: Core, W: Wire>(host: &mut H, wire: &mut W) -> Heard
     ensures { (told : List Call) × (W.told wire.new ≡ also (W.told wire.old) (unless_spent (W.faults wire.old) told))
         × HearsAll H.hears 256 host.old told result.failed host.new × (result.received ≡ came_in told)
         × (W.faults wire.new ≡ W.faults wire.old + count_of result.failed) }
@@ -27,7 +27,7 @@ pub fn hear_all<H: Core, W: Wire>(host: &mut H, wire: &mut W) -> Heard
     for _turn in 0..MOST {
         match wire.recv(&mut buf) {
             Ok(Some((from, len))) => {
-                host.hear(from, &buf[..len]);
+                host.receive(from, &buf[..len]);
                 received += 1;
             }
             Ok(None) => {

@@ -36,20 +36,20 @@ pub trait Core {
         ensures { ticks self.old ms self.new };
 
     /// Carries an order out, or refuses it.
-    fn obey(&mut self, order: Order) -> Result<(), Refusal>
+    fn apply_order(&mut self, order: Order) -> Result<(), Refusal>
         ensures { obeys self.old order (why_of result) self.new };
 
     /// A datagram comes from an address.
-    fn hear(&mut self, from: Addr, bytes: &[u8])
+    fn receive(&mut self, from: Addr, bytes: &[u8])
         ensures { hears self.old (from, bytes.now) self.new };
 
     /// Where the next datagram goes, and how many bytes of the buffer it is; None where the host has none.
-    fn give(&mut self, buf: &mut [u8; 4096]) -> Option<(Addr, usize)>
+    fn emit(&mut self, buf: &mut [u8; 4096]) -> Option<(Addr, usize)>
         ensures given { gives self.old (option_map (λ d. (d.0, take d.1 buf.new)) result) self.new }
         ensures len { IfSome result (λ d. d.1 ≤ 4096) };
 
     /// The next event, which the host has told then; None where it has none.
-    fn tell(&mut self) -> Option<Event>
+    fn next_event(&mut self) -> Option<Event>
         ensures told { tells self.old result self.new }
         ensures fewer { IfSome result (λ event. untold self.new < untold self.old) };
 }

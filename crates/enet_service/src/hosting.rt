@@ -24,7 +24,7 @@ impl Core for HostCore {
         HostCore::tick(self, ms);
     }
 
-    fn obey(&mut self, order: Order) -> Result<(), Refusal> {
+    fn apply_order(&mut self, order: Order) -> Result<(), Refusal> {
         match order {
             Order::Connect {
                 addr,
@@ -52,16 +52,16 @@ impl Core for HostCore {
         }
     }
 
-    fn hear(&mut self, from: Addr, bytes: &[u8]) {
+    fn receive(&mut self, from: Addr, bytes: &[u8]) {
         let _ = self.receive(from, bytes);
     }
 
-    fn give(&mut self, buf: &mut [u8; 4096]) -> Option<(Addr, usize)> {
+    fn emit(&mut self, buf: &mut [u8; 4096]) -> Option<(Addr, usize)> {
         let (_peer, to, len) = self.service(buf)?;
         Some((to, len))
     }
 
-    fn tell(&mut self) -> Option<Event> {
+    fn next_event(&mut self) -> Option<Event> {
         self.next_event()
     }
 }

@@ -1,21 +1,23 @@
-//! The service: one thread owns a host and takes its turns; game threads reach it through two queues alone.
+//! The service: one thread owns a host and takes its turns; game threads reach it through two queues alone. It is used by [`Queues::open`],
+//! [`Station::open`] and [`beside_turns`], which runs the service beside a function of the user's; then by [`settle`].
 //!
-//! Its parts stand in crates below it: wires (`enet_bridge`), where orders come from and events go (`enet_bridge`), turns and
-//! runs of them over any host, and what they do with a [`HostCore`] (`enet_service`). What is proved of them is said there; no
-//! function stands here. Only tested, by `check_service`: turns and runs of a real host over memory, with each call of the wire failing and
-//! each send blocking in its turn; that a game thread submits and takes while the service is inside its wire; a connection's
-//! opening through a socket of 127.0.0.1. Neither: what a network gives, and when.
-//!
-//! A service's thread, and the two queues between it and one other thread: how they are opened, how long it takes turns, and how the
-//! queues are settled once both threads have ended.
-//!
-//! Proved: a shift ([`beside_turns`], `HasTurned`) is turns of the service, as many as were asked for where a number was and at least one
-//! where a time was, in none of which the wire failed, and its report their sums; what the turns were given is what the drain took, and
-//! what they put is what the poster posted. Once settled, the only taker took all that was posted, and the orders that the drain didn't
-//! take are told in order ([`settle`]).
-//! A host that notes who came and went ([`WatchedHost`]) is the host that it holds, in each of its calls.
-//! Only tested, by scripts/check-rows.sh and scripts/check-clients.sh: that the queues settle (no E16), what is noted and shown to a [`Watch`],
-//! and that a shift of a time ends once the other thread has left. Neither: that a shift ends otherwise.
+//! Proved, for every host that says what its calls do ([`Core`]): a turn is the stated calls in the stated order ([`Service::turn`]), on
+//! what the source gave and the wire told; what was sent and put is what these calls answered; a refused order becomes one
+//! event; while an event waits no order is taken; E14 exactly where the wire failed, and then the host is where the first part of
+//! the work left it, and the report counts that part. A run is its turns, each after a wait, up to the first fault, and its
+//! report their sums ([`run`]). A turn ends where the calls of source and sink return, since each event that a host tells
+//! leaves fewer. [`HostCore`] is such a host: each call of a turn is the call of the host with that meaning, by the host's own
+//! definitions. Between the two queues the orders of a run are each seat's next ones, once and in its order, and what was taken begins
+//! a history of the queue ([`run_between_queues`]). What [`beside_turns`] did (`HasTurned`) is turns of the service, as many as were asked
+//! for where a number was and at least one where a time was, in none of which the wire failed, and its report their sums; what the turns
+//! were given is what the drain took, and what they put is what the poster posted. Once settled, the only taker took all that was posted,
+//! and the orders that the drain didn't take are told in order. A host that notes who came and went ([`WatchedHost`]) is the host that it
+//! holds, in each of its calls.
+//! Only tested, by `check_service`: turns and runs of a real host over memory, with each call of the wire failing and each send blocking in
+//! its turn; that a game thread submits and takes while the service is inside its wire; a connection's opening through a socket of
+//! 127.0.0.1. By scripts/check-rows.sh and scripts/check-clients.sh: that the queues settle (no E16), what is noted and shown to a
+//! [`Watch`], and that turns for a time end once the other thread has left. Neither: that a wait or a call of a queue returns, that two
+//! threads ran, and what a network gives, and when.
 #![tactic(auto)]
 
 mod between;
@@ -39,8 +41,8 @@ mod watched;
 
 pub use between::run_between_queues;
 pub use enet_bridge::{
-    Bell, Desk, Inbox, MemorySink, MemorySource, MemoryWire, MioWire, Pumped, QueueSink,
-    QueueSource, Sink, Source, Step, TakerBell, Told, Unopened, Wire,
+    Bell, EventReceiver, MemorySink, MemorySource, MemoryWire, MioWire, OrderSender, Pumped,
+    QueueSink, QueueSource, Sink, Source, Step, TakerBell, Told, Unopened, Wire,
 };
 pub use enet_host::HostCore;
 pub use hearing::{Heard, hear_all};

@@ -30,14 +30,14 @@ fn carry_out<H: Core, K: Sink, R: Wait>(
         number,
         order,
     } = submission;
-    match host.obey(order) {
+    match host.apply_order(order) {
         Ok(()) => 0,
         Err(why) => offer(rt, sink, waiting, Event::Refused { seat, number, why }),
     }
 }
 
 /// Takes orders while no event waits, at most 256, and carries them out: how many orders, and how many events were taken.
-pub fn take_orders<H: Core, S: Source, K: Sink, R: Wait>(
+pub(crate) fn take_orders<H: Core, S: Source, K: Sink, R: Wait>(
     rt: &R,
     host: &mut H,
     waiting: &mut Option<Event>,

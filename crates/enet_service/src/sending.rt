@@ -18,7 +18,7 @@ pub struct Sent {
 }
 
 /// Sends until the host has no datagram, a send would block or the wire fails, at most 256 datagrams.
-pub fn send_all<H: Core, W: Wire>(host: &mut H, wire: &mut W) -> Sent
+pub(crate) fn send_all<H: Core, W: Wire>(host: &mut H, wire: &mut W) -> Sent
     ensures { (told : List Call) × (W.told wire.new ≡ also (W.told wire.old) (unless_spent (W.faults wire.old) told))
         × SendsAll H.gives 256 host.old told result.failed host.new × (result.sent ≡ went_in told)
         × (result.lost ≡ blocked_in told + count_of result.failed)
@@ -27,7 +27,7 @@ pub fn send_all<H: Core, W: Wire>(host: &mut H, wire: &mut W) -> Sent
     let mut buf = [0u8; 4096];
     let mut sent = 0u32;
     for _turn in 0..MOST {
-        match host.give(&mut buf) {
+        match host.emit(&mut buf) {
             Some((to, len)) => match wire.send(to, &buf[..len]) {
                 Ok(true) => sent += 1,
                 Ok(false) => {

@@ -10,7 +10,7 @@ use enet_codec::Event;
 use std::sync::Wait;
 
 /// Offers an event to the sink. One that is handed back waits. Answers how many were taken: 1 or 0.
-pub fn offer<K: Sink, R: Wait>(
+pub(crate) fn offer<K: Sink, R: Wait>(
     rt: &R,
     sink: &mut K,
     waiting: &mut Option<Event>,
@@ -31,7 +31,11 @@ pub fn offer<K: Sink, R: Wait>(
 }
 
 /// Offers the event that waits, if one does. Answers how many were taken: 1 or 0.
-pub fn offer_again<K: Sink, R: Wait>(rt: &R, sink: &mut K, waiting: &mut Option<Event>) -> u32
+pub(crate) fn offer_again<K: Sink, R: Wait>(
+    rt: &R,
+    sink: &mut K,
+    waiting: &mut Option<Event>,
+) -> u32
     ensures { (puts : List (Told × Bool)) × Chain (λ s x t. K.puts s x.0 x.1 t) sink.old puts sink.new × Offers waiting.old puts waiting.new × (result ≡ taken_in puts) }
 {
     match waiting.take() {
@@ -42,7 +46,7 @@ pub fn offer_again<K: Sink, R: Wait>(rt: &R, sink: &mut K, waiting: &mut Option<
 
 /// Offers the host's events one after another, until it has none or one waits. Answers how many were taken; the
 /// count stops at 4,294,967,295.
-pub fn tell_all<H: Core, K: Sink, R: Wait>(
+pub(crate) fn tell_all<H: Core, K: Sink, R: Wait>(
     rt: &R,
     host: &mut H,
     waiting: &mut Option<Event>,
@@ -52,7 +56,7 @@ pub fn tell_all<H: Core, K: Sink, R: Wait>(
 {
     let mut events = 0u32;
     while waiting.is_none() {
-        match host.tell() {
+        match host.next_event() {
             Some(event) => {
                 let taken = offer(rt, sink, waiting, event);
                 events = events.saturating_add(taken);

@@ -123,7 +123,9 @@ impl WatchedHost {
         for slot in 0..self.met.len() {
             if let Some(Some(met)) = self.met.get(slot) {
                 let peer = met.peer;
-                let _ = self.host.obey(Order::Disconnect { peer, how, info: 0 });
+                let _ = self
+                    .host
+                    .apply_order(Order::Disconnect { peer, how, info: 0 });
             }
         }
     }
@@ -191,9 +193,9 @@ impl Core for WatchedHost {
         Core::tick(&mut self.host, ms);
     }
 
-    fn obey(&mut self, order: Order) -> Result<(), Refusal> {
+    fn apply_order(&mut self, order: Order) -> Result<(), Refusal> {
         let peer = peer_of(&order);
-        let obeyed = self.host.obey(order);
+        let obeyed = self.host.apply_order(order);
         if let Err(why) = obeyed {
             self.refused = self.refused.saturating_add(1);
             self.note(Note::Refused { peer, why });
@@ -201,16 +203,16 @@ impl Core for WatchedHost {
         obeyed
     }
 
-    fn hear(&mut self, from: Addr, bytes: &[u8]) {
-        self.host.hear(from, bytes);
+    fn receive(&mut self, from: Addr, bytes: &[u8]) {
+        self.host.receive(from, bytes);
     }
 
-    fn give(&mut self, buf: &mut [u8; 4096]) -> Option<(Addr, usize)> {
-        self.host.give(buf)
+    fn emit(&mut self, buf: &mut [u8; 4096]) -> Option<(Addr, usize)> {
+        self.host.emit(buf)
     }
 
-    fn tell(&mut self) -> Option<Event> {
-        let event = self.host.tell()?;
+    fn next_event(&mut self) -> Option<Event> {
+        let event = self.host.next_event()?;
         self.note_event(&event);
         Some(event)
     }

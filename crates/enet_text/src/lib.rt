@@ -1,16 +1,13 @@
-//! The language of scripts: the words of a line, and the texts of answers.
+//! Texts: the language of scripts (the words of a line, the texts of answers), and datagrams of ENet 1.3 in words, for whoever looks at what
+//! a game sent.
 //!
 //! Proved, by the definitions of specs/: which words a line has (`word`, `one` to `five`, `end`); which number, peer,
-//! address, connect id or bytes a word spells, and that no other word spells one (`u8_of` and its kin); and the text of each answer.
-//! Only tested, by scripts/rows: that the texts find memory.
-//!
-//! Datagrams of ENet 1.3 in words, for whoever looks at what a game sent.
-//!
-//! Proved: what is told of a datagram (`describe`, by `Describes` over the definitions of `enet_codec`): its header, each command that the
+//! address, connect id or bytes a word spells, and that no other word spells one (`u8_of` and its kin); the text of each answer. What is
+//! told of a datagram (`describe`, by `Describes` over the definitions of `enet_codec`): its header, each command that the
 //! bytes behind it spell, one after another, with all its fields, and from which byte on and why the rest can't be read; what a line in hex
 //! spells (`read_line`); that reading captures is safe for every input and ends.
-//! Only tested, by scripts/check-inspect.sh: that the lines tell of 446 captured datagrams what their remarks say, which packets of a
-//! capture are datagrams, and what is written around the lines.
+//! Only tested, by scripts/rows and scripts/check-inspect.sh: that the texts find memory; that the lines tell of 446 captured datagrams what
+//! their remarks say, which packets of a capture are datagrams, and what is written around the lines.
 //! Neither: what was written before reading or writing failed.
 #![tactic(auto)]
 

@@ -50,7 +50,7 @@ loop-turn-preserved g c =
       c.in-Ok-Some.ensures.faults ∙ inv.2,
       omega (arith, came_more told (x ∷ []), inv.3),
       omega (arith, inv.4),
-      hears_on g.H.Core.hears c.loop-turn._turn _ _ _ told _ _ (omega arith) inv.5 c.hear.ensures,
+      hears_on g.H.Core.hears c.loop-turn._turn _ _ _ told _ _ (omega arith) inv.5 c.receive.ensures,
     )
 
 pub returns : goal.returns

@@ -12,13 +12,13 @@ pub returns-in-Ok-false : goal.returns-in-Ok-false
 returns-in-Ok-false g c =
     let inv = c.loop-turn.invariant in
     let told : List Told = inv.0 in
-    let bytes : List ℕ = take c.in-Some.len c.give.new.buf in
+    let bytes : List ℕ = take c.in-Some.len c.emit.new.buf in
     let now = c.in-Ok-false.ensures.told
     ∙ ap (λ (b : Bool). also (g.W.Wire.told c.loop-turn.wire) (unless_spent (g.W.Wire.faults c.loop-turn.wire) (went c.in-Some.to bytes (Ok b)))) c.in-Ok-false.field-0-test in
     let faults : g.W.Wire.faults c.send.new.self ≡ g.W.Wire.faults c.args.wire.now = c.in-Ok-false.ensures.faults ∙ inv.2 in (
       told ++ Blocked c.in-Some.to bytes ∷ [],
       told_on _ _ _ _ _ told (Blocked c.in-Some.to bytes ∷ []) inv.1 inv.2 now,
-      inv.6 (Blocked c.in-Some.to bytes ∷ []) false c.give.new.self (omega arith, c.in-Some.ensures.given, refl, refl),
+      inv.6 (Blocked c.in-Some.to bytes ∷ []) false c.emit.new.self (omega arith, c.in-Some.ensures.given, refl, refl),
       omega (arith, went_more told (Blocked c.in-Some.to bytes ∷ []), inv.3),
       omega (arith, blocked_more told (Blocked c.in-Some.to bytes ∷ []), inv.4),
       omega (arith, faults),
@@ -28,12 +28,12 @@ pub returns-in-Err : goal.returns-in-Err
 returns-in-Err g c =
     let inv = c.loop-turn.invariant in
     let told : List Told = inv.0 in
-    let bytes : List ℕ = take c.in-Some.len c.give.new.buf in
+    let bytes : List ℕ = take c.in-Some.len c.emit.new.buf in
     let faults : g.W.Wire.faults c.send.new.self ≡ g.W.Wire.faults c.args.wire.now + 1 = c.in-Err.ensures.faults ∙ ap (λ (n : ℕ). n + 1) inv.2 in (
       told,
       told_no_more _ _ _ _ _ told inv.1 inv.2 c.in-Err.ensures.told,
-      subst (λ (xs : List Told). SendsAll g.H.Core.gives 256 c.args.host.now xs true c.give.new.self) (append-nil told)
-          (inv.6 [] true c.give.new.self (omega arith, c.in-Some.to, bytes, c.in-Some.ensures.given)),
+      subst (λ (xs : List Told). SendsAll g.H.Core.gives 256 c.args.host.now xs true c.emit.new.self) (append-nil told)
+          (inv.6 [] true c.emit.new.self (omega arith, c.in-Some.to, bytes, c.in-Some.ensures.given)),
       inv.3,
       omega (arith, inv.4),
       faults,
@@ -46,8 +46,8 @@ returns-in-None g c =
     let faults : g.W.Wire.faults c.loop-turn.wire ≡ g.W.Wire.faults c.args.wire.now = inv.2 in (
       told,
       inv.1,
-      subst (λ (xs : List Told). SendsAll g.H.Core.gives 256 c.args.host.now xs false c.give.new.self) (append-nil told)
-          (inv.6 [] false c.give.new.self (inr (omega arith, c.in-None.ensures.given))),
+      subst (λ (xs : List Told). SendsAll g.H.Core.gives 256 c.args.host.now xs false c.emit.new.self) (append-nil told)
+          (inv.6 [] false c.emit.new.self (inr (omega arith, c.in-None.ensures.given))),
       inv.3,
       omega (arith, inv.4),
       omega (arith, faults),
@@ -57,7 +57,7 @@ pub loop-turn-preserved : goal.loop-turn-preserved
 loop-turn-preserved g c =
     let inv = c.loop-turn.invariant in
     let told : List Told = inv.0 in
-    let bytes : List ℕ = take c.in-Some.len c.give.new.buf in
+    let bytes : List ℕ = take c.in-Some.len c.emit.new.buf in
     let x : Told = Went c.in-Some.to bytes in
     let now = c.in-Ok-true.ensures.told
     ∙ ap (λ (b : Bool). also (g.W.Wire.told c.loop-turn.wire) (unless_spent (g.W.Wire.faults c.loop-turn.wire) (went c.in-Some.to bytes (Ok b)))) c.in-Ok-true.field-0-test in (

@@ -17,7 +17,7 @@ pub returns-in-None : goal.returns-in-None
 returns-in-None g c =
     let inv = c.loop-host.invariant in
     let none : c.loop-host.waiting ≡ None = search (rules, none_is) in
-    (inv.0, inv.1, tells_none g.H.Core.tells c.args.host.now c.loop-host.host c.tell.new.self c.args.waiting.now c.loop-host.waiting inv.0 none inv.3 c.in-None.ensures.told, inv.2)
+    (inv.0, inv.1, tells_none g.H.Core.tells c.args.host.now c.loop-host.host c.next_event.new.self c.args.waiting.now c.loop-host.waiting inv.0 none inv.3 c.in-None.ensures.told, inv.2)
 
 pub loop-host-preserved : goal.loop-host-preserved
 loop-host-preserved g c =

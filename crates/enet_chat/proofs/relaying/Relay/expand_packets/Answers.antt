@@ -11,7 +11,7 @@ returns-clause-relays c =
     let first = take c.args.count items in
     relays_packets c.args.self.now _ first c.in_ok-orders.orders.items c.requires.packets c.in_ok-orders.ensures.orders (c.in_ok-ask_all.ensures.queue, refl) refl
     (sym (take-append-drop c.args.count items) ∙ ap (λ (es : List Event). first ++ es) (sym c.drop_first.ensures)) refl
-    (c.in_ok-ask_all.ensures.added ∙ ap (λ (os : List Order). asked c.args.self.now.desk ++ os) c.from_vec.ensures.items)
+    (c.in_ok-ask_all.ensures.added ∙ ap (λ (os : List Order). asked c.args.self.now.sender ++ os) c.from_vec.ensures.items)
 
 pub returns-in_err-orders-clause-relays : goal.returns-in_err-orders-clause-relays
 returns-in_err-orders-clause-relays c = relays_none _ _ (refl, refl) refl refl refl refl

@@ -1,5 +1,5 @@
 use Rattle.std.proofs.Common.{rules}
-use Rattle.enet_bridge.proofs.desk.Desk.into_parts.Goals as goal
+use Rattle.enet_bridge.proofs.order_sender.OrderSender.into_parts.Goals as goal
 
 pub returns-clause-all : goal.returns-clause-all
 returns-clause-all c = search rules

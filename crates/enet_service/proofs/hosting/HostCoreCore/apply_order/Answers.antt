@@ -1,7 +1,7 @@
 use Rattle.std.proofs.Common.{Some, None, Ok, Err, refl, sym, subst, rules}
 use Rattle.enet_submit.specs.declared.order.Order.{Order}
 use Rattle.enet_service.specs.Hosting.{Obeys}
-use Rattle.enet_service.proofs.hosting.HostCoreCore.obey.Goals as goal
+use Rattle.enet_service.proofs.hosting.HostCoreCore.apply_order.Goals as goal
 
 pub returns-in-Ok : goal.returns-in-Ok
 returns-in-Ok c =

@@ -14,7 +14,7 @@ use std::sync::Wait;
 /// A seat, and the orders that wait for room in its queue. What was asked of it is, in order, what the seat submitted and what
 /// waits.
 #[derive(Drop)]
-pub struct Desk<'a> {
+pub struct OrderSender<'a> {
     queue: &'a SubmitQueue,
     seat: Seat,
     waiting: VecDeque<Order>,
@@ -22,17 +22,17 @@ pub struct Desk<'a> {
     pub ghost fits: { IsSeatOf queue.now seat },
 }
 
-impl<'a> Desk<'a> {
-    ghost use Rattle.enet_bridge.specs.Holding.{asked, waiting_at, submitted_at, desk_queue};
+impl<'a> OrderSender<'a> {
+    ghost use Rattle.enet_bridge.specs.Holding.{asked, waiting_at, submitted_at, sender_queue};
 
-    /// A desk at which nothing waits. The bell is that of the wire on which the service waits.
-    pub fn new(alloc: Global, queue: &'a SubmitQueue, seat: Seat, bell: &'a Bell) -> Desk<'a>
+    /// An order sender at which nothing waits. The bell is that of the wire on which the service waits.
+    pub fn new(alloc: Global, queue: &'a SubmitQueue, seat: Seat, bell: &'a Bell) -> OrderSender<'a>
         requires { IsSeatOf queue.now seat }
         ensures asked { asked result ≡ orders (sent seat) }
         ensures none { waiting_at result ≡ [] }
-        ensures queue { desk_queue result ≡ queue.now }
+        ensures queue { sender_queue result ≡ queue.now }
     {
-        Desk {
+        OrderSender {
             queue,
             seat,
             waiting: VecDeque::new(alloc),
@@ -46,7 +46,7 @@ impl<'a> Desk<'a> {
         ensures added { OnOk result (asked self.new ≡ asked self.old ++ order ∷ []) }
         ensures same { OnErr result (asked self.new ≡ asked self.old) }
         ensures memory { IfErr result (λ why. why ≡ Refusal.Memory) }
-        ensures queue { desk_queue self.new ≡ desk_queue self.old }
+        ensures queue { sender_queue self.new ≡ sender_queue self.old }
     {
         match self.waiting.push_back(order) {
             Ok(()) => Ok(()),
@@ -59,7 +59,7 @@ impl<'a> Desk<'a> {
         ensures added { OnOk result (asked self.new ≡ asked self.old ++ orders.items) }
         ensures same { OnErr result (asked self.new ≡ asked self.old) }
         ensures memory { IfErr result (λ why. why ≡ Refusal.Memory) }
-        ensures queue { desk_queue self.new ≡ desk_queue self.old }
+        ensures queue { sender_queue self.new ≡ sender_queue self.old }
     {
         let mut orders = orders;
         match self.waiting.append(&mut orders) {
@@ -74,8 +74,8 @@ impl<'a> Desk<'a> {
         ensures kept { asked self.new ≡ asked self.old }
         ensures all { result ≡ Pumped.All → waiting_at self.new ≡ [] }
         ensures full { result ≡ Pumped.Full → 0 < length (waiting_at self.new) }
-        ensures spent { result ≡ Pumped.Spent → length (submitted_at self.new) ≡ limit_of (desk_queue self.new) }
-        ensures queue { desk_queue self.new ≡ desk_queue self.old }
+        ensures spent { result ≡ Pumped.Spent → length (submitted_at self.new) ≡ limit_of (sender_queue self.new) }
+        ensures queue { sender_queue self.new ≡ sender_queue self.old }
     {
         pump(rt, self.queue, &mut self.seat, &mut self.waiting)
     }
@@ -99,16 +99,9 @@ impl<'a> Desk<'a> {
         self.waiting.is_empty()
     }
 
-    /// Gives the seat up. What still waits is dropped.
-    pub fn finish(self) -> Finished
-        ensures { IsFinishedOf (desk_queue self.entry) result }
-    {
-        self.seat.finish()
-    }
-
     /// Gives the seat up, with what still waits.
     pub fn into_parts(self) -> (Finished, VecDeque<Order>)
-        ensures fits { IsFinishedOf (desk_queue self.entry) result.0 }
+        ensures fits { IsFinishedOf (sender_queue self.entry) result.0 }
         ensures waits { result.1.items ≡ waiting_at self.entry }
         ensures all { asked self.entry ≡ orders (all_sent result.0) ++ result.1.items }
     {

@@ -58,22 +58,22 @@ impl TakerBell {
 
 /// A taker with its queue.
 #[derive(Drop)]
-pub struct Inbox<'a> {
+pub struct EventReceiver<'a> {
     queue: &'a EventQueue,
     taker: Taker,
     pub ghost fits: { taker.queue ≡ queue.now.id },
 }
 
-impl<'a> Inbox<'a> {
-    ghost use Rattle.enet_bridge.specs.Holding.{inbox_queue, taker_of, received, FoundNone};
+impl<'a> EventReceiver<'a> {
+    ghost use Rattle.enet_bridge.specs.Holding.{receiver_queue, taker_of, received, FoundNone};
 
-    /// An inbox of this queue.
-    pub fn new(queue: &'a EventQueue, taker: Taker) -> Inbox<'a>
+    /// An event receiver of this queue.
+    pub fn new(queue: &'a EventQueue, taker: Taker) -> EventReceiver<'a>
         requires { taker.queue ≡ queue.now.id }
         ensures taker { taker_of result ≡ taker }
-        ensures queue { inbox_queue result ≡ queue.now }
+        ensures queue { receiver_queue result ≡ queue.now }
     {
-        Inbox { queue, taker }
+        EventReceiver { queue, taker }
     }
 
     /// The oldest event of the queue, None where it was empty at a moment of the call.
@@ -81,7 +81,7 @@ impl<'a> Inbox<'a> {
         ensures taken { IfSome result (λ x. received self.new ≡ received self.old ++ x ∷ []) }
         ensures none { IfNone result (received self.new ≡ received self.old) }
         ensures empty { IfNone result (FoundNone self.new) }
-        ensures queue { inbox_queue self.new ≡ inbox_queue self.old }
+        ensures queue { receiver_queue self.new ≡ receiver_queue self.old }
     {
         self.queue.take(rt, &mut self.taker)
     }
@@ -89,7 +89,7 @@ impl<'a> Inbox<'a> {
     /// The taker, by which the queue is settled.
     pub fn into_taker(self) -> Taker
         ensures taker { result ≡ taker_of self.entry }
-        ensures fits { result.queue ≡ (inbox_queue self.entry).id }
+        ensures fits { result.queue ≡ (receiver_queue self.entry).id }
     {
         self.taker
     }

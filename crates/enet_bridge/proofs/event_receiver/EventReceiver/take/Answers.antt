@@ -2,7 +2,7 @@ use Rattle.std.proofs.Common.{◌≡◌, ℕ, List, Option, Some, None, IfNone, 
 use Rattle.crossbeam_queue.specs.Fifo.{Held}
 use Rattle.enet_events.specs.declared.numbered.Numbered.{Numbered}
 use Rattle.enet_events.specs.Words.{QueueId, TakerState, TakerFits}
-use Rattle.enet_bridge.proofs.inbox.Inbox.take.Goals as goal
+use Rattle.enet_bridge.proofs.event_receiver.EventReceiver.take.Goals as goal
 
 abbrev SawNone : TakerState → Type 0
 SawNone taker = Held 0 (λ held. (posted : List Numbered) × TakerFits taker posted held)
