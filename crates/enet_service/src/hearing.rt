@@ -5,13 +5,13 @@ ghost use Rattle.enet_bridge.specs.Wires.{also, unless_spent};
 ghost use Rattle.enet_service.specs.Phases.{HearsAll};
 ghost use Rattle.enet_service.specs.Counts.{came_in, count_of};
 
-use crate::MOST;
+use crate::MOST_PER_TURN;
 use crate::host::Core;
 use enet_bridge::Wire;
 
 /// How many datagrams came, and whether the wire failed then.
 #[derive(Clone, Copy)]
-pub struct Heard {
+pub(crate) struct Heard {
     pub received: u32,
     pub failed: bool,
 }
@@ -24,7 +24,7 @@ pub(crate) fn hear_all<H: Core, W: Wire>(host: &mut H, wire: &mut W) -> Heard
 {
     let mut buf = [0u8; 4096];
     let mut received = 0u32;
-    for _turn in 0..MOST {
+    for _turn in 0..MOST_PER_TURN {
         match wire.recv(&mut buf) {
             Ok(Some((from, len))) => {
                 host.receive(from, &buf[..len]);

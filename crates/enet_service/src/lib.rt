@@ -34,7 +34,6 @@ mod settling;
 mod shift;
 mod station;
 mod telling;
-mod turn;
 mod turning;
 mod watch;
 mod watched;
@@ -45,19 +44,14 @@ pub use enet_bridge::{
     QueueSink, QueueSource, Sink, Source, Step, TakerBell, Told, Unopened, Wire,
 };
 pub use enet_host::HostCore;
-pub use hearing::{Heard, hear_all};
 pub use host::Core;
-pub use orders::take_orders;
 pub use queues::{Ends, Queues};
 pub use report::{Fault, Report};
 pub use running::run;
-pub use sending::{Sent, send_all};
-pub use service::Service;
+pub use service::{MOST_PER_TURN, Service};
 pub use settling::{Returned, settle};
 pub use shift::Shift;
 pub use station::Station;
-pub use telling::{offer, offer_again, tell_all};
-pub use turn::MOST;
 pub use turning::{Shared, Signals, beside_turns};
 pub use watch::{Unwatched, Watch};
 pub use watched::{Met, Note, WatchedHost};

@@ -5,7 +5,7 @@ ghost use Rattle.enet_submit.specs.declared.order.Submission.{Submission as Item
 ghost use Rattle.enet_service.specs.Phases.{Chain, CarriesOut, Orders};
 ghost use Rattle.enet_service.specs.Counts.{taken_in, given_in};
 
-use crate::MOST;
+use crate::MOST_PER_TURN;
 use crate::host::Core;
 use crate::telling::offer;
 use enet_bridge::{Sink, Source};
@@ -51,7 +51,7 @@ pub(crate) fn take_orders<H: Core, S: Source, K: Sink, R: Wait>(
 {
     let mut orders = 0u32;
     let mut events = 0u32;
-    for _turn in 0..MOST {
+    for _turn in 0..MOST_PER_TURN {
         if waiting.is_some() {
             return (orders, events);
         }

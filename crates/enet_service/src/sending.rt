@@ -5,13 +5,13 @@ ghost use Rattle.enet_bridge.specs.Wires.{also, unless_spent};
 ghost use Rattle.enet_service.specs.Phases.{SendsAll};
 ghost use Rattle.enet_service.specs.Counts.{went_in, blocked_in, count_of};
 
-use crate::MOST;
+use crate::MOST_PER_TURN;
 use crate::host::Core;
 use enet_bridge::Wire;
 
 /// How many datagrams were sent and lost, and whether the wire failed then.
 #[derive(Clone, Copy)]
-pub struct Sent {
+pub(crate) struct Sent {
     pub sent: u32,
     pub lost: u32,
     pub failed: bool,
@@ -26,7 +26,7 @@ pub(crate) fn send_all<H: Core, W: Wire>(host: &mut H, wire: &mut W) -> Sent
 {
     let mut buf = [0u8; 4096];
     let mut sent = 0u32;
-    for _turn in 0..MOST {
+    for _turn in 0..MOST_PER_TURN {
         match host.emit(&mut buf) {
             Some((to, len)) => match wire.send(to, &buf[..len]) {
                 Ok(true) => sent += 1,
