@@ -26,6 +26,7 @@ where
         channels: options.channels,
         room: options.room,
     };
+    // Where no thread can be made, a join does its parts one after the other: nothing would be relayed until the shift is over.
     if thread::spawn(rt, || ()).is_err() {
         return Err(Failure::NoThread);
     }
