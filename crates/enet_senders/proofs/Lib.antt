@@ -1,2 +1,3 @@
 pub mod Frames
 pub mod Each
+pub mod Quieting

@@ -8,6 +8,7 @@
 //! Only tested, by `check_peer`: that calls succeed with ample memory, and worked rows.
 #![tactic(auto)]
 
+mod quiet;
 mod senders;
 
 pub use senders::Senders;
