@@ -1,8 +1,9 @@
 -- How long surely nothing is late, as the senders change.
-use Rattle.std.proofs.Common.{◌≡◌, ℕ, zero, suc, ◌+◌, ◌-◌, ◌^◌, ◌<◌, ◌≤◌, min, Bool, true, false, not, ◌&&◌, ◌||◌, cond, List, [], ◌∷◌, ◌++◌, length, map, take, drop, get_or, Option, Some, None, Result, Ok, Err, OnOk, IfErr, refl, sym, ap, subst, ◌∙◌, arith, All}
+use Rattle.std.proofs.Common.{◌≡◌, ◌≢◌, ℕ, zero, suc, ◌+◌, ◌-◌, ◌^◌, ◌<◌, ◌≤◌, min, Bool, true, false, ◌||◌, cond, ◌==◌, List, [], ◌∷◌, ◌++◌, length, map, take, drop, get_or, Option, Some, None, Result, Ok, Err, OnOk, IfErr, refl, sym, ap, subst, ◌∙◌, arith, All}
 use Rattle.std.specs.List.{position, remove, slice_get, slice_set, list_any, range_with_len}
 use Rattle.std.proofs.lemmas.Bool.{lt-ltb, ltb-true, lt-leb}
-use Rattle.std.proofs.lemmas.List.Elements.{All-nil, All-cons, All-push, All-set, All-append, All-take, All-drop, All-map, All-get_or}
+use Rattle.std.proofs.lemmas.Bool.Decides.{nat_tests}
+use Rattle.std.proofs.lemmas.List.Elements.{All-nil, All-cons, All-push, All-set, All-append, All-take, All-drop}
 use Rattle.std.proofs.lemmas.List.Folds.{list_any_none}
 use Rattle.enet_seq.specs.Numbering.{Numbering, wire}
 use Rattle.enet_rtt.specs.Clock.{elapsed_time}
@@ -11,12 +12,13 @@ use Rattle.enet_rtt.specs.declared.transmission.Transmission.{Transmission}
 use Rattle.enet_fragment.specs.declared.data.DataCommand.{DataCommand}
 use Rattle.enet_sender.specs.declared.sent.Sent.{Sent}
 use Rattle.enet_sender.specs.declared.outgoing.Due.{Due}
+use Rattle.enet_sender.specs.declared.outgoing.Kind.{Kind}
 use Rattle.enet_sender.specs.declared.outgoing.Due.TheVariants as due
 use Rattle.enet_sender.specs.Sender.{Sender, Next, begun, again, marked, is_late, without_place, position_of, next, next_of, next_queued, next_resent, may_go, first_sent, resent}
 use Rattle.enet_sender.specs.Due.{SendingEnd, Did, new_end, with_submitted}
 use Rattle.enet_senders.specs.declared.quiet.Quiet.{Quiet}
-use Rattle.enet_senders.specs.Senders.{marked_end, cleared_end}
-use Rattle.enet_senders.specs.Quiets.{covers, after_send, found_quiet, FitsQuiet, IsQuiet, AreQuiet, AllQuiet}
+use Rattle.enet_senders.specs.Senders.{marked_end}
+use Rattle.enet_senders.specs.Quiets.{new_quiet, covers, after_send, found_quiet, FitsQuiet, IsQuiet, AreQuiet, AllQuiet}
 
 -- a moment that is left is one of the whole, and less than the least wait past the send
 left-before : (q : Quiet) (now timeout later : ℕ) → FitsQuiet q → now < 2 ^ 32 → later < 2 ^ 32 → covers (after_send q now timeout) later ≡ true
@@ -162,6 +164,15 @@ quiet-due q now timeout transit most es new i result from at to fits low inside 
     others due.NoRoom = h
     others due.Nothing = h
 
+-- nothing was sent: the bound stays
+pub quiet-unsent : (q : Quiet) (now timeout transit most : ℕ) (es new : List SendingEnd) (i : ℕ) (result : Due) (from : List ℕ) (at : ℕ) (to : List ℕ) → FitsQuiet q → now < 2 ^ 32 → i < length es
+    → ((past : ℕ) (added : ℕ) (kind : Kind) → result ≢ due.Sent past added kind)
+    → ((s : SendingEnd) → slice_get es i ≡ Some s → (t : SendingEnd) × ((new ≡ slice_set es i t) × Did (next wire now timeout transit most s.sender) result s t from at to))
+    → AllQuiet q es → AllQuiet q new
+quiet-unsent q now timeout transit most es new i (due.Sent past added kind) from at to fits low inside unsent did h = absurd (unsent past added kind refl)
+quiet-unsent q now timeout transit most es new i due.NoRoom from at to fits low inside unsent did h = quiet-due q now timeout transit most es new i due.NoRoom from at to fits low inside did h
+quiet-unsent q now timeout transit most es new i due.Nothing from at to fits low inside unsent did h = quiet-due q now timeout transit most es new i due.Nothing from at to fits low inside did h
+
 -- one channel's sent commands become fewer, or stay
 pub quiet-fewer : (q : Quiet) (es new : List SendingEnd) (i : ℕ) (f : SendingEnd → SendingEnd) → i < length es → ((s : SendingEnd) → slice_get es i ≡ Some s → new ≡ slice_set es i (f s))
     → ((s : SendingEnd) → AreQuiet q s.sender.sent → AreQuiet q (f s).sender.sent) → AllQuiet q es → AllQuiet q new
@@ -225,3 +236,25 @@ quiet-found q now wait es none h = λ k d inside j x within. record {
       none-all (is_late later) (get_or es k d).sender.sent (none-all (λ (s : SendingEnd). list_any (is_late later) s.sender.sent) es (none later low (ltb-true _ _ e)) k d inside) j x within;
   waits = (h k d inside j x within).waits;
 }
+
+-- the numbers of what comes of it fit too
+pub fits-new : FitsQuiet new_quiet
+fits-new = record { from = omega arith; len = omega arith; least = omega arith }
+
+pub fits-after : (q : Quiet) (now timeout : ℕ) → now < 2 ^ 32 → FitsQuiet q → FitsQuiet (after_send q now timeout)
+fits-after q now timeout low fits = record {
+  from = low;
+  len = let len = fits.len in omega arith;
+  least = let least = fits.least in omega arith;
+}
+
+pub fits-found : (q : Quiet) (now wait : ℕ) → now < 2 ^ 32 → wait < 2 ^ 32 → FitsQuiet q → FitsQuiet (found_quiet q now wait)
+fits-found q now wait low short fits = record { from = low; len = short; least = fits.least }
+
+-- something is late exactly where the wait for it is 0
+pub late-found : (wait : ℕ) (late : Bool) → (wait ≡ 0 → late ≡ true) → (0 < wait → late ≡ false) → (wait == 0) ≡ late
+late-found wait late none some = by (wait == 0) refl
+  where
+    by : (b : Bool) → (wait == 0) ≡ b → b ≡ late
+    by true e = sym (none (grind (arith, nat_tests)))
+    by false e = sym (some (grind (arith, nat_tests)))

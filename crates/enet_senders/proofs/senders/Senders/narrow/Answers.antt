@@ -1,4 +1,4 @@
-use Rattle.std.proofs.Common.{List, take, sym, subst}
+use Rattle.std.proofs.Common.{List, sym, subst}
 use Rattle.std.proofs.lemmas.List.Elements.{All-take}
 use Rattle.enet_sender.specs.Due.{SendingEnd}
 use Rattle.enet_senders.specs.Quiets.{AreQuiet, AllQuiet}
