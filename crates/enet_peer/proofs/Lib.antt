@@ -8,3 +8,4 @@ pub mod Places
 pub mod Unmatched
 pub mod Steps
 pub mod Each
+pub mod Calm

@@ -15,7 +15,7 @@ use Rattle.enet_fragment.specs.Cutting.{piece_count}
 use Rattle.enet_sender.specs.CommandChoice.{Packet, fragment_limit}
 use Rattle.enet_outbox.specs.declared.parts.Pace.{Pace}
 use Rattle.enet_outbox.specs.declared.parts.Destination.{Destination}
-use Rattle.enet_outbox.specs.Outbox.{Outbox, is_quiet, with_control, lateness, marked}
+use Rattle.enet_outbox.specs.Outbox.{Outbox, is_quiet, with_control, has_late, lateness, marked}
 use Rattle.enet_outbox.specs.Outbox as outbox
 use Rattle.enet_outbox.specs.Emission.{Emits}
 use Rattle.enet_peer.specs.declared.parts.PeerState.{PeerState}
@@ -128,6 +128,10 @@ is_pinged p now = is_connected p.state && is_quiet p.outbox && nat_le p.ping_int
 
 abbrev pub pinged : Peering → ℕ → Peering
 pinged p now = if is_pinged p now then record p { outbox = with_control p.outbox control.Ping } else p
+
+-- whether a moment brings a peer anything: a sent command that waited out its timeout, or a ping
+abbrev pub is_due : Peering → ℕ → Bool
+is_due p now = has_late p.outbox now || is_pinged p now
 
 -- time has come to now
 abbrev pub ticked : Peering → ℕ → Peering

@@ -1,8 +1,9 @@
 //! What a moment brings.
 
-ghost use Rattle.std.specs.Prelude.{◌≡◌, ◌≤◌, IsTrue};
+ghost use Rattle.std.specs.Prelude.{◌≡◌, ℕ, ◌≤◌, ◌<◌, ◌^◌, IsTrue};
+ghost use Rattle.enet_rtt.specs.Clock.{elapsed_time, HappensIn};
 ghost use Rattle.enet_peer.specs.Endings.{cut_off};
-ghost use Rattle.enet_peer.specs.Calls.{after_timeouts, is_pinged, pinged, ticked};
+ghost use Rattle.enet_peer.specs.Calls.{after_timeouts, is_due, is_pinged, pinged, ticked};
 
 use crate::{Peer, PeerState};
 use enet_rtt::{Expiry, elapsed};
@@ -18,6 +19,27 @@ impl Peer {
     {
         self.time_out(now);
         self.ping(now);
+    }
+
+    /// In how many milliseconds after the moment `now` time brings the peer anything: a sent command that has waited out its
+    /// timeout, or a ping. A tick before that changes nothing. 0 where a tick at `now` brings something, and 4,294,967,295
+    /// where time alone brings nothing.
+    pub fn due_in(&self, now: u32) -> u32
+        ensures due { HappensIn (is_due self.now.peer) now result }
+        ensures calm { (later : ℕ) → later < 2 ^ 32 → elapsed_time later now < result → ticked self.now.peer later ≡ self.now.peer }
+    {
+        let late = self.outbox.next_late(now);
+        late.min(self.pinged_in(now))
+    }
+
+    /// In how many milliseconds after the moment `now` a PING is wanted, if nothing comes before that.
+    fn pinged_in(&self, now: u32) -> u32
+        ensures { HappensIn (is_pinged self.now.peer) now result }
+    {
+        if !self.is_connected() || !self.outbox.is_quiet() {
+            return u32::MAX;
+        }
+        self.ping_interval.saturating_sub(elapsed(now, self.heard))
     }
 
     /// Marks what waited out its timeout, or ends a peer whose patience is over.

@@ -1,5 +1,5 @@
 -- The clock counts milliseconds modulo 2^32.
-use Rattle.std.specs.Prelude.{◌≡◌, ℕ, ◌+◌, ◌-◌, ◌%◌, ◌^◌, ◌<◌, ◌≤◌, ◌↔◌, max}
+use Rattle.std.specs.Prelude.{◌≡◌, ℕ, ◌+◌, ◌-◌, ◌%◌, ◌^◌, ◌<◌, ◌≤◌, ◌↔◌, max, Bool, true, false}
 
 -- From the moment `since` until now.
 abbrev pub elapsed_time : ℕ → ℕ → ℕ
@@ -22,3 +22,9 @@ ShowsElapsedTime = (since now : ℕ) → since ≤ now → now < since + 2 ^ 32 
 abbrev pub TellsEarlier : Type 0
 TellsEarlier =
     (a b : ℕ) → a < b + 86400000 → b < a + 86400000 → IsEarlier (a % 2 ^ 32) (b % 2 ^ 32) ↔ (a < b)
+
+-- From the moment `now` on it first happens after so many milliseconds: at no moment before, and then. The greatest number of 32
+-- bits says no more than that it does not happen before.
+pub record HappensIn (happens : ℕ → Bool) (now wait : ℕ) : Type 0 where
+  pub before : (later : ℕ) → later < 2 ^ 32 → elapsed_time later now < wait → happens later ≡ false
+  pub first : wait < 4294967295 → (later : ℕ) → later < 2 ^ 32 → elapsed_time later now ≡ wait → happens later ≡ true

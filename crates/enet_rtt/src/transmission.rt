@@ -1,6 +1,7 @@
 //! How a command is sent, and sent again, until it is acknowledged.
 
-ghost use Rattle.std.specs.Prelude.{◌≡◌};
+ghost use Rattle.std.specs.Prelude.{◌≡◌, ℕ};
+ghost use Rattle.enet_rtt.specs.Clock.{HappensIn};
 ghost use Rattle.enet_rtt.specs.Transmission.{begun, again, is_late, ends, marked};
 
 use crate::clock::elapsed;
@@ -49,6 +50,16 @@ impl Transmission {
         ensures { result ≡ is_late now self.now }
     {
         !self.due && elapsed(now, self.last) >= self.timeout
+    }
+
+    /// In how many milliseconds after the time `now` it is late: 0 where it is; 4,294,967,295 where it is due to go again.
+    pub fn next_late(&self, now: u32) -> u32
+        ensures { HappensIn (λ (later : ℕ). is_late later self.now) now result }
+    {
+        if self.due {
+            return u32::MAX;
+        }
+        self.timeout.saturating_sub(elapsed(now, self.last))
     }
 
     /// Whether it is late at the time `now`, and the peer has timed out over it by `patience` (our profile).

@@ -13,4 +13,3 @@ pub mod Submitting
 pub mod Piecing
 pub mod Skipping
 pub mod Rounds
-pub mod Waits

@@ -1,12 +1,13 @@
 //! The sender of channel 0xFF.
 
-ghost use Rattle.std.specs.Prelude.{◌≡◌, ◌+◌, ◌<◌, ◌≤◌, nat_lt, false, IsTrue, IfOk, IfErr, IfNone, OnOk, OnErr, length, slice_get};
+ghost use Rattle.std.specs.Prelude.{◌≡◌, ℕ, ◌+◌, ◌<◌, ◌≤◌, nat_lt, false, IsTrue, IfOk, IfErr, IfNone, OnOk, OnErr, length, slice_get};
 ghost use Rattle.std.specs.List.{list_any};
+ghost use Rattle.enet_rtt.specs.Clock.{HappensIn};
 ghost use Rattle.enet_senders.specs.Controlling.{after_acknowledgement, acknowledged_control, after_lateness, cleared, Did, is_idle, lateness, next, next_queued, next_resent, nothing_controlled, ends, is_late, with_marked, with_queued};
 
 use crate::queue::{
-    any_ends, any_late, is_in_span, lateness, make_room, mark, position_of, position_of_due, put,
-    send_again, send_head,
+    any_ends, any_late, is_in_span, lateness, make_room, mark, next_late, position_of,
+    position_of_due, put, send_again, send_head,
 };
 use crate::{Control, Numbered, SentControl};
 use enet_codec::Refusal;
@@ -204,6 +205,14 @@ impl ControlChannel {
         ensures { result ≡ list_any (is_late now) self.now.commands.sent }
     {
         any_late(&self.sent, now)
+    }
+
+    /// In how many milliseconds after the moment `now` a sent command has waited out its timeout first, of those that are not
+    /// due to go again already: 0 where one has, and 4,294,967,295 where none waits.
+    pub fn next_late(&self, now: u32) -> u32
+        ensures { HappensIn (λ (later : ℕ). list_any (is_late later) self.now.commands.sent) now result }
+    {
+        next_late(&self.sent, now)
     }
 
     /// Each sent command that has waited out its timeout at the moment `now` is due to go again, and waits twice as long

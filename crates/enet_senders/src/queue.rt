@@ -1,10 +1,11 @@
 //! What is queued and what is sent.
 
-ghost use Rattle.std.specs.Prelude.{◌≡◌, ◌+◌, ◌<◌, ◌≤◌, List, ◌∷◌, [], ◌++◌, IsTrue, IfSome, IfNone, false, if◌then◌else◌, length, drop, slice_get, slice_set, Some, map};
+ghost use Rattle.std.specs.Prelude.{◌≡◌, ℕ, ◌+◌, ◌<◌, ◌≤◌, List, ◌∷◌, [], ◌++◌, IsTrue, IfSome, IfNone, false, if◌then◌else◌, length, drop, slice_get, slice_set, Some, map};
 ghost use Rattle.std.specs.List.{position, list_any};
 ghost use Rattle.std.specs.VecDeque.{deque_len, deque_capacity};
 ghost use Rattle.enet_codec.specs.Message.{IsMessage, canonical};
 ghost use Rattle.enet_codec.specs.Writing.{Puts};
+ghost use Rattle.enet_rtt.specs.Clock.{HappensIn};
 ghost use Rattle.enet_senders.specs.declared.control.Numbered.{Numbered};
 ghost use Rattle.enet_senders.specs.declared.control.SentControl.{SentControl};
 ghost use Rattle.enet_senders.specs.Controlling.{Commands, again, begun, ends, is_in_span, is_late, is_reliable, lateness, marked, message_of, position_of};
@@ -144,6 +145,18 @@ pub fn any_late(sent: &VecDeque<SentControl>, now: u32) -> bool
     ensures { result ≡ list_any (is_late now) sent.now.items }
 {
     sent.iter().any(|sent| sent.transmission.is_late(now))
+}
+
+/// In how many milliseconds after the moment `now` a sent command is late first: 0 where one is.
+pub fn next_late(sent: &VecDeque<SentControl>, now: u32) -> u32
+    ensures { HappensIn (λ (later : ℕ). list_any (is_late later) sent.now.items) now result }
+{
+    let mut wait = u32::MAX;
+    for place in 0..sent.len() {
+        let command = &sent[place];
+        wait = wait.min(command.transmission.next_late(now));
+    }
+    wait
 }
 
 /// Marks all that is late as due to go again.

@@ -2,7 +2,7 @@
 
 ghost use Rattle.std.specs.Prelude.{◌≡◌, ℕ, ◌^◌, true, false, ◌⊎◌, ◌↔◌, ◌<◌, ◌≤◌, OnOk, IfOk, IfErr, IsErrAnd, Some, [], not, length, map, take, slice_get, slice_set};
 ghost use Rattle.std.specs.List.{range_with_len, list_all, list_any};
-ghost use Rattle.enet_rtt.specs.Clock.{elapsed_time};
+ghost use Rattle.enet_rtt.specs.Clock.{HappensIn};
 ghost use Rattle.enet_seq.specs.Numbering.{wire};
 ghost use Rattle.enet_fragment.specs.Cutting.{piece_count};
 ghost use Rattle.enet_sender.specs.CommandChoice.{fragment_limit};
@@ -181,10 +181,9 @@ fn any_ends(channels: &[Outgoing], pending: &Pending, now: u32, patience: &Patie
         .any(|channel| channel.ends(pending, now, patience))
 }
 
-/// In how many milliseconds after the moment `now` a sent command of a channel can be late at the earliest: 0 where one is.
+/// In how many milliseconds after the moment `now` a sent command of a channel is late first: 0 where one is.
 fn next_late(channels: &[Outgoing], pending: &Pending, now: u32) -> u32
-    ensures late { result ≡ 0 → list_any (λ (s : SendingEnd). list_any (is_late now) s.sender.sent) (ends_in pending.now channels.now) ≡ true }
-    ensures calm { (later : ℕ) → later < 2 ^ 32 → elapsed_time later now < result → list_any (λ (s : SendingEnd). list_any (is_late later) s.sender.sent) (ends_in pending.now channels.now) ≡ false }
+    ensures { HappensIn (λ (later : ℕ). list_any (λ (s : SendingEnd). list_any (is_late later) s.sender.sent) (ends_in pending.now channels.now)) now result }
 {
     let mut wait = u32::MAX;
     for place in 0..channels.len() {
@@ -364,6 +363,14 @@ impl Senders {
         let wait = next_late(&self.channels, &self.pending, now);
         self.quiet = self.quiet.found(now, wait);
         wait == 0
+    }
+
+    /// In how many milliseconds after the moment `now` a sent command of a channel has waited out its timeout first, of those
+    /// that are not due to go again already: 0 where one has, and 4,294,967,295 where none waits.
+    pub fn next_late(&self, now: u32) -> u32
+        ensures { HappensIn (λ (later : ℕ). list_any (λ (s : SendingEnd). list_any (is_late later) s.sender.sent) self.now) now result }
+    {
+        next_late(&self.channels, &self.pending, now)
     }
 
     /// All that is late at the moment `now`, in milliseconds, is due to go again, and waits twice as long then.

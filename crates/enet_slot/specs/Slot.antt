@@ -1,10 +1,11 @@
 -- A slot, which holds a peer or is free.
-use Rattle.std.specs.Prelude.{ℕ, ◌+◌, min, Option, Some, None}
+use Rattle.std.specs.Prelude.{ℕ, ◌+◌, min, Bool, false, Option, Some, None}
 use Rattle.enet_codec.specs.declared.address.Addr.{Addr}
 use Rattle.enet_codec.specs.declared.event.PeerRef.{PeerRef}
 use Rattle.enet_peer.specs.declared.parts.PeerState.{PeerState}
 use Rattle.enet_peer.specs.declared.parts.PeerState.TheVariants as state
 use Rattle.enet_peer.specs.Peering.{Peering}
+use Rattle.enet_peer.specs.Calls as peers
 
 -- a slot, which holds a peer or is free
 pub record SlotState : Type 0 where
@@ -48,3 +49,11 @@ changed change s = with_changed change s s.peer
 -- how the peer of a slot is named
 abbrev pub name_of : ℕ → SlotState → PeerRef
 name_of i s = record { slot = i; generation = s.generation }
+
+-- whether a moment brings the peer of a slot anything
+abbrev pub is_due_in : Option Peering → ℕ → Bool
+is_due_in None now = false
+is_due_in (Some p) now = peers.is_due p now
+
+abbrev pub is_due : ℕ → SlotState → Bool
+is_due now s = is_due_in s.peer now

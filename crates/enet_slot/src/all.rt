@@ -1,12 +1,13 @@
 //! The slots of a host: which can be given out, whether one holds a connection, what a moment brings to all of them, and what the
 //! host's bandwidths do to them.
 
-ghost use Rattle.std.specs.Prelude.{◌≡◌, ◌<◌, ◌≤◌, true, map, replicate, length, All, OnOk, OnErr, IfOk, IfErr, IfSome};
+ghost use Rattle.std.specs.Prelude.{◌≡◌, ℕ, ◌<◌, ◌≤◌, true, map, replicate, length, All, OnOk, OnErr, IfOk, IfErr, IfSome};
 ghost use Rattle.std.specs.List.{count_by, list_any, position};
 ghost use Rattle.enet_codec.specs.Config.{is_in_range};
+ghost use Rattle.enet_rtt.specs.Clock.{HappensIn};
 ghost use Rattle.enet_peer.specs.Peering.{Peering};
 ghost use Rattle.enet_peer.specs.Calls as peers;
-ghost use Rattle.enet_slot.specs.Slot.{changed};
+ghost use Rattle.enet_slot.specs.Slot.{changed, is_due};
 ghost use Rattle.enet_slot.specs.Giving.{unused_slot, joined_slots, is_available};
 ghost use Rattle.enet_slot.specs.Hearing.{is_connection};
 ghost use Rattle.enet_slot.specs.Sharing.{is_standing, wants_room, shared};
@@ -80,6 +81,19 @@ pub fn tick_all(slots: &mut Vec<Slot>, now: u32)
     for place in 0..slots.len() {
         slots[place].tick(now);
     }
+}
+
+/// In how many milliseconds after the moment `now` time brings a peer of the slots anything first; 4,294,967,295 where it brings
+/// none anything.
+pub fn next_due(slots: &[Slot], now: u32) -> u32
+    ensures { HappensIn (λ (later : ℕ). list_any (is_due later) (all_shown slots.now)) now result }
+{
+    let mut wait = u32::MAX;
+    for place in 0..slots.len() {
+        let slot = &slots[place];
+        wait = wait.min(slot.due_in(now));
+    }
+    wait
 }
 
 /// How many connections stand.

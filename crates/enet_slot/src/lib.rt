@@ -6,7 +6,8 @@
 //! and has the next generation (`vacated`). `ask` and `answer` give it to a peer (`asking`, `answering`). The tests of `refused_by`, in
 //! their order, say which datagrams it takes in, and `is_available` says whether it can be given out. Want of memory changes nothing.
 //! Over all slots of a host: `unused_slots` and `joined_slots` make them, `first_available` and `any_is_connection` look for one,
-//! and `tick_all`, `set_bandwidth` (`changed`) and `share_out` (`shared`) are one change on each.
+//! `tick_all`, `set_bandwidth` (`changed`) and `share_out` (`shared`) are one change on each, and `next_due` says in how many
+//! milliseconds time brings any of their peers something.
 //! Only tested, with the host's calls by `check_hosts`: that calls succeed with ample memory.
 #![tactic(auto)]
 
@@ -20,7 +21,7 @@ mod sharing;
 mod slot;
 
 pub use all::{
-    any_is_connection, first_available, joined_slots, set_bandwidth, share_out, tick_all,
+    any_is_connection, first_available, joined_slots, next_due, set_bandwidth, share_out, tick_all,
     unused_slots,
 };
 pub use calls::Setting;

@@ -1,9 +1,10 @@
 //! What a moment brings to a slot, and what its host's bandwidths do to it.
 
-ghost use Rattle.std.specs.Prelude.{◌≡◌, true, OnOk, OnErr, IfErr};
+ghost use Rattle.std.specs.Prelude.{◌≡◌, ℕ, true, OnOk, OnErr, IfErr};
+ghost use Rattle.enet_rtt.specs.Clock.{HappensIn};
 ghost use Rattle.enet_peer.specs.Peering.{Peering};
 ghost use Rattle.enet_peer.specs.Calls as peers;
-ghost use Rattle.enet_slot.specs.Slot.{changed};
+ghost use Rattle.enet_slot.specs.Slot.{changed, is_due};
 ghost use Rattle.enet_slot.specs.Sharing.{is_standing, wants_room, shared};
 ghost use Rattle.enet_slot.specs.Slotted.{HasRoom};
 
@@ -20,6 +21,16 @@ impl Slot {
         if let Some(peer) = &mut self.peer {
             peer.tick(now);
             self.let_go();
+        }
+    }
+
+    /// In how many milliseconds after the moment `now` time brings its peer anything; 4,294,967,295 where it brings nothing.
+    pub(crate) fn due_in(&self, now: u32) -> u32
+        ensures { HappensIn (λ (later : ℕ). is_due later self.now.slot) now result }
+    {
+        match &self.peer {
+            Some(peer) => peer.due_in(now),
+            None => u32::MAX,
         }
     }
 

@@ -25,13 +25,13 @@ invariant_of-self c =
       quiet = subst (λ (r : Quiet). AllQuiet r (ends_in c.self.inside.pending c.self.inside.channels.items)) found
           (quiet-found q c.args.now wait (ends_in c.self.inside.pending c.self.inside.channels.items)
           (λ later low less.
-          ap (λ (os : List Outgoing). list_any (λ (s : SendingEnd). list_any (is_late later) s.sender.sent) (ends_in c.self.inside.pending os)) (sym c.deref.ensures.value) ∙ c.next_late-wait.ensures.calm later low less)
+          ap (λ (os : List Outgoing). list_any (λ (s : SendingEnd). list_any (is_late later) s.sender.sent) (ends_in c.self.inside.pending os)) (sym c.deref.ensures.value) ∙ c.next_late-wait.ensures.before later low less)
           c.self.invariant.quiet);
     }
 
 pub returns-clause-found : goal.returns-clause-found
 returns-clause-found c =
     let has : List SendingEnd → Bool = list_any (λ (s : SendingEnd). list_any (is_late c.args.now) s.sender.sent) in
-    late-found c.next_late-wait.result (has (ends_in c.self.inside.pending c.deref.result.now)) c.next_late-wait.ensures.late
-    (λ some. c.next_late-wait.ensures.calm c.args.now (omega (arith, c.ranges.now.fits)) (omega (arith, c.ranges.now.fits)))
+    late-found c.next_late-wait.result (has (ends_in c.self.inside.pending c.deref.result.now)) (λ none. c.next_late-wait.ensures.first (omega arith) c.args.now (omega (arith, c.ranges.now.fits)) (omega (arith, c.ranges.now.fits)))
+    (λ some. c.next_late-wait.ensures.before c.args.now (omega (arith, c.ranges.now.fits)) (omega (arith, c.ranges.now.fits)))
     ∙ ap has (ap (λ (os : List Outgoing). ends_in c.self.inside.pending os) c.deref.ensures.value ∙ c.self.view_is)

@@ -1,0 +1,21 @@
+-- A moment that brings a peer nothing.
+use Rattle.std.proofs.Common.{◌≡◌, ℕ, Bool, true, false, ◌||◌, if◌then◌else◌, refl, ap, ◌∙◌}
+use Rattle.enet_rtt.specs.declared.expiry.Expiry.{Expiry}
+use Rattle.enet_senders.specs.declared.control.Control.TheVariants as control
+use Rattle.enet_outbox.specs.Outbox.{has_late, with_control}
+use Rattle.enet_outbox.proofs.Lates.{none-late}
+use Rattle.enet_peer.specs.Peering.{Peering}
+use Rattle.enet_peer.specs.Calls.{after_timeouts_by, is_due, is_pinged, pinged, ticked}
+
+neither-left : (b c : Bool) → (b || c) ≡ false → b ≡ false
+neither-left true c e = e
+neither-left false c e = refl
+
+neither-right : (b c : Bool) → (b || c) ≡ false → c ≡ false
+neither-right true c e = absurd (let y : true ≡ false = e in cc)
+neither-right false c e = e
+
+pub nothing-due : (p : Peering) (now : ℕ) → is_due p now ≡ false → ticked p now ≡ p
+nothing-due p now none =
+    ap (λ (e : Expiry). pinged (after_timeouts_by e p now) now) (none-late p.outbox now p.patience (neither-left (has_late p.outbox now) (is_pinged p now) none))
+    ∙ ap (λ (b : Bool). if b then record p { outbox = with_control p.outbox control.Ping } else p) (neither-right (has_late p.outbox now) (is_pinged p now) none)
