@@ -7,3 +7,4 @@ pub mod Serving
 pub mod Telling
 pub mod Holding
 pub mod Foretold
+pub mod Calm

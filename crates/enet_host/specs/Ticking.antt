@@ -1,8 +1,9 @@
 -- Time goes on at a host.
-use Rattle.std.specs.Prelude.{ℕ, ◌+◌, ◌%◌, ◌^◌, Bool, min, nat_le, if◌then◌else◌, map}
-use Rattle.std.specs.List.{count_by}
+use Rattle.std.specs.Prelude.{◌≡◌, ℕ, ◌+◌, ◌%◌, ◌^◌, ◌<◌, ◌≤◌, ◌||◌, Bool, true, min, nat_le, if◌then◌else◌, map}
+use Rattle.std.specs.List.{count_by, list_any}
 use Rattle.enet_rtt.specs.Clock.{elapsed_time}
 use Rattle.enet_peer.specs.Calls as peers
+use Rattle.enet_slot.specs.Slot as slot
 use Rattle.enet_slot.specs.Slot.{changed}
 use Rattle.enet_slot.specs.Sharing.{is_standing, shared}
 use Rattle.enet_host.specs.Host.{Host}
@@ -28,3 +29,13 @@ with_shares h = record h {
 
 abbrev pub ticked : Host → ℕ → Host
 ticked h ms = with_shares (with_time h (clock_after h.clock ms))
+
+-- whether a moment brings the host anything: to a peer, or that its bandwidth is shared out
+abbrev pub brings : Host → ℕ → Bool
+brings h now = list_any (slot.is_due now) h.slots || nat_le 1000 (elapsed_time now h.shared_at)
+
+-- A tick of fewer milliseconds changes nothing but the clock, and one of so many, which are at most 1,000, brings something.
+pub record IsDueIn (h : Host) (ms : ℕ) : Type 0 where
+  pub calm : (fewer : ℕ) → fewer < ms → ticked h fewer ≡ record h { clock = clock_after h.clock fewer }
+  pub due : brings h (clock_after h.clock ms) ≡ true
+  pub within : ms ≤ 1000

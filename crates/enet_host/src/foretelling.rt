@@ -4,13 +4,15 @@ ghost use Rattle.std.specs.Prelude.{◌≡◌, IfSome, IfNone};
 ghost use Rattle.std.specs.Option.{option_copied};
 ghost use Rattle.enet_host.specs.Turns.{HoldsNowhere};
 ghost use Rattle.enet_slot.specs.Calls.{tells};
+ghost use Rattle.enet_host.specs.Ticking.{IsDueIn};
 ghost use Rattle.enet_host.specs.Foretelling.{next_name, teller_of, packet_of, body_of, Foretells, IsTeller};
 
 use crate::events::{first_telling, name_at, packet_of};
-use crate::host::HostCore;
+use crate::host::{HostCore, SHARING_INTERVAL};
 use bytes::Bytes;
 use enet_codec::{Packet, PeerRef};
-use enet_slot::first_available;
+use enet_rtt::elapsed;
+use enet_slot::{first_available, next_due};
 
 impl HostCore {
     /// The name that the next peer gets: that of the lowest slot that is free and has a generation left. None where there is
@@ -20,6 +22,17 @@ impl HostCore {
     {
         let place = first_available(&self.slots, self.start.config.generations)?;
         Some(name_at(&self.slots, place as u16))
+    }
+
+    /// In how many milliseconds time brings the host anything, at most 1,000: a tick of fewer changes its clock alone, and one of
+    /// as many lets something go again, pings or ends a peer, or shares the bandwidth out. So a caller that has put out all that
+    /// is to be sent may sleep so long, unless a datagram comes.
+    pub fn due_in(&self) -> u32
+        ensures { IsDueIn self.now result }
+    {
+        let clock = self.start.clock;
+        let peers = next_due(&self.slots, clock);
+        peers.min(SHARING_INTERVAL.saturating_sub(elapsed(clock, self.shared_at)))
     }
 
     /// The peer whose event `next_event` would give; None where there is none.

@@ -29,7 +29,7 @@ use std::marker::Model;
 const LONGEST_TICK: u32 = 60_000;
 
 /// How many milliseconds pass at least between two moments at which the bandwidth is shared out (our profile).
-const SHARING_INTERVAL: u32 = 1000;
+pub(crate) const SHARING_INTERVAL: u32 = 1000;
 
 /// The clock after so many milliseconds, of which a minute counts at most.
 fn clock_after(clock: u32, ms: u32) -> u32

@@ -11,7 +11,8 @@
 //! (`GivesInTurn`); `next_event` goes by the first slot in turn that has an event (`IsFirst`), and `next_event_of`,
 //! `next_packet` and `next_body` say of the event that it gives whose it is and what it hands out (`Foretells`). `next_peer`
 //! is the name that an accepted connection gets, `submission_refusal` the refusal of `submit` but E1. `tick` and
-//! `set_bandwidth` are one change on each slot; once a second the outgoing bandwidth is shared out among the connected peers.
+//! `set_bandwidth` are one change on each slot; once a second the outgoing bandwidth is shared out among the connected peers. `due_in`
+//! is in how many milliseconds time brings something: a tick of fewer changes the clock alone (`IsDueIn`).
 //! No slot of any host holds a peer that is free (`HostCore::keeps`). Want of memory, of which no clause can say when it comes,
 //! changes nothing.
 //! Only tested, by `check_hosts`: that calls succeed with ample memory, worked scripts, captured files, foreign bytes.

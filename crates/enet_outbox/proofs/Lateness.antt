@@ -1,13 +1,16 @@
 -- What a moment brings, by what it brings to the channels and to channel 0xFF.
-use Rattle.std.proofs.Common.{◌≡◌, ℕ, Bool, true, false, ◌||◌, cond, List, refl, sym, ap, ap₂, ◌∙◌}
+use Rattle.std.proofs.Common.{◌≡◌, ℕ, Bool, true, false, ◌||◌, cond, List, refl, sym, ap, ap₂, ◌∙◌, ◌&&◌, if◌then◌else◌}
 use Rattle.std.specs.List.{list_any}
+use Rattle.enet_rtt.specs.Clock.{elapsed_time}
+use Rattle.enet_rtt.specs.Expiry.{gives_up}
 use Rattle.enet_rtt.specs.declared.expiry.Patience.{Patience}
 use Rattle.enet_rtt.specs.declared.expiry.Expiry.TheVariants.{No, Resend, End}
-use Rattle.enet_control.specs.Controlling as controlling
+use Rattle.enet_senders.specs.Controlling as controlling
+use Rattle.enet_senders.specs.declared.control.SentControl.{SentControl}
 use Rattle.enet_sender.specs.Due.{SendingEnd}
 use Rattle.enet_sender.specs.Sender as sender
 use Rattle.enet_sender.proofs.Rounds.{any-weaker, no-end}
-use Rattle.enet_outbox.specs.Outbox.{Outbox, has_late, lateness}
+use Rattle.enet_outbox.specs.Outbox.{Outbox, has_ended, has_late, lateness}
 
 -- a sent command of a channel is late, or has ended its peer
 abbrev pub any_late : ℕ → List SendingEnd → Bool
@@ -34,3 +37,24 @@ late-there false channels e = sym e
 pub late-elsewhere : (control channels : Bool) → channels ≡ false → control ≡ (control || channels)
 late-elsewhere true channels e = refl
 late-elsewhere false channels e = sym e
+
+-- where nothing is late, a moment brings nothing
+neither-left : (b c : Bool) → (b || c) ≡ false → b ≡ false
+neither-left true c e = e
+neither-left false c e = refl
+
+neither-right : (b c : Bool) → (b || c) ≡ false → c ≡ false
+neither-right true c e = absurd (let y : true ≡ false = e in cc)
+neither-right false c e = e
+
+control-ends : (now : ℕ) (patience : Patience) (sent : List SentControl) → list_any (controlling.is_late now) sent ≡ false → list_any (controlling.ends now patience) sent ≡ false
+control-ends now patience sent none =
+    any-weaker (controlling.ends now patience) (controlling.is_late now)
+    (λ (p : SentControl) (calm : controlling.is_late now p ≡ false). ap (λ (b : Bool). b && gives_up patience (elapsed_time now p.transmission.first) p.transmission.attempts) calm) sent none
+
+pub nothing-late : (o : Outbox) (now : ℕ) (patience : Patience) → has_late o now ≡ false → lateness o now patience ≡ No
+nothing-late o now patience none =
+    let late = list_any (controlling.is_late now) o.control.sent in
+    let ended : has_ended o now patience ≡ false =
+    ap₂ (λ (a b : Bool). a || b) (control-ends now patience o.control.sent (neither-left late (any_late now o.senders) none)) (none-ends now patience o.senders (neither-right late (any_late now o.senders) none)) in
+    ap₂ (λ (a b : Bool). if a then End else (if b then Resend else No)) ended none

@@ -14,4 +14,3 @@ pub mod Stages
 pub mod Submitting
 pub mod Turns
 pub mod ChannelTurns
-pub mod Lates

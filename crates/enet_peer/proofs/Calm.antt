@@ -3,7 +3,7 @@ use Rattle.std.proofs.Common.{◌≡◌, ℕ, Bool, true, false, ◌||◌, if◌
 use Rattle.enet_rtt.specs.declared.expiry.Expiry.{Expiry}
 use Rattle.enet_senders.specs.declared.control.Control.TheVariants as control
 use Rattle.enet_outbox.specs.Outbox.{has_late, with_control}
-use Rattle.enet_outbox.proofs.Lates.{none-late}
+use Rattle.enet_outbox.proofs.Lateness.{nothing-late}
 use Rattle.enet_peer.specs.Peering.{Peering}
 use Rattle.enet_peer.specs.Calls.{after_timeouts_by, is_due, is_pinged, pinged, ticked}
 
@@ -17,5 +17,5 @@ neither-right false c e = e
 
 pub nothing-due : (p : Peering) (now : ℕ) → is_due p now ≡ false → ticked p now ≡ p
 nothing-due p now none =
-    ap (λ (e : Expiry). pinged (after_timeouts_by e p now) now) (none-late p.outbox now p.patience (neither-left (has_late p.outbox now) (is_pinged p now) none))
+    ap (λ (e : Expiry). pinged (after_timeouts_by e p now) now) (nothing-late p.outbox now p.patience (neither-left (has_late p.outbox now) (is_pinged p now) none))
     ∙ ap (λ (b : Bool). if b then record p { outbox = with_control p.outbox control.Ping } else p) (neither-right (has_late p.outbox now) (is_pinged p now) none)
