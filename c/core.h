@@ -29,5 +29,6 @@ uint32_t gofnjerta_core_set_ping_interval(gofnjerta_host *host, const gofnjerta_
 uint32_t gofnjerta_core_set_timeout(gofnjerta_host *host, const gofnjerta_peer *peer, uint32_t limit, uint32_t minimum, uint32_t maximum);
 uint32_t gofnjerta_core_peer(gofnjerta_host *host, const gofnjerta_peer *peer, gofnjerta_reading *reading);
 uint32_t gofnjerta_core_totals_of(gofnjerta_host *host, gofnjerta_totals *totals);
+uint32_t gofnjerta_core_due_in(gofnjerta_host *host, uint32_t *ms);
 
 #endif

@@ -13,7 +13,7 @@
 #include <sys/random.h>
 #include <time.h>
 
-enum { DATAGRAM = 4096, BATCH = 256, SLICE_MS = 50, REFRESH_MS = 100 };
+enum { DATAGRAM = 4096, BATCH = 256, REFRESH_MS = 100 };
 
 /* A slot as the program sees it. */
 typedef struct {
@@ -539,6 +539,14 @@ int enet_host_check_events(ENetHost *host, ENetEvent *event) {
     return tell(layer_of(host), event);
 }
 
+/* For how many milliseconds of the caller's time nothing is due, once all was sent that the core gives. */
+static int idle_ms(Layer *layer, uint64_t end) {
+    uint32_t due = 0;
+    if (gofnjerta_due_in(&layer->core, &due)) return 0;
+    uint64_t wake = layer->clock + due < end ? layer->clock + due : end, now = now_ms();
+    return wake > now ? (int)(wake - now) : 0;
+}
+
 int enet_host_service(ENetHost *host, ENetEvent *event, enet_uint32 timeout) {
     Layer *layer = layer_of(host);
     if (!is_ready(layer)) return -1;
@@ -558,11 +566,9 @@ int enet_host_service(ENetHost *host, ENetEvent *event, enet_uint32 timeout) {
             int told = tell(layer, event);
             if (told) return told;
         }
-        go_on(layer);
         if (layer->clock >= end) return 0;
         struct pollfd asked = {.fd = host->socket, .events = POLLIN};
-        int wait = end - layer->clock > SLICE_MS ? SLICE_MS : (int)(end - layer->clock);
-        if (poll(&asked, 1, wait) < 0 && errno != EINTR) return -1;
+        if (poll(&asked, 1, idle_ms(layer, end)) < 0 && errno != EINTR) return -1;
         go_on(layer);
     }
 }

@@ -150,3 +150,8 @@ uint32_t gofnjerta_read_totals(gofnjerta_host *host, gofnjerta_totals *totals) {
     if (!host || !totals) return GOFNJERTA_NULL;
     return gofnjerta_core_totals_of(host, totals);
 }
+
+uint32_t gofnjerta_due_in(gofnjerta_host *host, uint32_t *ms) {
+    if (!host || !ms) return GOFNJERTA_NULL;
+    return gofnjerta_core_due_in(host, ms);
+}

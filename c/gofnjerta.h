@@ -190,8 +190,12 @@ uint32_t gofnjerta_receive(gofnjerta_host *host, gofnjerta_address from, const v
 uint32_t gofnjerta_service(gofnjerta_host *host, void *buffer, size_t room, gofnjerta_datagram *datagram);
 
 /* The clock goes on by so many milliseconds, of which 60,000 count at most. What waits too long is due again, quiet peers are pinged,
- * and those that are silent too long end. Tick each few milliseconds. */
+ * and those that are silent too long end. Tick each few milliseconds, or when gofnjerta_due_in says. */
 uint32_t gofnjerta_tick(gofnjerta_host *host, uint32_t ms);
+
+/* Reads in how many milliseconds time brings something, at most 1,000: a tick of fewer changes nothing but the clock. A program that has
+ * sent all that gofnjerta_service gives may sleep so long, unless a datagram comes. */
+uint32_t gofnjerta_due_in(gofnjerta_host *host, uint32_t *ms);
 
 /* The next event; kind GOFNJERTA_NONE where there is none, and where the answer isn't 0. A packet's bytes are kept until the next call
  * of this function: gofnjerta_body copies them to a buffer of at least event->length bytes, as often as it is called. UNTOLD where

@@ -247,6 +247,7 @@ static void nothing(void) {
     gofnjerta_received got = {9, 9, 9};
     gofnjerta_reading read = {.mtu = 9};
     gofnjerta_totals totals = {.bytes_in = 9};
+    uint32_t ms = 9;
     uint8_t buffer[GOFNJERTA_ROOM];
 #define BOTH(call, ...) (ANSWERS(GOFNJERTA_CLOSED, gofnjerta_##call(&host, ##__VA_ARGS__)), ANSWERS(GOFNJERTA_NULL, gofnjerta_##call(NULL, ##__VA_ARGS__)))
     BOTH(connect, at_a, 2, 0, 0, &peer);
@@ -267,7 +268,8 @@ static void nothing(void) {
     BOTH(set_timeout, peer, 1, 2, 3);
     BOTH(read_peer, peer, &read);
     BOTH(read_totals, &totals);
-    CHECK(peer.slot == 1 && peer.generation == 2 && got.stop == 9 && read.mtu == 9 && totals.bytes_in == 9);
+    BOTH(due_in, &ms);
+    CHECK(peer.slot == 1 && peer.generation == 2 && got.stop == 9 && read.mtu == 9 && totals.bytes_in == 9 && ms == 9);
     CHECK(event.kind == GOFNJERTA_NONE && gave.length == 0 && !host.is_open && !host.at);
     ANSWERS(GOFNJERTA_NULL, gofnjerta_close(NULL));
     ANSWERS(GOFNJERTA_NULL, gofnjerta_open(NULL, &config));
@@ -283,6 +285,19 @@ static void nothing(void) {
     ANSWERS(GOFNJERTA_NULL, gofnjerta_body(&host, NULL, 1));
     ANSWERS(GOFNJERTA_NULL, gofnjerta_read_peer(&host, peer, NULL));
     ANSWERS(GOFNJERTA_NULL, gofnjerta_read_totals(&host, NULL));
+    ANSWERS(GOFNJERTA_NULL, gofnjerta_due_in(&host, NULL));
+    ANSWERS(GOFNJERTA_OK, gofnjerta_due_in(&host, &ms));
+    CHECK(ms == 1000); /* nothing but the sharing of the bandwidth */
+    ANSWERS(GOFNJERTA_OK, gofnjerta_tick(&host, 400));
+    ANSWERS(GOFNJERTA_OK, gofnjerta_due_in(&host, &ms));
+    CHECK(ms == 600);
+    ANSWERS(GOFNJERTA_OK, gofnjerta_connect(&host, at_a, 2, 0, 5, &peer));
+    ANSWERS(GOFNJERTA_OK, gofnjerta_service(&host, buffer, sizeof buffer, &gave));
+    ANSWERS(GOFNJERTA_OK, gofnjerta_due_in(&host, &ms));
+    CHECK(gave.length && ms == 500); /* the CONNECT goes again */
+    ANSWERS(GOFNJERTA_OK, gofnjerta_tick(&host, 500));
+    ANSWERS(GOFNJERTA_OK, gofnjerta_due_in(&host, &ms));
+    CHECK(ms == 100);
     ANSWERS(GOFNJERTA_OK, gofnjerta_close(&host));
 }
 

@@ -9,7 +9,7 @@
 //! does, by the host's own definitions (`Crosses`). Calls that name a peer: `Settles` and `SettlesWithMemory` (`on_named`).
 //! `connect` is `Asks` (the host's `Connects`), `receive` is `TakesIn` (`Receives`), `service` is `PutsOut` (`Serves`) and leaves
 //! the rest of the buffer alone, `next_event` is `Tells` (`Takes`) and keeps the body of the packet that it told, which `body`
-//! copies (`Copies`); `submit` answers 1 only where nothing else is refused; `peer` and `totals_of` show what the host holds;
+//! copies (`Copies`); `submit` answers 1 only where nothing else is refused; `peer` and `totals_of` show what the host holds, and `due_in` when time brings it something (`IsDueIn`);
 //! `open` is `Begins` (`Opens`), and `close` leaves the handle closed. A name that `error_name` or `stop_name` gives is that of
 //! the refusal or stop with this number.
 //! Only tested, by `c/tests`: that C's structures lie as these do, and that calls succeed with ample memory. Neither: what C
@@ -33,7 +33,7 @@ pub use held::Held;
 pub use names::{gofnjerta_core_error_name, gofnjerta_core_stop_name};
 pub use opening::{gofnjerta_core_close, gofnjerta_core_open, gofnjerta_core_standard};
 pub use own::{Handle, Own};
-pub use readings::{gofnjerta_core_peer, gofnjerta_core_totals_of};
+pub use readings::{gofnjerta_core_due_in, gofnjerta_core_peer, gofnjerta_core_totals_of};
 pub use settings::{
     gofnjerta_core_disconnect, gofnjerta_core_disconnect_later, gofnjerta_core_disconnect_now,
     gofnjerta_core_set_bandwidth, gofnjerta_core_set_ping_interval, gofnjerta_core_set_timeout,

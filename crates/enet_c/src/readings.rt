@@ -1,6 +1,7 @@
 //! What can be read of a host and its peers.
 
 ghost use Rattle.std.specs.Prelude.{◌≡◌, IfSome};
+ghost use Rattle.enet_host.specs.Ticking.{IsDueIn};
 ghost use Rattle.enet_c.specs.Border.{Crosses, Reads, ReadsPeer};
 ghost use Rattle.enet_c.specs.Shapes.{name_meant, totals_shown};
 
@@ -55,5 +56,20 @@ pub extern "C" fn gofnjerta_core_totals_of(
         datagrams_out: found.datagrams_out,
         bytes_out: found.bytes_out,
     };
+    OK
+}
+
+/// In how many milliseconds time brings the host anything, at most 1,000; a tick of fewer changes nothing but its clock.
+#[unsafe(no_mangle)]
+pub extern "C" fn gofnjerta_core_due_in(alloc: Global, handle: &mut Handle, ms: &mut u32) -> u32
+    ensures reads { Crosses Reads handle.old.own.value result handle.new.own.value }
+    ensures due { IfSome handle.old.own.value (λ held. IsDueIn held.host ms.new) }
+{
+    let Some(held) = handle.take(alloc) else {
+        return CLOSED;
+    };
+    let due = held.host.due_in();
+    handle.put(held);
+    *ms = due;
     OK
 }

@@ -1,5 +1,5 @@
 -- A moment that brings a peer nothing.
-use Rattle.std.proofs.Common.{◌≡◌, ℕ, Bool, true, false, ◌||◌, if◌then◌else◌, refl, ap, ◌∙◌}
+use Rattle.std.proofs.Common.{◌≡◌, ℕ, Bool, true, false, ◌||◌, ◌&&◌, if◌then◌else◌, refl, ap, ◌∙◌}
 use Rattle.enet_rtt.specs.declared.expiry.Expiry.{Expiry}
 use Rattle.enet_senders.specs.declared.control.Control.TheVariants as control
 use Rattle.enet_outbox.specs.Outbox.{has_late, with_control}
@@ -19,3 +19,14 @@ pub nothing-due : (p : Peering) (now : ℕ) → is_due p now ≡ false → ticke
 nothing-due p now none =
     ap (λ (e : Expiry). pinged (after_timeouts_by e p now) now) (nothing-late p.outbox now p.patience (neither-left (has_late p.outbox now) (is_pinged p now) none))
     ∙ ap (λ (b : Bool). if b then record p { outbox = with_control p.outbox control.Ping } else p) (neither-right (has_late p.outbox now) (is_pinged p now) none)
+
+-- a peer that awaits no ping is not pinged, and one that does is where the time has come
+pub none-pinged : (connected quiet passed : Bool) → (connected && quiet) ≡ false → (connected && quiet && passed) ≡ false
+none-pinged true true passed e = absurd (let y : true ≡ false = e in cc)
+none-pinged true false passed e = refl
+none-pinged false quiet passed e = refl
+
+pub some-pinged : (connected quiet passed : Bool) → (connected && quiet) ≡ true → passed ≡ (connected && quiet && passed)
+some-pinged true true passed e = refl
+some-pinged true false passed e = absurd (let y : false ≡ true = e in cc)
+some-pinged false quiet passed e = absurd (let y : false ≡ true = e in cc)

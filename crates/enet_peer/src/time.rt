@@ -1,9 +1,10 @@
 //! What a moment brings.
 
-ghost use Rattle.std.specs.Prelude.{◌≡◌, ℕ, ◌≤◌, ◌<◌, ◌^◌, IsTrue};
+ghost use Rattle.std.specs.Prelude.{◌≡◌, ℕ, ◌≤◌, ◌<◌, ◌^◌, ◌&&◌, IsTrue};
 ghost use Rattle.enet_rtt.specs.Clock.{elapsed_time, HappensIn};
+ghost use Rattle.enet_outbox.specs.Outbox.{is_quiet};
 ghost use Rattle.enet_peer.specs.Endings.{cut_off};
-ghost use Rattle.enet_peer.specs.Calls.{after_timeouts, is_due, is_pinged, pinged, ticked};
+ghost use Rattle.enet_peer.specs.Calls.{after_timeouts, is_connected, is_due, is_pinged, pinged, ticked};
 
 use crate::{Peer, PeerState};
 use enet_rtt::{Expiry, elapsed};
@@ -36,10 +37,10 @@ impl Peer {
     fn pinged_in(&self, now: u32) -> u32
         ensures { HappensIn (is_pinged self.now.peer) now result }
     {
-        if !self.is_connected() || !self.outbox.is_quiet() {
-            return u32::MAX;
+        if self.awaits_ping() {
+            return self.ping_interval.saturating_sub(elapsed(now, self.heard));
         }
-        self.ping_interval.saturating_sub(elapsed(now, self.heard))
+        u32::MAX
     }
 
     /// Marks what waited out its timeout, or ends a peer whose patience is over.
@@ -75,8 +76,14 @@ impl Peer {
         ensures pinged { result ≡ is_pinged self.now.peer now }
         ensures room { IsTrue result → 1 ≤ self.now.room }
     {
-        self.is_connected()
-            && self.outbox.is_quiet()
-            && self.ping_interval <= elapsed(now, self.heard)
+        self.awaits_ping() && self.ping_interval <= elapsed(now, self.heard)
+    }
+
+    /// Whether a PING is wanted once nothing was heard for the ping interval. Then there is room for it.
+    fn awaits_ping(&self) -> bool
+        ensures awaits { result ≡ (is_connected self.now.peer.state && is_quiet self.now.peer.outbox) }
+        ensures room { IsTrue result → 1 ≤ self.now.room }
+    {
+        self.is_connected() && self.outbox.is_quiet()
     }
 }
