@@ -36,6 +36,6 @@ relay() {
     elif [ "$1" = layer ]; then
         exec "$4/our-server" "$2" "$3" 3
     else
-        exec "$1" serve --port "$2" --peers "$3" --channels 3 --room "${5:-65536}" --forever
+        exec "$1" serve --port "$2" --peers "$3" --channels 3 --queue-capacity "${5:-65536}" --forever
     fi
 }

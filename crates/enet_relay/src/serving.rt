@@ -24,7 +24,7 @@ where
         address: options.address,
         peers: options.peers,
         channels: options.channels,
-        room: options.room,
+        queue_capacity: options.queue_capacity,
     };
     if thread::spawn(rt, || ()).is_err() {
         return Err(Failure::NoThread);
