@@ -4,7 +4,7 @@ use Rattle.crossbeam_queue.specs.Fifo.{Held}
 use Rattle.enet_submit.specs.declared.order.Order.{Order}
 use Rattle.enet_submit.specs.declared.order.Submission.{Submission}
 use Rattle.enet_submit.specs.declared.queue.SubmitQueue.{SubmitQueue}
-use Rattle.enet_submit.specs.Words.{sent}
+use Rattle.enet_submit.specs.Words.{sent, capacity_of, SeatSees}
 use Rattle.enet_events.specs.declared.numbered.Numbered.{Numbered}
 use Rattle.enet_events.specs.Words.{Queue, TakerState, TakerFits}
 use Rattle.enet_bridge.specs.declared.desk.Desk.{Desk}
@@ -29,6 +29,11 @@ submitted_at desk = sent desk.seat
 -- what a desk was asked: what its seat submitted, and then what waits
 abbrev pub asked : Desk → List Order
 asked desk = orders (submitted_at desk) ++ waiting_at desk
+
+-- at a moment of the call the queue held as many orders as it has places, and what the seat submitted is just its part of all that was taken
+-- and held then
+abbrev pub FoundFull : Desk → Type 0
+FoundFull desk = Held (capacity_of (desk_queue desk)) (SeatSees (desk_queue desk) desk.seat)
 
 -- by what an inbox takes
 abbrev pub taker_of : Inbox → TakerState
