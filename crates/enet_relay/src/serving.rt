@@ -24,7 +24,7 @@ where
         address: options.address,
         peers: options.peers,
         channels: options.channels,
-        room: options.room,
+        queue_capacity: options.queue_capacity,
     };
     // Where no thread can be made, a join does its parts one after the other: nothing would be relayed until the shift is over.
     if thread::spawn(rt, || ()).is_err() {

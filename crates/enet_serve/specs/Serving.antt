@@ -16,7 +16,7 @@ use Rattle.enet_service.specs.Queues.{given, accepted}
 use Rattle.enet_service.specs.Run.{Round, IsSound, all_gave, all_puts, total}
 use Rattle.enet_chat.specs.Relaying.{noted_all, relayed_all, SameForEach, AreBehind}
 use Rattle.enet_service.specs.declared.shift.Shift.{Shift}
-use Rattle.enet_service.specs.Shifts.{Lasts, TakesTurns, IsRoom}
+use Rattle.enet_service.specs.Shifts.{Lasts, TakesTurns, IsCapacity}
 use Rattle.enet_serve.specs.declared.server.Server.{Server}
 use Rattle.enet_serve.specs.declared.server.Settings.{Settings}
 
@@ -29,8 +29,8 @@ abbrev pub waiting_of : Server → Option Event
 waiting_of server = server.station.service.waiting
 
 -- how many places each of its queues has
-abbrev pub room_of : Server → ℕ
-room_of server = server.room
+abbrev pub queue_capacity_of : Server → ℕ
+queue_capacity_of server = server.queue_capacity
 
 -- the peers that the relay knows, the events that it has not expanded, and the orders that were not carried out
 abbrev pub peers_of : Server → List PeerRef
@@ -50,7 +50,7 @@ is_in_range settings = configs.is_in_range (standard_config settings.peers setti
 pub record IsOpened (settings : Settings) (server : Server) : Type 0 where
   pub host : host_of server ≡ opened (standard_config settings.peers settings.channels)
   pub waiting : waiting_of server ≡ None
-  pub room : room_of server ≡ settings.room
+  pub queue_capacity : queue_capacity_of server ≡ settings.queue_capacity
   pub peers : peers_of server ≡ []
   pub backlog : backlog_of server ≡ []
   pub orders : orders_of server ≡ []
@@ -67,7 +67,7 @@ pub record Serves (old : Server) (shift : Shift) (new : Server) (report : Report
   pub lasts : Lasts shift rounds
   pub turns : TakesTurns (host_of old, waiting_of old) rounds (host_of new, waiting_of new)
   pub sound : All IsSound rounds
-  pub room : room_of new ≡ room_of old
+  pub queue_capacity : queue_capacity_of new ≡ queue_capacity_of old
   pub totals : report ≡ total rounds
   pub events : backlog_of old ++ accepted (all_puts rounds) ≡ expanded ++ backlog_of new
   pub behind : AreBehind (backlog_of new) (orders_of new)
@@ -79,6 +79,6 @@ pub record Serves (old : Server) (shift : Shift) (new : Server) (report : Report
 abbrev pub EndsShift : Refusal → Type 0
 EndsShift why = (why ≡ WireFault) ⊎ (why ≡ Memory) ⊎ (why ≡ SeatSpent) ⊎ (why ≡ StillHeld)
 
--- why there was no shift: that, or there are no queues of the server's room
+-- why there was no shift: that, or there are no queues of the server's capacity
 abbrev pub IsNotServed : Server → Refusal → Type 0
-IsNotServed server why = EndsShift why ⊎ ((why ≡ BadConfig) × ¬ (IsRoom (room_of server)))
+IsNotServed server why = EndsShift why ⊎ ((why ≡ BadConfig) × ¬ (IsCapacity (queue_capacity_of server)))

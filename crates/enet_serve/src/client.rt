@@ -21,7 +21,7 @@ use std::sync::Wait;
 use std::thread::Threads;
 
 /// How many places each queue of a client has.
-const ROOM: u32 = 1_024;
+const QUEUE_CAPACITY: u32 = 1_024;
 
 /// How a client takes part: by this plan, for so many turns of its service.
 #[derive(Clone, Copy)]
@@ -73,7 +73,7 @@ where
         orders,
         events,
         ends,
-    } = Queues::open(part.alloc, ROOM)?;
+    } = Queues::open(part.alloc, QUEUE_CAPACITY)?;
     let shared = Shared {
         queue: &orders,
         events: &events,

@@ -2,7 +2,7 @@
 ghost use Rattle.std.specs.Thread.{IsSync};
 ghost use Rattle.std.specs.Prelude.{◌≡◌, ◌⊎◌, ◌<◌, ◌≤◌, ◌+◌, Err, Ok, IfOk, IfErr, map};
 ghost use Rattle.std.specs.List.{Contains};
-ghost use Rattle.enet_serve.specs.Serving.{EndsShift, room_of};
+ghost use Rattle.enet_serve.specs.Serving.{EndsShift, queue_capacity_of};
 ghost use Rattle.enet_serve.specs.Visits.{Visits, AreVisits, AreOutcomes, IsInRange, IsNotShown, beginning, server_of};
 ghost use Rattle.enet_serve.specs.Playing.{AreGuests};
 
@@ -30,7 +30,7 @@ const PORT: u16 = 47_100;
 const MOST: u8 = 8;
 
 /// How many places each queue of the server has.
-const ROOM: u32 = 1_024;
+const QUEUE_CAPACITY: u32 = 1_024;
 
 /// What is shown.
 #[derive(Clone, Copy)]
@@ -72,7 +72,7 @@ where
         address: address(0),
         peers: u16::from(shown.clients),
         channels: CHANNELS,
-        room: ROOM,
+        queue_capacity: QUEUE_CAPACITY,
     };
     let guests = open_guests(rt, shown)?;
     let mut server = match Server::open(rt, settings) {
@@ -137,7 +137,7 @@ fn run_all<R: Threads + Wait + Clock + Sync>(
     shown: Demonstration,
 ) -> Result<Vec<Visit>, Refusal>
     requires guests { AreGuests shown guests.items × (shown.clients ≤ 8) }
-    requires room { room_of server.old ≡ 1024 }
+    requires capacity { queue_capacity_of server.old ≡ 1024 }
     ensures visits { IfOk result (λ visits. AreVisits shown visits.items) }
     ensures refused { IfErr result EndsShift }
 {
@@ -150,7 +150,7 @@ fn run_all<R: Threads + Wait + Clock + Sync>(
             ensures { IfOk result (λ outcomes. AreOutcomes shown outcomes.items) × IfErr result (λ why. why ≡ Refusal.Memory) }
         { visit_all(rt, guests, shown, &gauge.peers) },
         move || -> Result<Report, Refusal>
-            requires { IsSync R.row × (room_of server.now ≡ 1024) }
+            requires { IsSync R.row × (queue_capacity_of server.now ≡ 1024) }
             ensures { IfErr result EndsShift }
         {
             server.serve(

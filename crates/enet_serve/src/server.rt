@@ -32,13 +32,13 @@ pub struct Settings {
     /// How many channels a connection is granted at most: 1 to 255.
     pub channels: u8,
     /// How many places each of the two queues between its threads has: 1 to 65,536.
-    pub room: u32,
+    pub queue_capacity: u32,
 }
 
 /// A server between two shifts: its socket and its host, and what the relay has not done yet. It is given up by [`Server::close`] alone.
 pub struct Server {
     alloc: Global,
-    room: u32,
+    queue_capacity: u32,
     station: Station,
     kept: Carryover,
 }
@@ -50,7 +50,7 @@ impl Server {
 
     /// A server at this address, with no peer.
     ///
-    /// E8 where `peers` or `channels` is out of its range (`room` is tested by [`Server::serve`]), E14 where the address can't be had,
+    /// E8 where `peers` or `channels` is out of its range (`queue_capacity` is tested by [`Server::serve`]), E14 where the address can't be had,
     /// with what the system says of it, E1 for want of memory.
     pub fn open<R: Net + AllocGlobal>(rt: &R, settings: Settings) -> Result<Server, Unopened>
         ensures out_of_range { is_in_range settings ≡ false → result ≡ Err (record { why = Refusal.BadConfig; reason = None }) }
@@ -65,7 +65,7 @@ impl Server {
         let wire = MioWire::open(rt, settings.address)?;
         Ok(Server {
             alloc,
-            room: settings.room,
+            queue_capacity: settings.queue_capacity,
             station: Station::open(alloc, wire, config)?,
             kept: Carryover::new(alloc),
         })
@@ -101,7 +101,7 @@ impl Server {
             orders,
             events,
             ends,
-        } = Queues::open(self.alloc, self.room)?;
+        } = Queues::open(self.alloc, self.queue_capacity)?;
         let shared = Shared {
             queue: &orders,
             events: &events,
@@ -192,7 +192,7 @@ impl Server {
     pub fn close(self) {
         let Server {
             alloc: _,
-            room: _,
+            queue_capacity: _,
             station,
             kept,
         } = self;

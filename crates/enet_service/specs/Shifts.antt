@@ -22,12 +22,12 @@ use Rattle.enet_service.specs.declared.shift.Shift.TheVariants.{Turns, Time}
 use Rattle.enet_service.specs.declared.station.Station.{Station}
 
 -- how many places a queue may have
-abbrev pub IsRoom : ℕ → Type 0
-IsRoom room = (1 ≤ room) × (room ≤ 65536)
+abbrev pub IsCapacity : ℕ → Type 0
+IsCapacity capacity = (1 ≤ capacity) × (capacity ≤ 65536)
 
 -- why there are no queues of so many places
 abbrev pub AreNotOpened : ℕ → Refusal → Type 0
-AreNotOpened room why = (why ≡ Memory) ⊎ ((why ≡ BadConfig) × ¬ (IsRoom room))
+AreNotOpened capacity why = (why ≡ Memory) ⊎ ((why ≡ BadConfig) × ¬ (IsCapacity capacity))
 
 -- why a queue was not settled
 abbrev pub IsNotSettled : Refusal → Type 0
