@@ -27,7 +27,7 @@ pub struct Ends {
 
 impl Queues {
     ghost use Rattle.std.specs.Prelude.{IfOk, IfErr, OnOk};
-    ghost use Rattle.enet_service.specs.Shifts.{AreNew, IsCapacity, AreNotOpened};
+    ghost use Rattle.enet_service.specs.ServiceRuns.{AreNew, IsCapacity, AreNotOpened};
 
     /// Queues of so many places each, in which nothing was put. E8 where the places are out of 1 to 65,536, E1 for want of memory.
     pub fn open(alloc: Global, capacity: u32) -> Result<Queues, Refusal>

@@ -13,8 +13,8 @@ mod rule;
 
 use enet_codec::{Addr, Config, Refusal};
 use enet_service::{
-    EventReceiver, MioWire, OrderSender, QueueSink, QueueSource, Queues, Shift, Signals, Station,
-    Unwatched, beside_turns,
+    BoundService, EventReceiver, MioWire, OrderSender, QueueSink, QueueSource, Queues, RunLength,
+    Signals, Unwatched, beside_turns,
 };
 use game::Game;
 use std::env;
@@ -76,18 +76,18 @@ where
     let sender = OrderSender::new(alloc, &orders, ends.seat, &bell);
     let receiver = EventReceiver::new(&events, ends.taker);
     let mut game = Game::new(alloc, settings.seed, sender, receiver);
-    let mut station = Station::open(alloc, wire, Config::standard(CLIENTS, CHANNELS))?;
+    let mut bound = BoundService::open(alloc, wire, Config::standard(CLIENTS, CHANNELS))?;
     let (played, served) = beside_turns(
         rt,
-        &mut station,
+        &mut bound,
         &mut source,
         &mut sink,
-        Shift::Time(settings.time),
+        RunLength::Time(settings.time),
         &signals,
         &mut Unwatched,
         &mut || -> Result<(), Refusal> { game.play(rt, &signals, settings.wins) },
     );
-    station.close();
+    bound.close();
     served?;
     played?;
     Ok(game.wins())
