@@ -5,6 +5,7 @@ pub mod Emissions
 pub mod Filled
 pub mod Fillings
 pub mod Idle
+pub mod Lateness
 pub mod Oldest
 pub mod Repeats
 pub mod Senders

@@ -274,14 +274,16 @@ impl Outbox {
         expiry
     }
 
-    /// What a moment brings.
-    fn lateness(&self, now: u32, patience: &Patience) -> Expiry
-        ensures { result ≡ lateness self.now.outbox now patience.now }
+    /// What a moment brings. The channels are asked for an end only where one of their commands is late.
+    fn lateness(&mut self, now: u32, patience: &Patience) -> Expiry
+        ensures found { result ≡ lateness self.old.outbox now patience.now }
+        ensures same { self.new ≡ self.old }
     {
-        if self.control.ends(now, patience) || self.any_ends(now, patience) {
+        let late = self.any_late(now);
+        if self.control.ends(now, patience) || (late && self.any_ends(now, patience)) {
             return Expiry::End;
         }
-        if self.control.is_late(now) || self.any_late(now) {
+        if late || self.control.is_late(now) {
             Expiry::Resend
         } else {
             Expiry::No
@@ -296,8 +298,9 @@ impl Outbox {
     }
 
     /// Whether a sent command of a channel is late.
-    fn any_late(&self, now: u32) -> bool
-        ensures { result ≡ list_any (λ (s : SendingEnd). list_any (sender.is_late now) s.sender.sent) self.now.outbox.senders }
+    fn any_late(&mut self, now: u32) -> bool
+        ensures found { result ≡ list_any (λ (s : SendingEnd). list_any (sender.is_late now) s.sender.sent) self.old.outbox.senders }
+        ensures same { self.new ≡ self.old }
     {
         !self.idle && self.senders.any_late(now)
     }

@@ -255,7 +255,7 @@ pub any-position : (f : Sent → Bool) (xs : List Sent) → list_any f xs ≡ is
 any-position f xs = any-found f xs ∙ sym (is_some-cond (ltb (position_or_len f xs) (length xs)) (position_or_len f xs))
 
 -- what fails a weaker test fails
-pub any-weaker : (f g : Sent → Bool) → ((x : Sent) → g x ≡ false → f x ≡ false) → (xs : List Sent) → list_any g xs ≡ false → list_any f xs ≡ false
+pub any-weaker : {X : Type 0} (f g : X → Bool) → ((x : X) → g x ≡ false → f x ≡ false) → (xs : List X) → list_any g xs ≡ false → list_any f xs ≡ false
 any-weaker f g weaker [] none = refl
 any-weaker f g weaker (x ∷ xs) none = by (g x) refl (any-weaker f g weaker xs) none
   where

@@ -6,9 +6,10 @@
 //! commands and their numbers, all or none; E5 exactly above 16,384 pieces, `too_large`; a refused body comes back and
 //! nothing has changed, `refused`), `next_due` (the first due resend, else the head of the queue exactly where the sender's
 //! span and the bytes in transit let it go, written where it fits; NoRoom and Nothing change nothing), `skip`,
-//! `acknowledge`, `late`, `ends`, `is_late`, `mark`, `clear`, `left`. Where it matters each asks that the rings' keys are in
-//! the slab, each once (`KeepsIn`), and each leaves what stands under other keys (`PassesIn`; specs/Pending). Laws: how the
-//! bytes in transit change (`transit_follows`) and what stays left (`reliable_stays_left`).
+//! `acknowledge`, `late`, `ends`, `is_late`, `mark`, `clear`, `left`; and that nothing is late before the wait of `next_late`
+//! has passed, and something is where it is 0. Where it matters each asks that the rings' keys are in the slab, each once
+//! (`KeepsIn`), and each leaves what stands under other keys (`PassesIn`; specs/Pending). Laws: how the bytes in transit
+//! change (`transit_follows`) and what stays left (`reliable_stays_left`).
 //! Only tested, by `check_peer`: that calls succeed with ample memory, and worked rows.
 #![tactic(auto)]
 

@@ -1,8 +1,9 @@
 //! One channel's sender over the commands of its peer.
 
-ghost use Rattle.std.specs.Prelude.{◌≡◌, ℕ, ◌+◌, ◌<◌, ◌≤◌, ◌∷◌, ◌++◌, [], if◌then◌else◌, IsTrue, IsOk, IfOk, OnOk, IfErr, IsErrAnd, ◌⊎◌, ◌↔◌, List, Option, Some, None, IfSome, IfNone, length, map, take, drop, slice_get, true, false};
+ghost use Rattle.std.specs.Prelude.{◌≡◌, ℕ, ◌+◌, ◌<◌, ◌≤◌, ◌^◌, ◌∷◌, ◌++◌, [], if◌then◌else◌, IsTrue, IsOk, IfOk, OnOk, IfErr, IsErrAnd, ◌⊎◌, ◌↔◌, List, Option, Some, None, IfSome, IfNone, length, map, take, drop, slice_get, true, false};
 ghost use Rattle.std.specs.VecDeque.{deque_len, deque_capacity};
 ghost use Rattle.slab.specs.Slab.{get, slab_len, HasRoomFor};
+ghost use Rattle.enet_rtt.specs.Clock.{elapsed_time};
 ghost use Rattle.enet_seq.specs.Numbering.{wire};
 ghost use Rattle.enet_seq.specs.Windows.{after as number_after};
 ghost use Rattle.enet_fragment.specs.declared.data.DataCommand.{DataCommand};
@@ -21,7 +22,9 @@ ghost use Rattle.enet_sender.specs.Rings.{Keeps, KeepsIn, PassesIn, HasRoom, no_
 
 use crate::course::{Course, cut};
 use crate::pending::{Pending, VACANT};
-use crate::ring::{any_ends, any_late, first, first_due, mark_all, place_of, take_all, trim};
+use crate::ring::{
+    any_ends, any_late, first, first_due, mark_all, next_late, place_of, take_all, trim,
+};
 use crate::writing::{bytes_of, due_kind, is_more, put};
 use bytes::Bytes;
 use enet_codec::Refusal;
@@ -326,6 +329,15 @@ impl Outgoing {
         ensures { result ≡ list_any (is_late now) (sender_in pending.now self.now).sent }
     {
         any_late(&self.sent, pending, now)
+    }
+
+    /// In how many milliseconds after the moment `now` a sent command can be late at the earliest: 0 where one is, and
+    /// 4,294,967,295 where none waits for its timeout.
+    pub fn next_late(&self, pending: &Pending, now: u32) -> u32
+        ensures late { result ≡ 0 → list_any (is_late now) (sender_in pending.now self.now).sent ≡ true }
+        ensures calm { (later : ℕ) → later < 2 ^ 32 → elapsed_time later now < result → list_any (is_late later) (sender_in pending.now self.now).sent ≡ false }
+    {
+        next_late(&self.sent, pending, now)
     }
 
     /// Each sent command that has waited out its timeout at the moment `now` is due to go again, and waits twice as long

@@ -1,6 +1,7 @@
 //! The commands of a peer, each under a key.
 
-ghost use Rattle.std.specs.Prelude.{◌≡◌, ℕ, ◌+◌, ◌<◌, ◌≤◌, Some, None, [], IsOk, IfOk, IfNone, IsTrue, option_copied};
+ghost use Rattle.std.specs.Prelude.{◌≡◌, ℕ, ◌+◌, ◌<◌, ◌≤◌, ◌^◌, true, false, Some, None, [], IsOk, IfOk, IfNone, IsTrue, option_copied};
+ghost use Rattle.enet_rtt.specs.Clock.{elapsed_time};
 ghost use Rattle.slab.specs.Slab.{get, slab_len, Updates, HasRoomFor};
 ghost use Rattle.enet_sender.specs.Pending.{vacant, queued};
 ghost use Rattle.enet_sender.specs.Rounds.{test_at};
@@ -84,6 +85,17 @@ impl Pending {
         match self.slab.get(key as usize) {
             Some(sent) => sent.transmission.is_late(now),
             None => false,
+        }
+    }
+
+    /// In how many milliseconds after the moment `now` the command under a key can be late at the earliest: 0 where it is.
+    pub(crate) fn next_late(&self, key: u32, now: u32) -> u32
+        ensures late { result ≡ 0 → test_at (is_late now) (get self.now.slab key) ≡ true }
+        ensures calm { (later : ℕ) → later < 2 ^ 32 → elapsed_time later now < result → test_at (is_late later) (get self.now.slab key) ≡ false }
+    {
+        match self.slab.get(key as usize) {
+            Some(sent) => sent.next_late(now),
+            None => u32::MAX,
         }
     }
 

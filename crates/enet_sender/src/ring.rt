@@ -1,8 +1,9 @@
 //! A ring of the keys of what is sent.
 
-ghost use Rattle.std.specs.Prelude.{◌≡◌, ◌≢◌, ℕ, ◌+◌, ◌-◌, ◌<◌, ◌≤◌, List, Option, Some, None, IsTrue, IfSome, IfNone, true, false, length, slice_get, slice_set};
+ghost use Rattle.std.specs.Prelude.{◌≡◌, ◌≢◌, ℕ, ◌+◌, ◌-◌, ◌<◌, ◌≤◌, ◌^◌, List, Option, Some, None, IsTrue, IfSome, IfNone, true, false, length, slice_get, slice_set};
 ghost use Rattle.std.specs.List.{list_any};
 ghost use Rattle.std.specs.VecDeque.{deque_len, deque_capacity};
+ghost use Rattle.enet_rtt.specs.Clock.{elapsed_time};
 ghost use Rattle.enet_seq.specs.Windows.{ahead};
 ghost use Rattle.enet_sender.specs.declared.sent.Sent.{Sent};
 ghost use Rattle.enet_sender.specs.Pending.{vacant, times};
@@ -95,6 +96,19 @@ pub(crate) fn any_late(ring: &VecDeque<u32>, pending: &Pending, now: u32) -> boo
     ensures { result ≡ list_any (λ (key : ℕ). test_at (is_late now) (get pending.now.slab key)) ring.now.items }
 {
     ring.iter().any(|key| pending.is_late(*key, now))
+}
+
+/// In how many milliseconds after the moment `now` a command of a ring can be late at the earliest: 0 where one is.
+pub(crate) fn next_late(ring: &VecDeque<u32>, pending: &Pending, now: u32) -> u32
+    ensures late { result ≡ 0 → list_any (λ (key : ℕ). test_at (is_late now) (get pending.now.slab key)) ring.now.items ≡ true }
+    ensures calm { (later : ℕ) → later < 2 ^ 32 → elapsed_time later now < result → list_any (λ (key : ℕ). test_at (is_late later) (get pending.now.slab key)) ring.now.items ≡ false }
+{
+    let mut wait = u32::MAX;
+    for place in 0..ring.len() {
+        let key = ring[place];
+        wait = wait.min(pending.next_late(key, now));
+    }
+    wait
 }
 
 /// Marks what is late of a ring's commands as due to go again.

@@ -2,3 +2,4 @@ pub mod Frames
 pub mod Each
 pub mod Marking
 pub mod Nexts
+pub mod Quieting

@@ -1,3 +1,4 @@
 pub mod Senders
 pub mod Controlling
 pub mod Invariant
+pub mod Quiets

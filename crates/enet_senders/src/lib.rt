@@ -5,15 +5,17 @@
 //! `enet_sender`: `Senders::submit`, `next_due`, `skip` and `acknowledge` do what that call does on their channel, and leave
 //! every other as it was; `any_ends`, `any_late`, `have_no_packet` and `have_no_reliable` ask all channels; `mark` and `clear`
 //! do their work on each; `narrow` keeps the first ones. That each key stands in one ring once is an invariant, so no call
-//! asks it of its caller. Of channel 0xFF, exactly by specs/Controlling: `queue`, `next_due`, `acknowledge`, `late`, `clear`, `is_idle`,
-//! `reserve`, `open` and the calls that only test or only mark (`ends`, `is_late`, `mark`, `has_queued`); a list without commands has
-//! room for one.
+//! asks it of its caller. So is it that nothing is late before the next moment at which something can be, which the senders
+//! keep and no contract shows: by it `any_late` answers without a look at a command. Of channel 0xFF, exactly by specs/Controlling:
+//! `queue`, `next_due`, `acknowledge`, `late`, `clear`, `is_idle`, `reserve`, `open` and the calls that only test or only mark (`ends`,
+//! `is_late`, `mark`, `has_queued`); a list without commands has room for one.
 //! Only tested, by `check_peer`: that calls succeed with ample memory, the bytes of each command of channel 0xFF, and worked rows.
 #![tactic(auto)]
 
 mod control;
 mod outgoing;
 mod queue;
+mod quiet;
 mod senders;
 
 pub use control::{Control, Numbered, SentControl};

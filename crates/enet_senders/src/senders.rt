@@ -1,7 +1,8 @@
 //! The channels of a peer over its commands.
 
-ghost use Rattle.std.specs.Prelude.{◌≡◌, ◌⊎◌, ◌↔◌, ◌<◌, ◌≤◌, OnOk, IfOk, IfErr, IsErrAnd, Some, [], not, length, map, take, slice_get, slice_set};
+ghost use Rattle.std.specs.Prelude.{◌≡◌, ℕ, ◌^◌, true, false, ◌⊎◌, ◌↔◌, ◌<◌, ◌≤◌, OnOk, IfOk, IfErr, IsErrAnd, Some, [], not, length, map, take, slice_get, slice_set};
 ghost use Rattle.std.specs.List.{range_with_len, list_all, list_any};
+ghost use Rattle.enet_rtt.specs.Clock.{elapsed_time};
 ghost use Rattle.enet_seq.specs.Numbering.{wire};
 ghost use Rattle.enet_fragment.specs.Cutting.{piece_count};
 ghost use Rattle.enet_sender.specs.CommandChoice.{fragment_limit};
@@ -11,6 +12,7 @@ ghost use Rattle.enet_sender.specs.declared.outgoing.Outgoing.{Outgoing};
 ghost use Rattle.enet_sender.specs.Rings.{end_in, IsEmpty};
 ghost use Rattle.enet_senders.specs.Senders.{ends_in, KeepsAllIn, marked_end, cleared_end};
 
+use crate::quiet::Quiet;
 use bytes::Bytes;
 use enet_codec::Refusal;
 use enet_rtt::Patience;
@@ -23,6 +25,8 @@ use std::marker::Model;
 pub struct Senders {
     channels: Vec<Outgoing>,
     pending: Pending,
+    /// While it lasts, no sent command of any channel is late.
+    quiet: Quiet,
 }
 
 impl Model for Senders {
@@ -31,11 +35,12 @@ impl Model for Senders {
 
     ghost Value = { List SendingEnd };
 
-    ghost use Rattle.enet_senders.specs.Senders.{ends_in, KeepsAllIn};
+    ghost use Rattle.enet_senders.specs.Senders.{ends_in};
+    ghost use Rattle.enet_senders.specs.Quiets.{AreSenders};
 
     ghost view = { λ s. ends_in s.pending s.channels.items };
 
-    ghost invariant = { λ s. KeepsAllIn s.pending s.channels.items };
+    ghost invariant = { λ s. AreSenders s.pending s.channels.items s.quiet };
 }
 
 /// An acknowledgement of a channel's command comes: the other channels stay as they were.
@@ -176,11 +181,17 @@ fn any_ends(channels: &[Outgoing], pending: &Pending, now: u32, patience: &Patie
         .any(|channel| channel.ends(pending, now, patience))
 }
 
-/// Whether a sent command of a channel is late.
-fn any_late(channels: &[Outgoing], pending: &Pending, now: u32) -> bool
-    ensures { result ≡ list_any (λ (o : Outgoing). list_any (is_late now) (end_in pending.now o).sender.sent) channels.now }
+/// In how many milliseconds after the moment `now` a sent command of a channel can be late at the earliest: 0 where one is.
+fn next_late(channels: &[Outgoing], pending: &Pending, now: u32) -> u32
+    ensures late { result ≡ 0 → list_any (λ (s : SendingEnd). list_any (is_late now) s.sender.sent) (ends_in pending.now channels.now) ≡ true }
+    ensures calm { (later : ℕ) → later < 2 ^ 32 → elapsed_time later now < result → list_any (λ (s : SendingEnd). list_any (is_late later) s.sender.sent) (ends_in pending.now channels.now) ≡ false }
 {
-    channels.iter().any(|channel| channel.is_late(pending, now))
+    let mut wait = u32::MAX;
+    for place in 0..channels.len() {
+        let channel = &channels[place];
+        wait = wait.min(channel.next_late(pending, now));
+    }
+    wait
 }
 
 /// Whether no channel has a packet queued.
@@ -235,7 +246,11 @@ impl Senders {
     {
         let pending = Pending::open(alloc)?;
         let channels = open_channels(alloc, channels, &pending)?;
-        Ok(Senders { channels, pending })
+        Ok(Senders {
+            channels,
+            pending,
+            quiet: Quiet::new(),
+        })
     }
 
     /// How many channels there are.
@@ -292,7 +307,7 @@ impl Senders {
         ensures { (s : SendingEnd) → slice_get self.old channel ≡ Some s
             → (t : SendingEnd) × ((self.new ≡ slice_set self.old channel t) × Did (next wire now timeout transit most s.sender) result s t buf.old at buf.new) }
     {
-        next_due_on(
+        let due = next_due_on(
             &mut self.channels,
             &mut self.pending,
             channel,
@@ -302,7 +317,11 @@ impl Senders {
             most,
             buf,
             at,
-        )
+        );
+        if let Due::Sent { .. } = due {
+            self.quiet = self.quiet.after_send(now, timeout);
+        }
+        due
     }
 
     /// Drops the rest of the unreliable packet of a channel whose first command was written last. The numbers stay used.
@@ -333,10 +352,18 @@ impl Senders {
 
     /// Whether at the moment `now`, in milliseconds, a sent command of a channel has waited out its timeout, and is not due
     /// to go again already.
-    pub fn any_late(&self, now: u32) -> bool
-        ensures { result ≡ list_any (λ (s : SendingEnd). list_any (is_late now) s.sender.sent) self.now }
+    ///
+    /// Once nothing was, it looks at no command until one can be late at the earliest.
+    pub fn any_late(&mut self, now: u32) -> bool
+        ensures found { result ≡ list_any (λ (s : SendingEnd). list_any (is_late now) s.sender.sent) self.old }
+        ensures same { self.new ≡ self.old }
     {
-        any_late(&self.channels, &self.pending, now)
+        if self.quiet.covers(now) {
+            return false;
+        }
+        let wait = next_late(&self.channels, &self.pending, now);
+        self.quiet = self.quiet.found(now, wait);
+        wait == 0
     }
 
     /// All that is late at the moment `now`, in milliseconds, is due to go again, and waits twice as long then.

@@ -6,7 +6,7 @@ use Rattle.enet_outbox.specs.Outbox.{Sending}
 use Rattle.enet_outbox.proofs.Idle.{none_passes}
 use Rattle.enet_outbox.proofs.outbox.Outbox.any_late.Goals as goal
 
-pub returns-else-not-self : goal.returns-else-not-self
-returns-else-not-self c =
+pub returns-else-not-self-clause-found : goal.returns-else-not-self-clause-found
+returns-else-not-self-clause-found c =
     ap not c.if-not-self.false ∙ sym (none_passes (sender.is_late c.args.now) c.self.inside.senders (c.self.invariant.1 c.if-not-self.false).1)
     ∙ ap (λ (v : Sending). list_any (λ (s : SendingEnd). list_any (sender.is_late c.args.now) s.sender.sent) v.outbox.senders) c.self.view_is

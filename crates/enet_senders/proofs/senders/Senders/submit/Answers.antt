@@ -1,0 +1,14 @@
+use Rattle.std.proofs.Common.{◌<◌, List, length, sym, subst}
+use Rattle.enet_sender.specs.Due.{SendingEnd}
+use Rattle.enet_senders.specs.Senders.{ends_in}
+use Rattle.enet_senders.proofs.Quieting.{quiet-submitted}
+use Rattle.enet_senders.proofs.senders.Senders.submit.Goals as goal
+
+pub invariant_of-self : goal.invariant_of-self
+invariant_of-self c =
+    let inside = subst (λ (es : List SendingEnd). c.args.channel < length es) (sym c.self.view_is) c.requires.channel in record {
+      kept = c.submit_on.ensures.kept;
+      fits = c.self.invariant.fits;
+      quiet = quiet-submitted c.self.inside.quiet c.args.mtu c.args.flags c.args.body (ends_in c.self.inside.pending c.self.inside.channels.items) _ c.args.channel c.submit_on.result inside
+          c.submit_on.ensures.queued c.submit_on.ensures.refused c.self.invariant.quiet;
+    }

@@ -1,0 +1,49 @@
+-- A time during which surely no sent command is late.
+use Rattle.std.specs.Prelude.{◌≡◌, ℕ, ◌-◌, ◌^◌, ◌<◌, ◌≤◌, min, Bool, true, false, nat_lt, List, All}
+use Rattle.enet_rtt.specs.Clock.{elapsed_time}
+use Rattle.enet_sender.specs.declared.sent.Sent.{Sent}
+use Rattle.enet_sender.specs.Sender.{is_late}
+use Rattle.enet_sender.specs.Due.{SendingEnd}
+use Rattle.enet_sender.specs.declared.outgoing.Outgoing.{Outgoing}
+use Rattle.enet_sender.specs.declared.pending.Pending.{Pending}
+use Rattle.enet_senders.specs.declared.quiet.Quiet.{Quiet}
+use Rattle.enet_senders.specs.Senders.{ends_in, KeepsAllIn}
+
+abbrev pub new_quiet : Quiet
+new_quiet = record { from = 0; len = 0; least = 4294967295 }
+
+-- whether a moment is in it
+abbrev pub covers : Quiet → ℕ → Bool
+covers q now = nat_lt (elapsed_time now q.from) q.len
+
+-- what is left of it once a command was sent
+abbrev pub after_send : Quiet → ℕ → ℕ → Quiet
+after_send q now timeout = record { from = now; len = min (q.len - elapsed_time now q.from) (min q.least timeout); least = min q.least timeout }
+
+-- once it was found that nothing is late for so long
+abbrev pub found_quiet : Quiet → ℕ → ℕ → Quiet
+found_quiet q now wait = record { from = now; len = wait; least = q.least }
+
+-- its numbers fit 32 bits
+pub record FitsQuiet (q : Quiet) : Type 0 where
+  pub from : q.from < 2 ^ 32
+  pub len : q.len < 2 ^ 32
+  pub least : q.least < 2 ^ 32
+
+-- the command is not late then, and waits no less than is said each time that it is sent
+pub record IsQuiet (q : Quiet) (p : Sent) : Type 0 where
+  pub calm : (now : ℕ) → now < 2 ^ 32 → covers q now ≡ true → is_late now p ≡ false
+  pub waits : q.least ≤ p.transmission.timeout
+
+abbrev pub AreQuiet : Quiet → List Sent → Type 0
+AreQuiet q sent = All (IsQuiet q) sent
+
+-- nor is any of all channels
+abbrev pub AllQuiet : Quiet → List SendingEnd → Type 0
+AllQuiet q ends = All (λ (e : SendingEnd). AreQuiet q e.sender.sent) ends
+
+-- what the channels of a peer, its commands and the bound keep
+pub record AreSenders (p : Pending) (channels : List Outgoing) (q : Quiet) : Type 0 where
+  pub kept : KeepsAllIn p channels
+  pub fits : FitsQuiet q
+  pub quiet : AllQuiet q (ends_in p channels)
