@@ -3,11 +3,12 @@
 # clients/proxy.c, which drops, repeats and reorders datagrams; and a crowd of them (clients/crowd.c) straight, where each queue of the
 # relay has 64 places, so that both are full at once and neither thread may wait for the other. Clients of `demo` visit a server of the
 # reference library, and so does `example_echo`, whose own server a client of that library visits (clients/echo.c). Three of that library
-# play at `example_game` side by side until each has won (clients/guess.c), and it ends. Two guests (clients/guests.c) are told when a server ends after its turns, and when it ends since its relay found no memory; they notice nothing of
-# receptions that fail (clients/faults.c). Each scenario has a server of its own, and all run side by side: `check-clients.sh [PROGRAM]`.
-# PROGRAM is the built `enet_relay`, by default the one that `rt ci`, or `rt run` in crates/enet_relay, leaves; `reference` stands for the
-# relay of clients/server.c, which tells whether the clients themselves are right. Prints what failed, and as last line 'N passed, M
-# failed'; the status is 1 where one failed. It ends within 4 minutes.
+# play at `example_game` side by side until each has won (clients/guess.c), and it ends. Two guests (clients/guests.c) are told when a
+# server ends after its turns, and when it ends since its relay found no memory; they notice nothing of receptions that fail
+# (clients/faults.c). Each scenario has a server of its own, and all run side by side: `check-clients.sh [PROGRAM]`. PROGRAM is the built
+# `enet_relay`, by default the one that `rt ci`, or `rt run` in crates/enet_relay, leaves; `reference` stands for the relay of
+# clients/server.c, which tells whether the clients themselves are right. Prints what failed, and as last line 'N passed, M failed'; the
+# status is 1 where one failed. It ends within 4 minutes.
 cd "$(dirname "$0")/.." || exit 1
 . scripts/clients.sh
 program=${1:-crates/enet_relay/out/enet_relay}
