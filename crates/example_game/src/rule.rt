@@ -1,5 +1,5 @@
 //! The rule: a client guesses a number, and is told where it is.
-ghost use Rattle.std.specs.Prelude.{◌≡◌, ◌<◌, ◌≤◌, ◌×◌, IfOk};
+ghost use Rattle.std.specs.Prelude.{◌≡◌, ◌<◌, ◌≤◌, IfOk};
 ghost use Rattle.std.specs.String.{string_bytes};
 ghost use Rattle.example_game.specs.Guessing.{IsAnswer};
 
