@@ -1,7 +1,7 @@
 use Rattle.std.proofs.Common.{◌≡◌, Bool, false, cond, sym, ap, ◌∙◌}
 use Rattle.std.specs.List.{list_any}
 use Rattle.enet_rtt.specs.declared.expiry.Expiry.TheVariants.{No, Resend}
-use Rattle.enet_control.specs.Controlling as controlling
+use Rattle.enet_senders.specs.Controlling as controlling
 use Rattle.enet_outbox.specs.Outbox.{Sending, has_late, lateness}
 use Rattle.enet_outbox.specs.contracts.outbox.Outbox.{the_view}
 use Rattle.enet_outbox.proofs.Lateness.{any_late, any_ends, none-ends, late-there, late-elsewhere, lateness-by}
