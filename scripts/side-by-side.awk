@@ -44,7 +44,7 @@ END {
         first = name ", first 1000"; last = name ", last 1000"
         print "| " name, over(was[first], was[last]), over(is[first], is[last]) " |"
     }
-    print "\n| bytes: before, after | copied | allocated | held at the end |\n|---|---|---|---|"
+    print "\n| bytes: before, after | copied | allocated | held more at the end |\n|---|---|---|---|"
     for (f = 1; f <= many; f++) {
         name = figures[f]
         if (name ~ /, (first|last) 1000$/) continue
