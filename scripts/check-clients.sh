@@ -2,16 +2,18 @@
 # Clients of the reference library talk through a relay, in the scenarios of clients/client.c: first straight, then by way of
 # clients/proxy.c, which drops, repeats and reorders datagrams; and a crowd of them (clients/crowd.c) straight, where each queue of the
 # relay has 64 places, so that both are full at once and neither thread may wait for the other. Clients of `demo` visit a server of the
-# reference library, and so does `example_echo`, whose own server a client of that library visits (clients/echo.c). Two guests
-# (clients/guests.c) are told when a server ends after its turns, and when it ends since its relay found no memory; they notice nothing of
-# receptions that fail (clients/faults.c). Each scenario has a server of its own, and all run side by side: `check-clients.sh [PROGRAM]`.
-# PROGRAM is the built `enet_relay`, by default the one that `rt ci`, or `rt run` in crates/enet_relay, leaves; `reference` stands for the
-# relay of clients/server.c, which tells whether the clients themselves are right. Prints what failed, and as last line 'N passed, M
-# failed'; the status is 1 where one failed. It ends within 4 minutes.
+# reference library, and so does `example_echo`, whose own server a client of that library visits (clients/echo.c). Three of that library
+# play at `example_game` side by side until each has won (clients/guess.c), and it ends. Two guests (clients/guests.c) are told when a
+# server ends after its turns, and when it ends since its relay found no memory; they notice nothing of receptions that fail
+# (clients/faults.c). Each scenario has a server of its own, and all run side by side: `check-clients.sh [PROGRAM]`. PROGRAM is the built
+# `enet_relay`, by default the one that `rt ci`, or `rt run` in crates/enet_relay, leaves; `reference` stands for the relay of
+# clients/server.c, which tells whether the clients themselves are right. Prints what failed, and as last line 'N passed, M failed'; the
+# status is 1 where one failed. It ends within 4 minutes.
 cd "$(dirname "$0")/.." || exit 1
 . scripts/clients.sh
 program=${1:-crates/enet_relay/out/enet_relay}
 example=crates/example_echo/out/example_echo
+game=crates/example_game/out/example_game
 passed=0
 failed=0
 
@@ -136,6 +138,44 @@ echoes() {
     done
 }
 
+# A server of example_game on port $2, and three players (clients/guess.c) side by side, the way $1, where lossy by a proxy on port $3. Each
+# wins; the server ends once they have gone, at the latest when it gives one up for lost.
+play() {
+    trap end_attempt EXIT
+    trap 'exit 1' TERM
+    local name=game-$1 to=$2 status=0 player
+    "$game" "$2" 500 3 90 > "$room/$name.relay" 2>&1 &
+    relay=$!
+    if [ "$1" = lossy ]; then
+        to=$3
+        "$room/proxy" "$3" "$2" 7 2> "$room/$name.proxy" &
+        proxy=$!
+    fi
+    for player in 1 2 3; do
+        timeout 110 "$room/guess" "$to" >> "$room/$name.client" 2>&1 &
+        client="$client $!"
+    done
+    for player in $client $relay; do
+        wait "$player" || status=$?
+    done
+    if [ "$status" -eq 0 ] && [ "$(<"$room/$name.relay")" = '3 won' ]; then
+        : > "$room/$name.passed"
+    else
+        echo "status $status: $(head -c 400 "$room/$name.client" "$room/$name.relay")" > "$room/$name.first"
+    fi
+}
+
+games() {
+    local way first
+    for way in straight lossy; do
+        free_port
+        first=$port
+        free_port
+        names+=("game-$way")
+        play "$way" "$first" "$port" &
+    done
+}
+
 # Starts a server on port $2 with the words from $4 on, whose memory and receptions fail when it is told, and two guests until $3. $1 is
 # the scenario's name. Waits until the guests talk.
 receive_guests() {
@@ -229,6 +269,7 @@ all() {
         visit "$port" &
         guests
         echoes
+        games
     fi
     for way in straight lossy; do
         while read -r name clients slots; do
@@ -253,8 +294,8 @@ names=()
 relay=
 proxy=
 client=
-if [ "$program" != reference ] && ! [ -x "$program" -a -x "$example" ]; then
-    fail "$program or $example" "it isn't there: run 'rt ci', or 'rt run' in its folder"
+if [ "$program" != reference ] && ! [ -x "$program" -a -x "$example" -a -x "$game" ]; then
+    fail "$program, $example or $game" "it isn't there: run 'rt ci', or 'rt run' in its folder"
 elif ! build_clients "$room"; then
     fail clients "the C programs can't be built"
 else

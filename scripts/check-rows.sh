@@ -135,8 +135,11 @@ serve --port 47001 --peers 4096
 serve --port 47001 --channels 0
 serve --port 47001 --channels 256
 serve --port 47001 --turns 1000001
+serve --port 47001 --queue-capacity 0
+serve --port 47001 --queue-capacity 65537
 serve --port 47001 --room 0
 serve --port 47001 --room 65537
+serve --port 47001 --room 64 --queue-capacity 64
 serve --port 47001 --turns -1
 serve --port 47001 --turns 2 --forever
 serve --port 47001 --address localhost
@@ -159,6 +162,8 @@ services() {
     free_port
     service_line serve-two-turns 0 "$(listening)" 'served 2 received 0 sent 0' serve --port "$port" --turns 2
     service_line serve-no-turn 0 "$(listening)" 'served 0 received 0 sent 0' serve --port "$port" --turns 0 --address 127.0.0.1
+    service_line serve-small-queues 0 "$(listening)" 'served 2 received 0 sent 0' serve --port "$port" --turns 2 --queue-capacity 1
+    service_line serve-small-room 0 "$(listening)" 'served 2 received 0 sent 0' serve --port "$port" --turns 2 --room 1
     service_line serve-with-log 0 "$(listening)" 'served 2 received 0 sent 0' serve --port "$port" --turns 2 --log
     PROGRAM=$program program=$room/no-threads service_line serve-without-threads 1 'no second thread can be made' '' \
         serve --port "$port" --turns 2
@@ -209,6 +214,8 @@ command_lines() {
     command_line a-word-too-many 2 'bad command line' /dev/null "$room/out" lab frob
     command_line help 0 '' /dev/null "$room/out" --help
     grep -q lab "$room/out" || fail help "it doesn't name the lab"
+    command_line help-of-serve 0 '' /dev/null "$room/out" serve --help
+    grep -q -- '--queue-capacity' "$room/out" || fail help-of-serve "it doesn't name --queue-capacity"
     command_line input-that-cannot-be-read 1 'input or output failed' / "$room/out" lab
     command_line output-that-cannot-be-written 1 'input or output failed' "$rows/one-reliable-packet.lab" /dev/full lab
 }

@@ -11,7 +11,7 @@ build_clients() {
             { cat "$1/install" >&2; return 1; }
     fi
     local source
-    for source in client crowd echo guests server proxy load hostile; do
+    for source in client crowd echo guess guests server proxy load hostile; do
         cc -std=gnu11 -O2 -Wall -Wextra -pthread -o "$1/$source" "clients/$source.c" -lenet || return 1
     done
     cc -std=gnu11 -O2 -Wall -Wextra -shared -fPIC -o "$1/faults.so" clients/faults.c
@@ -36,6 +36,6 @@ relay() {
     elif [ "$1" = layer ]; then
         exec "$4/our-server" "$2" "$3" 3
     else
-        exec "$1" serve --port "$2" --peers "$3" --channels 3 --room "${5:-65536}" --forever
+        exec "$1" serve --port "$2" --peers "$3" --channels 3 --queue-capacity "${5:-65536}" --forever
     fi
 }

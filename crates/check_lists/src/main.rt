@@ -1,6 +1,7 @@
 //! `check_lists` draws lists of 200 events on two hosts that know nothing of each other, lets each list happen, and then tests
 //! the headline of every connection: what the users took follows what was submitted, and each user's events are one life. Before that
-//! it judges worked cases: of what follows, and of other settings than those that are drawn. The draws of list N begin at seed N,
+//! it judges worked cases: of what follows, and of other settings than those that are drawn; and the lab over readers and writers that
+//! fail. The draws of list N begin at seed N,
 //! so each run is the same, and each list can be drawn alone.
 //!
 //! Without input it draws the lists 1 to 1,000 and prints what was seen of them. Where a list breaks the headline it ends with status
@@ -17,6 +18,7 @@ mod counting;
 mod drawing;
 mod input;
 mod list;
+mod readers;
 mod settings;
 
 use anyhow::{Result, bail};
@@ -41,6 +43,8 @@ fn run<R: Print>(rt: &R, alloc: Global) -> Result<()> {
     println!(rt; "{cases} worked cases: judged as by hand")?;
     let settings = settings::judged(alloc)?;
     println!(rt; "{settings} cases of other settings: answered as by hand")?;
+    let readers = readers::judged(alloc)?;
+    println!(rt; "{readers} readers and writers of a lab that fail: answered as by hand")?;
     let mut counts = Counts::none();
     for number in 1..=LISTS {
         one_list(alloc, number, &mut counts)?;

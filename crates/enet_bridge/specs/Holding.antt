@@ -4,7 +4,7 @@ use Rattle.crossbeam_queue.specs.Fifo.{Held}
 use Rattle.enet_submit.specs.declared.order.Order.{Order}
 use Rattle.enet_submit.specs.declared.order.Submission.{Submission}
 use Rattle.enet_submit.specs.declared.queue.SubmitQueue.{SubmitQueue}
-use Rattle.enet_submit.specs.Words.{sent}
+use Rattle.enet_submit.specs.Words.{sent, capacity_of, SeatSees}
 use Rattle.enet_events.specs.declared.numbered.Numbered.{Numbered}
 use Rattle.enet_events.specs.Words.{Queue, TakerState, TakerFits}
 use Rattle.enet_bridge.specs.declared.order_sender.OrderSender.{OrderSender}
@@ -29,6 +29,11 @@ submitted_at sender = sent sender.seat
 -- what an order sender was asked: what its seat submitted, and then what waits
 abbrev pub asked : OrderSender → List Order
 asked sender = orders (submitted_at sender) ++ waiting_at sender
+
+-- at a moment of the call the queue held as many orders as it has places, and what the seat submitted is just its part of all that was taken
+-- and held then
+abbrev pub FoundFull : OrderSender → Type 0
+FoundFull sender = Held (capacity_of (sender_queue sender)) (SeatSees (sender_queue sender) sender.seat)
 
 -- by what an event receiver takes
 abbrev pub taker_of : EventReceiver → TakerState

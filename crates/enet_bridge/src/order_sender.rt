@@ -23,7 +23,7 @@ pub struct OrderSender<'a> {
 }
 
 impl<'a> OrderSender<'a> {
-    ghost use Rattle.enet_bridge.specs.Holding.{asked, waiting_at, submitted_at, sender_queue};
+    ghost use Rattle.enet_bridge.specs.Holding.{asked, waiting_at, submitted_at, sender_queue, FoundFull};
 
     /// An order sender at which nothing waits. The bell is that of the wire on which the service waits.
     pub fn new(alloc: Global, queue: &'a SubmitQueue, seat: Seat, bell: &'a Bell) -> OrderSender<'a>
@@ -68,12 +68,13 @@ impl<'a> OrderSender<'a> {
         }
     }
 
-    /// Submits what waits, oldest first, as far as there is room. What was asked stays the same. It never waits for room; where there
-    /// is none an order waits on.
+    /// Submits what waits, oldest first, as far as there is room. What was asked stays the same. It never waits for room; where a
+    /// step of this call found the queue full an order waits on.
     pub fn submit<R: Wait>(&mut self, rt: &R) -> Pumped
         ensures kept { asked self.new ≡ asked self.old }
         ensures all { result ≡ Pumped.All → waiting_at self.new ≡ [] }
         ensures full { result ≡ Pumped.Full → 0 < length (waiting_at self.new) }
+        ensures held { result ≡ Pumped.Full → FoundFull self.new }
         ensures spent { result ≡ Pumped.Spent → length (submitted_at self.new) ≡ limit_of (sender_queue self.new) }
         ensures queue { sender_queue self.new ≡ sender_queue self.old }
     {

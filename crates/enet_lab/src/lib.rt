@@ -7,7 +7,7 @@
 //! the first line that can't be read, whose number is told (`IsStopped`); where it ends with Memory, what is written is the answers of
 //! lines from the script's beginning on (`IsPart`). `read_line` gives what specs/EnetLines says that a line spells, no more and no less;
 //! `answer_text` and `outcome_text` give the text that specs/Answers says, with the names of specs/Hosts.
-//! Only tested, by scripts/rows and `check_memory`: that calls succeed with ample memory, worked scripts with what is written, and that a
+//! Only tested, by scripts/rows and `check_lists`: that calls succeed with ample memory, worked scripts with what is written, and that a
 //! read, a write or a flush that fails is told.
 //! Neither: what was written before reading or writing failed.
 #![tactic(auto)]

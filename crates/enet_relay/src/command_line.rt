@@ -24,7 +24,7 @@ pub struct ServeOptions {
     pub address: Addr,
     pub peers: u16,
     pub channels: u8,
-    pub room: u32,
+    pub queue_capacity: u32,
     pub length: Length,
     /// Whether each connection, each end of one and each refused order is told.
     pub logs: bool,
@@ -108,7 +108,7 @@ fn serve_command<'a>(alloc: Global) -> Result<Command<'a>, AllocError> {
         .arg(address(alloc))?
         .arg(peers(alloc))?
         .arg(channels(alloc))?
-        .arg(room(alloc))?
+        .arg(queue_capacity(alloc)?)?
         .arg(turns(alloc))?
         .arg(forever(alloc)?)?
         .arg(logs(alloc))
@@ -163,12 +163,14 @@ fn channels<'a>(alloc: Global) -> Arg<'a> {
         .default_value("2")
 }
 
-fn room<'a>(alloc: Global) -> Arg<'a> {
-    Arg::new(alloc, "room")
-        .long("room")
+// `--room` is the option's earlier name.
+fn queue_capacity<'a>(alloc: Global) -> Result<Arg<'a>, AllocError> {
+    Arg::new(alloc, "queue-capacity")
+        .long("queue-capacity")
         .help("How many places each of the two queues between its threads has")
         .value_parser(value_parser!(u32).range(1..=65_536))
         .default_value("65536")
+        .alias("room")
 }
 
 fn forever<'a>(alloc: Global) -> Result<Arg<'a>, AllocError> {
@@ -239,7 +241,7 @@ fn serve_options(found: &ArgMatches<'_>) -> Option<ServeOptions> {
         address: Addr { ip, port },
         peers: found.get_one::<u16>("peers")?,
         channels: found.get_one::<u8>("channels")?,
-        room: found.get_one::<u32>("room")?,
+        queue_capacity: found.get_one::<u32>("queue-capacity")?,
         length,
         logs: found.get_flag("log"),
     })

@@ -2,7 +2,7 @@
 //! what datagrams say, `enet_relay serve` relays chat between real ENet clients, and `enet_relay demo` shows a server with clients in one
 //! process.
 //!
-//! Proved: that it is safe; what a shift of the server did is said by `enet_serve`, what came of each client of the demonstration by
+//! Proved: that it is safe; what a run of the server did is said by `enet_serve`, what came of each client of the demonstration by
 //! `enet_serve`, how a script of the lab is answered by `enet_lab`, and what is told of a datagram by `enet_text`.
 //! Only tested, by scripts/check-inspect.sh: what `inspect` writes and its status. By scripts/check-rows.sh: the scripts of scripts/rows;
 //! the command lines `--help`, no subcommand, an unknown one, a word too many, and those of `serve` and `demo` with numbers out of range;

@@ -4,7 +4,7 @@ use crate::command_line::{Length, ServeOptions};
 use crate::failure::Failure;
 use crate::watching::Operator;
 use enet_codec::Refusal;
-use enet_serve::{Gauge, Server, Settings, Shift, Unopened, Watch};
+use enet_serve::{ChatServer, Gauge, RunLength, Settings, Unopened, Watch};
 use std::net::{Ipv4Addr, Net};
 use std::rt::Clock;
 use std::sync::Wait;
@@ -12,8 +12,8 @@ use std::thread;
 use std::thread::Threads;
 use std::time::Duration;
 
-/// A shift of `--forever` has so many seconds, a day, unless much is done before.
-const SHIFT: u64 = 86_400;
+/// A run of `--forever` has so many seconds, a day, unless much is done before.
+const DAY: u64 = 86_400;
 
 /// Serves, and tells how much it was.
 pub fn serve<R>(rt: &R, options: ServeOptions) -> Result<(), Failure>
@@ -24,13 +24,13 @@ where
         address: options.address,
         peers: options.peers,
         channels: options.channels,
-        room: options.room,
+        queue_capacity: options.queue_capacity,
     };
-    // Where no thread can be made, a join does its parts one after the other: nothing would be relayed until the shift is over.
+    // Where no thread can be made, a join does its parts one after the other: nothing would be relayed until the run is over.
     if thread::spawn(rt, || ()).is_err() {
         return Err(Failure::NoThread);
     }
-    let mut server = Server::open(rt, settings)?;
+    let mut server = ChatServer::open(rt, settings)?;
     tell_start(rt, &server, settings);
     let served = serve_as_asked(rt, &mut server, options);
     server.take_leave(rt);
@@ -39,7 +39,7 @@ where
 }
 
 // Where it listens, and with what. A line that can't be written ends nothing.
-fn tell_start<R: Eprint>(rt: &R, server: &Server, settings: Settings) {
+fn tell_start<R: Eprint>(rt: &R, server: &ChatServer, settings: Settings) {
     let ip = Ipv4Addr::from_bits(settings.address.ip);
     let port = settings.address.port;
     let peers = settings.peers;
@@ -50,7 +50,7 @@ fn tell_start<R: Eprint>(rt: &R, server: &Server, settings: Settings) {
     );
 }
 
-fn serve_as_asked<R>(rt: &R, server: &mut Server, options: ServeOptions) -> Result<(), Failure>
+fn serve_as_asked<R>(rt: &R, server: &mut ChatServer, options: ServeOptions) -> Result<(), Failure>
 where
     R: Threads + Wait + Clock + Sync + Print + Eprint,
 {
@@ -64,7 +64,7 @@ where
 
 fn serve_turns<R, W>(
     rt: &R,
-    server: &mut Server,
+    server: &mut ChatServer,
     turns: u32,
     gauge: &Gauge,
     watch: &mut W,
@@ -73,7 +73,7 @@ where
     R: Threads + Wait + Clock + Sync + Print,
     W: Watch + Send,
 {
-    match server.serve(rt, Shift::Turns(u64::from(turns)), gauge, watch) {
+    match server.serve(rt, RunLength::Turns(u64::from(turns)), gauge, watch) {
         Ok(report) => {
             let received = report.received;
             let sent = report.sent;
@@ -84,22 +84,27 @@ where
 }
 
 // Serves until the process is stopped.
-fn serve_on<R, W>(rt: &R, server: &mut Server, gauge: &Gauge, watch: &mut W) -> Result<(), Failure>
+fn serve_on<R, W>(
+    rt: &R,
+    server: &mut ChatServer,
+    gauge: &Gauge,
+    watch: &mut W,
+) -> Result<(), Failure>
 where
     R: Threads + Wait + Clock + Sync,
     W: Watch + Send,
 {
     for _ in rt.forever() {
-        let shift = Shift::Time(Duration::from_secs(SHIFT));
-        if let Err(why) = server.serve(rt, shift, gauge, watch) {
+        let day = RunLength::Time(Duration::from_secs(DAY));
+        if let Err(why) = server.serve(rt, day, gauge, watch) {
             return Err(failure(server, why));
         }
     }
     Ok(())
 }
 
-// Why a shift was refused. Where the wire failed, what the system said of it stands beside that.
-fn failure(server: &Server, why: Refusal) -> Failure {
+// Why a run was refused. Where the wire failed, what the system said of it stands beside that.
+fn failure(server: &ChatServer, why: Refusal) -> Failure {
     let reason = if why == Refusal::WireFault {
         server.reason()
     } else {

@@ -24,14 +24,14 @@ use Rattle.enet_events.specs.Words.{PosterState, QueueId}
 use Rattle.enet_host.specs.Host.{Host}
 use Rattle.enet_bridge.specs.Ends.{orders}
 use Rattle.enet_bridge.specs.Holding.{asked, received}
-use Rattle.enet_serve.specs.Serving.{EndsShift}
+use Rattle.enet_serve.specs.Serving.{EndsRun}
 use Rattle.enet_service.specs.declared.report.Report.{Report}
 use Rattle.enet_service.specs.Counts.{stopped}
 use Rattle.enet_service.specs.Queues.{given, accepted}
 use Rattle.enet_service.specs.Run.{all_gave, all_puts}
 use Rattle.enet_chat.specs.Relaying.{events}
-use Rattle.enet_service.specs.declared.shift.Shift.TheVariants.{Turns}
-use Rattle.enet_service.specs.Shifts.{HasTurned}
+use Rattle.enet_service.specs.declared.run_length.RunLength.TheVariants.{Turns}
+use Rattle.enet_service.specs.ServiceRuns.{HasTurned}
 use Rattle.enet_serve.specs.declared.client.Guest.{Guest}
 use Rattle.enet_serve.specs.declared.demonstration.Demonstration.{Demonstration}
 use Rattle.enet_serve.specs.declared.orders.Plan.{Plan}
@@ -148,12 +148,12 @@ all_or_fault shown result outcomes all are =
     IfOk-weaker result (λ visits. oks visits.items ≡ outcomes) (λ visits. AreVisits shown visits.items) (λ visits e. all_visits shown visits.items outcomes e are) all
 
 -- the refusal of one of the clients is what ended it
-fault_of_one : (shown : Demonstration) (outcomes : List (Result Visit Refusal)) (why : Refusal) → AreOutcomes shown outcomes → (why ≡ Memory) ⊎ Contains outcomes (Err why) → EndsShift why
+fault_of_one : (shown : Demonstration) (outcomes : List (Result Visit Refusal)) (why : Refusal) → AreOutcomes shown outcomes → (why ≡ Memory) ⊎ Contains outcomes (Err why) → EndsRun why
 fault_of_one shown outcomes why are (inl memory) = inr (inl memory)
 fault_of_one shown outcomes why are (inr (k, l, e)) =
-    subst (λ (r : Result Visit Refusal). IfErr r EndsShift) e ((are.1 k (Err why) (omega (arith, l, are.0))).1)
+    subst (λ (r : Result Visit Refusal). IfErr r EndsRun) e ((are.1 k (Err why) (omega (arith, l, are.0))).1)
 
 pub fault_of_client : (shown : Demonstration) (result : Result (Vec Visit Global) Refusal) (outcomes : List (Result Visit Refusal))
-    → IfErr result (λ why. (why ≡ Memory) ⊎ Contains outcomes (Err why)) → AreOutcomes shown outcomes → IfErr result EndsShift
+    → IfErr result (λ why. (why ≡ Memory) ⊎ Contains outcomes (Err why)) → AreOutcomes shown outcomes → IfErr result EndsRun
 fault_of_client shown (Ok visits) outcomes fault are = tt
 fault_of_client shown (Err why) outcomes fault are = fault_of_one shown outcomes why are fault

@@ -1,4 +1,4 @@
--- What a server does in a shift.
+-- What a server does in a run.
 use Rattle.std.specs.Prelude.{◌≡◌, ◌⊎◌, ℕ, Bool, List, [], ◌++◌, Option, None}
 use Rattle.std.specs.List.{All}
 use Rattle.enet_codec.specs.declared.event.PeerRef.{PeerRef}
@@ -15,31 +15,31 @@ use Rattle.enet_service.specs.declared.report.Report.{Report}
 use Rattle.enet_service.specs.Queues.{given, accepted}
 use Rattle.enet_service.specs.Run.{Round, IsSound, all_gave, all_puts, total}
 use Rattle.enet_chat.specs.Relaying.{noted_all, relayed_all, SameForEach, AreBehind}
-use Rattle.enet_service.specs.declared.shift.Shift.{Shift}
-use Rattle.enet_service.specs.Shifts.{Lasts, TakesTurns, IsRoom}
-use Rattle.enet_serve.specs.declared.server.Server.{Server}
+use Rattle.enet_service.specs.declared.run_length.RunLength.{RunLength}
+use Rattle.enet_service.specs.ServiceRuns.{Lasts, TakesTurns, IsCapacity}
+use Rattle.enet_serve.specs.declared.server.ChatServer.{ChatServer}
 use Rattle.enet_serve.specs.declared.server.Settings.{Settings}
 
--- ---- what a server is between two shifts
-abbrev pub host_of : Server → Host
-host_of server = server.station.service.host
+-- ---- what a server is between two runs
+abbrev pub host_of : ChatServer → Host
+host_of server = server.bound.service.host
 
 -- the event that waits for room in the queue, if there is one
-abbrev pub waiting_of : Server → Option Event
-waiting_of server = server.station.service.waiting
+abbrev pub waiting_of : ChatServer → Option Event
+waiting_of server = server.bound.service.waiting
 
 -- how many places each of its queues has
-abbrev pub room_of : Server → ℕ
-room_of server = server.room
+abbrev pub queue_capacity_of : ChatServer → ℕ
+queue_capacity_of server = server.queue_capacity
 
 -- the peers that the relay knows, the events that it has not expanded, and the orders that were not carried out
-abbrev pub peers_of : Server → List PeerRef
+abbrev pub peers_of : ChatServer → List PeerRef
 peers_of server = server.kept.table
 
-abbrev pub backlog_of : Server → List Event
+abbrev pub backlog_of : ChatServer → List Event
 backlog_of server = server.kept.backlog.items
 
-abbrev pub orders_of : Server → List Order
+abbrev pub orders_of : ChatServer → List Order
 orders_of server = server.kept.orders.items
 
 -- whether there are hosts with these numbers of peers and channels
@@ -47,27 +47,27 @@ abbrev pub is_in_range : Settings → Bool
 is_in_range settings = configs.is_in_range (standard_config settings.peers settings.channels)
 
 -- a fresh host of these settings, and nothing that waits
-pub record IsOpened (settings : Settings) (server : Server) : Type 0 where
+pub record IsOpened (settings : Settings) (server : ChatServer) : Type 0 where
   pub host : host_of server ≡ opened (standard_config settings.peers settings.channels)
   pub waiting : waiting_of server ≡ None
-  pub room : room_of server ≡ settings.room
+  pub queue_capacity : queue_capacity_of server ≡ settings.queue_capacity
   pub peers : peers_of server ≡ []
   pub backlog : backlog_of server ≡ []
   pub orders : orders_of server ≡ []
 
--- ---- a shift
--- From one shift to the next. In none of its turns the wire failed, and the report is their sums. The events that the turns put are
+-- ---- a run
+-- From one run to the next. In none of its turns the wire failed, and the report is their sums. The events that the turns put are
 -- expanded behind those that waited, once and in order, or wait. The orders that were asked for are for every peer what those events
 -- give for it, in order (SameForEach); they come behind those that waited, and were handed to the turns, once and in order, or wait.
 -- Events wait only where orders do
-pub record Serves (old : Server) (shift : Shift) (new : Server) (report : Report) : Type 0 where
+pub record Serves (old : ChatServer) (run_length : RunLength) (new : ChatServer) (report : Report) : Type 0 where
   pub rounds : List Round
   pub expanded : List Event
   pub asked_for : List Order
-  pub lasts : Lasts shift rounds
+  pub lasts : Lasts run_length rounds
   pub turns : TakesTurns (host_of old, waiting_of old) rounds (host_of new, waiting_of new)
   pub sound : All IsSound rounds
-  pub room : room_of new ≡ room_of old
+  pub queue_capacity : queue_capacity_of new ≡ queue_capacity_of old
   pub totals : report ≡ total rounds
   pub events : backlog_of old ++ accepted (all_puts rounds) ≡ expanded ++ backlog_of new
   pub behind : AreBehind (backlog_of new) (orders_of new)
@@ -75,10 +75,10 @@ pub record Serves (old : Server) (shift : Shift) (new : Server) (report : Report
   pub for_each : SameForEach asked_for (relayed_all (peers_of old) expanded)
   pub orders_done : orders_of old ++ asked_for ≡ orders (given (all_gave rounds)) ++ orders_of new
 
--- what ends a shift early: the wire failed, memory was wanting, the seat is spent, or a queue was not empty
-abbrev pub EndsShift : Refusal → Type 0
-EndsShift why = (why ≡ WireFault) ⊎ (why ≡ Memory) ⊎ (why ≡ SeatSpent) ⊎ (why ≡ StillHeld)
+-- what ends a run early: the wire failed, memory was wanting, the seat is spent, or a queue was not empty
+abbrev pub EndsRun : Refusal → Type 0
+EndsRun why = (why ≡ WireFault) ⊎ (why ≡ Memory) ⊎ (why ≡ SeatSpent) ⊎ (why ≡ StillHeld)
 
--- why there was no shift: that, or there are no queues of the server's room
-abbrev pub IsNotServed : Server → Refusal → Type 0
-IsNotServed server why = EndsShift why ⊎ ((why ≡ BadConfig) × ¬ (IsRoom (room_of server)))
+-- why there was no run: that, or there are no queues of the server's capacity
+abbrev pub IsNotServed : ChatServer → Refusal → Type 0
+IsNotServed server why = EndsRun why ⊎ ((why ≡ BadConfig) × ¬ (IsCapacity (queue_capacity_of server)))

@@ -1,4 +1,4 @@
--- What the two threads of a shift begin with, and what they leave.
+-- What the two threads of a run begin with, and what they leave.
 use Rattle.std.specs.Prelude.{◌≡◌, ◌≤◌, ◌++◌, length}
 use Rattle.enet_submit.specs.declared.token.Drain.{Drain}
 use Rattle.enet_submit.specs.Words.{all_sent, taken}

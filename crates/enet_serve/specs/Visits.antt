@@ -14,9 +14,9 @@ use Rattle.enet_bridge.specs.Ends.{orders}
 use Rattle.enet_service.specs.Counts.{stopped}
 use Rattle.enet_service.specs.Queues.{given, accepted}
 use Rattle.enet_service.specs.Run.{Round, IsSound, all_gave, all_puts}
-use Rattle.enet_service.specs.Shifts.{TakesTurns}
-use Rattle.enet_service.specs.Shifts as shifts
-use Rattle.enet_serve.specs.Serving.{EndsShift}
+use Rattle.enet_service.specs.ServiceRuns.{TakesTurns}
+use Rattle.enet_service.specs.ServiceRuns as runs
+use Rattle.enet_serve.specs.Serving.{EndsRun}
 use Rattle.enet_serve.specs.declared.demonstration.Demonstration.{Demonstration}
 use Rattle.enet_serve.specs.declared.orders.Plan.{Plan}
 use Rattle.enet_serve.specs.declared.player.Visit.{Visit}
@@ -63,7 +63,7 @@ abbrev pub plan_of : Demonstration → ℕ → Plan
 plan_of shown number = record { number = number; server = server_of shown }
 
 abbrev pub beginning : Host × Option Event
-beginning = shifts.beginning (standard_config 1 2)
+beginning = runs.beginning (standard_config 1 2)
 
 -- A client's service took so many turns, in none of which the wire failed. The client's connection is the first that they told; they
 -- were given a front of what it asked for; and the visit tells what they told
@@ -81,7 +81,7 @@ pub record Visits (old : Host × Option Event) (plan : Plan) (turns : ℕ) (visi
 
 -- what a client's threads ended with: its visit, or what ended them early
 abbrev pub IsOutcome : Plan → ℕ → Result Visit Refusal → Type 0
-IsOutcome plan turns outcome = IfOk outcome (Visits beginning plan turns) × IfErr outcome EndsShift
+IsOutcome plan turns outcome = IfOk outcome (Visits beginning plan turns) × IfErr outcome EndsRun
 
 -- what each client's threads ended with, from client 0 on
 abbrev pub AreOutcomes : Demonstration → List (Result Visit Refusal) → Type 0
@@ -98,4 +98,4 @@ IsInRange shown = (1 ≤ shown.clients) × (shown.clients ≤ 8)
 
 -- why nothing is shown: there can't be so many clients, a port couldn't be had, or the server or a client ended early
 abbrev pub IsNotShown : Demonstration → Refusal → Type 0
-IsNotShown shown why = ((why ≡ BadConfig) × ¬ (IsInRange shown)) ⊎ EndsShift why
+IsNotShown shown why = ((why ≡ BadConfig) × ¬ (IsInRange shown)) ⊎ EndsRun why

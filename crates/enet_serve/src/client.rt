@@ -1,7 +1,7 @@
 //! A client: its service's thread, and its game thread.
 ghost use Rattle.std.specs.Prelude.{◌≡◌, ◌<◌, OnOk, IfOk, IfErr};
-ghost use Rattle.enet_service.specs.Shifts.{AreNew, CanSettle, IsNotSettled, state_of};
-ghost use Rattle.enet_serve.specs.Serving.{EndsShift};
+ghost use Rattle.enet_service.specs.ServiceRuns.{AreNew, CanSettle, IsNotSettled, state_of};
+ghost use Rattle.enet_serve.specs.Serving.{EndsRun};
 ghost use Rattle.enet_serve.specs.Visits.{Visits, beginning};
 ghost use Rattle.enet_serve.specs.Playing.{HasPlayed, IsFresh, IsGuest, IsSame, IsSettled, returned};
 
@@ -10,8 +10,8 @@ use crate::player::{Company, Played, Player, Visit};
 use enet_codec::{Addr, Config, Refusal};
 use enet_events::Poster;
 use enet_service::{
-    Ends, EventReceiver, MioWire, OrderSender, QueueSink, QueueSource, Queues, Returned, Shared,
-    Shift, Signals, Station, Unwatched, beside_turns, settle,
+    BoundService, Ends, EventReceiver, MioWire, OrderSender, QueueSink, QueueSource, Queues,
+    Returned, RunLength, Shared, Signals, Unwatched, beside_turns, settle,
 };
 use enet_submit::Drain;
 use std::alloc::Global;
@@ -21,7 +21,7 @@ use std::sync::Wait;
 use std::thread::Threads;
 
 /// How many places each queue of a client has.
-const ROOM: u32 = 1_024;
+const QUEUE_CAPACITY: u32 = 1_024;
 
 /// How a client takes part: by this plan, for so many turns of its service.
 #[derive(Clone, Copy)]
@@ -47,7 +47,7 @@ impl Guest {
         turns: u64,
     ) -> Result<Guest, Refusal>
         ensures guest { IfOk result (IsGuest plan turns) }
-        ensures refused { IfErr result EndsShift }
+        ensures refused { IfErr result EndsRun }
     {
         let wire = MioWire::bind(rt, address)?;
         let alloc = rt.alloc();
@@ -65,7 +65,7 @@ where
     R: Threads + Wait + Clock + Sync,
     requires { guest.part.plan.number < 10 }
     ensures visits { IfOk result (Visits beginning guest.part.plan guest.part.turns) }
-    ensures refused { IfErr result EndsShift }
+    ensures refused { IfErr result EndsRun }
 {
     let Guest { part, wire } = guest;
     let bell = wire.bell()?;
@@ -73,23 +73,23 @@ where
         orders,
         events,
         ends,
-    } = Queues::open(part.alloc, ROOM)?;
+    } = Queues::open(part.alloc, QUEUE_CAPACITY)?;
     let shared = Shared {
         queue: &orders,
         events: &events,
         bell: &bell,
         signals: &Signals::new(),
     };
-    let mut station = Station::open(part.alloc, wire, Config::standard(1, CHANNELS))?;
-    let visit = run_client(rt, &mut station, shared, ends, part, company);
-    station.close();
+    let mut bound = BoundService::open(part.alloc, wire, Config::standard(1, CHANNELS))?;
+    let visit = run_client(rt, &mut bound, shared, ends, part, company);
+    bound.close();
     visit
 }
 
 // A client between these queues.
 fn run_client<R: Threads + Wait + Clock + Sync>(
     rt: &R,
-    station: &mut Station,
+    bound: &mut BoundService,
     shared: Shared<'_>,
     ends: Ends,
     part: Part,
@@ -97,8 +97,8 @@ fn run_client<R: Threads + Wait + Clock + Sync>(
 ) -> Result<Visit, Refusal>
     requires new { AreNew shared.queue.now shared.events.now ends }
     requires digit { part.plan.number < 10 }
-    ensures visits { IfOk result (Visits (state_of station.old) part.plan part.turns) }
-    ensures refused { IfErr result EndsShift }
+    ensures visits { IfOk result (Visits (state_of bound.old) part.plan part.turns) }
+    ensures refused { IfErr result EndsRun }
 {
     let Shared {
         queue,
@@ -114,10 +114,10 @@ fn run_client<R: Threads + Wait + Clock + Sync>(
     let mut sink = QueueSink::new(events, ends.poster, &signals.bell);
     let (played, report) = beside_turns(
         rt,
-        station,
+        bound,
         &mut source,
         &mut sink,
-        Shift::Turns(part.turns),
+        RunLength::Turns(part.turns),
         signals,
         &mut Unwatched,
         &mut || -> Result<(), Refusal>

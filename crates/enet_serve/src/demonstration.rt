@@ -2,16 +2,16 @@
 ghost use Rattle.std.specs.Thread.{IsSync};
 ghost use Rattle.std.specs.Prelude.{◌≡◌, ◌⊎◌, ◌<◌, ◌≤◌, ◌+◌, Err, Ok, IfOk, IfErr, map};
 ghost use Rattle.std.specs.List.{Contains};
-ghost use Rattle.enet_serve.specs.Serving.{EndsShift, room_of};
+ghost use Rattle.enet_serve.specs.Serving.{EndsRun, queue_capacity_of};
 ghost use Rattle.enet_serve.specs.Visits.{Visits, AreVisits, AreOutcomes, IsInRange, IsNotShown, beginning, server_of};
 ghost use Rattle.enet_serve.specs.Playing.{AreGuests};
 
 use crate::client::{Guest, visit};
 use crate::orders::{CHANNELS, Plan};
 use crate::player::{Company, Visit};
-use crate::{Gauge, Server, Settings, Unwatched};
+use crate::{ChatServer, Gauge, Settings, Unwatched};
 use enet_codec::{Addr, Refusal};
-use enet_service::{Report, Shift};
+use enet_service::{Report, RunLength};
 use std::alloc::Global;
 use std::net::Net;
 use std::rt::Clock;
@@ -30,7 +30,7 @@ const PORT: u16 = 47_100;
 const MOST: u8 = 8;
 
 /// How many places each queue of the server has.
-const ROOM: u32 = 1_024;
+const QUEUE_CAPACITY: u32 = 1_024;
 
 /// What is shown.
 #[derive(Clone, Copy)]
@@ -52,7 +52,7 @@ pub struct Demonstration {
 /// they end early, it gets fewer.
 ///
 /// E8 where `clients` is out of its range; E14 where a port can't be had, before anything is sent; then E14 where a wire fails, E1 for want
-/// of memory, E10 where the server's shift is so long that its relay has submitted as many orders as it may, E16 where threads ended and
+/// of memory, E10 where the server's run is so long that its relay has submitted as many orders as it may, E16 where threads ended and
 /// a queue isn't empty. The server's refusal is told before a client's, and that of a client before
 /// that of a later one.
 pub fn demonstrate<R>(rt: &R, shown: Demonstration) -> Result<Vec<Visit>, Refusal>
@@ -72,10 +72,10 @@ where
         address: address(0),
         peers: u16::from(shown.clients),
         channels: CHANNELS,
-        room: ROOM,
+        queue_capacity: QUEUE_CAPACITY,
     };
     let guests = open_guests(rt, shown)?;
-    let mut server = match Server::open(rt, settings) {
+    let mut server = match ChatServer::open(rt, settings) {
         Ok(server) => server,
         Err(unopened) => return Err(unopened.why),
     };
@@ -90,7 +90,7 @@ where
     R: Threads + Wait + Net + Clock + Sync + AllocGlobal,
     requires { shown.clients ≤ 8 }
     ensures visits { IfOk result (λ visits. AreVisits shown visits.items) }
-    ensures refused { IfErr result EndsShift }
+    ensures refused { IfErr result EndsRun }
 {
     let guests = open_guests(rt, shown)?;
     let present = AtomicUsize::new(usize::from(shown.clients));
@@ -112,7 +112,7 @@ fn server_of(shown: Demonstration) -> Addr
 fn open_guests<R: Net + AllocGlobal>(rt: &R, shown: Demonstration) -> Result<Vec<Guest>, Refusal>
     requires { shown.clients ≤ 8 }
     ensures guests { IfOk result (λ guests. AreGuests shown guests.items) }
-    ensures refused { IfErr result EndsShift }
+    ensures refused { IfErr result EndsRun }
 {
     let mut guests = Vec::new(rt.alloc());
     for number in 0..shown.clients {
@@ -132,14 +132,14 @@ fn open_guests<R: Net + AllocGlobal>(rt: &R, shown: Demonstration) -> Result<Vec
 fn run_all<R: Threads + Wait + Clock + Sync>(
     rt: &R,
     alloc: Global,
-    server: &mut Server,
+    server: &mut ChatServer,
     guests: Vec<Guest>,
     shown: Demonstration,
 ) -> Result<Vec<Visit>, Refusal>
     requires guests { AreGuests shown guests.items × (shown.clients ≤ 8) }
-    requires room { room_of server.old ≡ 1024 }
+    requires capacity { queue_capacity_of server.old ≡ 1024 }
     ensures visits { IfOk result (λ visits. AreVisits shown visits.items) }
-    ensures refused { IfErr result EndsShift }
+    ensures refused { IfErr result EndsRun }
 {
     let gauge = Gauge::new();
     let gauge = &gauge;
@@ -150,12 +150,12 @@ fn run_all<R: Threads + Wait + Clock + Sync>(
             ensures { IfOk result (λ outcomes. AreOutcomes shown outcomes.items) × IfErr result (λ why. why ≡ Refusal.Memory) }
         { visit_all(rt, guests, shown, &gauge.peers) },
         move || -> Result<Report, Refusal>
-            requires { IsSync R.row × (room_of server.now ≡ 1024) }
-            ensures { IfErr result EndsShift }
+            requires { IsSync R.row × (queue_capacity_of server.now ≡ 1024) }
+            ensures { IfErr result EndsRun }
         {
             server.serve(
                 rt,
-                Shift::Turns(u64::from(shown.turns)),
+                RunLength::Turns(u64::from(shown.turns)),
                 gauge,
                 &mut Unwatched,
             )
@@ -182,7 +182,7 @@ fn visit_all<R: Threads + Wait + Clock + Sync>(
         guests,
         &|guest: Guest| -> Result<Visit, Refusal>
             requires { IsSync R.row × (guest.part.plan.number < 10) }
-            ensures { IfOk result (Visits beginning guest.part.plan guest.part.turns) × IfErr result EndsShift }
+            ensures { IfOk result (Visits beginning guest.part.plan guest.part.turns) × IfErr result EndsRun }
         { visit(rt, guest, Company { present, all }) },
     );
     match outcomes {

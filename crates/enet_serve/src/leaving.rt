@@ -1,7 +1,7 @@
 //! How the clients of a server are told that it ends.
 
 use enet_codec::DisconnectMode;
-use enet_service::{Fault, MemorySink, MemorySource, Station, run};
+use enet_service::{BoundService, Fault, MemorySink, MemorySource, run};
 use std::alloc::Global;
 use std::collections::VecDeque;
 use std::io;
@@ -17,21 +17,21 @@ const MOST_EVENTS: usize = 1_024;
 
 /// Ends each connection behind all that was sent over it, and takes turns until all have ended, for a second at most. Who isn't gone by
 /// then is sent one DISCONNECT that wants no answer. Where the wire fails it ends.
-pub(crate) fn take_leave<R: Wait + Clock>(rt: &R, alloc: Global, station: &mut Station) {
-    if see_off(rt, alloc, station).is_err() || station.service.host.is_alone() {
+pub(crate) fn take_leave<R: Wait + Clock>(rt: &R, alloc: Global, bound: &mut BoundService) {
+    if see_off(rt, alloc, bound).is_err() || bound.service.host.is_alone() {
         return;
     }
-    station.service.host.part_from_all(DisconnectMode::Now);
-    let _ = take_turn(rt, alloc, station);
+    bound.service.host.part_from_all(DisconnectMode::Now);
+    let _ = take_turn(rt, alloc, bound);
 }
 
 // Takes turns until no peer is left, or the moment is over. Who connects meanwhile is asked to go, too.
-fn see_off<R: Wait + Clock>(rt: &R, alloc: Global, station: &mut Station) -> Result<(), Fault> {
+fn see_off<R: Wait + Clock>(rt: &R, alloc: Global, bound: &mut BoundService) -> Result<(), Fault> {
     let start = Instant::now(rt);
     for _ in rt.forever() {
-        station.service.host.part_from_all(DisconnectMode::Later);
-        take_turn(rt, alloc, station)?;
-        if station.service.host.is_alone() || is_over(rt, &start) {
+        bound.service.host.part_from_all(DisconnectMode::Later);
+        take_turn(rt, alloc, bound)?;
+        if bound.service.host.is_alone() || is_over(rt, &start) {
             return Ok(());
         }
     }
@@ -50,10 +50,14 @@ fn is_over<R: Clock>(rt: &R, start: &io::Result<Instant>) -> bool {
 }
 
 // A turn without orders, whose events nobody takes.
-fn take_turn<R: Wait + Clock>(rt: &R, alloc: Global, station: &mut Station) -> Result<(), Fault> {
+fn take_turn<R: Wait + Clock>(
+    rt: &R,
+    alloc: Global,
+    bound: &mut BoundService,
+) -> Result<(), Fault> {
     let mut source = MemorySource::new(VecDeque::new(alloc));
     let mut sink = MemorySink::new(alloc, MOST_EVENTS);
-    let Station { wire, service } = station;
+    let BoundService { wire, service } = bound;
     run(rt, service, wire, &mut source, &mut sink, 1)?;
     Ok(())
 }

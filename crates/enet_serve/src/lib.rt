@@ -1,12 +1,12 @@
-//! A server over the service, one of whose threads takes turns and another relays chat ([`Server`]); and a demonstration of it: the server
+//! A server over the service, one of whose threads takes turns and another relays chat ([`ChatServer`]); and a demonstration of it: the server
 //! and its clients in one process ([`demonstrate`]).
 //!
-//! Proved: one call of [`Server::serve`] (`Serves`) is turns of the service, as many as were asked for where a number was, in none of
+//! Proved: one call of [`ChatServer::serve`] (`Serves`) is turns of the service, as many as were asked for where a number was, in none of
 //! which the wire failed, and its report their sums. Each event that the turns told was expanded by the rule of the relay, once and in
 //! order, or waits for the next call; each order that the events gave was handed to a turn, once and for every receiver in order, or
 //! waits, too; and events wait only where orders do. So nothing is lost or doubled between the threads, nor from one call to the next.
-//! It ends early only for what [`Server::serve`] names. A server opens with the standard host of its settings, with nothing waiting
-//! ([`Server::open`]). After a call that was refused nothing is said of the server. Of each client of the demonstration (`Visits`): its
+//! It ends early only for what [`ChatServer::serve`] names. A server opens with the standard host of its settings, with nothing waiting
+//! ([`ChatServer::open`]). After a call that was refused nothing is said of the server. Of each client of the demonstration (`Visits`): its
 //! service took so many turns, in none of which the wire failed; the turns were given the first part of what the client asks for, which is
 //! its connection and, over the first that it is told of, three packets of chat; and what is told of the client is whether the turns told
 //! its connection, and how many packets they told. So its game thread missed no event and counted none twice. A number of clients that is
@@ -29,6 +29,6 @@ mod threads;
 
 pub use demonstration::{Demonstration, demonstrate};
 pub use enet_chat::Gauge;
-pub use enet_service::{Met, Note, Shift, Unopened, Unwatched, Watch, WatchedHost};
+pub use enet_service::{Met, Note, RunLength, Unopened, Unwatched, Watch, WatchedHost};
 pub use player::Visit;
-pub use server::{Server, Settings};
+pub use server::{ChatServer, Settings};

@@ -1,7 +1,7 @@
 //! A server: a service thread, and a thread that relays.
 ghost use Rattle.std.specs.Prelude.{◌≡◌, ◌⊎◌, OnOk, IfOk, IfErr};
 ghost use Rattle.enet_chat.specs.Relaying.{Relays, IsThrough};
-ghost use Rattle.enet_service.specs.Shifts.{CanSettle, IsNotSettled};
+ghost use Rattle.enet_service.specs.ServiceRuns.{CanSettle, IsNotSettled};
 ghost use Rattle.enet_serve.specs.Threads.{IsLeft, returned};
 
 use crate::leaving::take_leave;
@@ -11,8 +11,8 @@ use enet_codec::{Addr, Config, Refusal};
 use enet_events::Poster;
 use enet_host::HostCore;
 use enet_service::{
-    Ends, EventReceiver, MioWire, OrderSender, QueueSink, QueueSource, Queues, Report, Returned,
-    Shared, Shift, Signals, Station, Unopened, Watch, beside_turns, settle,
+    BoundService, Ends, EventReceiver, MioWire, OrderSender, QueueSink, QueueSource, Queues,
+    Report, Returned, RunLength, Shared, Signals, Unopened, Watch, beside_turns, settle,
 };
 use enet_submit::Drain;
 use std::alloc::Global;
@@ -32,27 +32,27 @@ pub struct Settings {
     /// How many channels a connection is granted at most: 1 to 255.
     pub channels: u8,
     /// How many places each of the two queues between its threads has: 1 to 65,536.
-    pub room: u32,
+    pub queue_capacity: u32,
 }
 
-/// A server between two shifts: its socket and its host, and what the relay has not done yet. It is given up by [`Server::close`] alone.
-pub struct Server {
+/// A server between two runs: its socket and its host, and what the relay has not done yet. It is given up by [`ChatServer::close`] alone.
+pub struct ChatServer {
     alloc: Global,
-    room: u32,
-    station: Station,
+    queue_capacity: u32,
+    bound: BoundService,
     kept: Carryover,
 }
 
-impl Server {
+impl ChatServer {
     ghost use Rattle.std.specs.Prelude.{◌≡◌, ◌⊎◌, true, false, None, IfOk, IfErr, Err};
-    ghost use Rattle.enet_service.specs.Shifts.{AreNew};
-    ghost use Rattle.enet_serve.specs.Serving.{Serves, EndsShift, IsNotServed, IsOpened, is_in_range, host_of};
+    ghost use Rattle.enet_service.specs.ServiceRuns.{AreNew};
+    ghost use Rattle.enet_serve.specs.Serving.{Serves, EndsRun, IsNotServed, IsOpened, is_in_range, host_of};
 
     /// A server at this address, with no peer.
     ///
-    /// E8 where `peers` or `channels` is out of its range (`room` is tested by [`Server::serve`]), E14 where the address can't be had,
+    /// E8 where `peers` or `channels` is out of its range (`queue_capacity` is tested by [`ChatServer::serve`]), E14 where the address can't be had,
     /// with what the system says of it, E1 for want of memory.
-    pub fn open<R: Net + AllocGlobal>(rt: &R, settings: Settings) -> Result<Server, Unopened>
+    pub fn open<R: Net + AllocGlobal>(rt: &R, settings: Settings) -> Result<ChatServer, Unopened>
         ensures out_of_range { is_in_range settings ≡ false → result ≡ Err (record { why = Refusal.BadConfig; reason = None }) }
         ensures in_range { is_in_range settings ≡ true → IfErr result (λ unopened. (unopened.why ≡ Refusal.WireFault) ⊎ (unopened.why ≡ Refusal.Memory)) }
         ensures opened { IfOk result (IsOpened settings) }
@@ -63,67 +63,67 @@ impl Server {
             return Err(Unopened::from(Refusal::BadConfig));
         }
         let wire = MioWire::open(rt, settings.address)?;
-        Ok(Server {
+        Ok(ChatServer {
             alloc,
-            room: settings.room,
-            station: Station::open(alloc, wire, config)?,
+            queue_capacity: settings.queue_capacity,
+            bound: BoundService::open(alloc, wire, config)?,
             kept: Carryover::new(alloc),
         })
     }
 
-    /// Serves for a shift: one thread takes the service's turns, and this one or another relays, until the shift is over and no
-    /// event is left. What was not carried out then is kept for the next shift.
+    /// Serves for a run: one thread takes the service's turns, and this one or another relays, until the run is over and no
+    /// event is left. What was not carried out then is kept for the next run.
     ///
     /// While it serves, `gauge` shows how many peers are connected and how far the relay has come, and `watch` is told of the turns by the
     /// thread that takes them.
     ///
-    /// Each shift has queues of its own, since a seat submits 4,294,967,295 orders at most.
+    /// Each run has queues of its own, since a seat submits 4,294,967,295 orders at most.
     ///
-    /// E14 where the wire fails, E1 for want of memory, E8 where the queues' places are out of range, E10 where a shift is so long
+    /// E14 where the wire fails, E1 for want of memory, E8 where the queues' places are out of range, E10 where a run is so long
     /// that the seat has submitted as many orders as it may, E16 where the threads ended and a queue isn't empty. By E1 and E10 the relay
-    /// ends, and a shift of a time soon after it. Whatever is refused, nothing is promised of the server then, but that it can take leave
+    /// ends, and a run for a time soon after it. Whatever is refused, nothing is promised of the server then, but that it can take leave
     /// and be closed.
     pub fn serve<R, W>(
         &mut self,
         rt: &R,
-        shift: Shift,
+        run_length: RunLength,
         gauge: &Gauge,
         watch: &mut W,
     ) -> Result<Report, Refusal>
     where
         R: Threads + Wait + Clock + Sync,
         W: Watch + Send,
-        ensures serves { IfOk result (Serves self.old shift self.new) }
+        ensures serves { IfOk result (Serves self.old run_length self.new) }
         ensures refused { IfErr result (IsNotServed self.old) }
     {
-        let bell = self.station.wire.bell()?;
+        let bell = self.bound.wire.bell()?;
         let Queues {
             orders,
             events,
             ends,
-        } = Queues::open(self.alloc, self.room)?;
+        } = Queues::open(self.alloc, self.queue_capacity)?;
         let shared = Shared {
             queue: &orders,
             events: &events,
             bell: &bell,
             signals: &Signals::new(),
         };
-        self.run_shift(rt, shared, ends, shift, gauge, watch)
+        self.run_turns(rt, shared, ends, run_length, gauge, watch)
     }
 
-    // A shift between these queues.
-    fn run_shift<R: Threads + Wait + Clock + Sync, W: Watch + Send>(
+    // A run between these queues.
+    fn run_turns<R: Threads + Wait + Clock + Sync, W: Watch + Send>(
         &mut self,
         rt: &R,
         shared: Shared<'_>,
         ends: Ends,
-        shift: Shift,
+        run_length: RunLength,
         gauge: &Gauge,
         watch: &mut W,
     ) -> Result<Report, Refusal>
         requires { AreNew shared.queue.now shared.events.now ends }
-        ensures serves { IfOk result (Serves self.old shift self.new) }
-        ensures refused { IfErr result EndsShift }
+        ensures serves { IfOk result (Serves self.old run_length self.new) }
+        ensures refused { IfErr result EndsRun }
     {
         let Shared {
             queue,
@@ -139,10 +139,10 @@ impl Server {
         let mut sink = QueueSink::new(events, ends.poster, &signals.bell);
         let (relayed, report) = beside_turns(
             rt,
-            &mut self.station,
+            &mut self.bound,
             &mut source,
             &mut sink,
-            shift,
+            run_length,
             signals,
             watch,
             &mut || -> Result<(), Refusal>
@@ -151,7 +151,7 @@ impl Server {
                 ensures why { IfErr result (λ why. (why ≡ Refusal.Memory) ⊎ (why ≡ Refusal.SeatSpent)) }
             { relay_on(rt, &mut relay, signals, gauge) },
         );
-        let kept = after_shift(
+        let kept = after_run(
             rt,
             self.alloc,
             shared,
@@ -169,40 +169,40 @@ impl Server {
     pub fn host(&self) -> &HostCore
         ensures { result.now ≡ host_of self.now }
     {
-        self.station.service.host.host()
+        self.bound.service.host.host()
     }
 
     /// How many bytes of datagrams the system keeps until they are received, as [`MioWire::receive_buffer`] tells.
     pub fn receive_buffer(&self) -> Option<u32> {
-        self.station.wire.receive_buffer()
+        self.bound.wire.receive_buffer()
     }
 
     /// What the system said where the wire failed.
     pub fn reason(&self) -> Option<io::Error> {
-        self.station.wire.reason()
+        self.bound.wire.reason()
     }
 
     /// Tells each client that the server ends, behind all that was sent to it, and gives them a second to acknowledge it. Where the
     /// wire fails nobody is told.
     pub fn take_leave<R: Wait + Clock>(&mut self, rt: &R) {
-        take_leave(rt, self.alloc, &mut self.station);
+        take_leave(rt, self.alloc, &mut self.bound);
     }
 
     /// Gives its socket up, and its connections, of which no peer is told.
     pub fn close(self) {
-        let Server {
+        let ChatServer {
             alloc: _,
-            room: _,
-            station,
+            queue_capacity: _,
+            bound,
             kept,
         } = self;
         drop(kept);
-        station.close();
+        bound.close();
     }
 }
 
 // What the two threads left. The orders that the service didn't take stand before those that found no room.
-fn after_shift<R: Wait>(
+fn after_run<R: Wait>(
     rt: &R,
     alloc: Global,
     shared: Shared<'_>,

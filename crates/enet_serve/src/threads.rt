@@ -1,4 +1,4 @@
-//! The relay's side of a shift.
+//! The relay's side of a run.
 ghost use Rattle.std.specs.Prelude.{◌≡◌, ◌⊎◌, OnOk, IfOk, IfErr};
 ghost use Rattle.enet_chat.specs.Relaying.{Relays, IsThrough};
 ghost use Rattle.enet_serve.specs.Threads.{IsBegun};
@@ -11,7 +11,7 @@ use std::alloc::Global;
 use std::collections::VecDeque;
 use std::sync::Wait;
 
-/// What the relay keeps from one shift to the next: the peers, the events not expanded yet, and the orders not carried out.
+/// What the relay keeps from one run to the next: the peers, the events not expanded yet, and the orders not carried out.
 #[derive(Drop)]
 pub(crate) struct Carryover {
     pub(crate) table: Table,
@@ -34,7 +34,7 @@ impl Carryover {
     }
 }
 
-/// The relay of a shift: the orders that were kept are asked for first.
+/// The relay of a run: the orders that were kept are asked for first.
 pub(crate) fn begin_relay<'a>(
     alloc: Global,
     kept: Carryover,

@@ -21,7 +21,7 @@ use Rattle.enet_service.specs.Queues.{given, accepted}
 use Rattle.enet_service.specs.Run.{Round, IsSound, EndsInTurn, EndsInWait, all_gave, all_puts, total}
 use Rattle.enet_service.proofs.PhaseSteps.{chain_more}
 use Rattle.enet_service.proofs.Reporting.{same_report}
-use Rattle.enet_service.specs.Shifts.{Spell}
+use Rattle.enet_service.specs.ServiceRuns.{Spell}
 
 -- events without their numbers
 abbrev events : List Numbered → List Event

@@ -1,4 +1,4 @@
-pub mod Shifts
+pub mod ServiceRuns
 pub mod Counts
 pub mod Hosting
 pub mod Phases

@@ -1,5 +1,5 @@
 //! The service: one thread owns a host and takes its turns; game threads reach it through two queues alone. It is used by [`Queues::open`],
-//! [`Station::open`] and [`beside_turns`], which runs the service beside a function of the user's; then by [`settle`].
+//! [`BoundService::open`] and [`beside_turns`], which runs the service beside a function of the user's; then by [`settle`].
 //!
 //! Proved, for every host that says what its calls do ([`Core`]): a turn is the stated calls in the stated order ([`Service::turn`]), on
 //! what the source gave and the wire told; what was sent and put is what these calls answered; a refused order becomes one
@@ -21,24 +21,25 @@
 #![tactic(auto)]
 
 mod between;
+mod bound_service;
 mod hearing;
 mod host;
 mod hosting;
 mod orders;
 mod queues;
 mod report;
+mod run_length;
 mod running;
 mod sending;
 mod service;
 mod settling;
-mod shift;
-mod station;
 mod telling;
 mod turning;
 mod watch;
 mod watched;
 
 pub use between::run_between_queues;
+pub use bound_service::BoundService;
 pub use enet_bridge::{
     Bell, EventReceiver, MemorySink, MemorySource, MemoryWire, MioWire, OrderSender, Pumped,
     QueueSink, QueueSource, Sink, Source, Step, TakerBell, Told, Unopened, Wire,
@@ -47,11 +48,10 @@ pub use enet_host::HostCore;
 pub use host::Core;
 pub use queues::{Ends, Queues};
 pub use report::{Fault, Report};
+pub use run_length::RunLength;
 pub use running::run;
 pub use service::{MOST_PER_TURN, Service};
 pub use settling::{Returned, settle};
-pub use shift::Shift;
-pub use station::Station;
 pub use turning::{Shared, Signals, beside_turns};
 pub use watch::{Unwatched, Watch};
 pub use watched::{Met, Note, WatchedHost};

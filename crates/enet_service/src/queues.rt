@@ -27,16 +27,16 @@ pub struct Ends {
 
 impl Queues {
     ghost use Rattle.std.specs.Prelude.{IfOk, IfErr, OnOk};
-    ghost use Rattle.enet_service.specs.Shifts.{AreNew, IsRoom, AreNotOpened};
+    ghost use Rattle.enet_service.specs.ServiceRuns.{AreNew, IsCapacity, AreNotOpened};
 
     /// Queues of so many places each, in which nothing was put. E8 where the places are out of 1 to 65,536, E1 for want of memory.
-    pub fn open(alloc: Global, room: u32) -> Result<Queues, Refusal>
+    pub fn open(alloc: Global, capacity: u32) -> Result<Queues, Refusal>
         ensures new { IfOk result (λ queues. AreNew queues.orders queues.events queues.ends) }
-        ensures range { OnOk result (IsRoom room) }
-        ensures refused { IfErr result (AreNotOpened room) }
+        ensures range { OnOk result (IsCapacity capacity) }
+        ensures refused { IfErr result (AreNotOpened capacity) }
     {
-        let (orders, seats, drain) = SubmitQueue::open(alloc, room, 1, u32::MAX)?;
-        let (events, poster, mut takers) = EventQueue::open(alloc, room, 1)?;
+        let (orders, seats, drain) = SubmitQueue::open(alloc, capacity, 1, u32::MAX)?;
+        let (events, poster, mut takers) = EventQueue::open(alloc, capacity, 1)?;
         let (Some(seat), Some(taker)) = (only_seat(&orders, seats), takers.pop()) else {
             return Err(Refusal::Memory);
         };

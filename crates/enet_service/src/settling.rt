@@ -1,8 +1,8 @@
-//! What is left of a shift, once both its threads have ended.
+//! What is left of a run, once both its threads have ended.
 ghost use Rattle.std.specs.Prelude.{◌≡◌, ◌++◌, OnOk, IfOk, IfErr};
 ghost use Rattle.enet_submit.specs.Words.{IsDrainOf, IsFinishedOf, seats_of, taken, all_sent};
 ghost use Rattle.enet_bridge.specs.Ends.{orders};
-ghost use Rattle.enet_service.specs.Shifts.{CanSettle, IsNotSettled};
+ghost use Rattle.enet_service.specs.ServiceRuns.{CanSettle, IsNotSettled};
 
 use enet_codec::Refusal;
 use enet_events::{EventQueue, Poster, Taker};

@@ -1,10 +1,10 @@
-//! The service's thread of a shift.
+//! The service's thread of a run.
 ghost use Rattle.std.specs.Prelude.{◌≡◌, IfOk, IfErr};
 ghost use Rattle.enet_bridge.specs.Serving.{queue_of, drain_of, poster_of};
-ghost use Rattle.enet_service.specs.Shifts.{HasTurned, state_of};
+ghost use Rattle.enet_service.specs.ServiceRuns.{HasTurned, state_of};
 
-use crate::shift::{Shift, take_turns};
-use crate::station::Station;
+use crate::bound_service::BoundService;
+use crate::run_length::{RunLength, take_turns};
 use crate::watch::Watch;
 use crate::{Bell, QueueSink, QueueSource, Report, TakerBell};
 use enet_codec::Refusal;
@@ -50,7 +50,7 @@ impl Signals {
         }
     }
 
-    /// The other thread calls it where it ends: a shift of a time ends soon then, since nobody takes what its turns tell.
+    /// The other thread calls it where it ends: a run for a time ends soon then, since nobody takes what its turns tell.
     pub fn leave(&self) {
         self.left.store(true, SeqCst);
     }
@@ -65,29 +65,29 @@ impl Signals {
     }
 }
 
-// Takes the turns of a shift, and then tells the other thread that the service has ended. E14 where the wire fails; the other thread
+// Takes the turns of a run, and then tells the other thread that the service has ended. E14 where the wire fails; the other thread
 // is told of the end then, too.
 fn serve_turns<R: Wait + Clock, W: Watch>(
     rt: &R,
-    station: &mut Station,
+    bound: &mut BoundService,
     source: &mut QueueSource<'_>,
     sink: &mut QueueSink<'_>,
-    shift: Shift,
+    run_length: RunLength,
     signals: &Signals,
     watch: &mut W,
 ) -> Result<Report, Refusal>
     ensures queue { queue_of source.new ≡ queue_of source.old }
     ensures poster { (poster_of sink.new).queue ≡ (poster_of sink.old).queue }
-    ensures turned { IfOk result (HasTurned shift (state_of station.old) (drain_of source.old) (poster_of sink.old) (state_of station.new) (drain_of source.new) (poster_of sink.new)) }
+    ensures turned { IfOk result (HasTurned run_length (state_of bound.old) (drain_of source.old) (poster_of sink.old) (state_of bound.new) (drain_of source.new) (poster_of sink.new)) }
     ensures fault { IfErr result (λ why. why ≡ Refusal.WireFault) }
 {
     let report = take_turns(
         rt,
-        &mut station.service,
-        &mut station.wire,
+        &mut bound.service,
+        &mut bound.wire,
         source,
         sink,
-        shift,
+        run_length,
         signals,
         watch,
     );
@@ -95,17 +95,17 @@ fn serve_turns<R: Wait + Clock, W: Watch>(
     report
 }
 
-/// Does `other` in one thread, and takes the turns of a shift in another, until both have ended. `other` is what takes events and submits
+/// Does `other` in one thread, and takes the turns of a run in another, until both have ended. `other` is what takes events and submits
 /// orders: it goes on until it is told that the service has ended, and where it ends before, it says so ([`Signals::leave`]). It begins only
 /// once the service has ended where no second thread can be made. `watch` is told of the turns.
 ///
 /// E14 where the wire fails: the service's thread ends then.
 pub fn beside_turns<R, W, F, T>(
     rt: &R,
-    station: &mut Station,
+    bound: &mut BoundService,
     source: &mut QueueSource<'_>,
     sink: &mut QueueSink<'_>,
-    shift: Shift,
+    run_length: RunLength,
     signals: &Signals,
     watch: &mut W,
     other: &mut F,
@@ -119,7 +119,7 @@ where
     ensures other { F.step other.old result.0 other.new }
     ensures queue { queue_of source.new ≡ queue_of source.old }
     ensures poster { (poster_of sink.new).queue ≡ (poster_of sink.old).queue }
-    ensures turned { IfOk result.1 (HasTurned shift (state_of station.old) (drain_of source.old) (poster_of sink.old) (state_of station.new) (drain_of source.new) (poster_of sink.new)) }
+    ensures turned { IfOk result.1 (HasTurned run_length (state_of bound.old) (drain_of source.old) (poster_of sink.old) (state_of bound.new) (drain_of source.new) (poster_of sink.new)) }
     ensures fault { IfErr result.1 (λ why. why ≡ Refusal.WireFault) }
 {
     join_mut(
@@ -128,8 +128,8 @@ where
         &mut || -> Result<Report, Refusal>
             ensures queue { queue_of source.exit.now ≡ queue_of source.entry.now }
             ensures poster { (poster_of sink.exit.now).queue ≡ (poster_of sink.entry.now).queue }
-            ensures turned { IfOk result (HasTurned shift (state_of station.entry.now) (drain_of source.entry.now) (poster_of sink.entry.now) (state_of station.exit.now) (drain_of source.exit.now) (poster_of sink.exit.now)) }
+            ensures turned { IfOk result (HasTurned run_length (state_of bound.entry.now) (drain_of source.entry.now) (poster_of sink.entry.now) (state_of bound.exit.now) (drain_of source.exit.now) (poster_of sink.exit.now)) }
             ensures fault { IfErr result (λ why. why ≡ Refusal.WireFault) }
-        { serve_turns(rt, station, source, sink, shift, signals, watch) },
+        { serve_turns(rt, bound, source, sink, run_length, signals, watch) },
     )
 }

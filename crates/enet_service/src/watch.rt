@@ -5,7 +5,7 @@ use crate::watched::WatchedHost;
 
 /// Is told of a service's turns while they are taken, by the thread that takes them.
 pub trait Watch {
-    /// These turns are over, 64 at most: the sums of their reports, and the host with what it noted in them.
+    /// These turns are over (64 at most where a run is for a time): the sums of their reports, and the host with what it noted in them.
     fn look(&mut self, host: &WatchedHost, report: Report);
 }
 

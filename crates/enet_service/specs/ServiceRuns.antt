@@ -1,4 +1,4 @@
--- What a service's thread does in a shift.
+-- What a service's thread does in a run.
 use Rattle.std.specs.Prelude.{◌≡◌, ◌⊎◌, ℕ, ◌≤◌, List, [], ◌++◌, length, Option, None}
 use Rattle.std.specs.List.{All}
 use Rattle.enet_codec.specs.declared.config.Config.{Config}
@@ -17,17 +17,17 @@ use Rattle.enet_service.specs.Queues.{given, accepted, PostsOn}
 use Rattle.enet_service.specs.Run.{Round, Rounds, IsSound, all_gave, all_puts, total}
 use Rattle.enet_service.specs.declared.queues.Ends.{Ends}
 use Rattle.enet_service.specs.declared.settling.Returned.{Returned}
-use Rattle.enet_service.specs.declared.shift.Shift.{Shift}
-use Rattle.enet_service.specs.declared.shift.Shift.TheVariants.{Turns, Time}
-use Rattle.enet_service.specs.declared.station.Station.{Station}
+use Rattle.enet_service.specs.declared.run_length.RunLength.{RunLength}
+use Rattle.enet_service.specs.declared.run_length.RunLength.TheVariants.{Turns, Time}
+use Rattle.enet_service.specs.declared.bound_service.BoundService.{BoundService}
 
 -- how many places a queue may have
-abbrev pub IsRoom : ℕ → Type 0
-IsRoom room = (1 ≤ room) × (room ≤ 65536)
+abbrev pub IsCapacity : ℕ → Type 0
+IsCapacity capacity = (1 ≤ capacity) × (capacity ≤ 65536)
 
 -- why there are no queues of so many places
 abbrev pub AreNotOpened : ℕ → Refusal → Type 0
-AreNotOpened room why = (why ≡ Memory) ⊎ ((why ≡ BadConfig) × ¬ (IsRoom room))
+AreNotOpened capacity why = (why ≡ Memory) ⊎ ((why ≡ BadConfig) × ¬ (IsCapacity capacity))
 
 -- why a queue was not settled
 abbrev pub IsNotSettled : Refusal → Type 0
@@ -42,15 +42,15 @@ pub record AreNew (queue : SubmitQueue) (events : Queue) (ends : Ends) : Type 0 
   pub taker : (ends.taker.queue ≡ events.id) × (ends.taker.taken ≡ [])
   pub one_taker : events.id.takers ≡ 1
 
--- the host of a station, and the event that waits for room in the queue, if there is one
-abbrev pub state_of : Station → Host × Option Event
-state_of station = (station.service.host, station.service.waiting)
+-- the host of a bound service, and the event that waits for room in the queue, if there is one
+abbrev pub state_of : BoundService → Host × Option Event
+state_of bound = (bound.service.host, bound.service.waiting)
 
 abbrev pub beginning : Config → Host × Option Event
 beginning config = (opened config, None)
 
--- how many turns a shift has: as many as it was told; where it was told a time, at least one
-abbrev pub Lasts : Shift → List Round → Type 0
+-- how many turns a run has: as many as it was told; where it was told a time, at least one
+abbrev pub Lasts : RunLength → List Round → Type 0
 Lasts (Turns n) rounds = length rounds ≡ n
 Lasts (Time length_of_time) rounds = 1 ≤ length rounds
 
@@ -67,11 +67,11 @@ pub record Spell (old : Host × Option Event) (from : Drain) (before : PosterSta
   pub gave : taken to ≡ taken from ++ given (all_gave rounds)
   pub put : PostsOn before (accepted (all_puts rounds)) after
 
--- the turns of a shift
-pub record HasTurned (shift : Shift) (old : Host × Option Event) (from : Drain) (before : PosterState)
+-- the turns of a run
+pub record HasTurned (run_length : RunLength) (old : Host × Option Event) (from : Drain) (before : PosterState)
     (new : Host × Option Event) (to : Drain) (after : PosterState) (report : Report) : Type 0 where
   pub rounds : List Round
-  pub lasts : Lasts shift rounds
+  pub lasts : Lasts run_length rounds
   pub spell : Spell old from before rounds new to after report
 
 -- what the threads handed back belongs to the queues, which have one seat and one taker

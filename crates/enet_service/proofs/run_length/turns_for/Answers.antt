@@ -2,7 +2,7 @@ use Rattle.std.proofs.Common.{List, [], ◌++◌, refl, ◌∙◌, arith}
 use Rattle.std.proofs.lemmas.List.{length-append}
 use Rattle.enet_service.specs.Run.{Round}
 use Rattle.enet_service.proofs.Spells.{no_turn, further}
-use Rattle.enet_service.proofs.shift.turns_for.Goals as goal
+use Rattle.enet_service.proofs.run_length.turns_for.Goals as goal
 
 pub loop-init : goal.loop-init
 loop-init g c = (refl, [], no_turn _ _ _ _ c.nothing-total.ensures)

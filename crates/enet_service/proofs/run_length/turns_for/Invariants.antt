@@ -1,8 +1,8 @@
 use Rattle.std.proofs.Common.{◌≡◌, List}
 use Rattle.enet_bridge.specs.Serving.{queue_of, drain_of, poster_of}
 use Rattle.enet_service.specs.Run.{Round}
-use Rattle.enet_service.specs.Shifts.{Spell}
-use Rattle.enet_service.proofs.shift.turns_for.Given as goal
+use Rattle.enet_service.specs.ServiceRuns.{Spell}
+use Rattle.enet_service.proofs.run_length.turns_for.Given as goal
 
 abbrev pub invariant-loop : goal.invariant-loop
 invariant-loop g l =

@@ -1,8 +1,9 @@
-//! Readers and writers that fail in mid-stream, and a reader without an end.
+//! The lab over readers and writers that fail in mid-stream, and over a reader without an end, which no script can say.
 
+use anyhow::{Result as Outcome, bail};
 use enet_lab::{LabFault, lab};
+use std::alloc::Global;
 use std::io::{Error, ErrorKind, Read, Result, Write};
-use std::test::Fail;
 
 /// A reader that gives a script one byte a read, each after an interrupted read, and then fails.
 #[derive(Drop)]
@@ -82,54 +83,51 @@ impl Write for UnflushedWriter {
     }
 }
 
-#[test]
-fn a_read_that_fails(rt: HostRuntime) -> std::result::Result<(), Fail> {
+/// How many trials were answered as they should be: a read, a write and a flush that fails, and a reader without an end. An error at
+/// the first that wasn't.
+pub fn judged(alloc: Global) -> Outcome<u32> {
+    if !is_failed_read_told(alloc) {
+        bail!("a read that fails is answered otherwise");
+    }
+    if !is_failed_write_told(alloc) {
+        bail!("a write that fails is answered otherwise");
+    }
+    let mut script: &[u8] = b"pair 1\n";
+    if lab(alloc, &mut script, &mut UnflushedWriter) != Err(LabFault::Io) {
+        bail!("a flush that fails is answered otherwise");
+    }
+    if !is_endless_read_told(alloc) {
+        bail!("a reader without an end is answered otherwise");
+    }
+    Ok(4)
+}
+
+/// The answers up to the line that was read whole are written, and the fault is told.
+fn is_failed_read_told(alloc: Global) -> bool {
     let mut reader = FailingReader {
         rest: b"pair 1\nturn A\nturn",
         is_interrupted: false,
     };
-    let mut written: Vec<u8> = Vec::new(rt.alloc());
-    assert_eq!(rt;
-        lab(rt.alloc(), &mut reader, &mut written),
-        Err(LabFault::Io)
-    );
-    assert_eq!(rt; written.as_slice(), b"ok\nnone\n".as_slice());
-    Ok(())
+    let mut written: Vec<u8> = Vec::new(alloc);
+    let answer = lab(alloc, &mut reader, &mut written);
+    answer == Err(LabFault::Io) && written.as_slice() == b"ok\nnone\n".as_slice()
 }
 
-#[test]
-fn a_write_that_fails(rt: HostRuntime) -> std::result::Result<(), Fail> {
+/// The answers before the write that fails are written, and the fault is told.
+fn is_failed_write_told(alloc: Global) -> bool {
     let mut script: &[u8] = b"pair 1\nturn A\nturn A\n";
     let mut writer = FailingWriter {
-        written: Vec::new(rt.alloc()),
+        written: Vec::new(alloc),
         writes: 2,
     };
-    assert_eq!(rt;
-        lab(rt.alloc(), &mut script, &mut writer),
-        Err(LabFault::Io)
-    );
-    assert_eq!(rt; writer.written.as_slice(), b"ok\nnone\n".as_slice());
-    Ok(())
+    let answer = lab(alloc, &mut script, &mut writer);
+    answer == Err(LabFault::Io) && writer.written.as_slice() == b"ok\nnone\n".as_slice()
 }
 
-#[test]
-fn a_flush_that_fails(rt: HostRuntime) {
-    let mut script: &[u8] = b"pair 1\n";
-    assert_eq!(rt;
-        lab(rt.alloc(), &mut script, &mut UnflushedWriter),
-        Err(LabFault::Io)
-    );
-}
-
-#[test]
-fn a_reader_without_end(rt: HostRuntime) -> std::result::Result<(), Fail> {
+/// Blank lines have no answer, and after 2^24 reads the lab ends.
+fn is_endless_read_told(alloc: Global) -> bool {
     let mut reader = EndlessReader { reads: 0 };
-    let mut written: Vec<u8> = Vec::new(rt.alloc());
-    assert_eq!(rt;
-        lab(rt.alloc(), &mut reader, &mut written),
-        Err(LabFault::Io)
-    );
-    assert_eq!(rt; reader.reads, 16_777_216);
-    assert!(rt; written.is_empty(), "blank lines have no answer");
-    Ok(())
+    let mut written: Vec<u8> = Vec::new(alloc);
+    let answer = lab(alloc, &mut reader, &mut written);
+    answer == Err(LabFault::Io) && reader.reads == 16_777_216 && written.is_empty()
 }

@@ -1,9 +1,9 @@
 use Rattle.std.proofs.Common.{List, sym, subst}
 use Rattle.enet_host.specs.Host.{Host}
 use Rattle.enet_service.specs.Run.{Round}
-use Rattle.enet_service.specs.Shifts.{TakesTurns}
+use Rattle.enet_service.specs.ServiceRuns.{TakesTurns}
 use Rattle.enet_service.proofs.Spells.{fault_of_wire}
-use Rattle.enet_service.proofs.shift.turns_of.Goals as goal
+use Rattle.enet_service.proofs.run_length.turns_of.Goals as goal
 
 pub returns-in-Ok-clause-turns : goal.returns-in-Ok-clause-turns
 returns-in-Ok-clause-turns g c =

@@ -2,7 +2,7 @@
 ghost use Rattle.std.specs.Prelude.{◌≡◌, ◌≤◌, List, length, IfOk, IfErr};
 ghost use Rattle.enet_service.specs.Run.{Round as OneTurn};
 ghost use Rattle.enet_bridge.specs.Serving.{queue_of, drain_of, poster_of};
-ghost use Rattle.enet_service.specs.Shifts.{Lasts, Spell};
+ghost use Rattle.enet_service.specs.ServiceRuns.{Lasts, Spell};
 
 use crate::turning::Signals;
 use crate::watch::Watch;
@@ -17,12 +17,12 @@ use std::time::{Duration, Instant};
 /// Between two looks at the clock a service takes so many turns.
 const TURNS_AT_ONCE: u64 = 64;
 
-/// After so many orders or events a shift of a time ends: its queues count 4,294,967,295 of each at most.
+/// After so many orders or events a run for a time ends: its queues count 4,294,967,295 of each at most.
 const MANY: u32 = 2_147_483_648;
 
 /// How long a service takes turns.
 #[derive(Clone, Copy)]
-pub enum Shift {
+pub enum RunLength {
     /// So many turns.
     Turns(u64),
     /// As many turns as it takes until so much time has passed, the other thread has left, or 2,147,483,648 orders were taken or events
@@ -30,27 +30,27 @@ pub enum Shift {
     Time(Duration),
 }
 
-/// The turns of a shift, and the sums of their reports. E14 where the wire fails.
+/// The turns of a run, and the sums of their reports. E14 where the wire fails.
 pub(crate) fn take_turns<R: Wait + Clock, W: Watch>(
     rt: &R,
     service: &mut Service<WatchedHost>,
     wire: &mut MioWire,
     source: &mut QueueSource<'_>,
     sink: &mut QueueSink<'_>,
-    shift: Shift,
+    run_length: RunLength,
     signals: &Signals,
     watch: &mut W,
 ) -> Result<Report, Refusal>
     ensures queue { queue_of source.new ≡ queue_of source.old }
     ensures poster { (poster_of sink.new).queue ≡ (poster_of sink.old).queue }
-    ensures turns { IfOk result (λ report. (rounds : List OneTurn) × Lasts shift rounds
+    ensures turns { IfOk result (λ report. (rounds : List OneTurn) × Lasts run_length rounds
         × Spell (service.old.host, service.old.waiting) (drain_of source.old) (poster_of sink.old) rounds
         (service.new.host, service.new.waiting) (drain_of source.new) (poster_of sink.new) report) }
     ensures fault { IfErr result (λ why. why ≡ Refusal.WireFault) }
 {
-    match shift {
-        Shift::Turns(turns) => turns_of(rt, service, wire, source, sink, turns, watch),
-        Shift::Time(time) => turns_for(rt, service, wire, source, sink, time, signals, watch),
+    match run_length {
+        RunLength::Turns(turns) => turns_of(rt, service, wire, source, sink, turns, watch),
+        RunLength::Time(time) => turns_for(rt, service, wire, source, sink, time, signals, watch),
     }
 }
 

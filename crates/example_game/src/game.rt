@@ -1,0 +1,173 @@
+//! The game's thread: it takes the service's events and asks for the answers.
+
+use crate::rule::{answer, secret_of};
+use bytes::Bytes;
+use enet_codec::{DisconnectMode, Event, PeerRef, Refusal};
+use enet_service::{EventReceiver, OrderSender, Pumped, Signals};
+use enet_submit::Order;
+use rand_core::utils::NextWord;
+use rand_pcg::Pcg32;
+use std::alloc::{AllocError, Global};
+use std::str;
+use std::sync::Wait;
+use std::sync::atomic::Ordering::SeqCst;
+
+/// A packet with this flag comes, whatever the network loses, in order with all other packets of its channel that have it.
+const RELIABLE: u8 = 1;
+
+/// A client that is connected.
+#[derive(Drop)]
+struct Player {
+    peer: PeerRef,
+    secret: u32,
+    guesses: u32,
+    has_won: bool,
+}
+
+/// A game, with its ends of the two queues.
+#[derive(Drop)]
+pub struct Game<'a> {
+    alloc: Global,
+    dice: Pcg32,
+    players: Vec<Player>,
+    wins: u32,
+    sender: OrderSender<'a>,
+    receiver: EventReceiver<'a>,
+}
+
+impl<'a> Game<'a> {
+    /// A game without players, whose secrets are drawn from this seed.
+    pub fn new(
+        alloc: Global,
+        seed: u64,
+        sender: OrderSender<'a>,
+        receiver: EventReceiver<'a>,
+    ) -> Game<'a> {
+        Game {
+            alloc,
+            dice: Pcg32::new(seed, 0),
+            players: Vec::new(alloc),
+            wins: 0,
+            sender,
+            receiver,
+        }
+    }
+
+    /// How many winners have gone.
+    pub fn wins(&self) -> u32 {
+        self.wins
+    }
+
+    /// Plays until so many winners have gone, or the service has ended and no event is left; the service's thread is told then. E1 for
+    /// want of memory, E10 after 4,294,967,295 orders.
+    pub fn play<R: Wait>(&mut self, rt: &R, signals: &Signals, wins: u32) -> Result<(), Refusal> {
+        let played = self.play_on(rt, signals, wins);
+        signals.leave();
+        played
+    }
+
+    fn play_on<R: Wait>(&mut self, rt: &R, signals: &Signals, wins: u32) -> Result<(), Refusal> {
+        for _ in rt.forever() {
+            let over = signals.ended.load(SeqCst);
+            self.submit(rt)?;
+            match self.receiver.take(rt) {
+                Some(numbered) => self.note(&numbered.event)?,
+                None if over => return Ok(()),
+                None => signals.bell.wait_a_moment(rt),
+            }
+            if self.wins >= wins {
+                return Ok(());
+            }
+        }
+        unreachable!()
+    }
+
+    // Hands the service what was asked for, and wakes it. What finds no room waits in the order sender, and events are taken on: a thread that
+    // waited for room here could wait for ever, since the service takes no orders while it has no room for an event.
+    fn submit<R: Wait>(&mut self, rt: &R) -> Result<(), Refusal> {
+        if self.sender.is_empty() {
+            return Ok(());
+        }
+        let pumped = self.sender.submit(rt);
+        self.sender.ring();
+        match pumped {
+            Pumped::All | Pumped::Full => Ok(()),
+            Pumped::Spent => Err(Refusal::SeatSpent),
+        }
+    }
+
+    fn note(&mut self, event: &Event) -> Result<(), Refusal> {
+        match event {
+            Event::Connect { peer, .. } => self.welcome(*peer),
+            Event::Receive { peer, packet } => match guess_in(packet.body.as_slice()) {
+                Some(guess) => self.judge(*peer, guess),
+                None => Ok(()),
+            },
+            Event::Disconnect { peer, .. } => {
+                self.part_from(*peer);
+                Ok(())
+            }
+            Event::Refused { .. } => Ok(()),
+        }
+    }
+
+    fn welcome(&mut self, peer: PeerRef) -> Result<(), Refusal> {
+        let player = Player {
+            peer,
+            secret: secret_of(self.dice.next_word()),
+            guesses: 0,
+            has_won: false,
+        };
+        self.players.push(player).map_err(|_| Refusal::Memory)
+    }
+
+    // Answers a guess. Who is right is parted from, once the answer has come.
+    fn judge(&mut self, peer: PeerRef, guess: u32) -> Result<(), Refusal> {
+        let Some(player) = self.players.iter_mut().find(|player| player.peer == peer) else {
+            return Ok(());
+        };
+        if player.has_won {
+            return Ok(());
+        }
+        player.guesses = player.guesses.saturating_add(1);
+        player.has_won = guess == player.secret;
+        let won = player.has_won;
+        let body = match text(self.alloc, player, guess) {
+            Ok(body) => body,
+            Err(_) => return Err(Refusal::Memory),
+        };
+        self.sender.ask(Order::Submit {
+            peer,
+            channel: 0,
+            flags: RELIABLE,
+            body,
+        })?;
+        if !won {
+            return Ok(());
+        }
+        self.sender.ask(Order::Disconnect {
+            peer,
+            how: DisconnectMode::Later,
+            info: 0,
+        })
+    }
+
+    fn part_from(&mut self, peer: PeerRef) {
+        if self
+            .players
+            .iter()
+            .any(|player| player.peer == peer && player.has_won)
+        {
+            self.wins = self.wins.saturating_add(1);
+        }
+        self.players.retain(|player| player.peer != peer);
+    }
+}
+
+fn text(alloc: Global, player: &Player, guess: u32) -> Result<Bytes, AllocError> {
+    Bytes::from_string(answer(alloc, player.secret, guess, player.guesses)?)
+}
+
+fn guess_in(body: &[u8]) -> Option<u32> {
+    str::from_utf8(body).ok()?.trim().parse::<u32>().ok()
+}

@@ -1,0 +1,111 @@
+//! A server that has a number guessed, with its rule in a thread beside the service, to begin a game of your own with (docs/USING.md).
+//!
+//! `example_game PORT SEED WINS SECONDS` serves clients at 127.0.0.1. Each is to guess a number from 1 to 1,000, which is drawn from the
+//! seed: it sends guesses as text, reliably on channel 0, and is answered `lower`, `higher` or, after its N-th guess, `right after N`. The
+//! program ends once so many have won and gone, or so many seconds have passed; it tells none who is still there.
+//!
+//! Proved: that it is safe, and what a guess is answered (`IsAnswer`). Only tested, by its stored run and scripts/check-clients.sh: what
+//! clients get, and that it ends. Neither: when the threads run.
+#![tactic(auto)]
+
+mod game;
+mod rule;
+
+use enet_codec::{Addr, Config, Refusal};
+use enet_service::{
+    BoundService, EventReceiver, MioWire, OrderSender, QueueSink, QueueSource, Queues, RunLength,
+    Signals, Unwatched, beside_turns,
+};
+use game::Game;
+use std::env;
+use std::net::Net;
+use std::process::ExitCode;
+use std::rt::{Clock, Env};
+use std::sync::Wait;
+use std::thread::Threads;
+use std::time::Duration;
+
+/// 127.0.0.1.
+const LOCALHOST: u32 = 0x7f00_0001;
+
+const CLIENTS: u16 = 32;
+
+const CHANNELS: u8 = 2;
+
+/// How many places each of the two queues has.
+const CAPACITY: u32 = 1_024;
+
+/// What the program was told.
+#[derive(Clone, Copy)]
+struct Settings {
+    at: Addr,
+    seed: u64,
+    wins: u32,
+    time: Duration,
+}
+
+fn settings_of<R: Env + AllocGlobal>(rt: &R) -> Option<Settings> {
+    let words: Vec<String> = env::args(rt).ok()?.collect(rt.alloc()).ok()?;
+    Some(Settings {
+        at: Addr {
+            ip: LOCALHOST,
+            port: words.get(1)?.parse::<u16>().ok()?,
+        },
+        seed: words.get(2)?.parse::<u64>().ok()?,
+        wins: words.get(3)?.parse::<u32>().ok()?,
+        time: Duration::from_secs(words.get(4)?.parse::<u64>().ok()?),
+    })
+}
+
+/// Serves, and tells how many have won.
+fn serve<R>(rt: &R, settings: Settings) -> Result<u32, Refusal>
+where
+    R: Threads + Wait + Net + Clock + Sync + AllocGlobal,
+{
+    let alloc = rt.alloc();
+    let wire = MioWire::bind(rt, settings.at)?;
+    let bell = wire.bell()?;
+    let Queues {
+        orders,
+        events,
+        ends,
+    } = Queues::open(alloc, CAPACITY)?;
+    let signals = Signals::new();
+    let mut source = QueueSource::new(&orders, ends.drain, &bell);
+    let mut sink = QueueSink::new(&events, ends.poster, &signals.bell);
+    let sender = OrderSender::new(alloc, &orders, ends.seat, &bell);
+    let receiver = EventReceiver::new(&events, ends.taker);
+    let mut game = Game::new(alloc, settings.seed, sender, receiver);
+    let mut bound = BoundService::open(alloc, wire, Config::standard(CLIENTS, CHANNELS))?;
+    let (played, served) = beside_turns(
+        rt,
+        &mut bound,
+        &mut source,
+        &mut sink,
+        RunLength::Time(settings.time),
+        &signals,
+        &mut Unwatched,
+        &mut || -> Result<(), Refusal> { game.play(rt, &signals, settings.wins) },
+    );
+    bound.close();
+    served?;
+    played?;
+    Ok(game.wins())
+}
+
+fn main(rt: HostRuntime) -> ExitCode {
+    let Some(settings) = settings_of(&rt) else {
+        let _ = eprintln!(&rt; "PORT SEED WINS SECONDS");
+        return ExitCode::from(2);
+    };
+    match serve(&rt, settings) {
+        Ok(wins) => {
+            let _ = println!(&rt; "{wins} won");
+            ExitCode::SUCCESS
+        }
+        Err(why) => {
+            let _ = eprintln!(&rt; "{why}");
+            ExitCode::FAILURE
+        }
+    }
+}
