@@ -21,7 +21,7 @@ returns-clause-calm c =
     let p = c.args.self.now.peer in
     let now = c.args.now in
     let happens : HappensIn (is_due p) now c.min.result = subst (λ (n : ℕ). HappensIn (is_due p) now n) (sym c.min.ensures)
-        (either-in (λ (later : ℕ). has_late p.outbox later) (is_pinged p) now c.next_late-late.result c.pinged_in.result
-        (subst (λ (v : Peered). HappensIn (λ (later : ℕ). has_late v.peer.outbox later) now c.next_late-late.result) c.self.view_is c.next_late-late.ensures)
-        c.pinged_in.ensures) in
+    (either-in (λ (later : ℕ). has_late p.outbox later) (is_pinged p) now c.next_late-late.result c.pinged_in.result
+    (subst (λ (v : Peered). HappensIn (λ (later : ℕ). has_late v.peer.outbox later) now c.next_late-late.result) c.self.view_is c.next_late-late.ensures)
+    c.pinged_in.ensures) in
     λ later low less. nothing-due p later (happens.before later low less)
