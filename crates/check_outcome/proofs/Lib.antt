@@ -1,2 +1,2 @@
-pub mod Lives
+pub mod SomeLife
 pub mod OnChannel

@@ -24,13 +24,13 @@ ghost use Rattle.enet_network.specs.Examples.{IsInRange, CrossesOpened, CrossesJ
 
 use enet_host::HostCore;
 
+mod apart;
 mod event;
-mod isolation;
 mod mark;
 mod settings;
 
+pub use apart::{isolation, isolation_of};
 pub use event::{Answer, Side, WorldEvent};
-pub use isolation::{isolation, isolation_of};
 pub use mark::{Mark, MarkKind};
 pub use settings::{set_bandwidth, set_ping_interval, set_timeout, throttle_configure};
 

@@ -5,7 +5,7 @@ use Rattle.enet_network.proofs.Alike.{one-answer, one-way, alike}
 use Rattle.enet_network.proofs.Own.{of-the-host}
 use Rattle.enet_network.proofs.Beginning.{each-beginning}
 use Rattle.enet_network.proofs.Matching.{matches}
-use Rattle.enet_network.proofs.isolation.isolation.Goals as goal
+use Rattle.enet_network.proofs.apart.isolation.Goals as goal
 
 pub returns-clause-one_call : goal.returns-clause-one_call
 returns-clause-one_call c = one-call
