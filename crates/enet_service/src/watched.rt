@@ -204,7 +204,7 @@ impl Core for WatchedHost {
     }
 
     fn receive(&mut self, from: Addr, bytes: &[u8]) {
-        self.host.receive(from, bytes);
+        Core::receive(&mut self.host, from, bytes);
     }
 
     fn emit(&mut self, buf: &mut [u8; 4096]) -> Option<(Addr, usize)> {
@@ -212,7 +212,7 @@ impl Core for WatchedHost {
     }
 
     fn next_event(&mut self) -> Option<Event> {
-        let event = self.host.next_event()?;
+        let event = Core::next_event(&mut self.host)?;
         self.note_event(&event);
         Some(event)
     }
