@@ -1,5 +1,5 @@
 -- A tick that brings a host nothing.
-use Rattle.std.proofs.Common.{◌≡◌, ◌≢◌, ℕ, zero, suc, ◌+◌, ◌%◌, ◌^◌, ◌<◌, ◌≤◌, min, nat_le, Bool, true, false, ◌||◌, if◌then◌else◌, Option, Some, None, List, [], ◌∷◌, map, refl, sym, ap, ap₂, ◌∙◌, arith}
+use Rattle.std.proofs.Common.{◌≡◌, ◌≢◌, ℕ, suc, ◌^◌, ◌<◌, ◌≤◌, nat_le, Bool, true, false, ◌||◌, if◌then◌else◌, Option, Some, None, List, [], ◌∷◌, map, refl, sym, ap, ap₂, ◌∙◌, arith}
 use Rattle.std.specs.List.{count_by, list_any}
 use Rattle.enet_rtt.specs.Clock.{elapsed_time, HappensIn}
 use Rattle.enet_peer.specs.declared.parts.PeerState.{PeerState}
@@ -11,7 +11,7 @@ use Rattle.enet_slot.specs.Slot.{SlotState, changed, with_changed, with_peer, wi
 use Rattle.enet_slot.specs.Slot as slot
 use Rattle.enet_slot.specs.Sharing.{is_standing, shared}
 use Rattle.enet_host.specs.Host.{Host, HoldsNoFree}
-use Rattle.enet_host.specs.Ticking.{brings, clock_after, ticked, with_shares, with_time, IsDueIn}
+use Rattle.enet_host.specs.Ticking.{brings, clock_after, ticked, with_shares, IsDueIn}
 
 neither-left : (b c : Bool) → (b || c) ≡ false → b ≡ false
 neither-left true c e = e

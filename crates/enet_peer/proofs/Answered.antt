@@ -5,7 +5,6 @@ use Rattle.std.specs.List.{list_any, slice_get}
 use Rattle.enet_codec.specs.declared.command.Head.{Head}
 use Rattle.enet_codec.specs.Message.{Message, Body, acknowledge, connect, verify_connect, disconnect, ping, send_reliable, send_unreliable, send_fragment, send_unsequenced, bandwidth_limit, throttle_configure, send_unreliable_fragment}
 use Rattle.enet_codec.specs.declared.stop.Stop.{Stop}
-use Rattle.enet_codec.specs.declared.stop.Stop.TheVariants as stop
 use Rattle.enet_rtt.specs.declared.expiry.Patience.{Patience}
 use Rattle.enet_rtt.specs.declared.expiry.Expiry.TheVariants.{No, Resend, End}
 use Rattle.enet_senders.specs.declared.control.SentControl.{SentControl}

@@ -1,5 +1,5 @@
 -- What a command leaves of a peer.
-use Rattle.std.proofs.Common.{◌≡◌, Bool, sym, subst, Result, Ok, Err}
+use Rattle.std.proofs.Common.{Bool, sym, subst, Result, Ok, Err}
 use Rattle.enet_codec.specs.declared.stop.Stop.{Stop}
 use Rattle.enet_codec.specs.declared.stop.Stop.TheVariants as stop
 use Rattle.enet_peer.specs.Peering.{Peering}

@@ -1,4 +1,4 @@
-use Rattle.std.proofs.Common.{ℕ, Bool, false, sym, ap, subst}
+use Rattle.std.proofs.Common.{ℕ, false, sym, subst}
 use Rattle.std.specs.List.{list_any}
 use Rattle.enet_rtt.specs.Clock.{HappensIn}
 use Rattle.enet_rtt.proofs.Waits.{never, same-in}

@@ -1,4 +1,4 @@
-use Rattle.std.proofs.Common.{ℕ, ◌-◌, Bool, false, ◌&&◌, leb, sym, ap, subst, ◌∙◌, arith}
+use Rattle.std.proofs.Common.{ℕ, ◌-◌, false, ◌&&◌, leb, sym, ap, subst, ◌∙◌, arith}
 use Rattle.enet_rtt.specs.Clock.{elapsed_time, HappensIn}
 use Rattle.enet_rtt.proofs.Waits.{never, passes-in, same-in}
 use Rattle.enet_outbox.specs.Outbox.{is_quiet}

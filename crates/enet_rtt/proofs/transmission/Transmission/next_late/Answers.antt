@@ -1,4 +1,4 @@
-use Rattle.std.proofs.Common.{◌≡◌, ℕ, Bool, true, false, not, ◌&&◌, leb, ap, sym, subst, ◌∙◌, ◌-◌, arith}
+use Rattle.std.proofs.Common.{ℕ, Bool, false, not, ◌&&◌, leb, ap, sym, subst, ◌∙◌, ◌-◌, arith}
 use Rattle.enet_rtt.specs.Clock.{elapsed_time, HappensIn}
 use Rattle.enet_rtt.proofs.Waits.{never, passes-in, same-in}
 use Rattle.enet_rtt.proofs.transmission.Transmission.next_late.Goals as goal
