@@ -8,13 +8,15 @@
 //! clients get, and that it ends. Neither: when the threads run.
 #![tactic(auto)]
 
+ghost use Rattle.enet_service.specs.ServiceRuns.{AreNew};
+
 mod game;
 mod rule;
 
 use enet_codec::{Addr, Config, Refusal};
 use enet_service::{
-    BoundService, EventReceiver, MioWire, OrderSender, QueueSink, QueueSource, Queues, RunLength,
-    Signals, Unwatched, beside_turns,
+    BoundService, Ends, EventReceiver, MioWire, OrderSender, QueueSink, QueueSource, Queues,
+    RunLength, Shared, Signals, Unwatched, beside_turns,
 };
 use game::Game;
 use std::env;
@@ -70,24 +72,49 @@ where
         events,
         ends,
     } = Queues::open(alloc, CAPACITY)?;
-    let signals = Signals::new();
-    let mut source = QueueSource::new(&orders, ends.drain, &bell);
-    let mut sink = QueueSink::new(&events, ends.poster, &signals.bell);
-    let sender = OrderSender::new(alloc, &orders, ends.seat, &bell);
-    let receiver = EventReceiver::new(&events, ends.taker);
-    let mut game = Game::new(alloc, settings.seed, sender, receiver);
+    let shared = Shared {
+        queue: &orders,
+        events: &events,
+        bell: &bell,
+        signals: &Signals::new(),
+    };
     let mut bound = BoundService::open(alloc, wire, Config::standard(CLIENTS, CHANNELS))?;
+    let won = play(rt, &mut bound, shared, ends, settings);
+    bound.close();
+    won
+}
+
+/// Plays the game beside the service, between these queues.
+fn play<R: Threads + Wait + Clock + Sync + AllocGlobal>(
+    rt: &R,
+    bound: &mut BoundService,
+    shared: Shared<'_>,
+    ends: Ends,
+    settings: Settings,
+) -> Result<u32, Refusal>
+    requires { AreNew shared.queue.now shared.events.now ends }
+{
+    let Shared {
+        queue,
+        events,
+        bell,
+        signals,
+    } = shared;
+    let sender = OrderSender::new(rt.alloc(), queue, ends.seat, bell);
+    let receiver = EventReceiver::new(events, ends.taker);
+    let mut game = Game::new(rt.alloc(), settings.seed, sender, receiver);
+    let mut source = QueueSource::new(queue, ends.drain, bell);
+    let mut sink = QueueSink::new(events, ends.poster, &signals.bell);
     let (played, served) = beside_turns(
         rt,
-        &mut bound,
+        bound,
         &mut source,
         &mut sink,
         RunLength::Time(settings.time),
-        &signals,
+        signals,
         &mut Unwatched,
-        &mut || -> Result<(), Refusal> { game.play(rt, &signals, settings.wins) },
+        &mut || -> Result<(), Refusal> { game.play(rt, signals, settings.wins) },
     );
-    bound.close();
     served?;
     played?;
     Ok(game.wins())
