@@ -4,13 +4,10 @@ ghost use Rattle.std.specs.Prelude.{◌≡◌, ◌≤◌, ◌↔◌, IsTrue};
 ghost use Rattle.enet_sender.specs.CommandChoice.{is_long, goes_reliable};
 ghost use Rattle.check_outcome.specs.Following.{submission, goes_in_sequence, came_in_sequence, FollowsFrom};
 
-use enet_codec::Packet;
+use enet_codec::{Packet, UNSEQUENCED};
 
 /// What a datagram needs in bytes beside a piece of a packet.
 const OVERHEAD: u32 = 28;
-
-/// The flags of a packet that came unsequenced.
-const UNSEQUENCED: u8 = 2;
 
 /// The greatest number of an unreliable packet.
 const LAST_UNRELIABLE: u32 = 65535;

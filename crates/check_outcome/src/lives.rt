@@ -1,10 +1,7 @@
 //! What is counted of the connections of lists.
 
-use enet_codec::{Event, Packet};
+use enet_codec::{Event, Packet, UNSEQUENCED};
 use std::fmt;
-
-/// The flags of a packet that came unsequenced.
-const UNSEQUENCED: u8 = 2;
 
 /// What is told of what was submitted and taken. The counts stop at 2^64 - 1.
 #[derive(Clone, Copy, PartialEq, Eq)]

@@ -3,11 +3,8 @@
 ghost use Rattle.std.specs.Prelude.{◌≡◌, length};
 ghost use Rattle.enet_codec.specs.Message.{view, payload_of};
 
-use enet_codec::{Command, Fragment, Head, Header, Offer, Verify};
+use enet_codec::{Command, Fragment, Head, Header, NO_PEER, Offer, Verify};
 use std::alloc::AllocError;
-
-/// Stands for a peer that isn't known yet.
-const NO_PEER: u16 = 0xFFF;
 
 /// What a header tells.
 pub fn push_header(text: &mut String, header: &Header) -> Result<(), AllocError> {

@@ -28,7 +28,7 @@ pub use memory::MemoryWire;
 pub use order_sender::OrderSender;
 pub use sink::{MemorySink, QueueSink, Sink};
 pub use socket::{MioWire, Unopened};
-pub use source::{MemorySource, QueueSource, Source};
+pub use source::{MOST_PER_TURN, MemorySource, QueueSource, Source};
 pub use told::{Step, Told};
 pub use waiting::Pumped;
 pub use wire::Wire;

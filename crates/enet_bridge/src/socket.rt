@@ -3,6 +3,7 @@ ghost use Rattle.std.specs.Prelude.{◌≡◌, ◌⊎◌, ◌+◌, ◌<◌, Err,
 ghost use Rattle.enet_bridge.specs.Socket.{failures_of};
 
 use crate::bell::Bell;
+use crate::source::MOST_PER_TURN;
 use crate::wire::Wire;
 use enet_codec::{Addr, Refusal};
 use libc::net as c;
@@ -23,9 +24,6 @@ const LONGEST: u64 = 5;
 
 /// The longest wait while a datagram would have blocked, in milliseconds.
 const LONGEST_BLOCKED: u64 = 1;
-
-/// A turn sends at most so many datagrams, so after so many there may be more to send.
-const MOST_SENDS: u32 = 256;
 
 /// With so much done since the last sleep it pays to look a few times before the next.
 const BUSY: u32 = 8;
@@ -170,7 +168,7 @@ impl MioWire {
     fn is_wanted(&mut self) -> bool
         ensures { failures_of self.new ≡ failures_of self.old }
     {
-        let more = !self.drained || self.lost || self.sent >= MOST_SENDS;
+        let more = !self.drained || self.lost || self.sent >= MOST_PER_TURN;
         self.lost = false;
         self.sent = 0;
         if more || self.bell.hear() {

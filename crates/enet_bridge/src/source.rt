@@ -8,8 +8,8 @@ use std::collections::VecDeque;
 use std::marker::Model;
 use std::sync::Wait;
 
-/// A turn of the service takes at most so many orders, so after so many in a row there may be more.
-const MOST_ORDERS: u32 = 256;
+/// How many orders, datagrams in and datagrams out a turn of the service takes at most of each.
+pub const MOST_PER_TURN: u32 = 256;
 
 /// Gives orders, one by one.
 pub trait Source {
@@ -111,7 +111,7 @@ impl<'a> Source for QueueSource<'a> {
         } else {
             0
         };
-        if self.in_a_row >= MOST_ORDERS {
+        if self.in_a_row >= MOST_PER_TURN {
             self.in_a_row = 0;
             self.bell.ring();
         }

@@ -6,14 +6,12 @@ ghost use Rattle.enet_chat.specs.Grouping.{relayed_to, grouped};
 
 use crate::relay::push_order;
 use crate::table::Table;
-use enet_codec::{Event, PeerRef, Refusal};
+use enet_codec::{Event, PeerRef, RELIABLE, Refusal};
 use enet_submit::Order;
 use std::alloc::Global;
 use std::collections::VecDeque;
 
 // RELIABLE of ENet's packet flags.
-const RELIABLE: u8 = 1;
-
 // How many chat packets come first in the backlog, at most so many.
 pub(crate) fn packets_first(backlog: &VecDeque<Event>, most: usize) -> usize
     ensures within { result ≤ length backlog.now.items }

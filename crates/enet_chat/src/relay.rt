@@ -5,13 +5,11 @@ ghost use Rattle.enet_chat.specs.Chat.{relayed, to_each};
 
 use crate::table::Table;
 use bytes::Bytes;
-use enet_codec::{Event, PeerRef, Refusal};
+use enet_codec::{Event, PeerRef, RELIABLE, Refusal};
 use enet_submit::Order;
 use std::alloc::Global;
 
 // RELIABLE of ENet's packet flags.
-const RELIABLE: u8 = 1;
-
 /// The orders that an event gives, over the table as it is.
 ///
 /// A packet received on channel 0 goes to every other peer of the table, in its order, on channel 0 with the packet flag

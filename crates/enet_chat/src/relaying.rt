@@ -7,7 +7,7 @@ use crate::batch::{batch_orders, drop_first, packets_first};
 use crate::gauge::Gauge;
 use crate::relay::relay_step;
 use crate::table::Table;
-use enet_bridge::{EventReceiver, OrderSender, Pumped, TakerBell};
+use enet_bridge::{EventReceiver, MOST_PER_TURN, OrderSender, Pumped, TakerBell};
 use enet_codec::{Event, Refusal};
 use enet_events::Taker;
 use enet_submit::{Finished, Order};
@@ -17,9 +17,6 @@ use std::sync::Wait;
 use std::sync::atomic::AtomicBool;
 use std::sync::atomic::Ordering::SeqCst;
 use std::thread;
-
-/// A turn of the service takes at most so many orders, so after so many it is told.
-const MOST_ORDERS: usize = 256;
 
 /// So many events at most are taken one after another, and so many chat packets expanded together.
 const MOST_EVENTS: usize = 64;
@@ -245,7 +242,7 @@ impl<'a> Relay<'a> {
         ensures full { result ≡ Pumped.Full → 0 < length (waiting_at (sender_of self.new)) }
     {
         let pumped = self.sender.submit(rt);
-        if pumped == Pumped::Full || self.tally.untold >= MOST_ORDERS {
+        if pumped == Pumped::Full || self.tally.untold >= MOST_PER_TURN as usize {
             self.tell();
             return pumped;
         }

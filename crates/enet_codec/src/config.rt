@@ -3,7 +3,7 @@
 ghost use Rattle.std.specs.Prelude.{◌≡◌};
 ghost use Rattle.enet_codec.specs.Config.{standard_config, is_in_range};
 
-const MAX_PEERS: u16 = 4095;
+use crate::limits::MAX_PEERS;
 
 const MIN_MTU: u32 = 576;
 

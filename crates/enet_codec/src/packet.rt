@@ -5,12 +5,21 @@ ghost use Rattle.enet_codec.specs.Packet.{IsSamePacket};
 
 use bytes::Bytes;
 
+/// In the flags of a packet: it is carried reliably.
+pub const RELIABLE: u8 = 1;
+
+/// In the flags of a packet: it is carried in no order.
+pub const UNSEQUENCED: u8 = 2;
+
+/// In the flags of a packet: where it is too long for one datagram its fragments are carried unreliably.
+pub const UNRELIABLE_FRAGMENT: u8 = 8;
+
 /// A packet: what a user submits and what the other end's user receives.
 #[derive(Debug, Drop)]
 pub struct Packet {
     /// Its channel: 0 to 254.
     pub channel: u8,
-    /// How it is to be carried: RELIABLE 1, UNSEQUENCED 2, UNRELIABLE_FRAGMENT 8, other bits ignored (our profile). On a
+    /// How it is to be carried: [`RELIABLE`], [`UNSEQUENCED`], [`UNRELIABLE_FRAGMENT`], other bits ignored (our profile). On a
     /// received packet how it was carried: 1 by command 6 or 8, 0 by command 7, 2 by command 9, 8 by command 12.
     pub flags: u8,
     /// Its bytes.

@@ -5,7 +5,7 @@ ghost use Rattle.enet_connect.specs.Terms.{IsWithinLimits};
 ghost use Rattle.enet_connect.specs.Verification.{confirmed, asked, has_same_throttle};
 
 use crate::terms::{Terms, agreed_mtu, agreed_window};
-use enet_codec::{Offer, Verify};
+use enet_codec::{MAX_CHANNELS, NO_PEER, Offer, Verify};
 
 /// The terms that a client stands on until the server answers: those that it asked for, with slot 0xFFF. More than 255
 /// channels, which no client asks for, count as 255.
@@ -13,8 +13,8 @@ pub fn asked_terms(offer: &Offer) -> Terms
     ensures { result ≡ asked offer.now }
 {
     Terms {
-        slot: 0xFFF,
-        channels: offer.channels.min(255) as u8,
+        slot: NO_PEER,
+        channels: offer.channels.min(MAX_CHANNELS) as u8,
         mtu: offer.mtu,
         window: offer.window,
         incoming_session: offer.incoming_session,
@@ -34,7 +34,7 @@ pub fn confirm(offer: &Offer, verify: &Verify) -> Option<Terms>
     ensures terms { result ≡ confirmed offer.now verify.now }
     ensures limits { IfSome result IsWithinLimits }
 {
-    let is_countable = verify.channels >= 1 && verify.channels <= 255;
+    let is_countable = verify.channels >= 1 && verify.channels <= MAX_CHANNELS;
     if !is_countable || !is_same_throttle(offer, verify) || offer.connect_id != verify.connect_id {
         return None;
     }

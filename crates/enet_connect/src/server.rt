@@ -6,7 +6,7 @@ ghost use Rattle.enet_connect.specs.Verification.{verification_of, is_accepted, 
 
 use crate::session::next_session;
 use crate::terms::{Terms, agreed_mtu, agreed_window};
-use enet_codec::{Offer, Verify};
+use enet_codec::{MAX_CHANNELS, Offer, Verify};
 use enet_throttle::window_of;
 
 /// A server's slot and settings, by which it answers a CONNECT.
@@ -36,7 +36,7 @@ pub fn answer(offer: &Offer, server: &Server) -> Option<Terms>
     ensures terms { result ≡ answered offer.now server.now }
     ensures limits { IfSome result IsWithinLimits }
 {
-    if offer.channels < 1 || offer.channels > 255 {
+    if offer.channels < 1 || offer.channels > MAX_CHANNELS {
         return None;
     }
     Some(Terms {

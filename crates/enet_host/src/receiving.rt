@@ -5,13 +5,10 @@ ghost use Rattle.enet_slot.specs.Hearing.{stopped};
 ghost use Rattle.enet_host.specs.Receiving.{refused_by, offer_refused, Offers, Arrives};
 ghost use Rattle.enet_slot.specs.Slotted.{all_shown};
 
-use enet_codec::{Addr, Header, Received, Stop};
+use enet_codec::{Addr, Header, MAX_CHANNELS, NO_PEER, Received, Stop};
 use enet_connect::Offer;
 use enet_peer::{read_heading, read_offer};
 use enet_slot::{Slot, Start, any_is_connection, first_available};
-
-/// The peer id in the header of one who has no peer yet (ENet 1.3).
-const NO_PEER: u16 = 0xFFF;
 
 /// The answer to a datagram of which nothing was looked at.
 const fn stopped(why: Stop) -> Received
@@ -48,7 +45,7 @@ fn offer_refused(offer: &Offer) -> Option<Stop>
     if offer.outgoing_peer >= NO_PEER {
         return Some(Stop::BadCommand);
     }
-    if offer.channels < 1 || offer.channels > 255 {
+    if offer.channels < 1 || offer.channels > MAX_CHANNELS {
         return Some(Stop::BadChannel);
     }
     None

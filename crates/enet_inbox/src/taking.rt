@@ -11,13 +11,10 @@ ghost use Rattle.enet_inbox.specs.DataEffect.{packet_of, emptied};
 ghost use Rattle.enet_inbox.specs.Invariant.{IsShort, bytes_in};
 
 use bytes::Bytes;
-use enet_codec::{Command, Packet};
+use enet_codec::{Command, Packet, UNSEQUENCED};
 use enet_receiver::Incoming;
 use std::alloc::Global;
 use std::collections::VecDeque;
-
-/// A received packet's flags where it was unsequenced.
-const UNSEQUENCED: u8 = 2;
 
 /// Hands over all that a receiver dispatched, and answers how many bytes it has.
 fn hand_over(receiver: &mut Incoming, untaken: &mut VecDeque<Packet>) -> u128

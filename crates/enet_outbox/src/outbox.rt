@@ -12,7 +12,7 @@ ghost use Rattle.enet_outbox.specs.Outbox.{after_acknowledgement, after_lateness
 
 use crate::{Acknowledgement, Matched, Unsequenced, lists};
 use bytes::Bytes;
-use enet_codec::Refusal;
+use enet_codec::{CONTROL_CHANNEL, RELIABLE, Refusal, UNSEQUENCED};
 use enet_fragment::FRAGMENT_OVERHEAD;
 use enet_rtt::{Expiry, Patience};
 use enet_senders::{Control, ControlChannel, Senders};
@@ -21,9 +21,6 @@ use enet_throttle::Throttle;
 use std::alloc::Global;
 use std::collections::VecDeque;
 use std::marker::Model;
-
-/// The channel of the commands that concern the connection itself (ENet 1.3).
-const CONTROL_CHANNEL: u8 = 0xFF;
 
 /// All that a peer has to send: acknowledgements, the commands of channel 0xFF, unsequenced packets, and its channels'
 /// senders, with the throttle that drops unreliable and unsequenced packets. Contracts see it as a `Sending`: all that it

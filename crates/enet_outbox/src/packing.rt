@@ -13,7 +13,7 @@ ghost use Rattle.enet_outbox.specs.Invariant.{HasNothing};
 ghost use Rattle.enet_outbox.specs.Packing.{header_asking, Leads, taken_in, place_in, asked_for, refuses, TakesIn, PacksAcknowledgements, PacksControls, PacksUnsequenced, PacksChannel, PacksChannels};
 
 use crate::{Acknowledgement, Destination, Outbox, Pace, Unsequenced, lists};
-use enet_codec::{Command, Head, Header, write_command, write_header};
+use enet_codec::{Command, Head, Header, NO_PEER, write_command, write_header};
 use enet_sender::{Due, Kind};
 use enet_senders::{ControlChannel, Senders, Written};
 use enet_throttle::Throttle;
@@ -328,7 +328,7 @@ fn header_of(now: u32, to: Destination, asks: bool) -> Header
 {
     Header {
         peer: to.slot,
-        session: if to.slot % 4096 == 0xFFF {
+        session: if to.slot % 4096 == NO_PEER {
             0
         } else {
             to.session

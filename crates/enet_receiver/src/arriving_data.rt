@@ -7,16 +7,10 @@ ghost use Rattle.enet_fragment.specs.DataCommand.{data_of, piece_of, place_in_pa
 ghost use Rattle.enet_receiver.specs.ArrivingData.{data_command};
 ghost use Rattle.enet_receiver.specs.DataOutcome.{own_place, is_piece, agrees_with, came, flags_of};
 
-use enet_codec::{Command, Fragment, Head};
+use enet_codec::{Command, Fragment, Head, RELIABLE, UNRELIABLE_FRAGMENT};
 use enet_fragment::Place;
 use enet_packets::IncomingPacket;
 use enet_seq::after;
-
-/// A received packet's flags where it was reliable.
-const RELIABLE: u8 = 1;
-
-/// A received packet's flags where it came in unreliable fragments.
-const UNRELIABLE_FRAGMENT: u8 = 8;
 
 /// How many reliable numbers there are.
 const NUMBERS: u32 = 65_536;

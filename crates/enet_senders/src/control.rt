@@ -4,11 +4,8 @@ ghost use Rattle.std.specs.Prelude.{◌≡◌, []};
 ghost use Rattle.enet_codec.specs.Message.{view, payload_of};
 ghost use Rattle.enet_senders.specs.Controlling.{is_reliable, message_of};
 
-use enet_codec::{Command, Head, Offer, Verify};
+use enet_codec::{CONTROL_CHANNEL, Command, Head, Offer, Verify};
 use enet_rtt::Transmission;
-
-/// The channel of the commands that concern the connection itself (ENet 1.3).
-const CHANNEL: u8 = 0xFF;
 
 /// What one end tells the other of the connection itself.
 #[derive(Clone, Copy)]
@@ -85,7 +82,7 @@ impl Numbered {
         let head = Head {
             acknowledge: is_reliable,
             unsequenced: !is_reliable,
-            channel: CHANNEL,
+            channel: CONTROL_CHANNEL,
             number: self.number,
         };
         match self.control {

@@ -5,9 +5,8 @@ ghost use Rattle.enet_bridge.specs.Wires.{also, unless_spent};
 ghost use Rattle.enet_service.specs.Phases.{HearsAll};
 ghost use Rattle.enet_service.specs.Counts.{came_in, count_of};
 
-use crate::MOST_PER_TURN;
 use crate::host::Core;
-use enet_bridge::Wire;
+use enet_bridge::{MOST_PER_TURN, Wire};
 
 /// How many datagrams came, and whether the wire failed then.
 #[derive(Clone, Copy)]

@@ -41,7 +41,7 @@ mod watched;
 pub use between::run_between_queues;
 pub use bound_service::BoundService;
 pub use enet_bridge::{
-    Bell, EventReceiver, MemorySink, MemorySource, MemoryWire, MioWire, OrderSender, Pumped,
+    Bell, EventReceiver, MOST_PER_TURN, MemorySink, MemorySource, MemoryWire, MioWire, OrderSender, Pumped,
     QueueSink, QueueSource, Sink, Source, Step, TakerBell, Told, Unopened, Wire,
 };
 pub use enet_host::HostCore;
@@ -50,7 +50,7 @@ pub use queues::{Ends, Queues};
 pub use report::{Fault, Report};
 pub use run_length::RunLength;
 pub use running::run;
-pub use service::{MOST_PER_TURN, Service};
+pub use service::Service;
 pub use settling::{Returned, settle};
 pub use turning::{Shared, Signals, beside_turns};
 pub use watch::{Unwatched, Watch};

@@ -5,10 +5,9 @@ ghost use Rattle.enet_submit.specs.declared.order.Submission.{Submission as Item
 ghost use Rattle.enet_service.specs.Phases.{Chain, CarriesOut, Orders};
 ghost use Rattle.enet_service.specs.Counts.{taken_in, given_in};
 
-use crate::MOST_PER_TURN;
 use crate::host::Core;
 use crate::telling::offer;
-use enet_bridge::{Sink, Source};
+use enet_bridge::{MOST_PER_TURN, Sink, Source};
 use enet_codec::Event;
 use enet_submit::Submission;
 use std::sync::Wait;

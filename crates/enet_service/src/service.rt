@@ -19,9 +19,6 @@ use enet_bridge::{Sink, Source, Wire};
 use enet_codec::{Event, Refusal};
 use std::sync::Wait;
 
-/// How many orders, datagrams in and datagrams out a turn takes at most of each.
-pub const MOST_PER_TURN: u32 = 256;
-
 /// A host, and the event that waits for room in the sink, if there is one.
 #[derive(Drop)]
 pub struct Service<H> {

@@ -15,8 +15,8 @@ ghost use Rattle.enet_network.specs.Steps.{BringsOne, Brought, begun};
 ghost use Rattle.enet_network.specs.World.{IsRefusedFor};
 ghost use Rattle.enet_site.specs.Sites.{site, IsWhole, begun_if};
 
-use crate::delivery::{NO_PEER, refused_delivery};
-use enet_codec::{Addr, PeerRef, Received, Refusal};
+use crate::delivery::refused_delivery;
+use enet_codec::{Addr, NO_PEER, PeerRef, Received, Refusal};
 use enet_host::HostCore;
 use enet_peer::read_heading;
 use enet_records::{Datagram, Records, fresh_end};

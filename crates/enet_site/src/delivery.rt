@@ -7,12 +7,9 @@ ghost use Rattle.enet_slot.specs.Hearing.{is_deaf};
 ghost use Rattle.enet_network.specs.Network.{is_at, is_over, has_ended, holds_another, is_earlier, delivery_refusal};
 ghost use Rattle.enet_site.specs.Sites.{site, with_ends, unread};
 
-use enet_codec::{Addr, PeerRef, Refusal};
+use enet_codec::{Addr, NO_PEER, PeerRef, Refusal};
 use enet_host::{HostCore, PeerState};
 use enet_records::{End, Records, comes_late};
-
-/// The peer id in the header of a CONNECT.
-pub(crate) const NO_PEER: u16 = 0xFFF;
 
 /// Whether a peer in this state takes no datagram in.
 fn is_deaf(state: PeerState) -> bool

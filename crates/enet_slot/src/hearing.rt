@@ -5,11 +5,8 @@ ghost use Rattle.enet_slot.specs.Giving.{is_vacant};
 ghost use Rattle.enet_slot.specs.Hearing.{is_deaf, stopped, refused_by_slot, is_connection, Hears};
 
 use crate::Slot;
-use enet_codec::{Addr, Received, Stop};
+use enet_codec::{Addr, NO_PEER, Received, Stop};
 use enet_peer::{PeerState, obey};
-
-/// What stands for the slot of one that isn't known yet (ENet 1.3).
-const NO_PEER: u16 = 0xFFF;
 
 /// Whether a peer in this state takes no datagram in.
 fn is_deaf(state: PeerState) -> bool

@@ -7,11 +7,8 @@ ghost use Rattle.enet_codec.specs.Message.{view};
 ghost use Rattle.enet_text.specs.InspectTexts.{command_line, fields_text, flag_text, fragment_text, head_text, header_line, id_text, limits_text, name_of, offer_text, payload_text, peer_text, sent_text, sessions_text, sizes_text, stop_line, throttle_text, verify_text};
 
 use crate::bytes_text;
-use enet_codec::{Command, Fragment, Head, Header, Offer, Stop, Verify};
+use enet_codec::{Command, Fragment, Head, Header, NO_PEER, Offer, Stop, Verify};
 use std::alloc::{AllocError, Global};
-
-/// The peer id that says that the sender doesn't know the receiver's slot yet.
-const NO_PEER: u16 = 0xFFF;
 
 /// The line of a header. An error where there is no memory for it.
 pub(crate) fn header_line(alloc: Global, header: &Header) -> Result<String, AllocError>

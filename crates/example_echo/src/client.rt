@@ -2,7 +2,7 @@
 
 use crate::node::Node;
 use bytes::Bytes;
-use enet_codec::{Addr, Event, PeerRef, Refusal};
+use enet_codec::{Addr, Event, PeerRef, RELIABLE, Refusal};
 use enet_host::Config;
 use std::alloc::Global;
 use std::net::Net;
@@ -11,9 +11,6 @@ use std::sync::Wait;
 use std::time::SystemTime;
 
 const CHANNELS: u8 = 2;
-
-/// A packet with this flag comes, whatever the network loses, in order with all other packets of its channel that have it.
-const RELIABLE: u8 = 1;
 
 /// The lengths of the packets that are said: short ones, those at the border where a packet goes in pieces, and a long one.
 const LENGTHS: [usize; 7] = [0, 1, 100, 1_363, 1_364, 1_365, 20_000];

@@ -2,7 +2,7 @@
 
 use crate::rule::{answer, secret_of};
 use bytes::Bytes;
-use enet_codec::{DisconnectMode, Event, PeerRef, Refusal};
+use enet_codec::{DisconnectMode, Event, PeerRef, RELIABLE, Refusal};
 use enet_service::{EventReceiver, OrderSender, Pumped, Signals};
 use enet_submit::Order;
 use rand_core::utils::NextWord;
@@ -11,9 +11,6 @@ use std::alloc::{AllocError, Global};
 use std::str;
 use std::sync::Wait;
 use std::sync::atomic::Ordering::SeqCst;
-
-/// A packet with this flag comes, whatever the network loses, in order with all other packets of its channel that have it.
-const RELIABLE: u8 = 1;
 
 /// A client that is connected.
 #[derive(Drop)]
