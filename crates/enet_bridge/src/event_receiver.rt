@@ -3,16 +3,21 @@ ghost use Rattle.std.specs.Prelude.{◌≡◌, ◌++◌, ◌∷◌, [], IfSome, 
 
 use enet_events::{EventQueue, Numbered, Taker};
 use std::sync::Wait;
-use std::sync::atomic::AtomicBool;
+use std::sync::atomic::{AtomicBool, AtomicU32};
 use std::sync::atomic::Ordering::SeqCst;
 use std::thread::Parker;
 use std::time::Duration;
+
+/// After so many events the thread that takes them is woken, though the turn goes on.
+const MANY: u32 = 64;
 
 /// Wakes the thread that takes events, and tells it that the service holds one back for want of room.
 #[derive(Drop)]
 pub struct TakerBell {
     parker: Parker,
     held_back: AtomicBool,
+    // How many events were put since the thread was last woken for one. Only the service's thread asks.
+    put: AtomicU32,
 }
 
 impl TakerBell {
@@ -21,12 +26,27 @@ impl TakerBell {
         TakerBell {
             parker: Parker::new(),
             held_back: AtomicBool::new(false),
+            put: AtomicU32::new(0),
         }
     }
 
     /// Ends the wait of the thread that takes, or its next one.
     pub fn ring(&self) {
         self.parker.unpark();
+    }
+
+    // An event was put. The thread that takes is woken for it by `tell`, or once there are many.
+    pub(crate) fn note(&self) {
+        if self.put.fetch_add(1, SeqCst) >= MANY - 1 {
+            self.tell();
+        }
+    }
+
+    // Wakes the thread that takes, where an event was put since this was last called.
+    pub(crate) fn tell(&self) {
+        if self.put.swap(0, SeqCst) > 0 {
+            self.parker.unpark();
+        }
     }
 
     // The service holds an event back for want of room, and takes no order until it is put.

@@ -21,6 +21,9 @@ pub trait Sink {
     fn put<R: Wait>(&mut self, rt: &R, event: Event) -> Result<(), Event>
         ensures put { puts self.old event (is_ok result) self.new }
         ensures back { IfErr result (λ back. back ≡ event) };
+
+    /// The service calls it at the end of each turn: whoever takes the events is woken, where some were put.
+    fn announce(&self);
 }
 
 /// A list of events, of bounded length.
@@ -77,10 +80,12 @@ impl Sink for MemorySink {
             Err(back) => Err(back.value),
         }
     }
+
+    fn announce(&self) {}
 }
 
-/// The event queue with its poster. It wakes the thread that takes after each event, and tells it once where one is held back
-/// for want of room.
+/// The event queue with its poster. It wakes the thread that takes at the end of each turn in which it put events, and after each 64 of
+/// them; and it tells it once where one is held back for want of room.
 #[derive(Drop)]
 pub struct QueueSink<'a> {
     queue: &'a EventQueue,
@@ -130,7 +135,7 @@ impl<'a> Sink for QueueSink<'a> {
                     self.holds = false;
                     self.bell.let_go();
                 }
-                self.bell.ring();
+                self.bell.note();
                 Ok(())
             }
             Err((_, event)) => {
@@ -139,5 +144,9 @@ impl<'a> Sink for QueueSink<'a> {
                 Err(event)
             }
         }
+    }
+
+    fn announce(&self) {
+        self.bell.tell();
     }
 }

@@ -62,14 +62,17 @@ impl<H: Core> Service<H> {
         let before = again.saturating_add(told);
         let heard = hear_all(&mut self.host, wire);
         if heard.failed {
+            sink.announce();
             return Err(fault(report_of(orders, heard.received, 0, 0, before)));
         }
         let sent = send_all(&mut self.host, wire);
         if sent.failed {
             let report = report_of(orders, heard.received, sent.sent, sent.lost, before);
+            sink.announce();
             return Err(fault(report));
         }
         let after = tell_all(rt, &mut self.host, &mut self.waiting, sink);
+        sink.announce();
         let events = before.saturating_add(after);
         Ok(report_of(orders, heard.received, sent.sent, sent.lost, events))
     }

@@ -31,9 +31,11 @@ impl Slot {
         let Some(peer) = &mut self.peer else {
             return Err((Refusal::NoSuchPeer, body));
         };
-        peer.submit(channel, flags, body)?;
-        self.let_go();
-        Ok(())
+        let submitted = peer.submit(channel, flags, body);
+        if submitted.is_ok() {
+            self.let_go();
+        }
+        submitted
     }
 
     /// Ends the connection in this way, with a word for the other end's user. E2; E3 where it ends already: then nothing has

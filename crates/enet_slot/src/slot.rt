@@ -1,8 +1,8 @@
 //! A slot, which holds a peer or is free.
 
-ghost use Rattle.std.specs.Prelude.{◌≡◌};
+ghost use Rattle.std.specs.Prelude.{◌≡◌, ◌+◌, min, None};
 ghost use Rattle.std.specs.Option.{option_copied};
-ghost use Rattle.enet_slot.specs.Slot.{changed};
+ghost use Rattle.enet_slot.specs.Slot.{changed, greatest};
 ghost use Rattle.enet_slot.specs.Giving.{unused_slot, is_available};
 ghost use Rattle.enet_slot.specs.Slotted.{peer_shown};
 
@@ -105,13 +105,26 @@ impl Slot {
         let Some(peer) = &self.peer else {
             return;
         };
-        if peer.state() != PeerState::Free {
-            return;
+        if peer.state() == PeerState::Free {
+            let terms = peer.terms();
+            self.vacate(terms.incoming_session, terms.outgoing_session);
         }
-        let terms = peer.terms();
+    }
+
+    /// From now on it is free, after a connection that had these sessions. It stays a function of its own: where it is part of those
+    /// that are called for each packet, each call of them clears room for a peer.
+    #[inline(never)]
+    fn vacate(&mut self, incoming_session: u8, outgoing_session: u8)
+        ensures { self.new.slot ≡ record self.old.slot {
+            generation = min (self.old.slot.generation + 1) greatest;
+            incoming_session = incoming_session;
+            outgoing_session = outgoing_session;
+            peer = None;
+        } }
+    {
         self.generation = self.generation.saturating_add(1);
-        self.incoming_session = terms.incoming_session;
-        self.outgoing_session = terms.outgoing_session;
+        self.incoming_session = incoming_session;
+        self.outgoing_session = outgoing_session;
         self.hold(None);
     }
 
