@@ -25,9 +25,8 @@ const LONGEST: u64 = 5;
 /// The longest wait while a datagram would have blocked, in milliseconds.
 const LONGEST_BLOCKED: u64 = 1;
 
-/// With so much done since the last sleep it pays to look a few times before the next.
-const BUSY: u32 = 8;
-
+/// Where a datagram came or went since the last sleep, whoever takes the events may have orders soon: so often it is looked for them
+/// before the next sleep.
 const LOOKS: u32 = 5;
 
 /// How many bytes of datagrams the system is asked to keep until they are received, and as many until they are sent.
@@ -71,9 +70,10 @@ pub struct MioWire {
     blocked: bool,
     // An error of its destination lost a datagram since the last wait, with which a turn ends its sending.
     lost: bool,
-    // Datagrams sent since the last wait, and datagrams in and out since the last sleep.
+    // Datagrams sent since the last wait.
     sent: u32,
-    done: u32,
+    // A datagram came or went since the last sleep.
+    busy: bool,
 }
 
 impl MioWire {
@@ -122,7 +122,7 @@ impl MioWire {
             blocked: false,
             lost: false,
             sent: 0,
-            done: 0,
+            busy: false,
         })
     }
 
@@ -174,7 +174,7 @@ impl MioWire {
         if more || self.bell.hear() {
             return true;
         }
-        self.done >= BUSY && self.hears_soon()
+        self.busy && self.hears_soon()
     }
 
     fn hears_soon(&self) -> bool {
@@ -196,7 +196,7 @@ impl MioWire {
         } else {
             LONGEST
         };
-        self.done = 0;
+        self.busy = false;
         self.blocked = false;
         let limit = if self.bell.lie_down() { 0 } else { longest };
         let limit = Some(Duration::from_millis(limit));
@@ -346,7 +346,7 @@ impl Wire for MioWire {
         match self.socket.recv_from(buf) {
             Ok((len, from)) => {
                 self.drained = false;
-                self.done = self.done.saturating_add(1);
+                self.busy = true;
                 match plain_addr(from) {
                     Some(from) => Ok(Some((from, len))),
                     None => Ok(None),
@@ -369,7 +369,7 @@ impl Wire for MioWire {
         let why = match self.socket.send_to(bytes, socket_addr(to)) {
             Ok(_) => {
                 self.sent = self.sent.saturating_add(1);
-                self.done = self.done.saturating_add(1);
+                self.busy = true;
                 return Ok(true);
             }
             Err(why) => why,

@@ -41,8 +41,8 @@ mod watched;
 pub use between::run_between_queues;
 pub use bound_service::BoundService;
 pub use enet_bridge::{
-    Bell, EventReceiver, MOST_PER_TURN, MemorySink, MemorySource, MemoryWire, MioWire, OrderSender, Pumped,
-    QueueSink, QueueSource, Sink, Source, Step, TakerBell, Told, Unopened, Wire,
+    Bell, EventReceiver, MOST_PER_TURN, MemorySink, MemorySource, MemoryWire, MioWire, OrderSender,
+    Pumped, QueueSink, QueueSource, Sink, Source, Step, TakerBell, Told, Unopened, Wire,
 };
 pub use enet_host::HostCore;
 pub use host::Core;

@@ -116,10 +116,10 @@ impl Slot {
     #[inline(never)]
     fn vacate(&mut self, incoming_session: u8, outgoing_session: u8)
         ensures { self.new.slot ≡ record self.old.slot {
-            generation = min (self.old.slot.generation + 1) greatest;
-            incoming_session = incoming_session;
-            outgoing_session = outgoing_session;
-            peer = None;
+          generation = min (self.old.slot.generation + 1) greatest;
+          incoming_session = incoming_session;
+          outgoing_session = outgoing_session;
+          peer = None;
         } }
     {
         self.generation = self.generation.saturating_add(1);
