@@ -105,10 +105,11 @@ impl Slot {
         let Some(peer) = &self.peer else {
             return;
         };
-        if peer.state() == PeerState::Free {
-            let terms = peer.terms();
-            self.vacate(terms.incoming_session, terms.outgoing_session);
+        if peer.state() != PeerState::Free {
+            return;
         }
+        let terms = peer.terms();
+        self.vacate(terms.incoming_session, terms.outgoing_session);
     }
 
     /// From now on it is free, after a connection that had these sessions. It stays a function of its own: where it is part of those
