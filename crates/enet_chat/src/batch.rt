@@ -11,7 +11,6 @@ use enet_submit::Order;
 use std::alloc::Global;
 use std::collections::VecDeque;
 
-// RELIABLE of ENet's packet flags.
 // How many chat packets come first in the backlog, at most so many.
 pub(crate) fn packets_first(backlog: &VecDeque<Event>, most: usize) -> usize
     ensures within { result ≤ length backlog.now.items }

@@ -9,7 +9,6 @@ use enet_codec::{Event, PeerRef, RELIABLE, Refusal};
 use enet_submit::Order;
 use std::alloc::Global;
 
-// RELIABLE of ENet's packet flags.
 /// The orders that an event gives, over the table as it is.
 ///
 /// A packet received on channel 0 goes to every other peer of the table, in its order, on channel 0 with the packet flag

@@ -12,7 +12,7 @@ ghost use Rattle.enet_outbox.specs.Outbox.{after_acknowledgement, after_lateness
 
 use crate::{Acknowledgement, Matched, Unsequenced, lists};
 use bytes::Bytes;
-use enet_codec::{CONTROL_CHANNEL, RELIABLE, Refusal, UNSEQUENCED};
+use enet_codec::{CONTROL_CHANNEL, Refusal};
 use enet_fragment::FRAGMENT_OVERHEAD;
 use enet_rtt::{Expiry, Patience};
 use enet_senders::{Control, ControlChannel, Senders};
