@@ -21,7 +21,7 @@ pub use Rattle.enet_connection.specs.LinkSteps.{bodies_of}
 use Rattle.enet_connection.proofs.Lists.{Has}
 use Rattle.enet_connection.proofs.Makings.{joined-pieces}
 use Rattle.enet_receiver.proofs.Maps.{get-remove_other, get-remove_same, get-insert_other, get-insert_same, two_numbers}
-use Rattle.enet_connection.proofs.Entries.{get_entry, get_retained, above_all, T_left, T_right}
+use Rattle.enet_receiver.proofs.Entries.{get_entry, get_retained, above_all, T_left, T_right}
 use Rattle.enet_receiver.proofs.Without.{get_without}
 use Rattle.enet_connection.proofs.CarriageLemmas.{IsCut, AllCut, Stands, Stands-has, Stands-next, Stands-next_unreliable, Consumed, Consumed-append, Consumed-none, command_count-append, command_count-reliable, command_count-unreliable, count_after-push, IsNext, IsNextUnreliable, Has-append_left, Has-append_right}
 use Rattle.enet_connection.specs.Follows.{command_count, count_after}

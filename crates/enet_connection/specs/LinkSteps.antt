@@ -1,18 +1,14 @@
 -- What can happen to a link, one thing after another.
-use Rattle.std.specs.Prelude.{◌≡◌, ℕ, Bool, true, false, ◌≤◌, ◌⊎◌, List, [], ◌∷◌, ◌++◌, Some, map}
+use Rattle.std.specs.Prelude.{◌≡◌, ℕ, Bool, true, false, ◌≤◌, List, [], ◌∷◌, ◌++◌, Some, map}
 use Rattle.enet_seq.specs.Numbering.{wire}
 use Rattle.enet_sender.specs.CommandChoice.{Packet, carried_as, fragment_limit}
 use Rattle.enet_sender.specs.Sender.{Sender, Next, next, nothing_sent}
 use Rattle.enet_packets.specs.declared.incoming_packet.Dispatched.{Dispatched}
 use Rattle.enet_receiver.specs.Receiver.{Receiver, nothing_received}
 use Rattle.enet_receiver.specs.DataOutcome.{acknowledged}
+pub use Rattle.enet_receiver.specs.Members.{Has}
 use Rattle.enet_connection.specs.Link.{PutOut, Answer, is_late}
 use Rattle.enet_connection.specs.WireLink.{WireLink, submits, sends, drops, marks, puts_out, arrives, logs_answer, answered, stops_sending, stops_receiving, drops_answers}
-
--- x stands in the list
-abbrev pub Has : {X : Type 0} → List X → X → Type 0
-Has [] x = ⊥
-Has (y ∷ ys) x = (y ≡ x) ⊎ Has ys x
 
 -- `now` is a moment and `timeout` how long a first send waits, both in milliseconds; `transit` bytes are in transit, and `most`
 -- may be. Of what comes, `max_packet` is the greatest packet that is taken in, in bytes, and `full` says that too many wait

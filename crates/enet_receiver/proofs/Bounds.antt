@@ -13,7 +13,7 @@ use Rattle.enet_packets.specs.declared.incoming_packet.IncomingPacket.{IncomingP
 use Rattle.enet_packets.specs.Packets.{bytes_of, packets_in, bytes_in}
 use Rattle.enet_receiver.specs.Receiver.{Receiver, held_bytes}
 use Rattle.enet_receiver.specs.Invariant.{IsLine, Keeps}
-use Rattle.enet_receiver.proofs.Lists.{Has}
+use Rattle.enet_receiver.specs.Members.{Has}
 use Rattle.enet_receiver.proofs.Maps.{get_removed, get_inserted, get-insert_other}
 use Rattle.enet_receiver.proofs.Entries.{get_entry}
 use Rattle.enet_receiver.proofs.LineLemmas.{Line}

@@ -5,7 +5,7 @@ use Rattle.std.specs.Ordering.{nat_cmp, eq_by_cmp, is_lt}
 use Rattle.std.specs.Cmp.{nat_cmp_total, tied_itself}
 use Rattle.std.specs.FinMap.{FinMap, get, entries, entries_sorted, get-entries, find, is_sorted, retain_keys, get-retain_keys, nat_cmp-IsAntisymmetric}
 use Rattle.std.specs.FinMap.Entries.{below_all}
-use Rattle.enet_receiver.proofs.Lists.{Has}
+use Rattle.enet_receiver.specs.Members.{Has}
 use Rattle.enet_receiver.proofs.Maps.{apart_numbers}
 
 same_number : (k : ℕ) → eq_by_cmp nat_cmp k k ≡ true

@@ -8,7 +8,7 @@ use Rattle.std.proofs.lemmas.Bool.Decides.{nat_tests}
 use Rattle.enet_fragment.specs.Whole.{is_whole}
 use Rattle.enet_packets.specs.declared.incoming_packet.IncomingPacket.{IncomingPacket}
 use Rattle.enet_packets.specs.Packets.{fresh, last_fresh, still_ahead, handed_out}
-use Rattle.enet_receiver.proofs.Lists.{Has}
+use Rattle.enet_receiver.specs.Members.{Has}
 use Rattle.enet_receiver.proofs.Maps.{apart_numbers, two_numbers}
 use Rattle.enet_receiver.proofs.Entries.{get_entry, get_retained}
 use Rattle.enet_receiver.proofs.LineLemmas.{Line}

@@ -1,4 +1,3 @@
-pub mod Lists
 pub mod Maps
 pub mod Marks
 pub mod Entries

@@ -4,7 +4,7 @@ use Rattle.std.specs.Ordering.{nat_cmp, eq_by_cmp, is_eq}
 use Rattle.std.specs.FinMap.{FinMap, get, insert, remove, gets, get-insert, get-remove, nat_cmp-IsAntisymmetric, entries, empty, put, entries-insert, len-entries, len-empty}
 use Rattle.std.specs.FinMap.Entries.{by_order}
 use Rattle.std.proofs.lemmas.List.{nil_from_length}
-use Rattle.enet_receiver.proofs.Lists.{Has}
+use Rattle.enet_receiver.specs.Members.{Has}
 use Rattle.std.specs.Cmp.{nat_cmp_total}
 
 is_eq_apart : (r : Ordering) → (r ≡ Equal → ⊥) → is_eq r ≡ false

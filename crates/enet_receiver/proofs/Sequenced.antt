@@ -16,7 +16,7 @@ use Rattle.enet_receiver.specs.declared.took.Took.TheVariants.{Held, Again, Outs
 use Rattle.enet_receiver.specs.Sequenced.{IsSequenced, AreSequenced, HasSequenced}
 use Rattle.enet_receiver.specs.Receiver.{Receiver, nothing_received, cleared, front_line, flushed_from, flushed_last, without, with_passed, next_whole, released, all_released}
 use Rattle.enet_receiver.specs.DataOutcome.{outcome, received, received_with, place_read, came_at, flags_of, earlier_or_new, with_more, with_added, added_at}
-use Rattle.enet_receiver.proofs.Lists.{Has}
+use Rattle.enet_receiver.specs.Members.{Has}
 use Rattle.enet_receiver.proofs.Entries.{get_entry, get_retained}
 use Rattle.enet_receiver.proofs.Maps.{two_numbers, get_inserted}
 use Rattle.enet_receiver.proofs.LineLemmas.{Line, in_line, line_at-other, line_at-same}

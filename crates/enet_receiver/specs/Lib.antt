@@ -11,3 +11,4 @@ pub mod ReceiverParts
 pub mod Admitted
 pub mod Next
 pub mod Blocks
+pub mod Members
