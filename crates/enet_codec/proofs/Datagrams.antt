@@ -11,7 +11,8 @@ use Rattle.enet_codec.specs.Datagram.{SpellsAll, SpellsDatagram}
 use Rattle.enet_codec.proofs.Laws.{one_spelling}
 use Rattle.enet_codec.proofs.HeaderLaws.{one_header}
 
-kind-low : (b : Body) → kind_of b < 13
+-- a kind is one of the table
+pub kind-low : (b : Body) → kind_of b < 13
 kind-low (acknowledge n t) = omega arith
 kind-low (connect o) = omega arith
 kind-low (verify_connect v) = omega arith

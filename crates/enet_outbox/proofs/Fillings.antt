@@ -5,8 +5,9 @@ use Rattle.std.proofs.lemmas.Bool.{le-leb, lt-leb, lt-ltb, le-ltb, eqb-true, eqb
 use Rattle.std.proofs.lemmas.List.{length-append, length-take, length-drop, take_at, drop_at, drop-take, drop-append-le, get_or-drop}
 use Rattle.std.proofs.lemmas.List.Concat.{flat_map-append}
 use Rattle.std.proofs.lemmas.List.Folds.{list_any-append}
-use Rattle.enet_codec.specs.Message.{Body, acknowledge, connect, verify_connect, disconnect, ping, send_reliable, send_unreliable, send_fragment, send_unsequenced, bandwidth_limit, throttle_configure, send_unreliable_fragment, IsMessage, Message, canonical, kind_of, bit}
+use Rattle.enet_codec.specs.Message.{IsMessage, Message, canonical, kind_of, bit}
 use Rattle.enet_codec.specs.Writing.{Puts}
+use Rattle.enet_codec.proofs.Datagrams.{kind-low}
 use Rattle.enet_outbox.specs.declared.packing.Progress.{Progress}
 use Rattle.enet_outbox.specs.Outbox.{Outbox}
 use Rattle.enet_outbox.specs.Emission.{Filling, asks, fits, size_of, with_command, shut}
@@ -49,20 +50,6 @@ puts-first {old} {rest} {new} {at} {past} {first} p =
     let e : at + 0 ≡ at = omega arith in
     ap (λ (n : ℕ). get_or new n 0) (sym e) ∙ sym (get_or-drop at new 0 0) ∙ ap (λ (xs : List ℕ). get_or (drop at xs) 0 0) p.is
     ∙ ap (λ (xs : List ℕ). get_or xs 0 0) (drop_at (take at old) ((first ∷ rest) ++ drop (at + length (first ∷ rest)) old) at l)
-
-kind-low : (b : Body) → kind_of b < 13
-kind-low (acknowledge n t) = omega arith
-kind-low (connect o) = omega arith
-kind-low (verify_connect v) = omega arith
-kind-low (disconnect i) = omega arith
-kind-low ping = omega arith
-kind-low (send_reliable p) = omega arith
-kind-low (send_unreliable n p) = omega arith
-kind-low (send_fragment f p) = omega arith
-kind-low (send_unsequenced g p) = omega arith
-kind-low (bandwidth_limit i o) = omega arith
-kind-low (throttle_configure i a d) = omega arith
-kind-low (send_unreliable_fragment f p) = omega arith
 
 flags : (unsequenced acknowledge : Bool) (kind : ℕ) → kind < 13 → nat_le 128 (kind + 64 * bit unsequenced + 128 * bit acknowledge) ≡ acknowledge
 flags true true kind low = le-leb 128 _ (omega arith)
