@@ -15,6 +15,8 @@ pub struct Bell {
     rung: AtomicBool,
     // The waiting thread sleeps, or is about to.
     asleep: AtomicBool,
+    // The waiting thread found no order, and none was handed over since.
+    idle: AtomicBool,
     waker: Waker,
 }
 
@@ -23,6 +25,7 @@ impl Bell {
         Ok(Bell {
             rung: AtomicBool::new(false),
             asleep: AtomicBool::new(false),
+            idle: AtomicBool::new(true),
             waker: Waker::new(registry, WAKER)?,
         })
     }
@@ -49,5 +52,14 @@ impl Bell {
 
     pub(crate) fn get_up(&self) {
         self.asleep.store(false, SeqCst);
+    }
+
+    // Orders are about to be handed over, or none was found.
+    pub(crate) fn set_idle(&self, idle: bool) {
+        self.idle.store(idle, SeqCst);
+    }
+
+    pub(crate) fn is_idle(&self) -> bool {
+        self.idle.load(SeqCst)
     }
 }

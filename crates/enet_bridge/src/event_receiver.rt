@@ -18,6 +18,8 @@ pub struct TakerBell {
     held_back: AtomicBool,
     // How many events were put since the thread was last woken for one. Only the service's thread asks.
     put: AtomicU32,
+    // The thread that takes wants to be woken at the end of the turn in any case.
+    wanted: AtomicBool,
 }
 
 impl TakerBell {
@@ -27,6 +29,7 @@ impl TakerBell {
             parker: Parker::new(),
             held_back: AtomicBool::new(false),
             put: AtomicU32::new(0),
+            wanted: AtomicBool::new(false),
         }
     }
 
@@ -42,11 +45,17 @@ impl TakerBell {
         }
     }
 
-    // Wakes the thread that takes, where an event was put since this was last called.
+    // Wakes the thread that takes, where an event was put since this was last called, or it asked for that.
     pub(crate) fn tell(&self) {
-        if self.put.swap(0, SeqCst) > 0 {
+        let was_wanted = self.wanted.swap(false, SeqCst);
+        if self.put.swap(0, SeqCst) > 0 || was_wanted {
             self.parker.unpark();
         }
+    }
+
+    /// Asks for the bell to be rung at the end of the service's turn, also where it puts no event.
+    pub fn want(&self) {
+        self.wanted.store(true, SeqCst);
     }
 
     // The service holds an event back for want of room, and takes no order until it is put.

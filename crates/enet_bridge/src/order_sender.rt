@@ -78,7 +78,15 @@ impl<'a> OrderSender<'a> {
         ensures spent { result ≡ Pumped.Spent → length (submitted_at self.new) ≡ limit_of (sender_queue self.new) }
         ensures queue { sender_queue self.new ≡ sender_queue self.old }
     {
+        if !self.waiting.is_empty() {
+            self.bell.set_idle(false);
+        }
         pump(rt, self.queue, &mut self.seat, &mut self.waiting)
+    }
+
+    /// Whether the service found no order after the last that was submitted here, as far as this thread knows.
+    pub fn is_service_idle(&self) -> bool {
+        self.bell.is_idle()
     }
 
     /// Tells the service that there are orders: it ends the wait of its wire.

@@ -21,6 +21,13 @@ use std::thread;
 /// So many events at most are taken one after another, and so many chat packets expanded together.
 const MOST_EVENTS: usize = 64;
 
+/// With more than so many peers, an event gives so many orders that few events make a turn of the service. While it has orders left, events
+/// are then kept until there are `ENOUGH`: the more of them are expanded together, the fewer are the datagrams in which a receiver gets
+/// what they give.
+const MANY_PEERS: usize = 16;
+
+const ENOUGH: usize = 32;
+
 /// With so many events expanded since the last rest it pays to look a few times before the next.
 const BUSY: u64 = 4;
 
@@ -84,12 +91,14 @@ enum Found {
     Work,
     /// Orders wait for room, and the service holds no event back.
     NoRoom,
+    /// Events are kept until there are more of them, or the service has no orders left.
+    Kept,
     /// No event is there.
     Nothing,
 }
 
 impl<'a> Relay<'a> {
-    ghost use Rattle.std.specs.Prelude.{◌≡◌, ◌⊎◌, ◌<◌, ◌≤◌, ◌++◌, [], true, false, length, take, OnOk, IfOk, IfErr};
+    ghost use Rattle.std.specs.Prelude.{◌≡◌, ◌≢◌, ◌⊎◌, ◌<◌, ◌≤◌, ◌++◌, [], true, false, length, take, OnOk, IfOk, IfErr};
     ghost use Rattle.enet_submit.specs.Words.{IsFinishedOf, all_sent};
     ghost use Rattle.enet_bridge.specs.Ends.{orders};
     ghost use Rattle.enet_bridge.specs.Holding.{asked, waiting_at, received, sender_queue, receiver_queue, FoundNone};
@@ -200,6 +209,10 @@ impl<'a> Relay<'a> {
                 bell.wait_a_moment(rt);
                 Ok(false)
             }
+            Found::Kept => {
+                self.rest_with_some(rt, bell, pace);
+                Ok(false)
+            }
             Found::Nothing if over => {
                 self.show(gauge);
                 Ok(true)
@@ -210,6 +223,17 @@ impl<'a> Relay<'a> {
                 pace.rest(rt, bell);
                 Ok(false)
             }
+        }
+    }
+
+    // Rests with some events kept, until more come or the service's turn is over.
+    fn rest_with_some<R: Wait>(&mut self, rt: &R, bell: &TakerBell, pace: &mut Pace)
+        ensures relays { Relays self.old self.new }
+    {
+        self.tell();
+        bell.want();
+        if !self.sender.is_service_idle() {
+            pace.rest(rt, bell);
         }
     }
 
@@ -228,12 +252,33 @@ impl<'a> Relay<'a> {
                 }
             }
             Pumped::All => {
+                if self.keeps(over) {
+                    return self.take_more(rt);
+                }
                 if self.expand()? {
                     return Ok(Found::Work);
                 }
             }
         }
         self.take_some(rt)
+    }
+
+    // Whether the events that were taken are kept for a while: they are few, each gives many orders, and the service has some left.
+    fn keeps(&self, over: bool) -> bool {
+        let few = !self.backlog.is_empty() && self.backlog.len() < ENOUGH;
+        few && self.table.len() > MANY_PEERS && !over && !self.sender.is_service_idle()
+    }
+
+    // Takes some events beside those that are kept.
+    fn take_more<R: Wait>(&mut self, rt: &R) -> Result<Found, Refusal>
+        ensures relays { Relays self.old self.new }
+        ensures kept { IfOk result (λ found. found ≢ Found.Nothing) }
+        ensures why { IfErr result (λ why. why ≡ Refusal.Memory) }
+    {
+        match self.take_some(rt)? {
+            Found::Work => Ok(Found::Work),
+            _ => Ok(Found::Kept),
+        }
     }
 
     // Submits what waits, and tells the service where there is no room or much was submitted.
