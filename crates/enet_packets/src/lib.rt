@@ -4,8 +4,8 @@
 //! Proved, over finite maps: `Packets` (by number) and `Waiting` (unreliable packets in lines, by reliable number and then
 //! by unreliable number) insert, add a piece, remove, hand out and forget just what their contracts say; `dispatch` and
 //! `flush` hand out the whole packets of a line from a number on, by rising number, and drop those that have fallen
-//! behind; the counts of packets and bytes are exact (`len`, `bytes`, `packets`), by counters; want of memory changes
-//! nothing.
+//! behind; the counts of packets and bytes are exact (`len`, `bytes`, `packets`), by counters, and `is_empty` tells
+//! just whether there is a line; want of memory changes nothing.
 //! Only tested, by `check_peer`: that calls succeed with ample memory, and worked lines.
 #![tactic(auto)]
 

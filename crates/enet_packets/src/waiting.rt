@@ -1,6 +1,6 @@
 //! Unreliable packets that wait for their reliable number.
 
-ghost use Rattle.std.specs.Prelude.{◌≡◌, ℕ, ◌+◌, ◌≤◌, ◌++◌, length, IsTrue, IsSome, OnOk, OnErr, IfErr, Some, None};
+ghost use Rattle.std.specs.Prelude.{◌≡◌, ℕ, ◌+◌, ◌≤◌, ◌++◌, ◌↔◌, length, IsTrue, IsSome, OnOk, OnErr, IfErr, Some, None};
 ghost use Rattle.std.specs.Option.{IsSomeAnd, option_copied};
 ghost use Rattle.std.specs.Ordering.{nat_cmp};
 ghost use Rattle.std.specs.BTreeMap as tree;
@@ -227,6 +227,13 @@ impl Waiting {
             packets: 0,
             bytes: 0,
         }
+    }
+
+    /// Whether there is no line, and so no packet.
+    pub fn is_empty(&self) -> bool
+        ensures { IsTrue result ↔ (map.len self.now ≡ 0) }
+    {
+        self.lines.is_empty()
     }
 
     /// How many packets there are in all lines.
