@@ -13,6 +13,7 @@ pub mod Foreseen
 pub mod Steps
 pub mod Turns
 pub mod Ordered
+pub mod InPlace
 pub mod Taken
 pub mod Answered
 pub mod Sequenced

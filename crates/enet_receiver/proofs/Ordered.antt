@@ -57,7 +57,7 @@ released_at_once r c single sound pieces =
     ap (all_released wire) (added_first r (only_packet c) some_piece)
     ∙ sym (all_released-some wire grown (only_packet c) wire_begins kept (whole_next _ (only_packet c) there (only_whole c single sound)))
 
-nothing_came : (o : Option IncomingPacket) (c : DataCommand) → c.fragment ≡ None → came o c ≡ false → o ≡ None
+pub nothing_came : (o : Option IncomingPacket) (c : DataCommand) → c.fragment ≡ None → came o c ≡ false → o ≡ None
 nothing_came None c single missing = refl
 nothing_came (Some e) c single missing = absurd (let t : came (Some e) c ≡ true = ap (λ (f : Option Fragment). came (Some e) (record c { fragment = f })) single in cc)
 

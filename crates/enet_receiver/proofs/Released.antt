@@ -41,7 +41,7 @@ pub due-is : (g : Numbering) (r : Receiver) → due g r ≡ next_whole (get r.he
 unfolding due
 due-is g r = refl
 
-pub nothing_held : (m : FinMap nat_cmp IncomingPacket) (k : ℕ) → len m ≤ 0 → get m k ≡ None
+pub nothing_held : {X : Type 0} (m : FinMap nat_cmp X) (k : ℕ) → len m ≤ 0 → get m k ≡ None
 nothing_held m k h = ap (λ x. get x k) (empty_of_len m (omega arith)) ∙ get-empty nat_cmp k
 
 pub HavePieces-dispatched : (g : Numbering) (r : Receiver) (c : IncomingPacket) → HavePieces r → HavePieces (with_dispatched g r c)

@@ -10,5 +10,6 @@ pub mod Sequenced
 pub mod ReceiverParts
 pub mod Admitted
 pub mod Next
+pub mod InPlace
 pub mod Blocks
 pub mod Members

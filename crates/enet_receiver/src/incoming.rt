@@ -4,12 +4,14 @@ ghost use Rattle.std.specs.Prelude.{◌≡◌, ◌≢◌, ◌<◌, ◌^◌, ◌+
 ghost use Rattle.std.specs.Option.{option_copied};
 ghost use Rattle.enet_codec.specs.Message.{view};
 ghost use Rattle.enet_seq.specs.Numbering.{wire};
-ghost use Rattle.enet_fragment.specs.DataCommand.{data_of};
+ghost use Rattle.enet_fragment.specs.DataCommand.{data_of, place_in_packet};
+ghost use Rattle.enet_fragment.specs.Place.{is_sound};
 ghost use Rattle.enet_fragment.specs.Whole.{is_whole};
 ghost use Rattle.enet_receiver.specs.ArrivingData.{data_command};
 ghost use Rattle.enet_receiver.specs.Admitted.{Admitted, IsInside};
 ghost use Rattle.enet_receiver.specs.ReceiverParts.{with_first, with_kept, grown_at, answered_with};
 ghost use Rattle.enet_receiver.specs.Next.{IsNext};
+ghost use Rattle.enet_receiver.specs.InPlace.{IsInPlace, with_handed_out};
 ghost use Rattle.enet_receiver.specs.Walk.{Completes};
 ghost use Rattle.enet_receiver.specs.Receiver.{held_bytes, cleared};
 ghost use Rattle.enet_receiver.specs.DataOutcome.{outcome, outcome_of, place_read, came_at, came_before, is_behind, is_handled, dispatch_count};
@@ -19,7 +21,7 @@ use crate::arriving_data::ArrivingData;
 use crate::foreseeing::{Completed, dispatches};
 use crate::held::Held;
 use crate::releasing::{pass_on, release};
-use crate::storing::{make_room, store};
+use crate::storing::{begun, make_room, store};
 use crate::{Foresight, Took};
 use enet_codec::{Command, Packet, Refusal};
 use enet_fragment::Put;
@@ -281,7 +283,8 @@ impl Incoming {
     }
 
     /// Keeps a command that is taken in, and dispatches what that completes; the next packet in order is dispatched without
-    /// being held. False, with nothing changed, where memory is refused.
+    /// being held, and so is an unreliable one in its place, where nothing is held and nothing waits. False, with nothing
+    /// changed, where memory is refused.
     fn keep(&mut self, arriving: ArrivingData<'_>, place: u16) -> bool
         requires short { length arriving.payload.now < 2 ^ 32 }
         requires admitted { Admitted self.old.max_packet self.old.receiver (data_command arriving) place }
@@ -289,6 +292,9 @@ impl Incoming {
         ensures kept { IsTrue result → self.new ≡ with_kept self.old (data_command arriving.entry) place }
         ensures unchanged { result ≡ false → self.new ≡ self.old }
     {
+        if self.is_in_place(arriving, place) {
+            return self.dispatch_in_place(arriving);
+        }
         if !make_room(&self.held, &self.waiting, &mut self.dispatched) {
             return false;
         }
@@ -319,6 +325,36 @@ impl Incoming {
             &mut self.waiting,
             &mut self.dispatched,
         );
+        true
+    }
+
+    /// Whether a command is a whole unreliable packet that goes with the front, while nothing is held and nothing waits.
+    fn is_in_place(&self, arriving: ArrivingData<'_>, place: u16) -> bool
+        ensures { IsTrue result → IsInPlace self.now.receiver (data_command arriving.entry) place }
+    {
+        !arriving.reliable
+            && arriving.fragment.is_none()
+            && place == self.front
+            && self.held.len() == 0
+            && self.waiting.is_empty()
+    }
+
+    /// Dispatches a packet of one command that comes in its place. False, with nothing changed, where memory is refused.
+    fn dispatch_in_place(&mut self, arriving: ArrivingData<'_>) -> bool
+        requires short { length arriving.payload.now < 2 ^ 32 }
+        requires sound { IsTrue (is_sound (place_in_packet (data_command arriving))) }
+        requires single { arriving.fragment ≡ None }
+        ensures dispatched { IsTrue result → self.new ≡ with_handed_out self.old (data_command arriving.entry) }
+        ensures unchanged { result ≡ false → self.new ≡ self.old }
+    {
+        if self.dispatched.reserve(1).is_err() {
+            return false;
+        }
+        let Ok(coming) = begun(self.alloc, arriving) else {
+            return false;
+        };
+        self.dispatched.push_back_reserved(coming.handed_out());
+        self.unreliable = arriving.unreliable;
         true
     }
 

@@ -1,4 +1,4 @@
-use Rattle.std.proofs.Common.{arith, subst, sym}
+use Rattle.std.proofs.Common.{arith, subst, sym, ◌∙◌}
 use Rattle.enet_receiver.specs.ArrivingData.{data_command}
 use Rattle.enet_receiver.specs.Foresight.{ReceivingEnd}
 use Rattle.enet_receiver.specs.Admitted.{Admitted, IsInside}
@@ -8,7 +8,13 @@ use Rattle.enet_receiver.proofs.Keeping.{pieces_of_kept, Keeps-all_released}
 use Rattle.enet_receiver.proofs.Bounds.{packets_fit}
 use Rattle.enet_receiver.proofs.Taken.{kept_then}
 use Rattle.enet_receiver.proofs.Ordered.{kept_on}
+use Rattle.enet_receiver.proofs.InPlace.{in_place_kept}
 use Rattle.enet_receiver.proofs.incoming.Incoming.keep.Goals as goal
+
+pub returns-then-is_in_place-clause-kept : goal.returns-then-is_in_place-clause-kept
+returns-then-is_in_place-clause-kept c = λ taken.
+    c.dispatch_in_place.ensures.dispatched taken
+    ∙ in_place_kept c.args.self.now (data_command c.args.arriving) c.args.place c.requires.admitted (c.is_in_place.ensures c.if-is_in_place.true)
 
 pub make_room-requires : goal.make_room-requires
 make_room-requires c =
