@@ -1,4 +1,8 @@
-//! A host whose operator is told who came and went, and which orders were refused.
+//! A host whose operator is told who came and went, whom it asked for a connection, and which orders were refused.
+
+ghost use Rattle.enet_service.specs.Phases.{why_of};
+ghost use Rattle.enet_service.specs.Hosting.{Obeys};
+ghost use Rattle.enet_submit.specs.declared.order.Order.TheVariants as orders;
 
 use crate::Core;
 use enet_codec::{Addr, Config, DisconnectMode, Event, PeerRef, Refusal};
@@ -13,6 +17,9 @@ const MOST_NOTES: usize = 4_096;
 /// What happened at a host.
 #[derive(Clone, Copy, Debug, PartialEq, Eq)]
 pub enum Note {
+    /// An order to connect was carried out: this peer asks there, under this connect id, which is the order's `word`. Its Connect event
+    /// names the same peer, so of several orders to connect each is known again by its word.
+    Asked { met: Met, connect_id: u32 },
     /// This peer connected. `info` is the word that it gave.
     Came { met: Met, info: u32 },
     /// The connection of this peer has ended. `info` is the word of the other end's DISCONNECT, 0 where this end's own was acknowledged
@@ -29,7 +36,7 @@ pub struct Met {
     pub address: Addr,
 }
 
-/// A host that notes who came and went, and which orders were refused. Contracts see the host alone.
+/// A host that notes who came and went, whom it asked, and which orders were refused. Contracts see the host alone.
 #[derive(Drop)]
 pub struct WatchedHost {
     host: HostCore,
@@ -138,6 +145,22 @@ impl WatchedHost {
         }
     }
 
+    // Asks for a connection, and notes which peer asks.
+    fn ask(&mut self, addr: Addr, channels: u8, info: u32, word: u32) -> Result<(), Refusal>
+        ensures { Obeys self.old (orders.Connect addr channels info word) (why_of result) self.new }
+    {
+        let peer = self.host.connect(addr, channels, info, word)?;
+        let met = Met {
+            peer,
+            address: addr,
+        };
+        self.note(Note::Asked {
+            met,
+            connect_id: word,
+        });
+        Ok(())
+    }
+
     // Notes an event that was just told.
     fn note_event(&mut self, event: &Event)
         ensures { self.new ≡ self.old }
@@ -195,7 +218,15 @@ impl Core for WatchedHost {
 
     fn apply_order(&mut self, order: Order) -> Result<(), Refusal> {
         let peer = peer_of(&order);
-        let obeyed = self.host.apply_order(order);
+        let obeyed = match order {
+            Order::Connect {
+                addr,
+                channels,
+                info,
+                word,
+            } => self.ask(addr, channels, info, word),
+            order => self.host.apply_order(order),
+        };
         if let Err(why) = obeyed {
             self.refused = self.refused.saturating_add(1);
             self.note(Note::Refused { peer, why });
