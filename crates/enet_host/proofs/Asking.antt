@@ -1,5 +1,6 @@
 -- Slots that are asked one after another.
-use Rattle.std.proofs.Common.{◌≡◌, ◌≢◌, ℕ, ◌+◌, ◌<◌, ◌≤◌, Bool, true, false, nat_eq, Option, Some, List, length, slice_get, slice_set, get_or, refl, sym, ap, subst, ◌∙◌, arith}
+use Rattle.std.proofs.Common.{◌≡◌, ◌≢◌, ℕ, ◌+◌, ◌<◌, ◌≤◌, inl, inr, Bool, true, false, nat_eq, Option, Some, List, length, slice_get, slice_set, get_or, refl, sym, ap, subst, ◌∙◌, arith}
+use Rattle.std.proofs.lemmas.Bool.{cases_lt}
 use Rattle.std.proofs.lemmas.Bool.Decides.{nat_tests}
 use Rattle.std.proofs.lemmas.List.{get_or-set_other, get_or-set_same, length-set}
 use Rattle.std.proofs.lemmas.Option.{slice_get_within, slice_get_read, slice_get-get_or, get_or_from_slice_get}
@@ -8,6 +9,9 @@ use Rattle.enet_codec.specs.declared.event.PeerRef.{PeerRef}
 use Rattle.enet_slot.specs.Slot.{SlotState, name_of}
 use Rattle.enet_host.specs.Turns.{turn_of, IsFirst, HoldsNowhere}
 use Rattle.enet_slot.specs.Serving.{Passes, Gives}
+use Rattle.enet_slot.specs.Calls.{tells}
+use Rattle.enet_slot.proofs.Sleeping.{passes-asleep, mute-asleep}
+use Rattle.enet_host.specs.Skips.{KeepsSkips, PassesTurns}
 use Rattle.enet_host.specs.Serving.{InTurn, GivesInTurn, AllPass}
 use Rattle.enet_host.specs.Shown.{SlotGives, SlotPasses}
 use Rattle.enet_host.proofs.Turning.{turn-below, same-turn}
@@ -75,6 +79,19 @@ pub all-asked-more : (now n from k number : ℕ) (old new after : List SlotState
 all-asked-more now n from k number old new after f count inside place asked p = λ i s t a b.
     asked-more now n from k i number old new after s t p.slot p.left f count inside place asked p.there p.passes (slice_get_within new number p.slot p.there) p.after a b
     (nat_eq i number) refl
+
+-- those that sleep are as good as asked
+pub all-passed : (now n from k m : ℕ) (next : List ℕ) (old new : List SlotState) → length old ≡ n → KeepsSkips n next old → PassesTurns next n from k m → k ≤ m
+    → AllAsked now n from k old new → AllAsked now n from m old new
+all-passed now n from k m next old new count skips passes more asked = λ i s t a b.
+    let inside : i < n = subst (λ (c : ℕ). i < c) count (slice_get_within old i s a) in
+    record {
+      before = λ less. elim (cases_lt (turn_of n from i) k) [
+        | inl earlier ↦ (asked i s t a b).before earlier
+        | inr later ↦ subst (λ (u : SlotState). Passes now s u) (sym ((asked i s t a b).after later)) (passes-asleep now s (skips.asleep i s a (passes i inside later less)))
+      ];
+      after = λ past. (asked i s t a b).after (omega (arith, past, more));
+    }
 
 pub all-pass : (now n from k : ℕ) (old new : List SlotState) → from < n → length old ≡ n → length new ≡ length old → n ≤ k → AllAsked now n from k old new → AllPass now old new
 all-pass now n from k old new f count same past asked = record {
@@ -159,6 +176,13 @@ pub none-more : (holds : SlotState → Bool) (slots : List SlotState) (n from k 
     → turn_of n from number ≡ k → NoneBefore holds slots n from k → slice_get slots number ≡ Some slot → holds slot ≡ false → NoneBefore holds slots n from (k + 1)
 none-more holds slots n from k number slot f count inside place none there not = λ j s a less.
     none-more-by holds slots n from k number j slot s f count inside place none there not a less (nat_eq j number) refl
+
+-- those that sleep have no event
+pub none-passed : (slots : List SlotState) (n from k m : ℕ) (next : List ℕ) → length slots ≡ n → KeepsSkips n next slots → PassesTurns next n from k m
+    → NoneBefore tells slots n from k → NoneBefore tells slots n from m
+none-passed slots n from k m next count skips passes none = λ j s a less.
+    let inside : j < n = subst (λ (c : ℕ). j < c) count (slice_get_within slots j s a) in
+    elim (cases_lt (turn_of n from j) k) [ inl earlier ↦ none j s a earlier | inr later ↦ mute-asleep s (skips.asleep j s a (passes j inside later less)) ]
 
 pub none-at-all : (holds : SlotState → Bool) (slots : List SlotState) (n from k : ℕ) → from < n → length slots ≡ n → n ≤ k → NoneBefore holds slots n from k
     → HoldsNowhere holds slots

@@ -1,5 +1,5 @@
 -- No call leaves a slot that holds a free peer.
-use Rattle.std.proofs.Common.{◌≡◌, ◌≢◌, ℕ, zero, suc, ◌<◌, ◌≤◌, Bool, true, false, cond, nat_lt, Option, Some, None, Result, Ok, Err, List, [], ◌∷◌, length, map, replicate, slice_set, get_or, arith, refl, sym, ap, subst, ◌∙◌}
+use Rattle.std.proofs.Common.{◌≡◌, ◌≢◌, ℕ, zero, suc, ◌<◌, ◌≤◌, Bool, true, false, cond, if◌then◌else◌, nat_lt, Option, Some, None, Result, Ok, Err, List, [], ◌∷◌, length, map, replicate, slice_set, get_or, arith, refl, sym, ap, subst, ◌∙◌}
 use Rattle.std.proofs.lemmas.Bool.Decides.{nat_tests}
 use Rattle.std.proofs.lemmas.List.{length-replicate, length-set}
 use Rattle.std.proofs.lemmas.Option.{slice_get_within, slice_get-get_or}
@@ -22,6 +22,8 @@ use Rattle.enet_peer.specs.Calls as calls
 use Rattle.enet_slot.specs.declared.slot.Slot.{Slot}
 use Rattle.enet_slot.specs.Slotted.{all_shown}
 use Rattle.enet_host.specs.Shown.{KeepsHost, SlotGivesEvent}
+use Rattle.enet_host.specs.Skips.{entry, KeepsSkips}
+use Rattle.enet_host.proofs.Skipping.{skips-none, skips-set}
 use Rattle.enet_slot.proofs.Shown.{length-shown}
 use Rattle.enet_slot.specs.Giving.{limits_of, unused_slot, joined_terms, joined_slots, given, offer_from, server_from, asking, answering}
 use Rattle.enet_slot.specs.Slot.{greatest, SlotState, with_peer, with_peer_in, with_changed, changed}
@@ -92,34 +94,74 @@ unused-held zero i s p there held = absurd (cc)
 unused-held (suc n) zero s p there held = let same : unused_slot ≡ s = cc in empty-held unused_slot refl p (ap (λ (y : SlotState). y.peer) same ∙ held)
 unused-held (suc n) (suc i) s p there held = unused-held n i s p there held
 
--- a call on a name
-put-held : (slots new : List SlotState) (i : ℕ) (s : SlotState) (r : Result Peering Refusal) → HoldsNoFree slots → put_back slots i (kept s r) ≡ Ok new → HoldsNoFree new
-put-held slots new i s (Ok q) old e = subst HoldsNoFree (let same : slice_set slots i (with_peer s q) ≡ new = cc in same) (set-held slots i (with_peer s q) old (peer-held s q))
-put-held slots new i s (Err why) old e = absurd (cc)
+-- A call on a name changes the slot of that number alone: what holds of the slots as they were, and with whatever that slot then
+-- holds, holds after it.
+put-over : (K : List SlotState → Type 0) (slots new : List SlotState) (i : ℕ) (s : SlotState) (r : Result Peering Refusal) → ((q : Peering) → K (slice_set slots i (with_peer s q)))
+    → put_back slots i (kept s r) ≡ Ok new → K new
+put-over K slots new i s (Ok q) each e = subst K (let same : slice_set slots i (with_peer s q) ≡ new = cc in same) (each q)
+put-over K slots new i s (Err why) each e = absurd (cc)
 
-on-peer-held : (slots new : List SlotState) (i : ℕ) (s : SlotState) (call : Peering → Result Peering Refusal) (o : Option Peering) → HoldsNoFree slots → put_back slots i (on_peer_in s call o) ≡ Ok new → HoldsNoFree new
-on-peer-held slots new i s call None old e = absurd (cc)
-on-peer-held slots new i s call (Some p) old e = put-held slots new i s (call p) old e
+on-peer-over : (K : List SlotState → Type 0) (slots new : List SlotState) (i : ℕ) (s : SlotState) (call : Peering → Result Peering Refusal) (o : Option Peering)
+    → ((q : Peering) → K (slice_set slots i (with_peer s q))) → put_back slots i (on_peer_in s call o) ≡ Ok new → K new
+on-peer-over K slots new i s call None each e = absurd (cc)
+on-peer-over K slots new i s call (Some p) each e = put-over K slots new i s (call p) each e
 
-on-slot-held : (slots new : List SlotState) (i : ℕ) (call : Peering → Result Peering Refusal) (o : Option SlotState) → HoldsNoFree slots → on_slot slots i call o ≡ Ok new → HoldsNoFree new
-on-slot-held slots new i call None old e = absurd (cc)
-on-slot-held slots new i call (Some s) old e = on-peer-held slots new i s call s.peer old e
+on-slot-over : (K : List SlotState → Type 0) (slots new : List SlotState) (i : ℕ) (call : Peering → Result Peering Refusal) (o : Option SlotState)
+    → ((s : SlotState) (q : Peering) → K (slice_set slots i (with_peer s q))) → on_slot slots i call o ≡ Ok new → K new
+on-slot-over K slots new i call None each e = absurd (cc)
+on-slot-over K slots new i call (Some s) each e = on-peer-over K slots new i s call s.peer (each s) e
 
-named-held : (slots new : List SlotState) (name : PeerRef) (call : Peering → Result Peering Refusal) → HoldsNoFree slots → on_named slots name call ≡ Ok new → HoldsNoFree new
-named-held slots new name call old e = on-slot-held slots new name.slot call (with_generation name.generation (slice_get slots name.slot)) old e
+named-over : (K : List SlotState → Type 0) (slots new : List SlotState) (name : PeerRef) (call : Peering → Result Peering Refusal)
+    → ((s : SlotState) (q : Peering) → K (slice_set slots name.slot (with_peer s q))) → on_named slots name call ≡ Ok new → K new
+named-over K slots new name call each e = on-slot-over K slots new name.slot call (with_generation name.generation (slice_get slots name.slot)) each e
+
+does-over : {T : Type 0} (K : List SlotState → Type 0) (slots new : List SlotState) (name : PeerRef) (call : Peering → Result Peering Refusal) (r : Result T Refusal) → K slots
+    → ((s : SlotState) (q : Peering) → K (slice_set slots name.slot (with_peer s q))) → Does r (on_named slots name call) slots new → K new
+does-over K slots new name call (Ok done) old each d = named-over K slots new name call each d
+does-over K slots new name call (Err why) old each d = subst K (sym d.1) old
+
+does-with-memory-over : {T : Type 0} (K : List SlotState → Type 0) (slots new : List SlotState) (name : PeerRef) (call : Peering → Result Peering Refusal) (r : Result T Refusal) → K slots
+    → ((s : SlotState) (q : Peering) → K (slice_set slots name.slot (with_peer s q))) → DoesWithMemory r (on_named slots name call) slots new → K new
+does-with-memory-over K slots new name call (Ok done) old each d = named-over K slots new name call each d
+does-with-memory-over K slots new name call (Err why) old each d = subst K (sym d.1) old
+
+submits-over : {T : Type 0} (K : List SlotState → Type 0) (slots new : List SlotState) (name : PeerRef) (q : Packet) (call : Peering → Result Peering Refusal)
+    (r : Result T (Refusal × List ℕ)) → K slots → ((s : SlotState) (p : Peering) → K (slice_set slots name.slot (with_peer s p))) → Submits r q (on_named slots name call) slots new → K new
+submits-over K slots new name q call (Ok done) old each d = named-over K slots new name call each d
+submits-over K slots new name q call (Err e) old each d = subst K (sym d.2) old
+
+each-held : (slots : List SlotState) (i : ℕ) → HoldsNoFree slots → (s : SlotState) (q : Peering) → HoldsNoFree (slice_set slots i (with_peer s q))
+each-held slots i old s q = set-held slots i (with_peer s q) old (peer-held s q)
 
 pub does-held : {T : Type 0} (slots new : List SlotState) (name : PeerRef) (call : Peering → Result Peering Refusal) (r : Result T Refusal) → HoldsNoFree slots → Does r (on_named slots name call) slots new → HoldsNoFree new
-does-held slots new name call (Ok done) old d = named-held slots new name call old d
-does-held slots new name call (Err why) old d = subst HoldsNoFree (sym d.1) old
+does-held slots new name call r old d = does-over HoldsNoFree slots new name call r old (each-held slots name.slot old) d
 
 pub does-with-memory-held : {T : Type 0} (slots new : List SlotState) (name : PeerRef) (call : Peering → Result Peering Refusal) (r : Result T Refusal) → HoldsNoFree slots → DoesWithMemory r (on_named slots name call) slots new → HoldsNoFree new
-does-with-memory-held slots new name call (Ok done) old d = named-held slots new name call old d
-does-with-memory-held slots new name call (Err why) old d = subst HoldsNoFree (sym d.1) old
+does-with-memory-held slots new name call r old d = does-with-memory-over HoldsNoFree slots new name call r old (each-held slots name.slot old) d
 
 pub submits-held : {T : Type 0} (slots new : List SlotState) (name : PeerRef) (q : Packet) (call : Peering → Result Peering Refusal) (r : Result T (Refusal × List ℕ)) → HoldsNoFree slots
     → Submits r q (on_named slots name call) slots new → HoldsNoFree new
-submits-held slots new name q call (Ok done) old d = named-held slots new name call old d
-submits-held slots new name q call (Err e) old d = subst HoldsNoFree (sym d.2) old
+submits-held slots new name q call r old d = submits-over HoldsNoFree slots new name q call r old (each-held slots name.slot old) d
+
+-- What a host keeps of its slots: none holds a free peer, and those that are passed over sleep. A call keeps that where the slot that
+-- it names is awake.
+abbrev pub IsKept : ℕ → List ℕ → List SlotState → Type 0
+IsKept n next slots = HoldsNoFree slots × KeepsSkips n next slots
+
+each-kept : (n : ℕ) (next : List ℕ) (slots : List SlotState) (i : ℕ) → IsKept n next slots → entry next i ≤ i → (s : SlotState) (q : Peering) → IsKept n next (slice_set slots i (with_peer s q))
+each-kept n next slots i old awake s q = (each-held slots i old.0 s q, skips-set n next slots i (with_peer s q) old.1 awake)
+
+pub does-kept : {T : Type 0} (n : ℕ) (next : List ℕ) (slots new : List SlotState) (name : PeerRef) (call : Peering → Result Peering Refusal) (r : Result T Refusal) → IsKept n next slots
+    → entry next name.slot ≤ name.slot → Does r (on_named slots name call) slots new → IsKept n next new
+does-kept n next slots new name call r old awake d = does-over (IsKept n next) slots new name call r old (each-kept n next slots name.slot old awake) d
+
+pub does-with-memory-kept : {T : Type 0} (n : ℕ) (next : List ℕ) (slots new : List SlotState) (name : PeerRef) (call : Peering → Result Peering Refusal) (r : Result T Refusal) → IsKept n next slots
+    → entry next name.slot ≤ name.slot → DoesWithMemory r (on_named slots name call) slots new → IsKept n next new
+does-with-memory-kept n next slots new name call r old awake d = does-with-memory-over (IsKept n next) slots new name call r old (each-kept n next slots name.slot old awake) d
+
+pub submits-kept : {T : Type 0} (n : ℕ) (next : List ℕ) (slots new : List SlotState) (name : PeerRef) (q : Packet) (call : Peering → Result Peering Refusal) (r : Result T (Refusal × List ℕ))
+    → IsKept n next slots → entry next name.slot ≤ name.slot → Submits r q (on_named slots name call) slots new → IsKept n next new
+submits-kept n next slots new name q call r old awake d = submits-over (IsKept n next) slots new name q call r old (each-kept n next slots name.slot old awake) d
 
 -- a connection begins
 given-held : (s : SlotState) (address : Addr) (q : Peering) → q.state ≢ state.Free → IsHeld (given s address q)
@@ -219,21 +261,29 @@ gave-held slots new i event old x = subst HoldsNoFree (sym x.after) (event-held 
 pub changed-after : (change : Peering → Peering) (slots new : List SlotState) → new ≡ map (changed change) slots → HoldsNoFree slots → HoldsNoFree new
 changed-after change slots new e old = subst HoldsNoFree (sym e) (changed-held change slots old)
 
-pub shared-after : (outgoing standing : ℕ) (slots new : List SlotState) → new ≡ map (shared outgoing standing) slots → HoldsNoFree slots → HoldsNoFree new
-shared-after outgoing standing slots new e old = subst HoldsNoFree (sym e) (shared-held outgoing standing slots old)
+pub shared-if-held : (due : Bool) (outgoing : ℕ) (slots new : List SlotState) → new ≡ (if due then map (shared outgoing (count_by is_standing slots)) slots else slots) → HoldsNoFree slots
+    → HoldsNoFree new
+shared-if-held due outgoing slots new e old =
+    subst HoldsNoFree (sym e) (held-if due (map (shared outgoing (count_by is_standing slots)) slots) slots (shared-held outgoing (count_by is_standing slots) slots old) old)
 
 -- what a host keeps once its slots and turns have changed
-pub keeps-after : (peers generations from event first next : ℕ) (xs ys : List Slot) → KeepsHost peers generations from event xs → length ys ≡ length xs → first < peers → next < peers → HoldsNoFree (all_shown ys)
-    → KeepsHost peers generations first next ys
-keeps-after peers generations from event first next xs ys k e a b held = record { count = e ∙ k.count; many = k.many; service = a; event = b; few = k.few; held = held }
+pub keeps-after : (peers generations from event first last : ℕ) (next later : List ℕ) (xs ys : List Slot) → KeepsHost peers generations from event next xs → length ys ≡ length xs
+    → first < peers → last < peers → IsKept peers later (all_shown ys) → KeepsHost peers generations first last later ys
+keeps-after peers generations from event first last next later xs ys k e a b after =
+    record { count = e ∙ k.count; many = k.many; service = a; event = b; few = k.few; held = after.0; skips = after.1 }
+
+-- and once a slot was woken
+pub woken-kept : (peers generations from event : ℕ) (next later : List ℕ) (xs : List Slot) → KeepsHost peers generations from event next xs
+    → ((n : ℕ) (slots : List SlotState) → KeepsSkips n next slots → KeepsSkips n later slots) → IsKept peers later (all_shown xs)
+woken-kept peers generations from event next later xs k woken = (k.held, woken peers (all_shown xs) k.skips)
 
 -- what it keeps at first
 in-range : (c : Config) → is_in_range c ≡ true → (0 < c.peers) × (c.peers ≤ 4095) × (c.generations ≤ greatest)
 in-range c h = (grind (arith, nat_tests), grind (arith, nat_tests), grind (arith, nat_tests))
 
-keeps-fresh : (c : Config) (r : Bool) (xs : List Slot) (slots : List SlotState) → r ≡ is_in_range c → r ≡ true → all_shown xs ≡ slots → length slots ≡ c.peers → HoldsNoFree slots
-    → KeepsHost c.peers c.generations 0 0 xs
-keeps-fresh c r xs slots is go e count held =
+keeps-fresh : (c : Config) (r : Bool) (next : List ℕ) (xs : List Slot) (slots : List SlotState) → r ≡ is_in_range c → r ≡ true → next ≡ replicate c.peers 0 → all_shown xs ≡ slots
+    → length slots ≡ c.peers → HoldsNoFree slots → KeepsHost c.peers c.generations 0 0 next xs
+keeps-fresh c r next xs slots is go awake e count held =
     let h : (0 < c.peers) × (c.peers ≤ 4095) × (c.generations ≤ greatest) = in-range c (sym is ∙ go) in
     record {
       count = sym (length-shown xs) ∙ ap length e ∙ count;
@@ -242,13 +292,16 @@ keeps-fresh c r xs slots is go e count held =
       event = h.0;
       few = h.2;
       held = subst HoldsNoFree (sym e) held;
+      skips = skips-none c.peers next (all_shown xs) awake;
     }
 
-pub keeps-opened : (c : Config) (r : Bool) (xs : List Slot) → r ≡ is_in_range c → r ≡ true → all_shown xs ≡ replicate c.peers unused_slot → KeepsHost c.peers c.generations 0 0 xs
-keeps-opened c r xs is go e = keeps-fresh c r xs (replicate c.peers unused_slot) is go e (length-replicate c.peers unused_slot) (unused-held c.peers)
+pub keeps-opened : (c : Config) (r : Bool) (next : List ℕ) (xs : List Slot) → r ≡ is_in_range c → r ≡ true → next ≡ replicate c.peers 0 → all_shown xs ≡ replicate c.peers unused_slot
+    → KeepsHost c.peers c.generations 0 0 next xs
+keeps-opened c r next xs is go awake e = keeps-fresh c r next xs (replicate c.peers unused_slot) is go awake e (length-replicate c.peers unused_slot) (unused-held c.peers)
 
-pub keeps-joined : (c : Config) (address : Addr) (r : Bool) (xs : List Slot) → r ≡ is_in_range c → r ≡ true → all_shown xs ≡ joined_slots c address → KeepsHost c.peers c.generations 0 0 xs
-keeps-joined c address r xs is go e =
-    keeps-fresh c r xs (joined_slots c address) is go e
+pub keeps-joined : (c : Config) (address : Addr) (r : Bool) (next : List ℕ) (xs : List Slot) → r ≡ is_in_range c → r ≡ true → next ≡ replicate c.peers 0
+    → all_shown xs ≡ joined_slots c address → KeepsHost c.peers c.generations 0 0 next xs
+keeps-joined c address r next xs is go awake e =
+    keeps-fresh c r next xs (joined_slots c address) is go awake e
     (length-set (replicate c.peers unused_slot) 0 (given unused_slot address (peers.joined c.clock (joined_terms c) (limits_of c))) ∙ length-replicate c.peers unused_slot)
     (joined-held c address)

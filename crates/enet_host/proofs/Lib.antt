@@ -3,6 +3,7 @@ pub mod Offering
 pub mod Hearing
 pub mod Turning
 pub mod Asking
+pub mod Skipping
 pub mod Serving
 pub mod Telling
 pub mod Holding

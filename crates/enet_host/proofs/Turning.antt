@@ -1,7 +1,7 @@
 -- Slots in turn, by their numbers.
 use Rattle.std.proofs.Common.{◌≡◌, ℕ, ◌+◌, ◌-◌, ◌<◌, ◌≤◌, ◌⊎◌, inl, inr, Bool, true, false, nat_lt, if◌then◌else◌, refl, ap, arith}
 use Rattle.std.proofs.lemmas.Bool.Decides.{nat_tests}
-use Rattle.enet_host.specs.Turns.{turn_of, slot_after}
+use Rattle.enet_host.specs.Turns.{turn_of}
 
 split-by : (n from i : ℕ) (b : Bool) → nat_lt i from ≡ b
     → ((i < from) × (turn_of n from i ≡ n - from + i)) ⊎ ((from ≤ i) × (turn_of n from i ≡ i - from))
@@ -31,34 +31,34 @@ same-by n from i j (inr h) (inr k) f a b e = omega (arith, h.0, h.1, k.0, k.1)
 pub same-turn : (n from i j : ℕ) → from < n → i < n → j < n → turn_of n from i ≡ turn_of n from j → i ≡ j
 same-turn n from i j f a b e = same-by n from i j (turn-split n from i) (turn-split n from j) f a b e
 
-after-by : (n i : ℕ) (b : Bool) → nat_lt (i + 1) n ≡ b → ((i + 1 < n) × (slot_after n i ≡ i + 1)) ⊎ ((n ≤ i + 1) × (slot_after n i ≡ 0))
-after-by n i true e = let low : i + 1 < n = grind (arith, nat_tests, e) in inl (low, ap (λ (b : Bool). if b then i + 1 else 0) e)
-after-by n i false e = let high : n ≤ i + 1 = grind (arith, nat_tests, e) in inr (high, ap (λ (b : Bool). if b then i + 1 else 0) e)
+early-by : (n from i turn : ℕ) → ((i < from) × (turn_of n from i ≡ n - from + i)) ⊎ ((from ≤ i) × (turn_of n from i ≡ i - from)) → i ≡ from + turn
+    → turn_of n from i ≡ turn
+early-by n from i turn (inl h) e = omega (arith, h.0, h.1, e)
+early-by n from i turn (inr h) e = omega (arith, h.0, h.1, e)
 
-after-split : (n i : ℕ) → ((i + 1 < n) × (slot_after n i ≡ i + 1)) ⊎ ((n ≤ i + 1) × (slot_after n i ≡ 0))
-after-split n i = after-by n i (nat_lt (i + 1) n) refl
+-- a turn before the end of the slots is reached
+pub early-turn : (n from i turn : ℕ) → i ≡ from + turn → turn_of n from i ≡ turn
+early-turn n from i turn e = early-by n from i turn (turn-split n from i) e
 
--- the next slot has the next turn, as a number m
-next-by : (n from i m k : ℕ) → ((i < from) × (turn_of n from i ≡ n - from + i)) ⊎ ((from ≤ i) × (turn_of n from i ≡ i - from))
-    → ((m < from) × (turn_of n from m ≡ n - from + m)) ⊎ ((from ≤ m) × (turn_of n from m ≡ m - from))
-    → ((i + 1 < n) × (m ≡ i + 1)) ⊎ ((n ≤ i + 1) × (m ≡ 0)) → from < n → i < n → turn_of n from i ≡ k → k + 1 < n → turn_of n from m ≡ k + 1
-next-by n from i m k (inl h) (inl g) (inl a) f inside e more = omega (arith, h.0, h.1, g.0, g.1, a.0, a.1)
-next-by n from i m k (inl h) (inl g) (inr a) f inside e more = omega (arith, h.0, h.1, g.0, g.1, a.0, a.1)
-next-by n from i m k (inl h) (inr g) (inl a) f inside e more = omega (arith, h.0, h.1, g.0, g.1, a.0, a.1)
-next-by n from i m k (inl h) (inr g) (inr a) f inside e more = omega (arith, h.0, h.1, g.0, g.1, a.0, a.1)
-next-by n from i m k (inr h) (inl g) (inl a) f inside e more = omega (arith, h.0, h.1, g.0, g.1, a.0, a.1)
-next-by n from i m k (inr h) (inl g) (inr a) f inside e more = omega (arith, h.0, h.1, g.0, g.1, a.0, a.1)
-next-by n from i m k (inr h) (inr g) (inl a) f inside e more = omega (arith, h.0, h.1, g.0, g.1, a.0, a.1)
-next-by n from i m k (inr h) (inr g) (inr a) f inside e more = omega (arith, h.0, h.1, g.0, g.1, a.0, a.1)
+late-by : (n from i turn : ℕ) → ((i < from) × (turn_of n from i ≡ n - from + i)) ⊎ ((from ≤ i) × (turn_of n from i ≡ i - from)) → from < n → turn < n
+    → n - from ≤ turn → i ≡ turn - (n - from) → turn_of n from i ≡ turn
+late-by n from i turn (inl h) f inside past e = omega (arith, h.0, h.1, f, inside, past, e)
+late-by n from i turn (inr h) f inside past e = absurd (omega (arith, h.0, f, inside, past, e))
 
-pub next-turn : (n from i k : ℕ) → from < n → i < n → turn_of n from i ≡ k → k + 1 < n → turn_of n from (slot_after n i) ≡ k + 1
-next-turn n from i k f inside e more =
-    next-by n from i (slot_after n i) k (turn-split n from i) (turn-split n from (slot_after n i)) (after-split n i) f inside e more
+-- and one after it
+pub late-turn : (n from i turn : ℕ) → from < n → turn < n → n - from ≤ turn → i ≡ turn - (n - from) → turn_of n from i ≡ turn
+late-turn n from i turn f inside past e = late-by n from i turn (turn-split n from i) f inside past e
 
-first-by : (n from : ℕ) → ((from < from) × (turn_of n from from ≡ n - from + from)) ⊎ ((from ≤ from) × (turn_of n from from ≡ from - from)) → turn_of n from from ≡ 0
-first-by n from (inl h) = omega (arith, h.0)
-first-by n from (inr h) = omega (arith, h.1)
+passed-by : (n from number i turn end : ℕ) → ((number < from) × (turn_of n from number ≡ n - from + number)) ⊎ ((from ≤ number) × (turn_of n from number ≡ number - from))
+    → ((i < from) × (turn_of n from i ≡ n - from + i)) ⊎ ((from ≤ i) × (turn_of n from i ≡ i - from)) → from < n → number < n → i < n → end ≤ n
+    → turn_of n from number ≡ turn → turn ≤ turn_of n from i → turn_of n from i < turn + (end - number) → (number ≤ i) × (i < end)
+passed-by n from number i turn end (inl h) (inl k) f a b e place past less = (omega (arith, h.0, h.1, k.0, k.1, a, b, place, past, less), omega (arith, h.0, h.1, k.0, k.1, a, b, place, past, less))
+passed-by n from number i turn end (inl h) (inr k) f a b e place past less = absurd (omega (arith, f, h.0, h.1, k.0, k.1, a, b, place, past, less))
+passed-by n from number i turn end (inr h) (inl k) f a b e place past less = absurd (omega (arith, f, h.0, h.1, k.0, k.1, a, b, e, place, past, less))
+passed-by n from number i turn end (inr h) (inr k) f a b e place past less = (omega (arith, h.0, h.1, k.0, k.1, a, b, place, past, less), omega (arith, h.0, h.1, k.0, k.1, a, b, place, past, less))
 
--- the first slot has turn 0
-pub first-turn : (n from : ℕ) → turn_of n from from ≡ 0
-first-turn n from = first-by n from (turn-split n from from)
+-- what comes in turn after a slot, up to the slot `end`, stands between them
+pub passed-between : (n from number i turn end : ℕ) → from < n → number < n → i < n → end ≤ n → turn_of n from number ≡ turn → turn ≤ turn_of n from i
+    → turn_of n from i < turn + (end - number) → (number ≤ i) × (i < end)
+passed-between n from number i turn end f a b e place past less =
+    passed-by n from number i turn end (turn-split n from number) (turn-split n from i) f a b e place past less

@@ -1,5 +1,6 @@
 pub mod Host
 pub mod Turns
+pub mod Skips
 pub mod Opening
 pub mod Receiving
 pub mod Serving

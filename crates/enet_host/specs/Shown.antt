@@ -10,15 +10,17 @@ use Rattle.enet_slot.specs.Slotted.{all_shown}
 use Rattle.enet_slot.specs.Serving.{Gives, Passes}
 use Rattle.enet_slot.specs.Calls.{tells, peer_packet, GivesEvent}
 use Rattle.enet_host.specs.Host.{HoldsNoFree}
+use Rattle.enet_host.specs.Skips.{KeepsSkips}
 
 -- what the fields of a host keep
-pub record KeepsHost (peers generations service_from event_from : ℕ) (slots : List Slot) : Type 0 where
+pub record KeepsHost (peers generations service_from event_from : ℕ) (next : List ℕ) (slots : List Slot) : Type 0 where
   pub count : length slots ≡ peers
   pub many : peers ≤ 4095
   pub service : service_from < peers
   pub event : event_from < peers
   pub few : generations ≤ greatest
   pub held : HoldsNoFree (all_shown slots)
+  pub skips : KeepsSkips peers next (all_shown slots)
 
 -- slot i gives a datagram
 pub record SlotGives (now : ℕ) (old : List SlotState) (i : ℕ) (name : PeerRef) (address : Addr) (len : ℕ) (buf : List ℕ) (new : List SlotState) : Type 0 where

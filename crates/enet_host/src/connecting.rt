@@ -2,8 +2,10 @@
 
 ghost use Rattle.std.specs.Prelude.{◌≡◌, ◌≤◌, length};
 ghost use Rattle.enet_host.specs.Opening.{Connects};
+ghost use Rattle.enet_host.specs.Skips.{KeepsSkips};
 ghost use Rattle.enet_slot.specs.Slotted.{all_shown};
 
+use crate::skips::Skips;
 use enet_codec::{PeerRef, Refusal};
 use enet_slot::{Question, Slot, Start, first_available};
 
@@ -11,11 +13,14 @@ use enet_slot::{Question, Slot, Start, first_available};
 /// where memory is refused; after each of them nothing has changed.
 pub(crate) fn connect(
     slots: &mut Vec<Slot>,
+    skips: &mut Skips,
     start: &Start,
     question: Question,
 ) -> Result<PeerRef, Refusal>
-    requires { length slots.old.items ≤ 4095 }
+    requires many { length slots.old.items ≤ 4095 }
+    requires skips { KeepsSkips start.now.config.peers skips.old.next.items (all_shown slots.old.items) }
     ensures count { length slots.new.items ≡ length slots.old.items }
+    ensures skips { KeepsSkips start.now.config.peers skips.new.next.items (all_shown slots.new.items) }
     ensures connects { Connects start.now.config start.now.clock (all_shown slots.old.items) question.address question.channels question.info question.word result (all_shown slots.new.items) }
 {
     if question.channels == 0 {
@@ -24,6 +29,7 @@ pub(crate) fn connect(
     let Some(place) = first_available(slots, start.config.generations) else {
         return Err(Refusal::NoSlot);
     };
+    skips.wake(place as u16);
     let slot = &mut slots[place];
     slot.ask(start, place as u16, question)
 }

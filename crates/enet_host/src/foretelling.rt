@@ -41,7 +41,12 @@ impl HostCore {
         ensures none { IfNone result (HoldsNowhere tells self.now.slots) }
         ensures foretells { Foretells teller_of self.now result }
     {
-        let Some(slot) = first_telling(&self.slots, self.start.config.peers, self.event_from) else {
+        let Some(slot) = first_telling(
+            &self.slots,
+            &self.skips,
+            self.start.config.peers,
+            self.event_from,
+        ) else {
             return None;
         };
         Some(name_at(&self.slots, slot))
@@ -51,7 +56,12 @@ impl HostCore {
     pub fn next_packet(&self) -> Option<&Packet>
         ensures { Foretells packet_of self.now (option_copied result) }
     {
-        let Some(slot) = first_telling(&self.slots, self.start.config.peers, self.event_from) else {
+        let Some(slot) = first_telling(
+            &self.slots,
+            &self.skips,
+            self.start.config.peers,
+            self.event_from,
+        ) else {
             return None;
         };
         packet_of(&self.slots, slot)

@@ -1,12 +1,13 @@
 //! A host, and what it does with slots, datagrams and time.
 
-ghost use Rattle.std.specs.Prelude.{◌≡◌, ◌≤◌, true, IfSome, IfErr, OnOk, OnErr};
-ghost use Rattle.std.specs.List.{list_any};
+ghost use Rattle.std.specs.Prelude.{◌≡◌, ◌≤◌, true, nat_le, if◌then◌else◌, IfSome, IfErr, OnOk, OnErr, length, map};
+ghost use Rattle.std.specs.List.{count_by, list_any};
+ghost use Rattle.enet_rtt.specs.Clock.{elapsed_time};
 ghost use Rattle.enet_host.specs.Host.{Keeps, KeepsRest};
 ghost use Rattle.enet_host.specs.Opening.{opened, joined, Opens, Connects};
 ghost use Rattle.enet_host.specs.Receiving.{Receives};
 ghost use Rattle.enet_host.specs.Shown.{KeepsHost};
-ghost use Rattle.enet_slot.specs.Sharing.{wants_room};
+ghost use Rattle.enet_slot.specs.Sharing.{is_standing, shared, wants_room};
 ghost use Rattle.enet_slot.specs.Slotted.{all_shown};
 ghost use Rattle.enet_host.specs.Serving.{Serves};
 ghost use Rattle.enet_host.specs.Ticking.{ticked, clock_after};
@@ -15,8 +16,10 @@ ghost use Rattle.enet_host.specs.Calls.{with_bandwidth, Takes};
 use crate::connecting::connect;
 use crate::events::{first_telling, take_from};
 use crate::receiving::receive;
-use crate::service::{serve, slot_after};
+use crate::service::serve;
+use crate::skips::Skips;
 use crate::totals::Totals;
+use crate::turns::slot_after;
 use enet_codec::{Addr, Config, Event, PeerRef, Received, Refusal};
 use enet_rtt::elapsed;
 use enet_slot::{
@@ -38,6 +41,23 @@ fn clock_after(clock: u32, ms: u32) -> u32
     clock.wrapping_add(ms.min(LONGEST_TICK))
 }
 
+/// Shares the outgoing bandwidth out among the connected peers where a second or more has passed since it was last shared out; when
+/// that is from then on.
+fn share_if_due(slots: &mut Vec<Slot>, start: &Start, shared_at: u32) -> u32
+    requires { length slots.old.items ≤ 4095 }
+    ensures moment { result ≡ (if nat_le 1000 (elapsed_time start.now.clock shared_at) then start.now.clock else shared_at) }
+    ensures slots { all_shown slots.new.items ≡ (if nat_le 1000 (elapsed_time start.now.clock shared_at)
+        then map (shared start.now.config.outgoing (count_by is_standing (all_shown slots.old.items))) (all_shown slots.old.items)
+        else all_shown slots.old.items) }
+    ensures count { length slots.new.items ≡ length slots.old.items }
+{
+    if elapsed(start.clock, shared_at) < SHARING_INTERVAL {
+        return shared_at;
+    }
+    share_out(slots, start.config.outgoing);
+    start.clock
+}
+
 /// A host of ENet 1.3 without a socket. It has a fixed number of slots, each of which is free or holds one peer; contracts see
 /// it as a `Host`: its settings, clock and totals, and what each slot holds. Times are in milliseconds.
 #[derive(Drop)]
@@ -52,6 +72,8 @@ pub struct HostCore {
     pub(crate) event_from: u16,
     pub(crate) totals: Totals,
     pub(crate) slots: Vec<Slot>,
+    /// Which of the slots need not be asked for a datagram or an event.
+    pub(crate) skips: Skips,
 }
 
 impl Model for HostCore {
@@ -75,7 +97,7 @@ impl Model for HostCore {
       slots = all_shown h.slots.items;
     } };
 
-    ghost invariant = { λ h. KeepsHost h.start.config.peers h.start.config.generations h.service_from h.event_from h.slots.items };
+    ghost invariant = { λ h. KeepsHost h.start.config.peers h.start.config.generations h.service_from h.event_from h.skips.next.items h.slots.items };
 }
 
 impl HostCore {
@@ -88,7 +110,8 @@ impl HostCore {
             return Err(Refusal::BadConfig);
         }
         let slots = unused_slots(alloc, config.peers)?;
-        Ok(HostCore::with_slots(alloc, config, slots))
+        let skips = Skips::new(alloc, config.peers)?;
+        Ok(HostCore::with_slots(alloc, config, slots, skips))
     }
 
     /// A law: a slot has at most 4,294,967,295 generations, and none holds a peer that is free.
@@ -108,12 +131,13 @@ impl HostCore {
             return Err(Refusal::BadConfig);
         }
         let slots = joined_slots(alloc, &config, address)?;
-        Ok(HostCore::with_slots(alloc, config, slots))
+        let skips = Skips::new(alloc, config.peers)?;
+        Ok(HostCore::with_slots(alloc, config, slots, skips))
     }
 
     /// A host with these settings and slots, to which nothing has happened.
-    fn with_slots(alloc: Global, config: Config, slots: Vec<Slot>) -> HostCore
-        requires { KeepsHost config.peers config.generations 0 0 slots.items }
+    fn with_slots(alloc: Global, config: Config, slots: Vec<Slot>, skips: Skips) -> HostCore
+        requires { KeepsHost config.peers config.generations 0 0 skips.next.items slots.items }
         ensures { result ≡ record (opened config) { slots = all_shown slots.items } }
     {
         HostCore {
@@ -127,6 +151,7 @@ impl HostCore {
             event_from: 0,
             totals: Totals::none(),
             slots,
+            skips,
         }
     }
 
@@ -149,7 +174,7 @@ impl HostCore {
             info,
             word,
         };
-        connect(&mut self.slots, &self.start, question)
+        connect(&mut self.slots, &mut self.skips, &self.start, question)
     }
 
     /// A datagram comes from an address. It goes to the peer of the slot that its header names, or is the offer of one who has
@@ -164,7 +189,7 @@ impl HostCore {
         ensures { Receives self.old from bytes.now result self.new }
     {
         self.totals = self.totals.with_datagram_in(bytes.len());
-        receive(&mut self.slots, &self.start, from, bytes)
+        receive(&mut self.slots, &mut self.skips, &self.start, from, bytes)
     }
 
     /// One datagram of the next slot that has something to send: whose it is, where it goes, and how many bytes of the buffer
@@ -176,6 +201,7 @@ impl HostCore {
     {
         let Some(sent) = serve(
             &mut self.slots,
+            &self.skips,
             self.start.config.peers,
             self.service_from,
             self.start.clock,
@@ -197,10 +223,8 @@ impl HostCore {
     {
         self.start.clock = clock_after(self.start.clock, ms);
         tick_all(&mut self.slots, self.start.clock);
-        if elapsed(self.start.clock, self.shared_at) >= SHARING_INTERVAL {
-            self.shared_at = self.start.clock;
-            share_out(&mut self.slots, self.start.config.outgoing);
-        }
+        self.shared_at = share_if_due(&mut self.slots, &self.start, self.shared_at);
+        self.skips.refresh(&self.slots, self.start.config.peers);
     }
 
     /// Sets the host's bandwidths, in bytes per second, where 0 says that no limit is known. Each connected peer is told (ENet
@@ -215,6 +239,7 @@ impl HostCore {
         set_bandwidth(&mut self.slots, incoming, outgoing)?;
         self.start.config.incoming = incoming;
         self.start.config.outgoing = outgoing;
+        self.skips.refresh(&self.slots, self.start.config.peers);
         Ok(())
     }
 
@@ -224,7 +249,12 @@ impl HostCore {
     pub fn next_event(&mut self) -> Option<Event>
         ensures { Takes result self.old self.new }
     {
-        let slot = first_telling(&self.slots, self.start.config.peers, self.event_from)?;
+        let slot = first_telling(
+            &self.slots,
+            &self.skips,
+            self.start.config.peers,
+            self.event_from,
+        )?;
         let event = take_from(&mut self.slots, slot)?;
         self.event_from = slot_after(self.start.config.peers, slot);
         Some(event)

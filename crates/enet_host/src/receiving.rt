@@ -3,8 +3,10 @@
 ghost use Rattle.std.specs.Prelude.{◌≡◌, ◌<◌, ◌≤◌, length, IfNone};
 ghost use Rattle.enet_slot.specs.Hearing.{stopped};
 ghost use Rattle.enet_host.specs.Receiving.{refused_by, offer_refused, Offers, Arrives};
+ghost use Rattle.enet_host.specs.Skips.{KeepsSkips};
 ghost use Rattle.enet_slot.specs.Slotted.{all_shown};
 
+use crate::skips::Skips;
 use enet_codec::{Addr, Header, MAX_CHANNELS, NO_PEER, Received, Stop};
 use enet_connect::Offer;
 use enet_peer::{read_heading, read_offer};
@@ -52,9 +54,17 @@ fn offer_refused(offer: &Offer) -> Option<Stop>
 }
 
 /// An offer comes.
-fn take_offer(slots: &mut Vec<Slot>, start: &Start, from: Addr, offer: Offer) -> Received
-    requires { length slots.old.items ≤ 4095 }
+fn take_offer(
+    slots: &mut Vec<Slot>,
+    skips: &mut Skips,
+    start: &Start,
+    from: Addr,
+    offer: Offer,
+) -> Received
+    requires many { length slots.old.items ≤ 4095 }
+    requires skips { KeepsSkips start.now.config.peers skips.old.next.items (all_shown slots.old.items) }
     ensures count { length slots.new.items ≡ length slots.old.items }
+    ensures skips { KeepsSkips start.now.config.peers skips.new.next.items (all_shown slots.new.items) }
     ensures offers { Offers start.now.config start.now.clock (all_shown slots.old.items) from offer result (all_shown slots.new.items) }
 {
     if let Some(why) = offer_refused(&offer) {
@@ -66,6 +76,7 @@ fn take_offer(slots: &mut Vec<Slot>, start: &Start, from: Addr, offer: Offer) ->
     let Some(place) = first_available(slots, start.config.generations) else {
         return stopped(Stop::NoSlot);
     };
+    skips.wake(place as u16);
     let slot = &mut slots[place];
     match slot.answer(start, place as u16, from, offer) {
         Ok(()) => HANDLED_ONE,
@@ -74,9 +85,17 @@ fn take_offer(slots: &mut Vec<Slot>, start: &Start, from: Addr, offer: Offer) ->
 }
 
 /// A datagram comes to the slot that it names, or is one of a stranger, who may offer a connection.
-pub(crate) fn receive(slots: &mut Vec<Slot>, start: &Start, from: Addr, bytes: &[u8]) -> Received
-    requires { length slots.old.items ≤ 4095 }
+pub(crate) fn receive(
+    slots: &mut Vec<Slot>,
+    skips: &mut Skips,
+    start: &Start,
+    from: Addr,
+    bytes: &[u8],
+) -> Received
+    requires many { length slots.old.items ≤ 4095 }
+    requires skips { KeepsSkips start.now.config.peers skips.old.next.items (all_shown slots.old.items) }
     ensures count { length slots.new.items ≡ length slots.old.items }
+    ensures skips { KeepsSkips start.now.config.peers skips.new.next.items (all_shown slots.new.items) }
     ensures arrives { Arrives start.now.config start.now.clock (all_shown slots.old.items) from bytes.now result (all_shown slots.new.items) }
 {
     let (header, commands) = match read_heading(bytes) {
@@ -85,13 +104,14 @@ pub(crate) fn receive(slots: &mut Vec<Slot>, start: &Start, from: Addr, bytes: &
     };
     if header.peer == NO_PEER {
         return match read_offer(commands) {
-            Some(offer) => take_offer(slots, start, from, offer),
+            Some(offer) => take_offer(slots, skips, start, from, offer),
             None => stopped(Stop::UnknownPeer),
         };
     }
     if let Some(why) = refused_by(slots, from, &header) {
         return stopped(why);
     }
+    skips.wake(header.peer);
     let slot = &mut slots[usize::from(header.peer)];
     slot.hear(start.clock, header.sent, commands)
 }

@@ -2,21 +2,14 @@
 
 ghost use Rattle.std.specs.Prelude.{◌≡◌, ◌<◌, ◌≤◌, length, IfSome, IfNone};
 ghost use Rattle.enet_host.specs.Serving.{GivesInTurn, AllPass};
-ghost use Rattle.enet_host.specs.Turns.{slot_after};
+ghost use Rattle.enet_host.specs.Skips.{KeepsSkips};
 ghost use Rattle.enet_slot.specs.Slotted.{all_shown};
 ghost use Rattle.enet_host.specs.Shown.{SlotGives, SlotPasses};
 
+use crate::skips::Skips;
+use crate::turns::slot_of_turn;
 use enet_codec::{Addr, PeerRef};
 use enet_slot::Slot;
-
-/// The slot after one of so many; after the last comes slot 0.
-pub(crate) fn slot_after(peers: u16, slot: u16) -> u16
-    requires { slot < peers }
-    ensures after { result ≡ slot_after peers slot }
-    ensures within { result < peers }
-{
-    if slot + 1 < peers { slot + 1 } else { 0 }
-}
 
 /// Asks a slot for a datagram at the time `now`: the slot's peer as it was named before, where it goes, and its length.
 fn serve_slot(
@@ -43,9 +36,10 @@ fn serve_slot(
     Some((name, address, len))
 }
 
-/// Asks one slot after another for a datagram at the time `now`, up to the first that has one.
+/// Asks one slot after another for a datagram at the time `now`, up to the first that has one. Those that sleep have none.
 pub(crate) fn serve(
     slots: &mut Vec<Slot>,
+    skips: &Skips,
     peers: u16,
     from: u16,
     now: u32,
@@ -53,18 +47,21 @@ pub(crate) fn serve(
 ) -> Option<(PeerRef, Addr, usize)>
     requires within { from < peers }
     requires all { length slots.old.items ≡ peers }
+    requires skips { KeepsSkips peers skips.now.next.items (all_shown slots.old.items) }
     ensures gives { IfSome result (λ gave. GivesInTurn now from (all_shown slots.old.items) gave.0 gave.1 gave.2 buf.new (all_shown slots.new.items)) }
     ensures passes { IfNone result (AllPass now (all_shown slots.old.items) (all_shown slots.new.items)) }
     ensures within { IfSome result (λ gave. gave.0.slot < peers) }
     ensures fits { IfSome result (λ gave. gave.2 ≤ 4096) }
     ensures count { length slots.new.items ≡ length slots.old.items }
+    ensures skips { KeepsSkips peers skips.now.next.items (all_shown slots.new.items) }
 {
-    let mut number = from;
-    for _turn in 0..peers {
+    let mut turn = skips.next_turn(peers, from, 0);
+    while turn < peers {
+        let number = slot_of_turn(peers, from, turn);
         if let Some(sent) = serve_slot(slots, number, now, buf) {
             return Some(sent);
         }
-        number = slot_after(peers, number);
+        turn = skips.next_turn(peers, from, turn + 1);
     }
     None
 }

@@ -446,8 +446,9 @@ impl Outbox {
         len
     }
 
-    /// Whether there is surely nothing to send.
-    fn has_nothing(&self) -> bool
+    /// Whether there is surely nothing queued and nothing unacknowledged, on any channel. Where it answers true, `emit` puts nothing
+    /// out and changes nothing; it may also answer false where nothing is left, until `emit` was asked in vain.
+    pub fn has_nothing(&self) -> bool
         ensures { IsTrue result → HasNothing self.now.outbox }
     {
         self.idle

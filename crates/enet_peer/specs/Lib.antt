@@ -8,3 +8,4 @@ pub mod Next
 pub mod Reachable
 pub mod Handling
 pub mod Heading
+pub mod Sleeping

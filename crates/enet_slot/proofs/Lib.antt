@@ -1,3 +1,4 @@
 pub mod Changes
 pub mod Shown
 pub mod OverAll
+pub mod Sleeping

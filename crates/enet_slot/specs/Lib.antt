@@ -5,3 +5,4 @@ pub mod Serving
 pub mod Sharing
 pub mod Calls
 pub mod Slotted
+pub mod Sleeping

@@ -4,7 +4,8 @@
 //! (`on_peer`), with E2 where the slot is free; `hear` and `serve` are its peer's (`Hears`, `Gives`, `Passes`), and so is `take`
 //! (`GivesEvent`). After each of them a slot whose peer is free gives it up: it keeps the sessions of the connection that it had,
 //! and has the next generation (`vacated`). `ask` and `answer` give it to a peer (`asking`, `answering`). The tests of `refused_by`, in
-//! their order, say which datagrams it takes in, and `is_available` says whether it can be given out. Want of memory changes nothing.
+//! their order, say which datagrams it takes in, and `is_available` says whether it can be given out. A slot of which `is_asleep`
+//! answers true has nothing to put out and nothing to tell (`Sleeps`). Want of memory changes nothing.
 //! Over all slots of a host: `unused_slots` and `joined_slots` make them, `first_available` and `any_is_connection` look for one,
 //! `tick_all`, `set_bandwidth` (`changed`) and `share_out` (`shared`) are one change on each, and `next_due` says in how many
 //! milliseconds time brings any of their peers something.

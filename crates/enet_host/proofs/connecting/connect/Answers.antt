@@ -1,6 +1,8 @@
 use Rattle.std.proofs.Common.{arith}
+use Rattle.enet_slot.specs.Slotted.{all_shown}
 use Rattle.enet_host.specs.Opening.{no_channel, no_slot}
 use Rattle.enet_host.proofs.Offering.{found-in, connects-at}
+use Rattle.enet_host.proofs.Skipping.{skips-at}
 use Rattle.enet_host.proofs.connecting.connect.Goals as goal
 
 pub returns-then-question-eq0-clause-connects : goal.returns-then-question-eq0-clause-connects
@@ -16,3 +18,8 @@ returns-clause-connects c =
     c.index_mut-slot.result.now c.ask.new.self c.ask.result c.if-question-eq0.false
     (found-in c.args.start.now.config c.args.slots.now.items c.deref.result.now _ _ c.first_available.ensures.first c.deref.ensures.value c.in-Some.is)
     (let within = c.in-Some.ensures.within in let len = c.deref.ensures.len in grind (arith, within, len)) c.index_mut-slot.ensures.value c.ask.ensures.asks c.ask.ensures.named c.ask.ensures.unchanged c.ask.ensures.memory
+
+pub returns-clause-skips : goal.returns-clause-skips
+returns-clause-skips c =
+    skips-at c.args.start.now.config.peers c.wake.new.self.next.items c.args.slots.now.items c.in-Some.place c.ask.new.self
+    (c.wake.ensures.kept c.args.start.now.config.peers (all_shown c.args.slots.now.items) c.requires.skips) c.wake.ensures.awake

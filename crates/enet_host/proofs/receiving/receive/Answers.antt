@@ -1,8 +1,10 @@
-use Rattle.std.proofs.Common.{arith, sym, subst}
+use Rattle.std.proofs.Common.{ℕ, ◌≤◌, arith, sym, subst}
 use Rattle.enet_codec.specs.declared.event.Received.{Received}
 use Rattle.enet_host.specs.Receiving.{Arrives, unreadable, no_offer, offered, turned_away}
 use Rattle.enet_slot.specs.Slotted.{all_shown}
 use Rattle.enet_host.proofs.Hearing.{refused-in, heard-at}
+use Rattle.enet_host.specs.Skips.{entry}
+use Rattle.enet_host.proofs.Skipping.{skips-at}
 use Rattle.enet_host.proofs.receiving.receive.Goals as goal
 
 pub returns-in-Err-clause-arrives : goal.returns-in-Err-clause-arrives
@@ -32,3 +34,9 @@ returns-clause-arrives c =
     c.hear.result c.in-Ok.ensures.read c.if-header-eq-NO_PEER.false
     (refused-in c.args.slots.now.items c.deref.result.now c.args.from c.in-Ok.found.0 _ _ c.refused_by.ensures.stop c.deref.ensures.value c.in_default.is) c.from.ensures
     (let within = c.in_default.ensures.within in let len = c.deref.ensures.len in let e = c.from.ensures in grind (arith, within, len, e)) c.index_mut-slot.ensures.value c.hear.ensures.hears
+
+pub returns-clause-skips : goal.returns-clause-skips
+returns-clause-skips c =
+    skips-at c.args.start.now.config.peers c.wake.new.self.next.items c.args.slots.now.items c.from.result c.hear.new.self
+    (c.wake.ensures.kept c.args.start.now.config.peers (all_shown c.args.slots.now.items) c.requires.skips)
+    (subst (λ (i : ℕ). entry c.wake.new.self.next.items i ≤ i) (sym c.from.ensures) c.wake.ensures.awake)

@@ -3,6 +3,7 @@ use Rattle.enet_codec.specs.declared.event.Received.{Received}
 use Rattle.enet_host.specs.Receiving.{Offers, refused, repeated, no_slot}
 use Rattle.enet_slot.specs.Slotted.{all_shown}
 use Rattle.enet_host.proofs.Offering.{found-in, known-in, answers-at, no-memory-at}
+use Rattle.enet_host.proofs.Skipping.{skips-at}
 use Rattle.enet_host.proofs.receiving.take_offer.Goals as goal
 
 pub returns-in-Some-clause-offers : goal.returns-in-Some-clause-offers
@@ -37,3 +38,13 @@ returns-in-Err-clause-offers c =
     (known-in c.args.slots.now.items c.deref.result.now c.args.from c.args.offer _ _ c.any_is_connection.ensures c.deref.ensures.value c.if-any_is_connection.false)
     (found-in c.args.start.now.config c.args.slots.now.items c.deref-2.result.now _ _ c.first_available.ensures.first c.deref-2.ensures.value c.in-Some-first_available.is)
     c.index_mut-slot.ensures.value c.in-Err.ensures.unchanged c.stopped-in-Err.ensures
+
+pub returns-in-Ok-clause-skips : goal.returns-in-Ok-clause-skips
+returns-in-Ok-clause-skips c =
+    skips-at c.args.start.now.config.peers c.wake.new.self.next.items c.args.slots.now.items c.in-Some-first_available.place c.answer.new.self
+    (c.wake.ensures.kept c.args.start.now.config.peers (all_shown c.args.slots.now.items) c.requires.skips) c.wake.ensures.awake
+
+pub returns-in-Err-clause-skips : goal.returns-in-Err-clause-skips
+returns-in-Err-clause-skips c =
+    skips-at c.args.start.now.config.peers c.wake.new.self.next.items c.args.slots.now.items c.in-Some-first_available.place c.answer.new.self
+    (c.wake.ensures.kept c.args.start.now.config.peers (all_shown c.args.slots.now.items) c.requires.skips) c.wake.ensures.awake

@@ -4,14 +4,16 @@ use Rattle.enet_slot.specs.Calls.{leaving, Does}
 use Rattle.enet_slot.specs.Slotted.{all_shown}
 use Rattle.enet_host.specs.Calls.{on_named}
 use Rattle.enet_host.specs.Host.{Host}
-use Rattle.enet_host.proofs.Holding.{keeps-after, does-held}
+use Rattle.enet_host.proofs.Holding.{keeps-after, woken-kept, does-kept}
 use Rattle.enet_host.proofs.host.HostCore.disconnect_now.Goals as goal
 
 pub invariant_of-self : goal.invariant_of-self
 invariant_of-self c =
-    keeps-after c.self.inside.start.config.peers c.self.inside.start.config.generations c.self.inside.service_from c.self.inside.event_from c.self.inside.service_from c.self.inside.event_from c.self.inside.slots.items c.disconnect.new.slots.items c.self.invariant
+    keeps-after c.self.inside.start.config.peers c.self.inside.start.config.generations c.self.inside.service_from c.self.inside.event_from c.self.inside.service_from c.self.inside.event_from c.self.inside.skips.next.items c.wake.new.self.next.items
+    c.self.inside.slots.items c.disconnect.new.slots.items c.self.invariant
     c.disconnect.ensures.count c.self.invariant.service c.self.invariant.event
-    (does-held (all_shown c.self.inside.slots.items) (all_shown c.disconnect.new.slots.items) c.args.peer (leaving mode.Now c.args.info) c.disconnect.result c.self.invariant.held c.disconnect.ensures.does)
+    (does-kept c.self.inside.start.config.peers c.wake.new.self.next.items (all_shown c.self.inside.slots.items) (all_shown c.disconnect.new.slots.items) c.args.peer (leaving mode.Now c.args.info) c.disconnect.result
+    (woken-kept c.self.inside.start.config.peers c.self.inside.start.config.generations c.self.inside.service_from c.self.inside.event_from c.self.inside.skips.next.items c.wake.new.self.next.items c.self.inside.slots.items c.self.invariant c.wake.ensures.kept) c.wake.ensures.awake c.disconnect.ensures.does)
 
 pub returns-clause-disconnects : goal.returns-clause-disconnects
 returns-clause-disconnects c =

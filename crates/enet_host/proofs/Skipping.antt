@@ -1,0 +1,231 @@
+-- Slots that sleep are passed over.
+use Rattle.std.proofs.Common.{◌≡◌, ◌≢◌, ℕ, ◌+◌, ◌-◌, ◌<◌, ◌≤◌, ◌⊎◌, inl, inr, min, Some, List, length, replicate, slice_get, slice_set, get_or, refl, sym, ap, subst, ◌∙◌, arith}
+use Rattle.std.proofs.lemmas.Bool.{cases_lt, cases_eq}
+use Rattle.std.proofs.lemmas.List.{get_or-set_other, get_or-set_same, get_or-replicate, get_or_past, length-set, length-replicate}
+use Rattle.std.proofs.lemmas.Option.{slice_get_within}
+use Rattle.enet_slot.specs.declared.slot.Slot.{Slot}
+use Rattle.enet_slot.specs.Slot.{SlotState}
+use Rattle.enet_slot.specs.Sleeping.{Sleeps}
+use Rattle.enet_slot.specs.Slotted.{shown, all_shown}
+use Rattle.enet_slot.proofs.Shown.{set-shown}
+use Rattle.enet_host.specs.Turns.{turn_of}
+use Rattle.enet_codec.specs.declared.address.Addr.{Addr}
+use Rattle.enet_codec.specs.declared.event.Event.{Event}
+use Rattle.enet_codec.specs.declared.event.PeerRef.{PeerRef}
+use Rattle.enet_host.specs.Shown.{SlotGives, SlotPasses, SlotGivesEvent}
+use Rattle.enet_host.specs.Skips.{entry, Marks, KeepsSkips, SlotSleeps, PassesTurns, AwakeAt}
+use Rattle.enet_host.proofs.Asking.{get-set-other}
+use Rattle.enet_host.proofs.Turning.{turn-below, same-turn, passed-between}
+
+-- at first no slot is passed over
+none-marked : (n i : ℕ) → entry (replicate n 0) i ≡ 0
+none-marked n i = elim (cases_lt i n) [ inl inside ↦ get_or-replicate n i 0 0 inside | inr past ↦ get_or_past (replicate n 0) i 0 (omega (arith, past, length-replicate {A = ℕ} n 0)) ]
+
+pub skips-none : (n : ℕ) (next : List ℕ) (slots : List SlotState) → next ≡ replicate n 0 → KeepsSkips n next slots
+skips-none n next slots e =
+    subst (λ (xs : List ℕ). KeepsSkips n xs slots) (sym e)
+    (record {
+      marks = record { count = length-replicate {A = ℕ} n 0; passed = λ i j low less. absurd (omega (arith, less, none-marked n j)) };
+      asleep = λ i s there less. absurd (omega (arith, less, none-marked n i));
+    })
+
+-- a slot that is awake may change
+pub skips-set : (n : ℕ) (next : List ℕ) (slots : List SlotState) (i : ℕ) (t : SlotState) → KeepsSkips n next slots → entry next i ≤ i → KeepsSkips n next (slice_set slots i t)
+skips-set n next slots i t k awake = record {
+  marks = k.marks;
+  asleep = λ j s there less. elim (cases_eq j i)
+      [ inl same ↦ absurd (omega (arith, subst (λ (m : ℕ). m < entry next m) same less, awake)) | inr other ↦ k.asleep j s (get-set-other slots i j t s other there) less ];
+}
+
+pub skips-at : (n : ℕ) (next : List ℕ) (xs : List Slot) (i : ℕ) (y : Slot) → KeepsSkips n next (all_shown xs) → entry next i ≤ i → KeepsSkips n next (all_shown (slice_set xs i y))
+skips-at n next xs i y k awake = subst (KeepsSkips n next) (sym (set-shown xs i y)) (skips-set n next (all_shown xs) i (shown y) k awake)
+
+pub skips-passes : (n now i : ℕ) (next : List ℕ) (old new : List SlotState) → KeepsSkips n next old → entry next i ≤ i → SlotPasses now old i new → KeepsSkips n next new
+skips-passes n now i next old new k awake p = subst (KeepsSkips n next) (sym p.after) (skips-set n next old i p.left k awake)
+
+pub skips-gives : (n now i len : ℕ) (name : PeerRef) (address : Addr) (buf next : List ℕ) (old new : List SlotState) → KeepsSkips n next old → entry next i ≤ i
+    → SlotGives now old i name address len buf new → KeepsSkips n next new
+skips-gives n now i len name address buf next old new k awake g = subst (KeepsSkips n next) (sym g.after) (skips-set n next old i g.left k awake)
+
+pub skips-gives-event : (n i : ℕ) (event : Event) (next : List ℕ) (old new : List SlotState) → KeepsSkips n next old → entry next i ≤ i → SlotGivesEvent old i event new
+    → KeepsSkips n next new
+skips-gives-event n i event next old new k awake g = subst (KeepsSkips n next) (sym g.after) (skips-set n next old i g.left k awake)
+
+-- Slot `number` is woken: those from slot `place` on that were passed over with it end at it by now.
+pub record Waking (old new : List ℕ) (number place : ℕ) : Type 0 where
+  pub count : length new ≡ length old
+  pub inside : number < length old
+  pub low : place ≤ number
+  pub before : (i : ℕ) → i < place → entry new i ≡ entry old i
+  pub between : (i : ℕ) → place ≤ i → i < number → entry new i ≡ number
+  pub slept : (i : ℕ) → place ≤ i → i < number → i < entry old i
+  pub here : entry new number ≡ number
+  pub after : (i : ℕ) → number < i → entry new i ≡ entry old i
+
+pub waking-first : (old : List ℕ) (number : ℕ) → number < length old → Waking old (slice_set old number number) number number
+waking-first old number inside = record {
+  count = length-set old number number;
+  inside = inside;
+  low = omega arith;
+  before = λ i less. get_or-set_other old number i number 0 (λ same. absurd (omega (arith, less, same)));
+  between = λ i past less. absurd (omega (arith, past, less));
+  slept = λ i past less. absurd (omega (arith, past, less));
+  here = get_or-set_same old number number 0 inside;
+  after = λ i less. get_or-set_other old number i number 0 (λ same. absurd (omega (arith, less, same)));
+}
+
+-- the slot before sleeps, too
+pub waking-more : (old new : List ℕ) (number place m : ℕ) → Waking old new number place → m + 1 ≡ place → m < entry new m → Waking old (slice_set new m number) number m
+waking-more old new number place m w is sleeps =
+    let low : m < number = omega (arith, is, w.low) in
+    let inside : m < length new = omega (arith, low, w.inside, w.count) in
+    let other : (i : ℕ) → i ≢ m → entry (slice_set new m number) i ≡ entry new i = λ i apart. get_or-set_other new m i number 0 apart in
+    record {
+      count = length-set new m number ∙ w.count;
+      inside = w.inside;
+      low = omega (arith, low);
+      before = λ i less. other i (λ same. absurd (omega (arith, less, same))) ∙ w.before i (omega (arith, less, is));
+      between = λ i past less. elim (cases_eq i m)
+          [ inl same ↦ ap (entry (slice_set new m number)) same ∙ get_or-set_same new m number 0 inside | inr apart ↦ other i apart ∙ w.between i (omega (arith, past, apart, is)) less ];
+      slept = λ i past less. elim (cases_eq i m)
+          [ inl same ↦ subst (λ (k : ℕ). k < entry old k) (sym same) (subst (λ (e : ℕ). m < e) (w.before m (omega (arith, is))) sleeps) | inr apart ↦ w.slept i (omega (arith, past, apart, is)) less ];
+      here = other number (λ same. absurd (omega (arith, low, same))) ∙ w.here;
+      after = λ i less. other i (λ same. absurd (omega (arith, less, low, same))) ∙ w.after i less;
+    }
+
+-- whoever is passed over afterwards was passed over before
+still-marked : (old new : List ℕ) (number place i : ℕ) → Waking old new number place → i < entry new i → i < entry old i
+still-marked old new number place i w less =
+    elim (cases_lt i place) [
+      | inl before ↦ subst (λ (e : ℕ). i < e) (w.before i before) less
+      | inr past ↦ elim (cases_lt i number) [
+        | inl between ↦ w.slept i past between
+        | inr over ↦ elim (cases_eq i number) [
+          | inl same ↦ absurd (omega (arith, less, ap (entry new) same, w.here, same))
+          | inr apart ↦ subst (λ (e : ℕ). i < e) (w.after i (omega (arith, over, apart))) less
+        ]
+      ]
+    ]
+
+-- no slot before them is passed over with another one
+passed-before : (old new : List ℕ) (n number place i j : ℕ) → Waking old new number place → Marks n old → ((m : ℕ) → m + 1 ≡ place → entry new m ≤ m) → j ≤ i → j < place
+    → i < entry new j → i < entry new i
+passed-before old new n number place i j w marks stop low less over =
+    let over_old : i < entry old j = subst (λ (e : ℕ). i < e) (w.before j less) over in
+    elim (cases_lt i place) [
+      | inl before ↦ subst (λ (e : ℕ). i < e) (sym (w.before i before)) (marks.passed i j low over_old)
+      | inr past ↦
+          let is : place - 1 + 1 ≡ place = omega (arith, less) in
+          let marked : place - 1 < entry old (place - 1) = marks.passed (place - 1) j (omega (arith, less)) (omega (arith, over_old, past, less)) in
+          absurd (omega (arith, marked, stop (place - 1) is, w.before (place - 1) (omega (arith, less))))
+    ]
+
+passed-after : (old new : List ℕ) (n number place i j : ℕ) → Waking old new number place → Marks n old → j ≤ i → place ≤ j → i < entry new j → i < entry new i
+passed-after old new n number place i j w marks low past over =
+    elim (cases_lt j number) [
+      | inl between ↦
+          let less : i < number = subst (λ (e : ℕ). i < e) (w.between j past between) over in
+          subst (λ (e : ℕ). i < e) (sym (w.between i (omega (arith, low, past)) less)) less
+      | inr over_it ↦ elim (cases_eq j number) [
+        | inl same ↦ absurd (omega (arith, over, ap (entry new) same, w.here, low, same))
+        | inr apart ↦
+            let later : number < j = omega (arith, over_it, apart) in
+            let marked : i < entry old i = marks.passed i j low (subst (λ (e : ℕ). i < e) (w.after j later) over) in
+            subst (λ (e : ℕ). i < e) (sym (w.after i (omega (arith, later, low)))) marked
+      ]
+    ]
+
+pub woken : (old new : List ℕ) (number place n : ℕ) (slots : List SlotState) → Waking old new number place → ((m : ℕ) → m + 1 ≡ place → entry new m ≤ m)
+    → KeepsSkips n old slots → KeepsSkips n new slots
+woken old new number place n slots w stop k = record {
+  marks = record {
+    count = w.count ∙ k.marks.count;
+    passed = λ i j low over. elim (cases_lt j place)
+        [ inl less ↦ passed-before old new n number place i j w k.marks stop low less over | inr past ↦ passed-after old new n number place i j w k.marks low past over ];
+  };
+  asleep = λ i s there less. k.asleep i s there (still-marked old new number place i w less);
+}
+
+-- The slots from `number` on were looked at anew; `next` is the first of them that is awake, or their number.
+pub record Refreshed (xs : List ℕ) (slots : List SlotState) (n number next : ℕ) : Type 0 where
+  pub count : length xs ≡ n
+  pub all : length slots ≡ n
+  pub within : number ≤ n
+  pub low : number ≤ next
+  pub run : (i : ℕ) → number ≤ i → i < next → i < entry xs i
+  pub passed : (i j : ℕ) → number ≤ j → j ≤ i → i < entry xs j → i < entry xs i
+  pub asleep : (i : ℕ) (s : SlotState) → number ≤ i → slice_get slots i ≡ Some s → i < entry xs i → Sleeps s
+
+pub refreshed-first : (xs : List ℕ) (slots : List SlotState) (n : ℕ) → length xs ≡ n → length slots ≡ n → Refreshed xs slots n n n
+refreshed-first xs slots n count all = record {
+  count = count;
+  all = all;
+  within = omega arith;
+  low = omega arith;
+  run = λ i past less. absurd (omega (arith, past, less));
+  passed = λ i j past low less. absurd (omega (arith, less, get_or_past xs j 0 (omega (arith, past, count))));
+  asleep = λ i s past there less. absurd (omega (arith, less, get_or_past xs i 0 (omega (arith, past, count))));
+}
+
+-- one slot more, whose entry is its own number, or past it where it sleeps
+refreshed-by : (xs : List ℕ) (slots : List SlotState) (n number next m v : ℕ) → Refreshed xs slots n number next → m + 1 ≡ number → m ≤ v
+    → ((i : ℕ) → m < i → i < v → i < entry xs i) → (m < v → SlotSleeps slots m) → Refreshed (slice_set xs m v) slots n m v
+refreshed-by xs slots n number next m v r is low run sleeps =
+    let inside : m < length xs = omega (arith, is, r.within, r.count) in
+    let here : entry (slice_set xs m v) m ≡ v = get_or-set_same xs m v 0 inside in
+    let other : (i : ℕ) → m < i → entry (slice_set xs m v) i ≡ entry xs i = λ i more. get_or-set_other xs m i v 0 (λ same. absurd (omega (arith, more, same))) in
+    let run_on : (i : ℕ) → m ≤ i → i < v → i < entry (slice_set xs m v) i = λ i past less. elim (cases_lt m i) [
+      | inl more ↦ subst (λ (e : ℕ). i < e) (sym (other i more)) (run i more less)
+      | inr at ↦ let same : i ≡ m = omega (arith, past, at) in subst (λ (k : ℕ). k < entry (slice_set xs m v) k) (sym same) (omega (arith, here, same, less))
+    ] in
+    record {
+      count = length-set xs m v ∙ r.count;
+      all = r.all;
+      within = omega (arith, is, r.within);
+      low = low;
+      run = run_on;
+      passed = λ i j past below less. elim (cases_lt m j) [
+        | inl more ↦ subst (λ (e : ℕ). i < e) (sym (other i (omega (arith, more, below)))) (r.passed i j (omega (arith, more, is)) below (subst (λ (e : ℕ). i < e) (other j more) less))
+        | inr at ↦ let same : j ≡ m = omega (arith, past, at) in run_on i (omega (arith, past, below)) (omega (arith, less, ap (entry (slice_set xs m v)) same, here))
+      ];
+      asleep = λ i s past there less. elim (cases_lt m i) [
+        | inl more ↦ r.asleep i s (omega (arith, more, is)) there (subst (λ (e : ℕ). i < e) (other i more) less)
+        | inr at ↦
+            let same : i ≡ m = omega (arith, past, at) in
+            sleeps (omega (arith, less, ap (entry (slice_set xs m v)) same, here, same)) s (subst (λ (k : ℕ). slice_get slots k ≡ Some s) same there)
+      ];
+    }
+
+pub refreshed-more : (xs : List ℕ) (slots : List SlotState) (n number next m v : ℕ) → Refreshed xs slots n number next → m + 1 ≡ number
+    → (v ≡ m) ⊎ ((v ≡ next) × SlotSleeps slots m) → Refreshed (slice_set xs m v) slots n m v
+refreshed-more xs slots n number next m v r is (inl awake) =
+    refreshed-by xs slots n number next m v r is (omega (arith, awake)) (λ i more less. absurd (omega (arith, more, less, awake))) (λ more. absurd (omega (arith, more, awake)))
+refreshed-more xs slots n number next m v r is (inr asleep) =
+    refreshed-by xs slots n number next m v r is (omega (arith, asleep.0, r.low, is)) (λ i more less. r.run i (omega (arith, more, is)) (omega (arith, less, asleep.0))) (λ more. asleep.1)
+
+pub refreshed-all : (xs : List ℕ) (slots : List SlotState) (n number next : ℕ) → Refreshed xs slots n number next → number ≡ 0 → KeepsSkips n xs slots
+refreshed-all xs slots n number next r none = record {
+  marks = record { count = r.count; passed = λ i j low less. r.passed i j (omega (arith, none)) low less };
+  asleep = λ i s there less. r.asleep i s (omega (arith, none)) there less;
+}
+
+-- so many turns more are passed over
+pub passes-more : (next : List ℕ) (n from first turn number end sleeping last : ℕ) → Marks n next → from < n → number < n → turn_of n from number ≡ turn
+    → end ≡ min (entry next number) n → sleeping ≡ end - number → last ≤ turn + sleeping → PassesTurns next n from first turn → PassesTurns next n from first last
+passes-more next n from first turn number end sleeping last marks f inside place is row reach passed = λ i i_inside past less. elim (cases_lt (turn_of n from i) turn) [
+  | inl earlier ↦ passed i i_inside past earlier
+  | inr later ↦
+      let between = passed-between n from number i turn end f inside i_inside (omega (arith, is)) place later (omega (arith, less, reach, row)) in
+      marks.passed i number between.0 (omega (arith, between.1, is))
+]
+
+-- the slot of this turn is awake, and each slot has a turn of its own
+pub awake-at : (next : List ℕ) (n from turn number sleeping : ℕ) → from < n → number < n → turn_of n from number ≡ turn → sleeping ≡ min (entry next number) n - number → sleeping ≡ 0
+    → AwakeAt next n from turn
+awake-at next n from turn number sleeping f inside place row none = λ i i_inside at.
+    let same : i ≡ number = same-turn n from i number f i_inside inside (at ∙ sym place) in
+    subst (λ (k : ℕ). entry next k ≤ k) (sym same) (omega (arith, row, none, inside))
+
+-- there is no slot of this turn
+pub none-at : (next : List ℕ) (n from turn : ℕ) → from < n → n ≤ turn → AwakeAt next n from turn
+none-at next n from turn f past = λ i inside at. absurd (omega (arith, turn-below n from i f inside, at, past))

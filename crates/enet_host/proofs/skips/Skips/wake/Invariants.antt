@@ -1,0 +1,8 @@
+use Rattle.enet_host.proofs.Skipping.{Waking}
+use Rattle.enet_host.proofs.skips.Skips.wake.Given as goal
+
+abbrev pub invariant-loop-place : goal.invariant-loop-place
+invariant-loop-place l = Waking l.fn.self.next.items l.self.next.items l.number l.place
+
+abbrev pub decreases-loop-place : goal.decreases-loop-place
+decreases-loop-place l = l.place
