@@ -164,6 +164,31 @@ fn receiver_by_hand(rt: HostRuntime) {
     assert!(rt; receiver.pop().is_none());
 }
 
+// An unreliable packet of the front is dispatched as it comes, whether something is held or not; one that has fallen behind isn't.
+#[test]
+fn unreliable_packets_of_the_front(rt: HostRuntime) {
+    let mut receiver = Incoming::open(rt.alloc(), 0, 1000).ok().expect(&rt, "open");
+    let rows = [
+        (unreliable(0, 0, 2, b"b"), false, Took::Held),
+        (unreliable(0, 0, 1, b"a"), false, Took::Again),
+        (unreliable(0, 0, 2, b"b"), false, Took::Again),
+        (unreliable(0, 0, 3, b"c"), true, Took::Waiting),
+        (reliable(0, 2, b"s"), false, Took::Held),
+        (unreliable(0, 0, 3, b"c"), false, Took::Held),
+        (reliable(0, 1, b"r"), false, Took::Held),
+        (unreliable(0, 2, 1, b"d"), false, Took::Held),
+    ];
+    assert!(rt; receives(&mut receiver, &rows));
+    assert!(rt; receiver.held() == 0);
+    assert!(rt;
+        pops(
+            &mut receiver,
+            &[(0, b"b"), (0, b"c"), (1, b"r"), (1, b"s"), (0, b"d")]
+        )
+    );
+    assert!(rt; receiver.pop().is_none());
+}
+
 /// A piece of the packet of number 28,000, which has so many pieces and bytes, a byte each.
 fn piece_past(number: u16, count: u32, total: u32) -> Command<'static> {
     let index = u32::from(number).saturating_sub(28_000);
