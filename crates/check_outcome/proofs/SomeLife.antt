@@ -7,7 +7,8 @@ use Rattle.enet_peer.specs.declared.parts.PeerEvent.{PeerEvent}
 use Rattle.enet_peer.specs.declared.parts.PeerEvent.TheVariants as told
 use Rattle.enet_slot.specs.Calls.{event_of}
 use Rattle.enet_connection.specs.Law.{AreLast, IsOneLife}
-use Rattle.check_outcome.specs.Life.{AreLastOf, IsSomeLife}
+use Rattle.check_outcome.specs.Life.{IsSomeLife}
+use Rattle.check_outcome.specs.Private.Life.{AreLastOf}
 
 pub is-empty : (es : List Event) → length es ≡ 0 → es ≡ []
 is-empty [] h = refl

@@ -1,3 +1,4 @@
 pub mod Following
 pub mod Life
 pub mod Sound
+pub mod Private

@@ -1,17 +1,8 @@
 -- What a user is told of a connection.
-use Rattle.std.specs.Prelude.{◌≡◌, false, List, [], ◌∷◌}
+use Rattle.std.specs.Prelude.{false, List}
 use Rattle.enet_codec.specs.declared.event.Event.{Event}
-use Rattle.enet_codec.specs.declared.event.Event.TheVariants as events
 use Rattle.enet_codec.specs.declared.event.PeerRef.{PeerRef}
 use Rattle.enet_network.specs.Headline.{IsLife}
-
--- packets of a peer, then at most one Disconnect of it
-abbrev pub AreLastOf : PeerRef → List Event → Type 0
-AreLastOf name [] = Unit {0}
-AreLastOf name (events.Connect peer info ∷ es) = ⊥
-AreLastOf name (events.Receive peer q ∷ es) = (peer ≡ name) × AreLastOf name es
-AreLastOf name (events.Disconnect peer info ∷ es) = (peer ≡ name) × (es ≡ [])
-AreLastOf name (events.Refused seat number why ∷ es) = ⊥
 
 -- all that a user took of a connection is one life, of whichever peer
 pub record IsSomeLife (taken : List Event) : Type 0 where

@@ -1,7 +1,8 @@
 //! Whether what a user was told of a connection is one life.
 
 ghost use Rattle.std.specs.Prelude.{◌↔◌, IsTrue};
-ghost use Rattle.check_outcome.specs.Life.{AreLastOf, IsSomeLife};
+ghost use Rattle.check_outcome.specs.Life.{IsSomeLife};
+ghost use Rattle.check_outcome.specs.Private.Life.{AreLastOf};
 
 use enet_codec::{Event, PeerRef};
 

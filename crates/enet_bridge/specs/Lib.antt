@@ -5,3 +5,4 @@ pub mod Serving
 pub mod WireMemory
 pub mod Socket
 pub mod Wires
+pub mod Private

@@ -9,8 +9,9 @@ use Rattle.enet_submit.specs.declared.order.Order.{Order}
 use Rattle.enet_submit.specs.declared.order.Order.TheVariants.{Submit}
 use Rattle.enet_chat.specs.Peers.{is_same, has, has_each_once, others}
 use Rattle.enet_chat.specs.Chat.{chat, relayed}
-use Rattle.enet_chat.specs.Relaying.{noted_all, relayed_all, IsPacket, ArePackets, is_for, those_for, SameForEach}
-use Rattle.enet_chat.specs.Grouping.{relayed_to, grouped}
+use Rattle.enet_chat.specs.Relaying.{noted_all, relayed_all, is_for, those_for, SameForEach}
+use Rattle.enet_chat.specs.Private.Relaying.{IsPacket, ArePackets}
+use Rattle.enet_chat.specs.Private.Grouping.{relayed_to, grouped}
 use Rattle.enet_chat.proofs.PeersLemmas.{or_none, and_both, not_true, same_is}
 
 -- ---- packets

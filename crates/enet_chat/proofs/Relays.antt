@@ -9,7 +9,8 @@ use Rattle.enet_events.specs.declared.numbered.Numbered.{Numbered}
 use Rattle.enet_bridge.specs.Holding.{asked, received}
 use Rattle.enet_chat.specs.Chat.{noted, relayed}
 use Rattle.enet_chat.specs.declared.relaying.Relay.{Relay}
-use Rattle.enet_chat.specs.Relaying.{events, noted_all, relayed_all, ArePackets, is_for, those_for, SameForEach, SameQueues, Relays}
+use Rattle.enet_chat.specs.Relaying.{events, noted_all, relayed_all, is_for, those_for, SameForEach, SameQueues, Relays}
+use Rattle.enet_chat.specs.Private.Relaying.{ArePackets}
 use Rattle.enet_chat.proofs.GroupingLemmas.{packets_note}
 
 noted_more : (peers : List PeerRef) (es fs : List Event) → noted_all peers (es ++ fs) ≡ noted_all (noted_all peers es) fs

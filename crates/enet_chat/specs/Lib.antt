@@ -1,4 +1,4 @@
 pub mod Chat
-pub mod Grouping
 pub mod Peers
 pub mod Relaying
+pub mod Private

@@ -1,9 +1,9 @@
 -- What the relay's thread makes of the events that it takes.
-use Rattle.std.specs.Prelude.{◌≡◌, ◌⊎◌, ◌<◌, Bool, true, List, [], ◌∷◌, ◌++◌, map, length, ⊤}
+use Rattle.std.specs.Prelude.{◌≡◌, ◌⊎◌, ◌<◌, Bool, true, List, [], ◌∷◌, ◌++◌, map, length}
 use Rattle.std.specs.List.{filter}
 use Rattle.enet_codec.specs.declared.event.PeerRef.{PeerRef}
 use Rattle.enet_codec.specs.declared.event.Event.{Event}
-use Rattle.enet_codec.specs.declared.event.Event.TheVariants.{Connect, Receive, Disconnect, Refused}
+use Rattle.enet_codec.specs.declared.event.Event.TheVariants.{Connect, Disconnect}
 use Rattle.enet_submit.specs.declared.order.Order.{Order}
 use Rattle.enet_submit.specs.declared.order.Order.TheVariants as order
 use Rattle.enet_events.specs.declared.numbered.Numbered.{Numbered}
@@ -47,17 +47,6 @@ noted_all peers (e ∷ es) = noted_all (noted peers e) es
 abbrev pub relayed_all : List PeerRef → List Event → List Order
 relayed_all peers [] = []
 relayed_all peers (e ∷ es) = relayed (noted peers e) e ++ relayed_all (noted peers e) es
-
--- a packet came, which leaves the peers as they are
-abbrev pub IsPacket : Event → Type 0
-IsPacket (Connect peer info) = ⊥
-IsPacket (Receive peer packet) = ⊤
-IsPacket (Disconnect peer info) = ⊥
-IsPacket (Refused seat number why) = ⊥
-
-abbrev pub ArePackets : List Event → Type 0
-ArePackets [] = ⊤
-ArePackets (e ∷ es) = IsPacket e × ArePackets es
 
 -- whether an order is for this peer. A Connect, which names no peer, is for each of them
 abbrev pub is_for : PeerRef → Order → Bool

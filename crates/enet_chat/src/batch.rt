@@ -1,8 +1,9 @@
 //! The orders of several chat packets, receiver by receiver.
 ghost use Rattle.std.specs.Prelude.{◌≡◌, ◌≤◌, ◌++◌, [], ◌∷◌, length, take, drop, true, IfErr, IfOk, OnOk};
 ghost use Rattle.enet_chat.specs.Chat.{relayed};
-ghost use Rattle.enet_chat.specs.Relaying.{IsPacket, ArePackets, SameForEach, relayed_all};
-ghost use Rattle.enet_chat.specs.Grouping.{relayed_to, grouped};
+ghost use Rattle.enet_chat.specs.Relaying.{SameForEach, relayed_all};
+ghost use Rattle.enet_chat.specs.Private.Relaying.{IsPacket, ArePackets};
+ghost use Rattle.enet_chat.specs.Private.Grouping.{relayed_to, grouped};
 
 use crate::relay::push_order;
 use crate::table::Table;

@@ -102,7 +102,8 @@ impl<'a> Relay<'a> {
     ghost use Rattle.enet_submit.specs.Words.{IsFinishedOf, all_sent};
     ghost use Rattle.enet_bridge.specs.Ends.{orders};
     ghost use Rattle.enet_bridge.specs.Holding.{asked, waiting_at, received, sender_queue, receiver_queue, FoundNone};
-    ghost use Rattle.enet_chat.specs.Relaying.{peers_of, backlog_of, sender_of, receiver_of, ArePackets, Relays, IsThrough};
+    ghost use Rattle.enet_chat.specs.Relaying.{peers_of, backlog_of, sender_of, receiver_of, Relays, IsThrough};
+    ghost use Rattle.enet_chat.specs.Private.Relaying.{ArePackets};
 
     /// A relay that goes on from these peers and these events.
     pub fn new(

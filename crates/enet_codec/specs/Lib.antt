@@ -7,3 +7,4 @@ pub mod Config
 pub mod Packet
 pub mod Refusal
 pub mod Stop
+pub mod Private

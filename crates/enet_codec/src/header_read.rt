@@ -1,7 +1,8 @@
 //! Reading a header.
 
 ghost use Rattle.std.specs.Prelude.{◌≡◌, ℕ, ◌≤◌, ◌+◌, length, take, List, ◌++◌, IfSome, IfNone, IsSomeAnd};
-ghost use Rattle.enet_codec.specs.Header.{SpellsHeader, GivesHeader, header_at, header_of};
+ghost use Rattle.enet_codec.specs.Header.{SpellsHeader, header_at, header_of};
+ghost use Rattle.enet_codec.specs.Private.Header.{GivesHeader};
 
 use crate::header::{COMPRESSED, Header, SENT_TIME};
 use crate::read::u16_at;

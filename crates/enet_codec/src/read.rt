@@ -3,7 +3,8 @@
 ghost use Rattle.std.specs.Prelude.{◌≡◌, ℕ, ◌≤◌, ◌+◌, ◌<◌, length, drop, take, slice_index, List, [], ◌++◌, true, IfSome, IfNone, IsSomeAnd};
 ghost use Rattle.enet_codec.specs.Message.{Message, Spells, view};
 ghost use Rattle.std.specs.Int.{w8, w16, w32, from_be_bytes};
-ghost use Rattle.enet_codec.specs.Reading.{Gives, command_at, head_at, is_kind, layout, message_at, message_of, numbers_at, size_of, offer_of, verify_of, fragment_of};
+ghost use Rattle.enet_codec.specs.Reading.{command_at, head_at, is_kind, layout, message_at, message_of, numbers_at, size_of, offer_of, verify_of, fragment_of};
+ghost use Rattle.enet_codec.specs.Private.Reading.{Gives};
 
 use crate::command::{ACKNOWLEDGE, Command, Fragment, Head, Offer, UNSEQUENCED, Verify};
 use crate::table::row_of;

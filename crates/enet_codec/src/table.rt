@@ -1,7 +1,8 @@
 //! The table of the commands, by which they are read and written.
 
 ghost use Rattle.std.specs.Prelude.{◌≡◌, ◌+◌, ◌≤◌, length, IfSome, IfNone, None, Some, false};
-ghost use Rattle.enet_codec.specs.Reading.{Tells, is_kind, len_at};
+ghost use Rattle.enet_codec.specs.Reading.{is_kind};
+ghost use Rattle.enet_codec.specs.Private.Reading.{Tells, len_at};
 
 use crate::read::u16_at;
 

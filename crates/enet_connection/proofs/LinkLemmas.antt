@@ -7,7 +7,8 @@ use Rattle.enet_fragment.specs.declared.data.DataCommand.{DataCommand}
 use Rattle.enet_receiver.specs.Receiver.{Receiver}
 use Rattle.enet_receiver.specs.DataOutcome.{received, outcome, is_handled}
 use Rattle.enet_sender.specs.CommandChoice.{ChosenPacket}
-use Rattle.enet_connection.specs.Link.{Link, PutOut, Answer, accept, send, put_out, takes_in, queue_answer, put_answer, after_acknowledgement, closed, is_late, number_below, wired}
+use Rattle.enet_connection.specs.Link.{PutOut, Answer, is_late, number_below, wired}
+use Rattle.enet_connection.specs.Private.Link.{Link, accept, send, put_out, takes_in, queue_answer, put_answer, after_acknowledgement, closed}
 use Rattle.enet_connection.proofs.Lists.{Has, Has-push_cases, Has-push_left, Has-push, Has-filter, Has-from_filter}
 use Rattle.enet_connection.proofs.ContentLemmas.{Ready}
 use Rattle.enet_connection.proofs.PieceLemmas.{IsPieceOf}

@@ -7,7 +7,8 @@ use Rattle.enet_sender.specs.CommandChoice.{ChosenPacket, carried}
 use Rattle.enet_sender.specs.Sender.{Sender}
 use Rattle.enet_sender.specs.declared.sent.Sent.{Sent}
 use Rattle.enet_connection.specs.Follows.{command_count, count_after, Follows, FollowsCarried}
-use Rattle.enet_connection.specs.Link.{Link, PutOut, Answer, wired}
+use Rattle.enet_connection.specs.Link.{PutOut, Answer, wired}
+use Rattle.enet_connection.specs.Private.Link.{Link}
 use Rattle.enet_connection.specs.WireLink.{WireLink}
 pub use Rattle.enet_connection.specs.Image.{IsRising}
 use Rattle.enet_connection.proofs.Lists.{Has}

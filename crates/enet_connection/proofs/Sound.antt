@@ -12,8 +12,10 @@ use Rattle.enet_receiver.specs.DataOutcome.{received, outcome, is_handled}
 use Rattle.enet_sender.specs.CommandChoice.{ChosenPacket}
 use Rattle.enet_sender.specs.Sender.{Sender, position_of, without_place}
 use Rattle.enet_sender.specs.declared.sent.Sent.{Sent}
-use Rattle.enet_connection.specs.Link.{Link, PutOut, Answer, put_out, takes_in, queue_answer, put_answer, closed, wired}
+use Rattle.enet_connection.specs.Link.{PutOut, Answer, wired}
+use Rattle.enet_connection.specs.Private.Link.{Link, put_out, takes_in, queue_answer, put_answer, closed}
 use Rattle.enet_connection.specs.Link as link
+use Rattle.enet_connection.specs.Private.Link as private_link
 use Rattle.enet_connection.specs.WireLink.{WireLink, with_reach, puts_out, arrives, logs_answer, answered, stops_sending, stops_receiving, drops_answers}
 use Rattle.enet_connection.proofs.Lists.{Has, Has-push_cases, Has-push_left, Has-push}
 use Rattle.enet_connection.proofs.WireReceiver.{ShowsReceiver, Shows-received}
@@ -274,7 +276,7 @@ Sound-answered mtu v a s nothing there late =
     let b : Answer = record { number = k.0; sent_then = a.sent_then } in
     let t : link.is_late l.sent b.sent_then (b.number % 65536) ≡ false = ap (λ z. link.is_late z a.sent_then (k.0 % 65536)) (sym h.greatest) ∙ ap (λ z. link.is_late v.greatest a.sent_then z) (sym k.1) ∙ late in
     record {
-      link = link.after_acknowledgement l b;
+      link = private_link.after_acknowledgement l b;
       numbers = Numbers-acknowledged l b s.numbers k.2 t;
       ready = s.ready;
       shows = record {

@@ -16,7 +16,8 @@ use Rattle.enet_sender.specs.CommandChoice.{Packet, ChosenPacket, carried, carri
 use Rattle.enet_sender.specs.Sender.{Sender, Next, commands_of, with_queued, again, begun, is_in_span, may_go, resent, first_sent, next_queued, next_resent, next_of, next, is_more, skipped, with_skipped, marked}
 use Rattle.enet_sender.specs.declared.sent.Sent.{Sent}
 use Rattle.enet_connection.specs.Follows.{command_count, count_after}
-use Rattle.enet_connection.specs.Link.{Link, accept, send, wired}
+use Rattle.enet_connection.specs.Link.{wired}
+use Rattle.enet_connection.specs.Private.Link.{Link, accept, send}
 use Rattle.enet_connection.specs.Greatest.{greatest_after}
 use Rattle.enet_connection.specs.WireLink.{WireLink, submits, sends, drops, marks}
 use Rattle.enet_connection.proofs.Lists.{Has, Has-push_cases, Has-push_left, Has-push, Has-slice_get}

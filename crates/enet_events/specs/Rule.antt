@@ -93,11 +93,6 @@ takers_of (Posting takers made posted known) = takers
 takers_of (Taking takers index taken) = takers
 takers_of Spent = 0
 
-abbrev pub made_of : View → ℕ
-made_of (Posting takers made posted known) = made
-made_of (Taking takers index taken) = 0
-made_of Spent = 0
-
 abbrev pub posted_of : View → List Numbered
 posted_of (Posting takers made posted known) = posted
 posted_of (Taking takers index taken) = []

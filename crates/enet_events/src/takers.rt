@@ -3,7 +3,8 @@
 ghost use Rattle.std.specs.Prelude.{◌≡◌, ◌<◌, ◌≤◌, [], IfOk};
 ghost use Rattle.std.specs.List.{All};
 ghost use Rattle.crossbeam_queue.specs.Passes.{view, IsPassOf};
-ghost use Rattle.enet_events.specs.Rule.{posting, taking, made_of, known_of, posted_of, takers_of, share, Among};
+ghost use Rattle.enet_events.specs.Rule.{posting, taking, known_of, posted_of, takers_of, share, Among};
+ghost use Rattle.enet_events.specs.Private.Rule.{made_of};
 ghost use Rattle.enet_events.specs.Words.{new_takers};
 
 use crate::numbered::Numbered;

@@ -28,7 +28,7 @@ use Rattle.enet_fleet.specs.declared.event.FleetEvent.TheVariants as happen
 use Rattle.enet_fleet.specs.declared.event.Node.{Node}
 use Rattle.enet_fleet.specs.declared.event.Node.TheVariants.{Server, Client}
 use Rattle.enet_fleet.specs.Fleets.{Fleet, place_of, with_place, address_of, is_host, numbers_far, around, asked_after, sent_if, sent_after, HappensAt, logged_to, next_number, brings, lacks, RefusesAt, refused_there, refused_delivery, RefusesThere, RefusesIf, Refuses, Steps}
-use Rattle.enet_fleet.specs.Turning.{PutsOut, sent_of}
+use Rattle.enet_fleet.specs.Private.Turning.{PutsOut, sent_of}
 use Rattle.enet_fleet.proofs.Runs.{is_connect}
 
 -- a host put back as it was

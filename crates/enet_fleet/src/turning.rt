@@ -6,7 +6,7 @@ ghost use Rattle.enet_fleet.specs.declared.event.FleetEvent.TheVariants as happe
 ghost use Rattle.enet_fleet.specs.declared.event.Node.TheVariants as node;
 ghost use Rattle.enet_fleet.specs.Fleets.{Steps};
 ghost use Rattle.enet_fleet.specs.Reached.{IsReached};
-ghost use Rattle.enet_fleet.specs.Turning.{PutsOut, sent_of};
+ghost use Rattle.enet_fleet.specs.Private.Turning.{PutsOut, sent_of};
 
 use crate::around::{AroundClient, AroundServer};
 use crate::event::Node;

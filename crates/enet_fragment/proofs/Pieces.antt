@@ -6,7 +6,8 @@ use Rattle.std.proofs.lemmas.List.{take-append-le, drop-append-le, length-set, l
 use Rattle.std.proofs.lemmas.List.Folds.{list_all-map}
 use Rattle.std.proofs.lemmas.Bool.Decides.{nat_tests}
 use Rattle.std.specs.List.{list_all}
-use Rattle.enet_fragment.specs.Assembly.{pieces_in, first_piece, marked, written_at, missing_in}
+use Rattle.enet_fragment.specs.Assembly.{pieces_in, first_piece, marked, missing_in}
+use Rattle.enet_fragment.specs.Private.Assembly.{written_at}
 use Rattle.enet_fragment.specs.PartialPacket.{joined}
 
 -- the marks are those that are marked

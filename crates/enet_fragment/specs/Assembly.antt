@@ -1,5 +1,5 @@
 -- What the fields of an assembly mean.
-use Rattle.std.specs.Prelude.{ℕ, zero, suc, ◌++◌, ◌+◌, ◌≡◌, ◌-◌, ◌*◌, ◌≤◌, ◌<◌, ◌^◌, Bool, if◌then◌else◌, Option, Some, None, List, [], ◌∷◌, length, take, drop, unwrap_or, true, false}
+use Rattle.std.specs.Prelude.{ℕ, zero, suc, ◌≡◌, ◌-◌, ◌*◌, ◌≤◌, ◌<◌, ◌^◌, Bool, if◌then◌else◌, Option, Some, None, List, [], ◌∷◌, length, take, drop, unwrap_or, true, false}
 use Rattle.std.specs.Option.{ForSome, ForNone}
 use Rattle.enet_fragment.specs.PartialPacket.{PartialPacket}
 
@@ -22,10 +22,6 @@ unfoldable pub missing_in : List Bool → ℕ
 missing_in [] = 0
 missing_in (true ∷ rest) = missing_in rest
 missing_in (false ∷ rest) = suc (missing_in rest)
-
--- a buffer with these bytes at this offset
-abbrev pub written_at : ℕ → List ℕ → List ℕ → List ℕ
-written_at offset bytes buffer = take offset buffer ++ (bytes ++ drop (offset + length bytes) buffer)
 
 -- the packet in pieces that an assembly's fields stand for
 abbrev pub making_of : List ℕ → List Bool → Option ℕ → PartialPacket

@@ -6,3 +6,4 @@ pub mod Assembly
 pub mod Whole
 pub mod Gathered
 pub mod Marks
+pub mod Private

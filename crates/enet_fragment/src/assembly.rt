@@ -3,7 +3,7 @@
 ghost use Rattle.std.specs.Prelude.{ℕ, ◌<◌, ◌*◌, ◌==◌, IfSome, IsSome, ◌≡◌, ◌≤◌, ◌+◌, ◌↔◌, [], IsTrue, IsOk, IfOk, IfErr, is_some, length, replicate};
 ghost use Rattle.std.specs.Vec.{vec_len};
 ghost use Rattle.std.specs.Int.{bit_at};
-ghost use Rattle.enet_fragment.specs.Assembly.{written_at};
+ghost use Rattle.enet_fragment.specs.Private.Assembly.{written_at};
 ghost use Rattle.enet_fragment.specs.PartialPacket.{is_same_cut};
 
 use crate::filled::filled;

@@ -11,9 +11,10 @@ use Rattle.enet_host.specs.Turns.{turn_of, IsFirst, HoldsNowhere}
 use Rattle.enet_slot.specs.Serving.{Passes, Gives}
 use Rattle.enet_slot.specs.Calls.{tells}
 use Rattle.enet_slot.proofs.Sleeping.{passes-asleep, mute-asleep}
-use Rattle.enet_host.specs.Skips.{KeepsSkips, PassesTurns}
+use Rattle.enet_host.specs.Skips.{KeepsSkips}
+use Rattle.enet_host.specs.Private.Skips.{PassesTurns}
 use Rattle.enet_host.specs.Serving.{InTurn, GivesInTurn, AllPass}
-use Rattle.enet_host.specs.Shown.{SlotGives, SlotPasses}
+use Rattle.enet_host.specs.Private.Shown.{SlotGives, SlotPasses}
 use Rattle.enet_host.proofs.Turning.{turn-below, same-turn}
 
 pub some-same : {X : Type 0} (o : Option X) (x y : X) → o ≡ Some x → o ≡ Some y → x ≡ y

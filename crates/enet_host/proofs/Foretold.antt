@@ -23,7 +23,7 @@ use Rattle.enet_slot.specs.Calls.{tells, event_of, GivesEvent, peer_packet, refu
 use Rattle.enet_host.specs.Calls.{on_slot, on_named, put_back}
 use Rattle.enet_host.specs.Opening.{available}
 use Rattle.enet_host.specs.Foretelling.{next_name, submission_refusal, refusal_of, teller_of, packet_of, Foretells, IsTeller}
-use Rattle.enet_host.specs.Shown.{SlotIsNamed, SlotShows}
+use Rattle.enet_host.specs.Private.Shown.{SlotIsNamed, SlotShows}
 use Rattle.enet_host.proofs.Asking.{some-same}
 use Rattle.enet_host.proofs.Holding.{turns-apart}
 

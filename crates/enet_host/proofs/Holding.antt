@@ -21,7 +21,8 @@ use Rattle.enet_peer.specs.Calls.{is_connected, with_throttle_limit}
 use Rattle.enet_peer.specs.Calls as calls
 use Rattle.enet_slot.specs.declared.slot.Slot.{Slot}
 use Rattle.enet_slot.specs.Slotted.{all_shown}
-use Rattle.enet_host.specs.Shown.{KeepsHost, SlotGivesEvent}
+use Rattle.enet_host.specs.Shown.{KeepsHost}
+use Rattle.enet_host.specs.Private.Shown.{SlotGivesEvent}
 use Rattle.enet_host.specs.Skips.{entry, KeepsSkips}
 use Rattle.enet_host.proofs.Skipping.{skips-none, skips-set}
 use Rattle.enet_slot.proofs.Shown.{length-shown}

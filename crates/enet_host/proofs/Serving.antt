@@ -7,7 +7,7 @@ use Rattle.enet_slot.specs.declared.slot.Slot.{Slot}
 use Rattle.enet_slot.specs.Serving.{Gives, Passes}
 use Rattle.enet_slot.specs.Calls.{tells, peer_packet, GivesEvent}
 use Rattle.enet_slot.specs.Slotted.{shown, all_shown}
-use Rattle.enet_host.specs.Shown.{SlotGives, SlotPasses, SlotGivesEvent, SlotIsMute, SlotIsNamed, SlotShows}
+use Rattle.enet_host.specs.Private.Shown.{SlotGives, SlotPasses, SlotGivesEvent, SlotIsMute, SlotIsNamed, SlotShows}
 use Rattle.enet_slot.proofs.Shown.{get-shown, set-shown}
 
 -- slot n of the vector is slot `number`

@@ -12,8 +12,9 @@ use Rattle.enet_host.specs.Turns.{turn_of}
 use Rattle.enet_codec.specs.declared.address.Addr.{Addr}
 use Rattle.enet_codec.specs.declared.event.Event.{Event}
 use Rattle.enet_codec.specs.declared.event.PeerRef.{PeerRef}
-use Rattle.enet_host.specs.Shown.{SlotGives, SlotPasses, SlotGivesEvent}
-use Rattle.enet_host.specs.Skips.{entry, Marks, KeepsSkips, SlotSleeps, PassesTurns, AwakeAt}
+use Rattle.enet_host.specs.Private.Shown.{SlotGives, SlotPasses, SlotGivesEvent}
+use Rattle.enet_host.specs.Skips.{entry, Marks, KeepsSkips}
+use Rattle.enet_host.specs.Private.Skips.{SlotSleeps, PassesTurns, AwakeAt}
 use Rattle.enet_host.proofs.Asking.{get-set-other}
 use Rattle.enet_host.proofs.Turning.{turn-below, same-turn, passed-between}
 

@@ -10,7 +10,7 @@ use Rattle.enet_slot.specs.Calls.{tells, GivesEvent}
 use Rattle.enet_host.specs.Calls.{TakesOne}
 use Rattle.enet_host.specs.declared.totals.Totals.{Totals}
 use Rattle.enet_host.specs.Serving.{GivesInTurn, Serves, with_datagram_out}
-use Rattle.enet_host.specs.Shown.{SlotGivesEvent}
+use Rattle.enet_host.specs.Private.Shown.{SlotGivesEvent}
 use Rattle.enet_host.proofs.Asking.{some-same}
 
 -- `v` is what was seen of the host before

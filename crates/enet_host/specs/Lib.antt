@@ -8,3 +8,4 @@ pub mod Ticking
 pub mod Calls
 pub mod Foretelling
 pub mod Shown
+pub mod Private

@@ -6,7 +6,7 @@ ghost use Rattle.enet_slot.specs.Calls.{tells};
 ghost use Rattle.enet_host.specs.Skips.{entry, KeepsSkips};
 ghost use Rattle.enet_host.specs.Turns.{IsFirst, HoldsNowhere};
 ghost use Rattle.enet_slot.specs.Slotted.{all_shown};
-ghost use Rattle.enet_host.specs.Shown.{SlotGivesEvent, SlotIsMute, SlotIsNamed, SlotShows};
+ghost use Rattle.enet_host.specs.Private.Shown.{SlotGivesEvent, SlotIsMute, SlotIsNamed, SlotShows};
 
 use crate::skips::Skips;
 use crate::turns::slot_of_turn;

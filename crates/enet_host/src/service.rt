@@ -4,7 +4,7 @@ ghost use Rattle.std.specs.Prelude.{◌≡◌, ◌<◌, ◌≤◌, length, IfSom
 ghost use Rattle.enet_host.specs.Serving.{GivesInTurn, AllPass};
 ghost use Rattle.enet_host.specs.Skips.{KeepsSkips};
 ghost use Rattle.enet_slot.specs.Slotted.{all_shown};
-ghost use Rattle.enet_host.specs.Shown.{SlotGives, SlotPasses};
+ghost use Rattle.enet_host.specs.Private.Shown.{SlotGives, SlotPasses};
 
 use crate::skips::Skips;
 use crate::turns::slot_of_turn;

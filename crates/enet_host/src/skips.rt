@@ -1,7 +1,8 @@
 //! Which slots of a host need not be asked.
 
 ghost use Rattle.std.specs.Prelude.{◌≡◌, ℕ, ◌-◌, ◌<◌, ◌≤◌, ◌⊎◌, min, nat_lt, IsTrue, IfOk, IfErr, List, length, replicate, get_or};
-ghost use Rattle.enet_host.specs.Skips.{entry, Marks, KeepsSkips, SlotSleeps, PassesTurns, AwakeAt};
+ghost use Rattle.enet_host.specs.Skips.{entry, Marks, KeepsSkips};
+ghost use Rattle.enet_host.specs.Private.Skips.{SlotSleeps, PassesTurns, AwakeAt};
 ghost use Rattle.enet_slot.specs.Slot.{SlotState};
 ghost use Rattle.enet_slot.specs.Slotted.{all_shown};
 

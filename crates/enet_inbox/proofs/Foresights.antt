@@ -8,7 +8,7 @@ use Rattle.enet_unsequenced.specs.Groups.{dispatches}
 use Rattle.enet_fragment.specs.DataCommand.{data_of}
 use Rattle.enet_inbox.specs.Inbox.{Inbox, is_full}
 use Rattle.enet_inbox.specs.DataEffect.{DataEffect, Arrives, arrival, arrival_of, handled, is_kept, is_kept_of, stopped, unsequenced, unsequenced_taken}
-use Rattle.enet_inbox.specs.Invariant.{HasFront}
+use Rattle.enet_inbox.specs.Private.Invariant.{HasFront}
 use Rattle.enet_inbox.specs.InboxParts.{foreseen, foreseen_of, seen_new, told, unsequenced_verdict}
 use Rattle.enet_inbox.specs.declared.arriving.Foreseen.{Foreseen}
 use Rattle.enet_inbox.proofs.Outcomes.{told_sequenced, kept_sequenced}

@@ -23,7 +23,8 @@ use Rattle.enet_inbox.specs.declared.arriving.Foreseen.{Foreseen}
 use Rattle.enet_inbox.specs.Inbox.{Inbox, empty_inbox, is_full, cleared, cleared_receiver, forgotten, narrowed}
 use Rattle.enet_inbox.specs.DataEffect.{emptied, packet_of, sequenced}
 use Rattle.enet_inbox.specs.InboxParts.{foresight_on, foresight_of, foreseen_sequenced}
-use Rattle.enet_inbox.specs.Invariant.{IsShort, IsInPlace, KeepsInbox, HasFront, held_in, bytes_in}
+use Rattle.enet_inbox.specs.Invariant.{IsShort, IsInPlace, KeepsInbox}
+use Rattle.enet_inbox.specs.Private.Invariant.{HasFront, held_in, bytes_in}
 use Rattle.enet_inbox.proofs.Fronts.{front_received}
 use Rattle.enet_inbox.proofs.Outcomes.{Taken, taken, foresight_in, foresight_is}
 

@@ -15,8 +15,9 @@ use Rattle.enet_receiver.specs.DataOutcome.{outcome, outcome_at, outcome_of, pla
 use Rattle.enet_receiver.specs.Foresight.{ReceivingEnd, foreseen as foreseen_by, outcome_for, after_command}
 use Rattle.enet_inbox.specs.Inbox.{Inbox, is_full}
 use Rattle.enet_inbox.specs.DataEffect.{is_kept_as, is_kept_on, is_kept_sequenced, sequenced, sequenced_on, by_took, handed_over}
-use Rattle.enet_inbox.specs.Invariant.{HasFront}
-use Rattle.enet_inbox.specs.InboxParts.{answer_by, answer_of, foresight_on, foresight_of, seen_by, seen_of, foreseen_sequenced, told}
+use Rattle.enet_inbox.specs.Private.Invariant.{HasFront}
+use Rattle.enet_inbox.specs.InboxParts.{foresight_on, foresight_of, seen_by, seen_of, foreseen_sequenced, told}
+use Rattle.enet_inbox.specs.Private.InboxParts.{answer_by, answer_of}
 use Rattle.enet_inbox.specs.declared.arriving.Foreseen.{Foreseen}
 
 one_of : (b : Bool) (x y : Took) → x ≢ Memory → y ≢ Memory → cond b x y ≢ Memory

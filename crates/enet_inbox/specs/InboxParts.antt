@@ -19,18 +19,6 @@ abbrev pub inbox_of : ℕ → ℕ → List ReceivingEnd → Seen → List Packet
 inbox_of max_packet max_waiting receivers seen untaken =
     record { max_packet = max_packet; max_waiting = max_waiting; receivers = receivers; seen = seen; untaken = untaken }
 
--- what an outcome means for a datagram, where this says whether the command may be acknowledged
-abbrev pub answer_by : Took → Bool → Result Bool Stop
-answer_by took.Held may = Ok may
-answer_by took.Again may = Ok may
-answer_by took.Outside may = Ok may
-answer_by took.Bad may = Err stop.BadFragment
-answer_by took.Waiting may = Err stop.Waiting
-answer_by took.Memory may = Err stop.Memory
-
-abbrev pub answer_of : Foresight → Result Bool Stop
-answer_of f = answer_by f.took f.acknowledged
-
 abbrev pub foresight_on : Inbox → DataCommand → Option ReceivingEnd → Result Foresight Stop
 foresight_on b c None = Err stop.BadChannel
 foresight_on b c (Some r) = Ok (receiving.foreseen r (Some c) (is_full b))

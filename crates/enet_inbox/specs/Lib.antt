@@ -3,3 +3,4 @@ pub mod DataEffect
 pub mod Invariant
 pub mod Codes
 pub mod InboxParts
+pub mod Private

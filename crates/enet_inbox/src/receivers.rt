@@ -4,7 +4,7 @@ ghost use Rattle.std.specs.Prelude.{◌≡◌, ◌^◌, ◌<◌, map, IfOk, IfEr
 ghost use Rattle.std.specs.List.{range_with_len};
 ghost use Rattle.enet_receiver.specs.Foresight.{new_end};
 ghost use Rattle.enet_inbox.specs.Inbox.{cleared_receiver};
-ghost use Rattle.enet_inbox.specs.Invariant.{held_in};
+ghost use Rattle.enet_inbox.specs.Private.Invariant.{held_in};
 
 use enet_codec::Refusal;
 use enet_receiver::Incoming;

@@ -8,7 +8,8 @@ ghost use Rattle.enet_fragment.specs.DataCommand.{data_of};
 ghost use Rattle.enet_receiver.specs.declared.took.Took.TheVariants.{Held};
 ghost use Rattle.enet_receiver.specs.Foresight.{outcome_for, after_command, foreseen};
 ghost use Rattle.enet_inbox.specs.DataEffect.{packet_of, emptied};
-ghost use Rattle.enet_inbox.specs.Invariant.{IsShort, bytes_in};
+ghost use Rattle.enet_inbox.specs.Invariant.{IsShort};
+ghost use Rattle.enet_inbox.specs.Private.Invariant.{bytes_in};
 
 use bytes::Bytes;
 use enet_codec::{Command, Packet, UNSEQUENCED};

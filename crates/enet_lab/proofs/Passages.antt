@@ -6,7 +6,8 @@ use Rattle.enet_lab.specs.declared.fault.LabFault.{LabFault}
 use Rattle.enet_lab.specs.declared.fault.LabFault.TheVariants.{BadScript, Memory}
 use Rattle.enet_lab.specs.declared.stage.Stage.{Stage}
 use Rattle.enet_lab.specs.Lines.{RunsLine, can_read}
-use Rattle.enet_lab.specs.Scripts.{HasRun, IsRun, IsPart, IsStopped, Wrote, given, written_for}
+use Rattle.enet_lab.specs.Scripts.{HasRun, IsRun, IsPart, IsStopped, Wrote, written_for}
+use Rattle.enet_lab.specs.Private.Scripts.{given}
 use Rattle.enet_lab.proofs.Running.{partly, stopped}
 
 -- a read that gave nothing: the reader is at its end

@@ -3,3 +3,4 @@ pub mod Scripts
 pub mod Answers
 pub mod Hosts
 pub mod EnetLines
+pub mod Private

@@ -1,5 +1,5 @@
 -- What a whole script writes.
-use Rattle.std.specs.Prelude.{◌≡◌, ◌≢◌, ℕ, ◌+◌, ⊤, min, false, All, flat_map, List, [], ◌∷◌, ◌++◌, length, take, Option, Some, None}
+use Rattle.std.specs.Prelude.{◌≡◌, ◌≢◌, ℕ, ◌+◌, ⊤, min, false, All, flat_map, List, [], ◌∷◌, ◌++◌, length, Option, Some, None}
 use Rattle.std.specs.Io.KnownBytes.{Appends}
 use Rattle.enet_lab.specs.declared.stage.Stage.{Stage}
 use Rattle.enet_lab.specs.declared.stage.Stage.TheVariants.{Empty}
@@ -68,11 +68,6 @@ pub record IsStopped (script wrote : List ℕ) (number : ℕ) : Type 0 where
   pub ends : EndsLine part.rest
   pub unreadable : can_read part.stage part.line ≡ false
   pub number_is : number ≡ min (part.count + 1) 4294967295
-
--- What a read gave of these bytes.
-abbrev pub given : Option ℕ → List ℕ → List ℕ
-given None bytes = []
-given (Some len) bytes = take len bytes
 
 -- Bytes of which P holds were written, as far as the writer tells what it has.
 abbrev pub Wrote : Option (List ℕ) → Option (List ℕ) → (List ℕ → Type 0) → Type 0

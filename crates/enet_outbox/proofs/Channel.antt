@@ -19,7 +19,7 @@ use Rattle.enet_outbox.specs.declared.packing.Progress.{Progress}
 use Rattle.enet_outbox.specs.declared.packing.Flow.{Flow}
 use Rattle.enet_outbox.specs.Outbox.{Outbox, transit_of}
 use Rattle.enet_outbox.specs.Emission.{Filling, fits, with_command, shut, repeated, asked, with_sender, data_put, data_step, due_step, channel_step, with_one_data, with_channel, channel_turns, turns_of, transit_limit}
-use Rattle.enet_outbox.specs.Packing.{Holds, taken_in, place_in, Leads, asked_for, refuses, with_flow, Shares}
+use Rattle.enet_outbox.specs.Private.Packing.{Holds, taken_in, place_in, Leads, asked_for, refuses, with_flow, Shares}
 use Rattle.enet_outbox.proofs.Fillings.{fits-written, holds-written, holds-back, holds-other, unfit, holds-shut, leads-by, place-open, place-full}
 use Rattle.enet_outbox.proofs.Repeats.{repeated-go, repeated-idle, repeated-shut}
 use Rattle.enet_outbox.proofs.Turns.{left_of, left-most, left-falls, left-skipped, added-none}

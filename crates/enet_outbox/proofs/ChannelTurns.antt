@@ -14,7 +14,7 @@ use Rattle.enet_outbox.specs.declared.parts.Pace.{Pace}
 use Rattle.enet_outbox.specs.declared.packing.Progress.{Progress}
 use Rattle.enet_outbox.specs.declared.packing.Flow.{Flow}
 use Rattle.enet_outbox.specs.Emission.{Filling}
-use Rattle.enet_outbox.specs.Packing.{Holds, Shares, PacksChannel, place_in, asked_for, refuses, taken_in}
+use Rattle.enet_outbox.specs.Private.Packing.{Holds, Shares, PacksChannel, place_in, asked_for, refuses, taken_in}
 use Rattle.enet_outbox.proofs.Channel.{ChannelAt, due_by, set-same, set-twice, get-set, did-sent, channel-begin, channel-put, channel-drop, channel-full, channel-none, channel-room}
 use Rattle.enet_outbox.proofs.Turns.{left_of, left-falls, left-skipped, added-fits}
 

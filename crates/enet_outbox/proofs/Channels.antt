@@ -8,7 +8,7 @@ use Rattle.enet_outbox.specs.declared.packing.Progress.{Progress}
 use Rattle.enet_outbox.specs.declared.packing.Flow.{Flow}
 use Rattle.enet_outbox.specs.Outbox.{Outbox, transit_of}
 use Rattle.enet_outbox.specs.Emission.{Filling, with_channel, with_channels}
-use Rattle.enet_outbox.specs.Packing.{Holds, Leads, with_flow, Shares, PacksChannel, turns}
+use Rattle.enet_outbox.specs.Private.Packing.{Holds, Leads, with_flow, Shares, PacksChannel, turns}
 use Rattle.enet_outbox.proofs.Fillings.{leads-by}
 use Rattle.enet_outbox.proofs.Repeats.{channels-closed}
 

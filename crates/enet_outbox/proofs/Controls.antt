@@ -8,7 +8,7 @@ use Rattle.enet_outbox.specs.declared.parts.Pace.{Pace}
 use Rattle.enet_outbox.specs.declared.packing.Progress.{Progress}
 use Rattle.enet_outbox.specs.Outbox.{Outbox}
 use Rattle.enet_outbox.specs.Emission.{Filling, fits, with_command, shut, repeated, control_step, with_one_control, with_controls, control_turns}
-use Rattle.enet_outbox.specs.Packing.{Holds, taken_in, place_in, Leads}
+use Rattle.enet_outbox.specs.Private.Packing.{Holds, taken_in, place_in, Leads}
 use Rattle.enet_outbox.proofs.Fillings.{fits-written, holds-written, unfit, holds-shut, leads-by, place-open, place-full}
 use Rattle.enet_outbox.proofs.Repeats.{repeated-go, repeated-idle, repeated-shut}
 use Rattle.enet_outbox.proofs.Turns.{control_left, control-most, control-falls}

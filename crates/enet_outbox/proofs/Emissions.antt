@@ -16,7 +16,7 @@ use Rattle.enet_outbox.specs.declared.packing.Progress.{Progress}
 use Rattle.enet_outbox.specs.declared.packing.Flow.{Flow}
 use Rattle.enet_outbox.specs.Outbox.{Outbox, transit_of}
 use Rattle.enet_outbox.specs.Emission.{Filling, empty_datagram, with_acknowledgements, with_controls, with_unsequenced, with_channels, turn_order, filled, asks, datagram, Emits}
-use Rattle.enet_outbox.specs.Packing.{Holds, Leads, with_flow, Shares, Page, PacksAcknowledgements, PacksControls, PacksUnsequenced, PacksChannels, turns, header_asking}
+use Rattle.enet_outbox.specs.Private.Packing.{Holds, Leads, with_flow, Shares, Page, PacksAcknowledgements, PacksControls, PacksUnsequenced, PacksChannels, turns, header_asking}
 
 -- an empty datagram
 abbrev pub start : Progress

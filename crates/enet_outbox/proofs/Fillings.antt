@@ -11,7 +11,7 @@ use Rattle.enet_codec.proofs.Datagrams.{kind-low}
 use Rattle.enet_outbox.specs.declared.packing.Progress.{Progress}
 use Rattle.enet_outbox.specs.Outbox.{Outbox}
 use Rattle.enet_outbox.specs.Emission.{Filling, asks, fits, size_of, with_command, shut}
-use Rattle.enet_outbox.specs.Packing.{Holds, taken_in, place_in, Leads}
+use Rattle.enet_outbox.specs.Private.Packing.{Holds, taken_in, place_in, Leads}
 
 append-nil : {A : Type 0} (xs : List A) → xs ++ [] ≡ xs
 append-nil [] = refl

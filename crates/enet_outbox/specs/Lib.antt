@@ -1,4 +1,4 @@
 pub mod Outbox
 pub mod Emission
 pub mod Invariant
-pub mod Packing
+pub mod Private

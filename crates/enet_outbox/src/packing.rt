@@ -10,7 +10,7 @@ ghost use Rattle.enet_sender.specs.Due.{SendingEnd};
 ghost use Rattle.enet_codec.specs.Message.{view, payload_of};
 ghost use Rattle.enet_outbox.specs.Emission.{acknowledgement_of, unsequenced_of, filled, Emits};
 ghost use Rattle.enet_outbox.specs.Invariant.{HasNothing};
-ghost use Rattle.enet_outbox.specs.Packing.{header_asking, Leads, taken_in, place_in, asked_for, refuses, TakesIn, PacksAcknowledgements, PacksControls, PacksUnsequenced, PacksChannel, PacksChannels};
+ghost use Rattle.enet_outbox.specs.Private.Packing.{header_asking, Leads, taken_in, place_in, asked_for, refuses, TakesIn, PacksAcknowledgements, PacksControls, PacksUnsequenced, PacksChannel, PacksChannels};
 
 use crate::{Acknowledgement, Destination, Outbox, Pace, Unsequenced, lists};
 use enet_codec::{Command, Head, Header, NO_PEER, write_command, write_header};

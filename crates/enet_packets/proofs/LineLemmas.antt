@@ -16,7 +16,8 @@ use Rattle.enet_codec.specs.declared.refusal.Refusal.{Refusal}
 use Rattle.enet_fragment.specs.declared.place.Place.{Place}
 use Rattle.enet_fragment.specs.PartialPacket.{with_piece, belongs, piece_at}
 use Rattle.enet_packets.specs.declared.incoming_packet.IncomingPacket.{IncomingPacket}
-use Rattle.enet_packets.specs.Invariant.{KeepsLine, KeepsLines, KeepsWaiting, Settles, line_in, total_of}
+use Rattle.enet_packets.specs.Invariant.{KeepsLine, KeepsLines, KeepsWaiting, total_of}
+use Rattle.enet_packets.specs.Private.Invariant.{Settles, line_in}
 use Rattle.enet_packets.specs.Packets.{Lines, bytes_of, line_at, with_line, fresh, last_fresh, still_ahead}
 use Rattle.enet_packets.proofs.Maps.{get-from, entries-empty, sum_bounded, sum-over, len-over, get-insert_same, inserted_entry, remove-insert, len-new, sum-new, remove-absent, retained-empty}
 

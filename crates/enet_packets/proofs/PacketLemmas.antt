@@ -25,7 +25,8 @@ use Rattle.enet_fragment.specs.PartialPacket.{PartialPacket, with_piece}
 use Rattle.enet_fragment.specs.Whole.{is_whole}
 use Rattle.enet_packets.specs.declared.incoming_packet.IncomingPacket.{IncomingPacket}
 use Rattle.enet_packets.specs.declared.incoming_packet.Dispatched.{Dispatched}
-use Rattle.enet_packets.specs.Invariant.{AreWholeUpTo, KeepsPackets, most_if, total_of}
+use Rattle.enet_packets.specs.Invariant.{AreWholeUpTo, KeepsPackets, total_of}
+use Rattle.enet_packets.specs.Private.Invariant.{most_if}
 use Rattle.enet_packets.specs.Packets.{bytes_of, fresh, last_fresh, handed_out}
 use Rattle.enet_packets.proofs.Maps.{sum_bounded, length_bounded, len-sorted, values-sorted}
 

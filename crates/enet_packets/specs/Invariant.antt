@@ -1,13 +1,12 @@
 -- What the fields of packets keep.
-use Rattle.std.specs.Prelude.{◌≡◌, ℕ, ◌+◌, ◌^◌, ◌-◌, ◌<◌, ◌≤◌, List, All, sum_by, unwrap_or, Bool, true, max, if◌then◌else◌, Result, Ok, Err}
+use Rattle.std.specs.Prelude.{◌≡◌, ℕ, ◌^◌, ◌-◌, ◌<◌, ◌≤◌, List, All, sum_by, true}
 use Rattle.std.specs.Ordering.{nat_cmp}
 use Rattle.std.specs.List.Sorted.{IsStrictlySortedBy}
-use Rattle.std.specs.Map.{keys_of, values_of, lookup}
-use Rattle.std.specs.BTreeMap.{is_at}
-use Rattle.std.specs.FinMap.{FinMap, len, empty, from_entries}
+use Rattle.std.specs.Map.{keys_of, values_of}
+use Rattle.std.specs.FinMap.{FinMap, len}
 use Rattle.enet_fragment.specs.Whole.{is_whole}
 use Rattle.enet_packets.specs.declared.incoming_packet.IncomingPacket.{IncomingPacket}
-use Rattle.enet_packets.specs.Packets.{bytes_of, with_line}
+use Rattle.enet_packets.specs.Packets.{bytes_of}
 
 -- how many bytes a packet has once it is whole
 abbrev pub total_of : IncomingPacket → ℕ
@@ -16,14 +15,6 @@ total_of c = c.making.total
 -- no whole packet has a number above this one
 abbrev pub AreWholeUpTo : ℕ → List (ℕ × IncomingPacket) → Type 0
 AreWholeUpTo most entries = All (λ (e : ℕ × IncomingPacket). is_whole e.1.making ≡ true → e.0 ≤ most) entries
-
--- the number past which no packet is whole, once the packet of a number came or grew
-abbrev pub most_if : Bool → ℕ → ℕ → ℕ
-most_if is_whole most number = if is_whole then max most number else most
-
-abbrev pub most_with : {E : Type 0} → Result Bool E → ℕ → ℕ → ℕ
-most_with (Ok is_whole) most number = most_if is_whole most number
-most_with (Err why) most number = most
 
 -- The numbers rise and have 16 bits, the counter is the sum of the packets' bytes, and those past `most` are in the making.
 pub record KeepsPackets (entries : List (ℕ × IncomingPacket)) (bytes most : ℕ) : Type 0 where
@@ -49,14 +40,3 @@ pub record KeepsWaiting (entries : List (ℕ × FinMap nat_cmp IncomingPacket)) 
   pub lines : KeepsLines entries
   pub packets_counted : packets ≡ sum_by len (values_of entries)
   pub bytes_counted : bytes ≡ sum_by bytes_of (values_of entries)
-
--- the line of a number
-abbrev pub line_in : List (ℕ × FinMap nat_cmp IncomingPacket) → ℕ → FinMap nat_cmp IncomingPacket
-line_in entries number = unwrap_or (lookup (is_at (nat_cmp number)) entries) empty
-
--- In the second list the line of this number is another one, or is gone if that is empty.
-pub record Settles (entries after : List (ℕ × FinMap nat_cmp IncomingPacket)) (number : ℕ) (line : FinMap nat_cmp IncomingPacket) : Type 0 where
-  pub is : from_entries after ≡ with_line (from_entries entries) number line
-  pub lines : KeepsLines after
-  pub packets : sum_by len (values_of after) + len (line_in entries number) ≡ sum_by len (values_of entries) + len line
-  pub bytes : sum_by bytes_of (values_of after) + bytes_of (line_in entries number) ≡ sum_by bytes_of (values_of entries) + bytes_of line

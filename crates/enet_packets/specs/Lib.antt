@@ -1,3 +1,4 @@
 pub mod Codes
 pub mod Invariant
 pub mod Packets
+pub mod Private

@@ -43,7 +43,8 @@ impl Model for Packets {
 }
 
 ghost use Rattle.enet_packets.specs.declared.incoming_packet.IncomingPacket.{IncomingPacket};
-ghost use Rattle.enet_packets.specs.Invariant.{KeepsPackets, most_if, most_with};
+ghost use Rattle.enet_packets.specs.Invariant.{KeepsPackets};
+ghost use Rattle.enet_packets.specs.Private.Invariant.{most_if, most_with};
 ghost use Rattle.enet_packets.specs.Packets.{bytes_of, fresh, last_fresh, still_ahead, handed_out};
 
 /// Adds a packet, where memory is not refused.

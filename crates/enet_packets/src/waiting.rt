@@ -43,7 +43,8 @@ impl Model for Waiting {
 }
 
 ghost use Rattle.enet_packets.specs.declared.incoming_packet.IncomingPacket.{IncomingPacket};
-ghost use Rattle.enet_packets.specs.Invariant.{KeepsLines, KeepsLine, KeepsWaiting, Settles, line_in};
+ghost use Rattle.enet_packets.specs.Invariant.{KeepsLines, KeepsLine, KeepsWaiting};
+ghost use Rattle.enet_packets.specs.Private.Invariant.{Settles, line_in};
 ghost use Rattle.enet_packets.specs.Packets.{bytes_of, bytes_in, packets_in, fresh, last_fresh, still_ahead, line_at, with_line};
 
 /// How much a line has.

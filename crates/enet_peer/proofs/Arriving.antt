@@ -11,7 +11,8 @@ use Rattle.enet_inbox.proofs.Stops.{Tells, tells-if, tells-ok, tells-err, arriva
 use Rattle.enet_peer.specs.Peering.{Peering}
 use Rattle.enet_peer.specs.Endings.{is_later}
 use Rattle.enet_peer.specs.CommandEffect.{Outcome, Stops, stopped, answered, answered_at, is_answered_in, is_connect, is_allowed, by_body, on_data, by_answer, by_arrival, obeyed, is_kept, wants_memory}
-use Rattle.enet_peer.specs.Acting.{foreseen, foreseen_body, foreseen_data, taken_in, acted, acted_body, by_foresight}
+use Rattle.enet_peer.specs.Acting.{foreseen, foreseen_body, foreseen_data}
+use Rattle.enet_peer.specs.Private.Acting.{taken_in, acted, acted_body, by_foresight}
 
 foreseen-data : (p : Peering) (m : Message) → Tells (foreseen_data p m)
 foreseen-data p m = tells-if (is_later p.state) (passed_over p.inbox m) (arrival p.inbox m).answer (passed_tells p.inbox m) (arrival_tells p.inbox m)

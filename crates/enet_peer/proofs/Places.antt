@@ -17,7 +17,8 @@ use Rattle.enet_peer.specs.declared.parts.PeerState.{PeerState}
 use Rattle.enet_peer.specs.declared.parts.PeerState.TheVariants as state
 use Rattle.enet_peer.specs.Peering.{Peering}
 use Rattle.enet_peer.specs.CommandEffect.{Outcome, answered, answered_at, is_acknowledge, is_answered_in, is_disconnect, is_kept, Obeys, Stops, obeyed, on_acknowledge, on_disconnect_in, on_match, on_verify_in, waits_longer, wants_memory, welcomed}
-use Rattle.enet_peer.specs.Acting.{acted, by_foresight, foreseen, is_welcomed_by, may_be_answered, may_clear, none_waits, Replies, wants_place, wants_place_in}
+use Rattle.enet_peer.specs.Acting.{foreseen}
+use Rattle.enet_peer.specs.Private.Acting.{acted, by_foresight, is_welcomed_by, may_be_answered, may_clear, none_waits, Replies, wants_place, wants_place_in}
 use Rattle.enet_peer.proofs.Arriving.{obeyed_is}
 
 waiting : Peering → ℕ

@@ -9,3 +9,4 @@ pub mod Reachable
 pub mod Handling
 pub mod Heading
 pub mod Sleeping
+pub mod Private

@@ -1,5 +1,5 @@
 -- A peer as the contracts of its calls see it.
-use Rattle.std.specs.Prelude.{◌≤◌, ℕ, ◌+◌, Bool, true, false, IsTrue, length}
+use Rattle.std.specs.Prelude.{◌≤◌, ℕ, Bool, true, false, IsTrue}
 use Rattle.enet_connect.specs.declared.terms.Terms.{Terms}
 use Rattle.enet_peer.specs.declared.parts.PeerState.{PeerState}
 use Rattle.enet_peer.specs.declared.parts.PeerState.TheVariants as state
@@ -10,10 +10,6 @@ pub record Peered : Type 0 where
   pub peer : Peering
   pub room : ℕ
   pub acknowledgement_room : ℕ
-
--- for how many acknowledgements there is a place, those that wait among them
-abbrev pub places_of : Peered → ℕ
-places_of v = length v.peer.outbox.acknowledgements + v.acknowledgement_room
 
 -- the states in which the terms are agreed and the connection may stand
 abbrev pub is_agreed_in : PeerState → Bool

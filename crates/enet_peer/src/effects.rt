@@ -4,8 +4,9 @@ ghost use Rattle.std.specs.Prelude.{◌≡◌, ◌≤◌, ◌&&◌, IsTrue, OnOk
 ghost use Rattle.enet_codec.specs.Message.{view};
 ghost use Rattle.enet_inbox.specs.InboxParts.{told};
 ghost use Rattle.enet_inbox.specs.InboxParts as coming;
-ghost use Rattle.enet_peer.specs.Acting.{foreseen, foreseen_data, taken_in, acted, may_be_answered, wants_place, is_welcomed_by, may_clear, Replies};
-ghost use Rattle.enet_peer.specs.Peered.{places_of};
+ghost use Rattle.enet_peer.specs.Acting.{foreseen, foreseen_data};
+ghost use Rattle.enet_peer.specs.Private.Acting.{taken_in, acted, may_be_answered, wants_place, is_welcomed_by, may_clear, Replies};
+ghost use Rattle.enet_peer.specs.Private.Peered.{places_of};
 ghost use Rattle.enet_peer.specs.CommandEffect.{obeyed, wants_memory, is_kept, Obeys, answered, is_allowed, is_answered_in, on_acknowledge, on_verify_in, on_disconnect_in, on_bandwidth, on_throttle, sampled, with_answer};
 
 use crate::{Peer, PeerState};

@@ -2,7 +2,7 @@
 
 ghost use Rattle.std.specs.Prelude.{◌≡◌, ◌≤◌};
 ghost use Rattle.enet_peer.specs.Endings.{dropped, ended, freed, settled, disconnecting, parting};
-ghost use Rattle.enet_peer.specs.Peered.{places_of};
+ghost use Rattle.enet_peer.specs.Private.Peered.{places_of};
 
 use crate::{Peer, PeerState};
 use enet_senders::Control;

@@ -18,8 +18,8 @@ use Rattle.enet_packets.specs.Packets.{line_at, with_line}
 use Rattle.enet_receiver.specs.declared.took.Took.TheVariants.{Held, Again, Bad, Waiting}
 use Rattle.enet_receiver.specs.Receiver.{Receiver}
 use Rattle.enet_receiver.specs.DataOutcome.{outcome, outcome_at, outcome_of, place_read, came_at, came_if, came_before, is_piece, is_piece_of_its_packet, agrees_with, came, is_behind, earlier_or_new, with_more, with_added}
-use Rattle.enet_receiver.specs.ReceiverParts.{grown_at, with_stored}
-use Rattle.enet_receiver.specs.Admitted.{Admitted, IsInside}
+use Rattle.enet_receiver.specs.Private.ReceiverParts.{grown_at, with_stored}
+use Rattle.enet_receiver.specs.Private.Admitted.{Admitted, IsInside}
 use Rattle.enet_receiver.specs.Invariant.{IsHeld, Keeps}
 use Rattle.enet_receiver.proofs.Maps.{get_inserted}
 use Rattle.enet_receiver.proofs.LineLemmas.{Line, get_with_line}

@@ -7,7 +7,7 @@ use Rattle.enet_receiver.specs.declared.took.Took.{Took}
 use Rattle.enet_receiver.specs.declared.took.Took.TheVariants.{Held}
 use Rattle.enet_receiver.specs.DataOutcome.{outcome, is_handled, dispatch_count}
 use Rattle.enet_receiver.specs.Foresight.{ReceivingEnd, foreseen}
-use Rattle.enet_receiver.specs.ReceiverParts.{answered_with}
+use Rattle.enet_receiver.specs.Private.ReceiverParts.{answered_with}
 use Rattle.enet_receiver.proofs.Foreseen.{dispatches-none}
 
 foreseen_is : (e : ReceivingEnd) (d : DataCommand) (full : Bool) (took : Took) (count : ℕ) → took ≡ outcome wire e.max_packet e.receiver d full → count ≡ dispatch_count wire e.max_packet e.receiver d full

@@ -9,7 +9,7 @@ use Rattle.enet_packets.specs.declared.incoming_packet.IncomingPacket.{IncomingP
 use Rattle.enet_packets.specs.declared.incoming_packet.Dispatched.{Dispatched}
 use Rattle.enet_packets.specs.Packets.{Lines, line_at, fresh, still_ahead, handed_out}
 use Rattle.enet_receiver.specs.Receiver.{Receiver, without, with_passed, with_dispatched, next_whole, released_with, released, flushed_from, flushed, flushed_last, front_line}
-use Rattle.enet_receiver.specs.Walk.{pieces_of, fresh_at, walk_with, walk, walked, chain_or_line}
+use Rattle.enet_receiver.specs.Private.Walk.{pieces_of, fresh_at, walk_with, walk, walked, chain_or_line}
 use Rattle.enet_receiver.proofs.Without.{get-without_wire_outside}
 use Rattle.enet_receiver.proofs.LineLemmas.{Line, line_at-other, line_at-same}
 use Rattle.enet_receiver.proofs.Released.{whole_is, released-keeps, released-none, released-some}

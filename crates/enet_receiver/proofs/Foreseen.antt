@@ -22,10 +22,10 @@ use Rattle.enet_receiver.specs.declared.took.Took.{Took}
 use Rattle.enet_receiver.specs.declared.took.Took.TheVariants.{Held}
 use Rattle.enet_receiver.specs.Receiver.{Receiver, next_whole, all_released, flushed}
 use Rattle.enet_receiver.specs.DataOutcome.{outcome, received, received_with, came_at, agrees_with, came, dispatch_count, added_at, earlier_or_new, with_more}
-use Rattle.enet_receiver.specs.ReceiverParts.{grown_at, with_stored}
+use Rattle.enet_receiver.specs.Private.ReceiverParts.{grown_at, with_stored}
 use Rattle.enet_receiver.specs.Invariant.{Keeps}
-use Rattle.enet_receiver.specs.Admitted.{Admitted, IsInside}
-use Rattle.enet_receiver.specs.Walk.{pieces_of, is_held_at, pieces_or, pieces_at, is_fresh, fresh_at, walk_with, walk, walked, chain_or_line, Completes}
+use Rattle.enet_receiver.specs.Private.Admitted.{Admitted, IsInside}
+use Rattle.enet_receiver.specs.Private.Walk.{pieces_of, is_held_at, pieces_or, pieces_at, is_fresh, fresh_at, walk_with, walk, walked, chain_or_line, Completes}
 use Rattle.enet_receiver.proofs.Maps.{two_numbers, get-insert_other, get-insert_same}
 use Rattle.enet_receiver.proofs.LineLemmas.{Line, line_at-other, line_at-same}
 use Rattle.enet_receiver.proofs.Released.{released-enough, wire_begins}

@@ -15,11 +15,12 @@ use Rattle.enet_packets.proofs.Maps.{entries-empty, retained, remove-insert, rem
 use Rattle.enet_packets.proofs.LineLemmas.{with_line-some, with_line-none, len-insert_some, len_nothing}
 use Rattle.enet_receiver.specs.Receiver.{Receiver, next_whole, flushed, all_released}
 use Rattle.enet_receiver.specs.DataOutcome.{came_at, is_behind, earlier_or_new, with_more, with_added}
-use Rattle.enet_receiver.specs.ReceiverParts.{receiver_of, with_stored, with_kept}
+use Rattle.enet_receiver.specs.ReceiverParts.{receiver_of}
+use Rattle.enet_receiver.specs.Private.ReceiverParts.{with_stored, with_kept}
 use Rattle.enet_receiver.specs.Foresight.{ReceivingEnd}
-use Rattle.enet_receiver.specs.Admitted.{Admitted}
-use Rattle.enet_receiver.specs.Next.{only_packet}
-use Rattle.enet_receiver.specs.InPlace.{IsInPlace, with_handed_out}
+use Rattle.enet_receiver.specs.Private.Admitted.{Admitted}
+use Rattle.enet_receiver.specs.Private.Next.{only_packet}
+use Rattle.enet_receiver.specs.Private.InPlace.{IsInPlace, with_handed_out}
 use Rattle.enet_receiver.proofs.LineLemmas.{Line, line_at-same}
 use Rattle.enet_receiver.proofs.Admission.{piece_sound}
 use Rattle.enet_receiver.proofs.Released.{nothing_held, all_released-none}

@@ -16,11 +16,12 @@ use Rattle.enet_packets.specs.declared.incoming_packet.Dispatched.{Dispatched}
 use Rattle.enet_packets.specs.Packets.{Lines, line_at, with_line}
 use Rattle.enet_receiver.specs.Receiver.{Receiver, next_whole, with_dispatched, all_released}
 use Rattle.enet_receiver.specs.Laws.{HavePieces}
-use Rattle.enet_receiver.specs.Admitted.{Admitted, IsInside}
+use Rattle.enet_receiver.specs.Private.Admitted.{Admitted, IsInside}
 use Rattle.enet_receiver.specs.Invariant.{Keeps}
-use Rattle.enet_receiver.specs.Next.{only_packet, IsNext}
+use Rattle.enet_receiver.specs.Private.Next.{only_packet, IsNext}
 use Rattle.enet_receiver.specs.DataOutcome.{came_at, came, earlier_or_new, with_more, with_added}
-use Rattle.enet_receiver.specs.ReceiverParts.{receiver_of, with_stored}
+use Rattle.enet_receiver.specs.ReceiverParts.{receiver_of}
+use Rattle.enet_receiver.specs.Private.ReceiverParts.{with_stored}
 use Rattle.enet_receiver.proofs.Maps.{get_inserted, get-insert_same}
 use Rattle.enet_receiver.proofs.Admission.{Keeps-stored}
 use Rattle.enet_receiver.proofs.Keeping.{Keeps-all_released}

@@ -6,7 +6,7 @@ use Rattle.enet_seq.specs.Windows.{after}
 use Rattle.enet_packets.specs.declared.incoming_packet.IncomingPacket.{IncomingPacket}
 use Rattle.enet_packets.specs.Packets.{Lines}
 use Rattle.enet_receiver.specs.declared.foreseeing.Completed.{Completed}
-use Rattle.enet_receiver.specs.Walk.{pieces_at, fresh_at, walk_with, walk}
+use Rattle.enet_receiver.specs.Private.Walk.{pieces_at, fresh_at, walk_with, walk}
 
 pub walk-on : (k n : ℕ) (o : Option Completed) (held : FinMap nat_cmp IncomingPacket) (lines : Lines) (front pieces : ℕ) → k ≡ n + 1 → pieces_at o held (after front 1) ≡ Some pieces
     → walk k o held lines front ≡ 1 + fresh_at o lines (after front pieces) 0 + walk n o held lines (after front pieces)

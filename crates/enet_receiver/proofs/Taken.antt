@@ -14,10 +14,11 @@ use Rattle.enet_receiver.specs.declared.foreseeing.Completed.{Completed}
 use Rattle.enet_receiver.specs.declared.took.Took.TheVariants.{Held, Outside, Bad}
 use Rattle.enet_receiver.specs.Receiver.{Receiver, all_released}
 use Rattle.enet_receiver.specs.DataOutcome.{outcome, outcome_at, is_piece_of_its_packet, received, received_with, place_read, own_place, added_at, dispatch_count}
-use Rattle.enet_receiver.specs.ReceiverParts.{receiver_of, holding, with_stored, with_kept}
+use Rattle.enet_receiver.specs.ReceiverParts.{receiver_of}
+use Rattle.enet_receiver.specs.Private.ReceiverParts.{holding, with_stored, with_kept}
 use Rattle.enet_receiver.specs.Invariant.{Keeps}
-use Rattle.enet_receiver.specs.Admitted.{Admitted, IsInside}
-use Rattle.enet_receiver.specs.Walk.{walked, Completes}
+use Rattle.enet_receiver.specs.Private.Admitted.{Admitted, IsInside}
+use Rattle.enet_receiver.specs.Private.Walk.{walked, Completes}
 use Rattle.enet_receiver.specs.Foresight.{ReceivingEnd, after_command}
 use Rattle.enet_receiver.proofs.Admission.{Keeps-stored, admitted, short_piece, read_back, inside_number}
 use Rattle.enet_receiver.proofs.Foreseen.{dispatches-is}

@@ -4,12 +4,9 @@ pub mod Foresight
 pub mod ArrivingData
 pub mod Invariant
 pub mod Codes
-pub mod Walk
 pub mod Laws
 pub mod Sequenced
 pub mod ReceiverParts
-pub mod Admitted
-pub mod Next
-pub mod InPlace
 pub mod Blocks
 pub mod Members
+pub mod Private

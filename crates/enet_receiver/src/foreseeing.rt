@@ -1,7 +1,7 @@
 //! How many packets a command would dispatch.
 
 ghost use Rattle.std.specs.Prelude.{◌≡◌, ◌≤◌};
-ghost use Rattle.enet_receiver.specs.Walk.{pieces_at, is_fresh, fresh_at, walk, walked};
+ghost use Rattle.enet_receiver.specs.Private.Walk.{pieces_at, is_fresh, fresh_at, walk, walked};
 
 use crate::held::Held;
 use enet_packets::Waiting;

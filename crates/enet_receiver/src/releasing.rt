@@ -13,7 +13,7 @@ ghost use Rattle.enet_receiver.specs.ArrivingData.{data_command};
 ghost use Rattle.enet_receiver.specs.Receiver.{without, next_whole, with_dispatched, all_released};
 ghost use Rattle.enet_receiver.specs.Laws.{HavePieces};
 ghost use Rattle.enet_receiver.specs.ReceiverParts.{receiver_of};
-ghost use Rattle.enet_receiver.specs.Next.{only_packet};
+ghost use Rattle.enet_receiver.specs.Private.Next.{only_packet};
 
 use crate::arriving_data::ArrivingData;
 use crate::held::Held;

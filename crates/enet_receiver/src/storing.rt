@@ -8,7 +8,7 @@ ghost use Rattle.enet_fragment.specs.DataCommand.{place_in_packet};
 ghost use Rattle.enet_packets.specs.Packets.{line_at, with_line, packets_in};
 ghost use Rattle.enet_receiver.specs.ArrivingData.{data_command};
 ghost use Rattle.enet_receiver.specs.DataOutcome.{agrees_with, came, came_at, earlier_or_new, with_more};
-ghost use Rattle.enet_receiver.specs.ReceiverParts.{holding, with_stored};
+ghost use Rattle.enet_receiver.specs.Private.ReceiverParts.{holding, with_stored};
 
 use crate::arriving_data::ArrivingData;
 use crate::held::Held;

@@ -11,7 +11,7 @@ use Rattle.enet_sender.specs.Sender.{position_of, without_place, size_at, size_o
 use Rattle.enet_sender.specs.Invariant.{reliable_in}
 use Rattle.enet_sender.specs.Pending.{vacant, named, times, held, Passes}
 use Rattle.enet_sender.specs.Rings.{Rings, KeepsSent, Keeps, GoesOn, at_place, is_due, keys_of, commands_at, command_of}
-use Rattle.enet_sender.specs.Trims.{Trims}
+use Rattle.enet_sender.specs.Private.Trims.{Trims}
 use Rattle.enet_sender.proofs.Lists.{position_at, position_none, get_at, remove_at, split, split_set}
 use Rattle.enet_sender.proofs.Named.{times-append, times-here, times-other, held-some, held-none, named-other, named-append, named-cons, named-skip, named-all}
 

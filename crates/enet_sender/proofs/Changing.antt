@@ -8,7 +8,8 @@ use Rattle.enet_fragment.specs.declared.data.DataCommand.{DataCommand}
 use Rattle.enet_sender.specs.declared.sent.Sent.{Sent}
 use Rattle.enet_sender.specs.Invariant.{reliable_in}
 use Rattle.enet_sender.specs.Pending.{vacant, named, times, held, Passes}
-use Rattle.enet_sender.specs.Rings.{Rings, Keeps, GoesOn, at_place, is_due, NoneDue, IsFirstDue, with_due, keys_of, commands_at, command_of}
+use Rattle.enet_sender.specs.Rings.{Rings, Keeps, GoesOn, at_place, is_due, NoneDue, keys_of, commands_at, command_of}
+use Rattle.enet_sender.specs.Private.Rings.{IsFirstDue, with_due}
 use Rattle.enet_sender.proofs.Lists.{position_at, position_none, get_at, set_at, split}
 use Rattle.enet_sender.proofs.Named.{times-append, times-here, times-some, held-some, named-other, named-append, named-cons, named-all}
 

@@ -6,7 +6,7 @@ use Rattle.std.proofs.lemmas.Bool.Decides.{nat_tests}
 use Rattle.std.proofs.lemmas.List.Sums.{sum_by-append, sum_by-cons, count_by-le-length}
 use Rattle.enet_fragment.specs.declared.data.DataCommand.{DataCommand}
 use Rattle.enet_sender.specs.declared.course.Course.{Course}
-use Rattle.enet_sender.specs.Course.{piece_command, course_commands}
+use Rattle.enet_sender.specs.Private.Course.{piece_command, course_commands}
 use Rattle.enet_sender.specs.Sender.{Sender, is_more, is_after_first, left}
 use Rattle.enet_sender.specs.declared.outgoing.Left.{Left}
 use Rattle.enet_sender.specs.Invariant.{reliable_in}

@@ -8,7 +8,8 @@ use Rattle.std.proofs.lemmas.List.{take_all}
 use Rattle.enet_fragment.specs.Cutting.{piece_count, piece_length}
 use Rattle.enet_fragment.specs.declared.data.DataCommand.{DataCommand}
 use Rattle.enet_sender.specs.declared.course.Course.{Course}
-use Rattle.enet_sender.specs.Course.{command_of, piece_command, course_commands}
+use Rattle.enet_sender.specs.Course.{command_of}
+use Rattle.enet_sender.specs.Private.Course.{piece_command, course_commands}
 
 one_if : (empty : Bool) (n : ℕ) → n ≡ 0 → cond empty 1 (n + 1) ≡ 1
 one_if true n e = refl

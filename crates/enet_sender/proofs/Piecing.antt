@@ -8,12 +8,12 @@ use Rattle.enet_fragment.specs.declared.data.DataCommand.{DataCommand}
 use Rattle.enet_sender.specs.declared.course.Course.{Course}
 use Rattle.enet_sender.specs.declared.sent.Sent.{Sent}
 use Rattle.enet_sender.specs.Due.{SendingEnd}
-use Rattle.enet_sender.specs.Course.{piece_command}
+use Rattle.enet_sender.specs.Private.Course.{piece_command}
 use Rattle.enet_sender.proofs.Courses.{one_more_queued}
 use Rattle.enet_sender.specs.declared.outgoing.Outgoing.{Outgoing}
 use Rattle.enet_sender.specs.Pending.{Passes}
 use Rattle.enet_sender.specs.Rings.{Keeps, rings_of, keys_of, commands_at, sender_of, end_of}
-use Rattle.enet_sender.specs.Queues.{Queues}
+use Rattle.enet_sender.specs.Private.Queues.{Queues}
 use Rattle.enet_sender.proofs.Submitting.{passes-then}
 
 -- the next piece, and those after it

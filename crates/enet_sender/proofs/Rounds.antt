@@ -19,8 +19,9 @@ use Rattle.enet_rtt.specs.declared.expiry.Expiry.TheVariants.{No, Resend, End}
 use Rattle.enet_sender.specs.Sender.{Sender, marked, is_late, ends, lateness}
 use Rattle.enet_sender.specs.Invariant.{reliable_in}
 use Rattle.enet_sender.specs.Pending.{vacant, named, times, held, Passes}
-use Rattle.enet_sender.specs.Rounds.{changed_at, marked_at, taken_at, test_at, without_keys}
-use Rattle.enet_sender.specs.Rings.{Rings, Keeps, GoesOn, is_due, with_due, keys_of, commands_at, command_of}
+use Rattle.enet_sender.specs.Private.Rounds.{changed_at, marked_at, taken_at, test_at, without_keys}
+use Rattle.enet_sender.specs.Rings.{Rings, Keeps, GoesOn, is_due, keys_of, commands_at, command_of}
+use Rattle.enet_sender.specs.Private.Rings.{with_due}
 use Rattle.enet_sender.proofs.Counting.{is_some-cond}
 use Rattle.enet_sender.proofs.Named.{times-append, times-here, times-other, times-some, named-same}
 

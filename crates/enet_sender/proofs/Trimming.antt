@@ -6,7 +6,7 @@ use Rattle.enet_seq.specs.Windows.{ahead}
 use Rattle.enet_sender.specs.declared.sent.Sent.{Sent}
 use Rattle.enet_sender.specs.Pending.{vacant}
 use Rattle.enet_sender.specs.Rings.{KeepsSent}
-use Rattle.enet_sender.specs.Trims.{Trims}
+use Rattle.enet_sender.specs.Private.Trims.{Trims}
 use Rattle.enet_sender.proofs.Named.{times-other, named-skip}
 
 pub trims-none : (at : ℕ → Option Sent) (keys : List ℕ) (due : ℕ) → Trims at keys due keys due

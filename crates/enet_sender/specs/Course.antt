@@ -1,13 +1,11 @@
 -- The commands of a packet, by the course that it takes.
-use Rattle.std.specs.Prelude.{◌≡◌, ℕ, ◌+◌, ◌*◌, ◌<◌, ◌≤◌, false, nat_lt, if◌then◌else◌, List, length, map, Some, None}
-use Rattle.std.specs.List.{range_with_len}
+use Rattle.std.specs.Prelude.{◌≡◌, ℕ, ◌+◌, ◌*◌, ◌<◌, ◌≤◌, false, nat_lt, if◌then◌else◌, List, length, Some, None}
 use Rattle.enet_seq.specs.Windows.{after}
 use Rattle.enet_fragment.specs.Cutting.{piece_length}
 use Rattle.enet_fragment.specs.declared.data.DataCommand.{DataCommand}
 use Rattle.enet_codec.specs.declared.command.Fragment.{Fragment}
 use Rattle.enet_sender.specs.declared.course.Course.{Course}
 use Rattle.enet_sender.specs.CommandChoice.{ChosenPacket, carried_as}
-use Rattle.enet_sender.specs.Sender.{piece_of_body}
 
 -- the number by which the pieces of the packet find one another
 abbrev pub start_of : Course → ℕ
@@ -25,13 +23,6 @@ command_of s i body = record {
   fragment = if nat_lt (piece_length s.mtu) s.total then Some (fragment_of s i) else None;
   body = body;
 }
-
-abbrev pub piece_command : Course → List ℕ → ℕ → DataCommand
-piece_command s body i = command_of s i (piece_of_body (piece_length s.mtu) body i)
-
--- all commands of a body
-abbrev pub course_commands : Course → List ℕ → List DataCommand
-course_commands s body = map (piece_command s body) (range_with_len 0 s.pieces)
 
 -- the course of a packet, the last reliable number and the unreliable number before it being given
 abbrev pub course_of : ℕ → ℕ → ℕ → ChosenPacket → Course

@@ -5,6 +5,4 @@ pub mod Invariant
 pub mod Course
 pub mod Pending
 pub mod Rings
-pub mod Trims
-pub mod Queues
-pub mod Rounds
+pub mod Private

@@ -73,16 +73,6 @@ pub record KeepsSent (at : ℕ → Option Sent) (passed due_from : ℕ) (sent : 
   pub not_due : NoneDue at sent 0 due_from
   pub fits : All (λ (key : ℕ). key ≤ vacant) sent
 
--- the command of this place is the first that is due to go again
-pub record IsFirstDue (at : ℕ → Option Sent) (sent : List ℕ) (place : ℕ) : Type 0 where
-  pub inside : place < length sent
-  pub due : is_due (at_place at sent place) ≡ true
-  pub before : NoneDue at sent 0 place
-
--- once no command is due before this place
-abbrev pub with_due : Rings → ℕ → Rings
-with_due r due = record { number = r.number; unreliable = r.unreliable; passed = r.passed; reliable = r.reliable; due_from = due; queued = r.queued; sent = r.sent }
-
 -- reliable commands go on from a number, one by one, up to another
 abbrev pub GoesOn : ℕ → List DataCommand → ℕ → Type 0
 GoesOn passed [] number = passed ≡ number

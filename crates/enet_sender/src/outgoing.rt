@@ -13,12 +13,13 @@ ghost use Rattle.enet_sender.specs.Sender.{with_marked, lateness, after_lateness
 ghost use Rattle.enet_sender.specs.Due.{Did, new_end, with_submitted};
 ghost use Rattle.enet_fragment.specs.Cutting.{piece_length, piece_count};
 ghost use Rattle.enet_sender.specs.CommandChoice.{fragment_limit};
-ghost use Rattle.enet_sender.specs.Invariant.{IsShort};
+ghost use Rattle.enet_sender.specs.Private.Invariant.{IsShort};
 ghost use Rattle.enet_sender.specs.Course.{IsCourse};
 ghost use Rattle.std.specs.List.{range_with_len, list_any};
-ghost use Rattle.enet_sender.specs.Queues.{Queues};
+ghost use Rattle.enet_sender.specs.Private.Queues.{Queues};
 ghost use Rattle.enet_sender.specs.Pending.{vacant, named};
-ghost use Rattle.enet_sender.specs.Rings.{Keeps, KeepsIn, PassesIn, HasRoom, no_rings, rings_of, sender_in, end_in, commands_at, IsFirstDue, NoneDue};
+ghost use Rattle.enet_sender.specs.Rings.{Keeps, KeepsIn, PassesIn, HasRoom, no_rings, rings_of, sender_in, end_in, commands_at, NoneDue};
+ghost use Rattle.enet_sender.specs.Private.Rings.{IsFirstDue};
 
 use crate::course::{Course, cut};
 use crate::pending::{Pending, VACANT};

@@ -3,8 +3,9 @@
 ghost use Rattle.std.specs.Prelude.{◌≡◌, ℕ, ◌+◌, ◌<◌, ◌≤◌, Some, None, [], IsOk, IfOk, IfNone, IsTrue, option_copied};
 ghost use Rattle.enet_rtt.specs.Clock.{HappensIn};
 ghost use Rattle.slab.specs.Slab.{get, slab_len, Updates, HasRoomFor};
-ghost use Rattle.enet_sender.specs.Pending.{vacant, queued};
-ghost use Rattle.enet_sender.specs.Rounds.{test_at};
+ghost use Rattle.enet_sender.specs.Pending.{vacant};
+ghost use Rattle.enet_sender.specs.Private.Pending.{queued};
+ghost use Rattle.enet_sender.specs.Private.Rounds.{test_at};
 ghost use Rattle.enet_sender.specs.declared.sent.Sent.{Sent};
 ghost use Rattle.enet_sender.specs.Sender.{again, begun, ends, is_late, marked};
 ghost use Rattle.enet_sender.specs.Rings.{is_due, IsEmpty};

@@ -7,11 +7,11 @@ ghost use Rattle.enet_rtt.specs.Clock.{HappensIn};
 ghost use Rattle.enet_seq.specs.Windows.{ahead};
 ghost use Rattle.enet_sender.specs.declared.sent.Sent.{Sent};
 ghost use Rattle.enet_sender.specs.Pending.{vacant, times};
-ghost use Rattle.enet_sender.specs.Rounds.{marked_at, taken_at, test_at};
+ghost use Rattle.enet_sender.specs.Private.Rounds.{marked_at, taken_at, test_at};
 ghost use Rattle.enet_sender.specs.Sender.{ends, is_late};
 ghost use Rattle.slab.specs.Slab.{get};
 ghost use Rattle.enet_sender.specs.Rings.{at_place, is_due, NoneDue};
-ghost use Rattle.enet_sender.specs.Trims.{Trims};
+ghost use Rattle.enet_sender.specs.Private.Trims.{Trims};
 
 use crate::Pending;
 use crate::pending::VACANT;

@@ -6,7 +6,7 @@ ghost use Rattle.enet_codec.specs.Writing.{Puts};
 ghost use Rattle.enet_fragment.specs.DataCommand.{message_of};
 ghost use Rattle.enet_sender.specs.Sender.{is_more};
 ghost use Rattle.enet_sender.specs.Due.{due_kind};
-ghost use Rattle.enet_sender.specs.Invariant.{IsShort};
+ghost use Rattle.enet_sender.specs.Private.Invariant.{IsShort};
 
 use crate::Kind;
 use enet_codec::write_command;

@@ -18,7 +18,8 @@ use Rattle.enet_sender.specs.Sender.{Sender, Next, begun, again, marked, is_late
 use Rattle.enet_sender.specs.Due.{SendingEnd, Did, new_end, with_submitted}
 use Rattle.enet_senders.specs.declared.quiet.Quiet.{Quiet}
 use Rattle.enet_senders.specs.Senders.{marked_end}
-use Rattle.enet_senders.specs.Quiets.{new_quiet, covers, after_send, found_quiet, FitsQuiet, IsQuiet, AreQuiet, AllQuiet}
+use Rattle.enet_senders.specs.Quiets.{covers, FitsQuiet, IsQuiet, AreQuiet, AllQuiet}
+use Rattle.enet_senders.specs.Private.Quiets.{new_quiet, after_send, found_quiet}
 
 -- a moment that is left is one of the whole, and less than the least wait past the send
 left-before : (q : Quiet) (now timeout later : ℕ) → FitsQuiet q → now < 2 ^ 32 → later < 2 ^ 32 → covers (after_send q now timeout) later ≡ true

@@ -1,5 +1,5 @@
 -- A time during which surely no sent command is late.
-use Rattle.std.specs.Prelude.{◌≡◌, ℕ, ◌-◌, ◌^◌, ◌<◌, ◌≤◌, min, Bool, true, false, nat_lt, List, All}
+use Rattle.std.specs.Prelude.{◌≡◌, ℕ, ◌-◌, ◌^◌, ◌<◌, ◌≤◌, Bool, true, false, nat_lt, List, All}
 use Rattle.enet_rtt.specs.Clock.{elapsed_time}
 use Rattle.enet_sender.specs.declared.sent.Sent.{Sent}
 use Rattle.enet_sender.specs.Sender.{is_late}
@@ -9,20 +9,9 @@ use Rattle.enet_sender.specs.declared.pending.Pending.{Pending}
 use Rattle.enet_senders.specs.declared.quiet.Quiet.{Quiet}
 use Rattle.enet_senders.specs.Senders.{ends_in, KeepsAllIn}
 
-abbrev pub new_quiet : Quiet
-new_quiet = record { from = 0; len = 0; least = 4294967295 }
-
 -- whether a moment is in it
 abbrev pub covers : Quiet → ℕ → Bool
 covers q now = nat_lt (elapsed_time now q.from) q.len
-
--- what is left of it once a command was sent
-abbrev pub after_send : Quiet → ℕ → ℕ → Quiet
-after_send q now timeout = record { from = now; len = min (q.len - elapsed_time now q.from) (min q.least timeout); least = min q.least timeout }
-
--- once it was found that nothing is late for so long
-abbrev pub found_quiet : Quiet → ℕ → ℕ → Quiet
-found_quiet q now wait = record { from = now; len = wait; least = q.least }
 
 -- its numbers fit 32 bits
 pub record FitsQuiet (q : Quiet) : Type 0 where

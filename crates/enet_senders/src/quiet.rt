@@ -1,7 +1,8 @@
 //! A time during which surely nothing is late.
 
 ghost use Rattle.std.specs.Prelude.{◌≡◌};
-ghost use Rattle.enet_senders.specs.Quiets.{covers, after_send, found_quiet, new_quiet};
+ghost use Rattle.enet_senders.specs.Quiets.{covers};
+ghost use Rattle.enet_senders.specs.Private.Quiets.{after_send, found_quiet, new_quiet};
 
 use enet_rtt::elapsed;
 

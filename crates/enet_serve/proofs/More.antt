@@ -39,8 +39,9 @@ use Rattle.enet_serve.specs.declared.player.Player.{Player}
 use Rattle.enet_serve.specs.declared.player.Played.{Played}
 use Rattle.enet_serve.specs.declared.player.Visit.{Visit}
 use Rattle.enet_serve.specs.Plans.{asks}
-use Rattle.enet_serve.specs.Visits.{first_peer, packets, peer_of, IsToldBy, plan_of, beginning, Visits, AreOutcomes, AreVisits}
-use Rattle.enet_serve.specs.Playing.{told, HasPlayed, HasVisited, IsSettled, IsGuest}
+use Rattle.enet_serve.specs.Visits.{first_peer, packets, peer_of, IsToldBy, plan_of, beginning, Visits, AreVisits}
+use Rattle.enet_serve.specs.Private.Visits.{AreOutcomes}
+use Rattle.enet_serve.specs.Private.Playing.{told, HasPlayed, HasVisited, IsSettled, IsGuest}
 
 -- ---- one event more
 first_peer_more : (es : List Event) (e : Event) → first_peer (es ++ e ∷ []) ≡ option_or (first_peer es) (first_peer (e ∷ []))

@@ -1,5 +1,4 @@
 pub mod Serving
-pub mod Threads
 pub mod Plans
 pub mod Visits
-pub mod Playing
+pub mod Private

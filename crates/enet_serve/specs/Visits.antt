@@ -1,5 +1,5 @@
 -- What comes of a client.
-use Rattle.std.specs.Prelude.{◌≡◌, ◌⊎◌, ℕ, ◌+◌, ◌<◌, ◌≤◌, List, [], ◌∷◌, ◌++◌, length, Option, Some, None, is_some, Result, IfOk, IfErr, slice_index_or}
+use Rattle.std.specs.Prelude.{◌≡◌, ◌⊎◌, ℕ, ◌+◌, ◌<◌, ◌≤◌, List, [], ◌∷◌, ◌++◌, length, Option, Some, None, is_some, slice_index_or}
 use Rattle.std.specs.List.{All}
 use Rattle.enet_codec.specs.declared.address.Addr.{Addr}
 use Rattle.enet_codec.specs.declared.event.PeerRef.{PeerRef}
@@ -78,15 +78,6 @@ pub record Visits (old : Host × Option Event) (plan : Plan) (turns : ℕ) (visi
   pub connected : peer_of stage ≡ first_peer (accepted (all_puts rounds))
   pub asked : asks plan stage ≡ orders (given (all_gave rounds)) ++ left
   pub told : IsToldBy (accepted (all_puts rounds)) visit
-
--- what a client's threads ended with: its visit, or what ended them early
-abbrev pub IsOutcome : Plan → ℕ → Result Visit Refusal → Type 0
-IsOutcome plan turns outcome = IfOk outcome (Visits beginning plan turns) × IfErr outcome EndsRun
-
--- what each client's threads ended with, from client 0 on
-abbrev pub AreOutcomes : Demonstration → List (Result Visit Refusal) → Type 0
-AreOutcomes shown outcomes = (length outcomes ≡ shown.clients)
-    × ((k : ℕ) (d : Result Visit Refusal) → k < shown.clients → IsOutcome (plan_of shown k) shown.turns (slice_index_or outcomes k d))
 
 -- each client's visit, from client 0 on
 abbrev pub AreVisits : Demonstration → List Visit → Type 0

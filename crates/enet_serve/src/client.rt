@@ -3,7 +3,7 @@ ghost use Rattle.std.specs.Prelude.{◌≡◌, ◌<◌, OnOk, IfOk, IfErr};
 ghost use Rattle.enet_service.specs.ServiceRuns.{AreNew, CanSettle, IsNotSettled, state_of};
 ghost use Rattle.enet_serve.specs.Serving.{EndsRun};
 ghost use Rattle.enet_serve.specs.Visits.{Visits, beginning};
-ghost use Rattle.enet_serve.specs.Playing.{HasPlayed, IsFresh, IsGuest, IsSame, IsSettled, returned};
+ghost use Rattle.enet_serve.specs.Private.Playing.{HasPlayed, IsFresh, IsGuest, IsSame, IsSettled, returned};
 
 use crate::orders::{CHANNELS, Plan};
 use crate::player::{Company, Played, Player, Visit};

@@ -3,8 +3,9 @@ ghost use Rattle.std.specs.Thread.{IsSync};
 ghost use Rattle.std.specs.Prelude.{◌≡◌, ◌⊎◌, ◌<◌, ◌≤◌, ◌+◌, Err, Ok, IfOk, IfErr, map};
 ghost use Rattle.std.specs.List.{Contains};
 ghost use Rattle.enet_serve.specs.Serving.{EndsRun, queue_capacity_of};
-ghost use Rattle.enet_serve.specs.Visits.{Visits, AreVisits, AreOutcomes, IsInRange, IsNotShown, beginning, server_of};
-ghost use Rattle.enet_serve.specs.Playing.{AreGuests};
+ghost use Rattle.enet_serve.specs.Visits.{Visits, AreVisits, IsInRange, IsNotShown, beginning, server_of};
+ghost use Rattle.enet_serve.specs.Private.Visits.{AreOutcomes};
+ghost use Rattle.enet_serve.specs.Private.Playing.{AreGuests};
 
 use crate::client::{Guest, visit};
 use crate::orders::{CHANNELS, Plan};

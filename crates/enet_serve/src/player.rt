@@ -54,7 +54,7 @@ pub(crate) struct Played {
 impl<'a> Player<'a> {
     ghost use Rattle.std.specs.Prelude.{◌≡◌, ◌<◌, [], OnOk, IfErr};
     ghost use Rattle.enet_bridge.specs.Holding.{asked, received, sender_queue, receiver_queue};
-    ghost use Rattle.enet_serve.specs.Playing.{IsFresh, IsSame, HasPlayed, HasVisited, told};
+    ghost use Rattle.enet_serve.specs.Private.Playing.{IsFresh, IsSame, HasPlayed, HasVisited, told};
 
     /// A player who has asked for nothing yet.
     pub(crate) fn new(

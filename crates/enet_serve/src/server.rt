@@ -2,7 +2,7 @@
 ghost use Rattle.std.specs.Prelude.{◌≡◌, ◌⊎◌, OnOk, IfOk, IfErr};
 ghost use Rattle.enet_chat.specs.Relaying.{Relays, IsThrough};
 ghost use Rattle.enet_service.specs.ServiceRuns.{CanSettle, IsNotSettled};
-ghost use Rattle.enet_serve.specs.Threads.{IsLeft, returned};
+ghost use Rattle.enet_serve.specs.Private.Threads.{IsLeft, returned};
 
 use crate::leaving::take_leave;
 use crate::threads::{Carryover, begin_relay, relay_on};

@@ -1,7 +1,7 @@
 //! The relay's side of a run.
 ghost use Rattle.std.specs.Prelude.{◌≡◌, ◌⊎◌, OnOk, IfOk, IfErr};
 ghost use Rattle.enet_chat.specs.Relaying.{Relays, IsThrough};
-ghost use Rattle.enet_serve.specs.Threads.{IsBegun};
+ghost use Rattle.enet_serve.specs.Private.Threads.{IsBegun};
 
 use enet_chat::{Gauge, Relay, Table};
 use enet_codec::{Event, Refusal};

@@ -14,7 +14,8 @@ use Rattle.enet_records.specs.Records.{Records, Notes}
 use Rattle.enet_site.specs.declared.put_out.Turned.{Turned}
 use Rattle.enet_site.specs.declared.put_out.Turned.TheVariants.{Sent, Away}
 use Rattle.enet_site.specs.Sites.{site, IsWhole}
-use Rattle.enet_site.specs.Turning.{Puts, Turns, ServesAmong, TurnsAmong}
+use Rattle.enet_site.specs.Turning.{ServesAmong, TurnsAmong}
+use Rattle.enet_site.specs.Private.Turning.{Puts, Turns}
 use Rattle.enet_site.proofs.Going.{Goes, whole-after}
 
 abbrev around : (Addr → Bool) → (ℕ → List ℕ) → Around

@@ -16,7 +16,7 @@ use Rattle.enet_network.specs.Steps.{with_packet}
 use Rattle.enet_records.specs.Records.{Records, IsKept, AreApart, AreKept}
 use Rattle.enet_records.proofs.Ends.{Placed, placed-some, with-one, with-none}
 use Rattle.enet_records.proofs.Keeps.{kept-set, packet-kept}
-use Rattle.enet_site.specs.Sites.{CallsOn}
+use Rattle.enet_site.specs.Private.Sites.{CallsOn}
 
 -- where the end stands that has a name
 pub place-of : (ends xs : List HostEnd) (name : PeerRef) (i : ℕ) (e : HostEnd) → xs ≡ ends → Some i ≡ position (λ (f : HostEnd). is_same_name f.name name) xs → e ≡ slice_index_or ends i e → Placed ends name i e

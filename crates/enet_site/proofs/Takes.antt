@@ -16,7 +16,7 @@ use Rattle.enet_network.specs.Steps.{with_event, after_event}
 use Rattle.enet_records.specs.Records.{Records, IsKept, AreApart, AreKept}
 use Rattle.enet_records.proofs.Ends.{Placed, with-one, with-none}
 use Rattle.enet_records.proofs.Keeps.{kept-set, event-kept}
-use Rattle.enet_site.specs.Sites.{CallsOn, told}
+use Rattle.enet_site.specs.Private.Sites.{CallsOn, told}
 use Rattle.enet_site.proofs.Submits.{none-of}
 
 -- a word is kept among the events alone

@@ -1,3 +1,4 @@
 pub mod Sites
 pub mod Turning
 pub mod Places
+pub mod Private

@@ -1,28 +1,17 @@
 -- A host at its address, with what is kept of it.
-use Rattle.std.specs.Prelude.{ℕ, Bool, true, false, List, [], ◌∷◌, Option, Some, None}
+use Rattle.std.specs.Prelude.{ℕ, List}
 use Rattle.enet_codec.specs.declared.address.Addr.{Addr}
-use Rattle.enet_codec.specs.declared.event.Event.{Event}
-use Rattle.enet_codec.specs.declared.event.PeerRef.{PeerRef}
 use Rattle.enet_peer.specs.Peering.{Peering}
 use Rattle.enet_connection.specs.LinkSteps.{Has}
 use Rattle.enet_host.specs.Host.{Host, Keeps}
-use Rattle.enet_slot.specs.Giving.{no_address}
 use Rattle.enet_network.specs.Calls.{Call}
-use Rattle.enet_network.specs.Log.{Logged}
-use Rattle.enet_network.specs.Network.{HostEnd, Site, fresh_end}
+use Rattle.enet_network.specs.Network.{HostEnd, Site}
 use Rattle.enet_network.specs.Shown.{ShowsPeer}
-use Rattle.enet_network.specs.Steps.{Calls, Happens, Called, with_event}
+use Rattle.enet_network.specs.Steps.{Calls, Happens}
 use Rattle.enet_records.specs.Records.{Records}
 
 abbrev pub site : Addr → Host → Records → Site
 site address host r = record { address = address; host = host; log = r.log; ends = r.ends }
-
--- a host with these ends, and a datagram of a connection to a peer id: all that the test for earlier connections looks at
-abbrev pub with_ends : Host → List HostEnd → Site
-with_ends host ends = record { address = no_address; host = host; log = []; ends = ends }
-
-abbrev pub unread : ℕ → Addr → ℕ → Logged
-unread connection from peer = record { connection = connection; to = from; peer = peer; text = []; marks = [] }
 
 -- of each end the host has the peer, or gave it up, so that nobody is called so any more
 abbrev pub AreShown : Host → List HostEnd → Type 0
@@ -32,20 +21,6 @@ AreShown h ends = (e : HostEnd) → Has ends e → (p : Peering) × ShowsPeer h 
 pub record IsWhole (h : Host) (ends : List HostEnd) : Type 0 where
   pub keeps : Keeps h
   pub shown : AreShown h ends
-
--- one call of a host of which this is kept, where there have been so many connections
-abbrev pub CallsOn : ℕ → Call → Host → Records → Host → Records → Type 0
-CallsOn next c old was new is = (address : Addr) → Called next c (site address old was) (site address new is)
-
--- what its user took is kept at an end
-abbrev pub told : Option Event → HostEnd → HostEnd
-told None e = e
-told (Some event) e = with_event event e
-
--- the end of connection x that begins where the peer of this name answered
-abbrev pub begun_if : Bool → ℕ → PeerRef → List HostEnd
-begun_if true x name = fresh_end x name ∷ []
-begun_if false x name = []
 
 -- one call of a host that looks at no other, however many connections there are
 abbrev pub CallsAt : Call → Site → Site → Type 0

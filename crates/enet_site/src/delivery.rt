@@ -5,7 +5,8 @@ ghost use Rattle.enet_codec.specs.declared.address.Addr.{Addr};
 ghost use Rattle.enet_host.specs.Host.{Host, named};
 ghost use Rattle.enet_slot.specs.Hearing.{is_deaf};
 ghost use Rattle.enet_network.specs.Network.{is_at, is_over, has_ended, holds_another, is_earlier, delivery_refusal};
-ghost use Rattle.enet_site.specs.Sites.{site, with_ends, unread};
+ghost use Rattle.enet_site.specs.Sites.{site};
+ghost use Rattle.enet_site.specs.Private.Sites.{with_ends, unread};
 
 use enet_codec::{Addr, NO_PEER, PeerRef, Refusal};
 use enet_host::{HostCore, PeerState};

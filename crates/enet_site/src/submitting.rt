@@ -8,7 +8,8 @@ ghost use Rattle.enet_host.specs.Calls.{on_named};
 ghost use Rattle.enet_network.specs.Calls.{Acts};
 ghost use Rattle.enet_network.specs.Calls as call;
 ghost use Rattle.enet_network.specs.Steps.{with_packet};
-ghost use Rattle.enet_site.specs.Sites.{IsWhole, CallsOn};
+ghost use Rattle.enet_site.specs.Sites.{IsWhole};
+ghost use Rattle.enet_site.specs.Private.Sites.{CallsOn};
 
 use bytes::Bytes;
 use enet_codec::{Packet, PeerRef, Refusal};

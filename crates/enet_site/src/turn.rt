@@ -2,8 +2,8 @@
 
 ghost use Rattle.std.specs.Prelude.{◌≡◌, ◌+◌, ◌≤◌, [], vec_len, vec_capacity, IfSome, IfNone, IfOk, IfErr, OnErr};
 ghost use Rattle.enet_network.specs.Headline.{AreEnds};
-ghost use Rattle.enet_site.specs.Sites.{with_ends};
-ghost use Rattle.enet_site.specs.Turning.{Rests, Gives, Turns};
+ghost use Rattle.enet_site.specs.Private.Sites.{with_ends};
+ghost use Rattle.enet_site.specs.Private.Turning.{Rests, Gives, Turns};
 
 use crate::put_out::{Text, Turned};
 use enet_codec::{Addr, PeerRef, Refusal};

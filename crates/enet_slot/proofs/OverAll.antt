@@ -10,7 +10,8 @@ use Rattle.std.specs.List.{count_by, list_any}
 use Rattle.std.specs.Int.{from_bool}
 use Rattle.enet_slot.specs.declared.slot.Slot.{Slot}
 use Rattle.enet_slot.specs.Slot.{SlotState}
-use Rattle.enet_slot.specs.Slotted.{HasRoom, shown, all_shown}
+use Rattle.enet_slot.specs.Slotted.{shown, all_shown}
+use Rattle.enet_slot.specs.Private.Slotted.{HasRoom}
 use Rattle.enet_slot.proofs.Shown.{set-shown, length-shown}
 
 -- a change that goes over the slots one by one

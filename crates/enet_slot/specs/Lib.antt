@@ -6,3 +6,4 @@ pub mod Sharing
 pub mod Calls
 pub mod Slotted
 pub mod Sleeping
+pub mod Private

@@ -1,9 +1,8 @@
 -- A slot of the code as the contracts of its calls see it.
-use Rattle.std.specs.Prelude.{◌≤◌, ℕ, Option, Some, None, IsTrue, List, map}
+use Rattle.std.specs.Prelude.{ℕ, Option, Some, None, List, map}
 use Rattle.enet_peer.specs.Peered.{Peered}
 use Rattle.enet_peer.specs.Peering.{Peering}
 use Rattle.enet_slot.specs.Slot.{SlotState}
-use Rattle.enet_slot.specs.Sharing.{is_standing}
 
 -- the slot, and for how many more commands of channel 0xFF its peer has room
 pub record Slotted : Type 0 where
@@ -17,10 +16,6 @@ peer_shown (Some p) = Some p.peer
 abbrev pub room_of : Option Peered → ℕ
 room_of None = 0
 room_of (Some p) = p.room
-
--- where its connection stands there is room for one command of channel 0xFF
-abbrev pub HasRoom : Slotted → Type 0
-HasRoom s = IsTrue (is_standing s.slot) → 1 ≤ s.room
 
 -- slots as they are, without their room
 abbrev pub shown : Slotted → SlotState

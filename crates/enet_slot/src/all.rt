@@ -11,7 +11,8 @@ ghost use Rattle.enet_slot.specs.Slot.{changed, is_due};
 ghost use Rattle.enet_slot.specs.Giving.{unused_slot, joined_slots, is_available};
 ghost use Rattle.enet_slot.specs.Hearing.{is_connection};
 ghost use Rattle.enet_slot.specs.Sharing.{is_standing, wants_room, shared};
-ghost use Rattle.enet_slot.specs.Slotted.{HasRoom, shown, all_shown};
+ghost use Rattle.enet_slot.specs.Slotted.{shown, all_shown};
+ghost use Rattle.enet_slot.specs.Private.Slotted.{HasRoom};
 
 use crate::Slot;
 use enet_codec::{Addr, Config, Refusal};

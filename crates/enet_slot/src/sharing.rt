@@ -6,7 +6,7 @@ ghost use Rattle.enet_peer.specs.Peering.{Peering};
 ghost use Rattle.enet_peer.specs.Calls as peers;
 ghost use Rattle.enet_slot.specs.Slot.{changed, is_due};
 ghost use Rattle.enet_slot.specs.Sharing.{is_standing, wants_room, shared};
-ghost use Rattle.enet_slot.specs.Slotted.{HasRoom};
+ghost use Rattle.enet_slot.specs.Private.Slotted.{HasRoom};
 
 use crate::Slot;
 use enet_codec::Refusal;

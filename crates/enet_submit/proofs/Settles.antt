@@ -15,7 +15,8 @@ use Rattle.enet_submit.specs.declared.rule.View.TheVariants.{Draining, Sending}
 use Rattle.enet_submit.specs.declared.token.Seat.{Seat}
 use Rattle.enet_submit.specs.declared.token.Finished.{Finished}
 use Rattle.enet_submit.specs.History.{of, IsHistory}
-use Rattle.enet_submit.specs.Rule.{log, Among, Shows, sent_in, finished_in, informed}
+use Rattle.enet_submit.specs.Rule.{log, Among, Shows, sent_in, informed}
+use Rattle.enet_submit.specs.Private.Rule.{finished_in}
 use Rattle.enet_submit.specs.Words.{EachFrom, HasSent, seat_of, all_sent}
 
 -- ---- seats in a row

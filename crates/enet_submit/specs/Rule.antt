@@ -31,11 +31,6 @@ taken_in (Draining seats made taken finished) = taken
 taken_in (Sending seat seats sent) = []
 taken_in Spent = []
 
-abbrev pub finished_in : View → List SeatLog
-finished_in (Draining seats made taken finished) = finished
-finished_in (Sending seat seats sent) = []
-finished_in Spent = []
-
 abbrev pub seats_in : View → ℕ
 seats_in (Draining seats made taken finished) = seats
 seats_in (Sending seat seats sent) = seats

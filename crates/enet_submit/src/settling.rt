@@ -2,7 +2,8 @@
 ghost use Rattle.std.specs.Prelude.{◌≡◌, ◌↔◌, [], length, sum, IsTrue};
 ghost use Rattle.std.specs.List.{All, Contains};
 ghost use Rattle.crossbeam_queue.specs.Passes.{view, IsPassOf};
-ghost use Rattle.enet_submit.specs.Rule.{draining, seats_in, taken_in, finished_in, log, Among};
+ghost use Rattle.enet_submit.specs.Rule.{draining, seats_in, taken_in, log, Among};
+ghost use Rattle.enet_submit.specs.Private.Rule.{finished_in};
 ghost use Rattle.enet_submit.specs.Words.{seat_of, all_sent, IsFinishedOf, AllBack, HasSent};
 
 use crate::order::Submission;

@@ -17,7 +17,7 @@ use Rattle.enet_network.specs.World.{Steps, Makes, side_of}
 use Rattle.enet_site.specs.Sites.{CallsAt}
 use Rattle.enet_site.specs.declared.put_out.Turned.TheVariants as turn
 use Rattle.enet_site.specs.Turning.{TurnsAmong}
-use Rattle.enet_world.specs.Worlds.{world_of}
+use Rattle.enet_world.specs.Private.Worlds.{world_of}
 
 -- one thing happens at a side
 done : (side : Side) (here new far : Site) (n m : ℕ) (event : WorldEvent) (answer : Answer) (e : Happening) → side_of event ≡ side → Makes (world_of side here far n) event answer e

@@ -1,13 +1,11 @@
 -- How every world of two hosts comes about.
-use Rattle.std.specs.Prelude.{◌≡◌, ℕ, ◌+◌, ◌≤◌, ◌&&◌, Bool, true, false, List, length, Result}
+use Rattle.std.specs.Prelude.{◌≡◌, ◌+◌, ◌≤◌, ◌&&◌, Bool, true, false, List, length, Result}
 use Rattle.enet_codec.specs.declared.refusal.Refusal.{Refusal}
 use Rattle.enet_codec.specs.declared.config.Config.{Config}
 use Rattle.enet_codec.specs.Config.{is_in_range}
 use Rattle.enet_network.specs.declared.event.Answer.{Answer}
-use Rattle.enet_network.specs.declared.event.Side.{Side}
 use Rattle.enet_network.specs.declared.event.Side.TheVariants.{A, B}
 use Rattle.enet_network.specs.declared.event.WorldEvent.{WorldEvent}
-use Rattle.enet_network.specs.Network.{Site}
 use Rattle.enet_network.specs.World.{World, Runs, address_of, open_world, joined_world}
 
 -- a world, and whether connection 0 stood from its start
@@ -37,8 +35,3 @@ pub record IsPlaced (w : World) : Type 0 where
   pub a : w.a.address ≡ address_of A
   pub b : w.b.address ≡ address_of B
   pub few : w.count ≤ length w.a.ends + length w.b.ends
-
--- the world of a site and the other, where the site is this side
-abbrev pub world_of : Side → Site → Site → ℕ → World
-world_of A here far count = record { a = here; b = far; count = count }
-world_of B here far count = record { a = far; b = here; count = count }

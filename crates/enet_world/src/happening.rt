@@ -4,7 +4,7 @@ ghost use Rattle.std.specs.Prelude.{◌≡◌, ◌<◌, true};
 ghost use Rattle.enet_network.specs.declared.event.WorldEvent.TheVariants as happen;
 ghost use Rattle.enet_network.specs.Headline.{AreEnds};
 ghost use Rattle.enet_network.specs.World.{Steps, address_of, other, side_of};
-ghost use Rattle.enet_world.specs.Worlds.{world_of};
+ghost use Rattle.enet_world.specs.Private.Worlds.{world_of};
 
 use bytes::Bytes;
 use enet_codec::{DisconnectMode, PeerRef, Refusal};

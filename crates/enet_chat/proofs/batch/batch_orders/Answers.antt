@@ -3,7 +3,7 @@ use Rattle.enet_codec.specs.declared.event.PeerRef.{PeerRef}
 use Rattle.enet_submit.specs.declared.order.Order.{Order}
 use Rattle.enet_chat.specs.Peers.{has_each_once}
 use Rattle.enet_chat.specs.Relaying.{relayed_all, SameForEach}
-use Rattle.enet_chat.specs.Grouping.{grouped}
+use Rattle.enet_chat.specs.Private.Grouping.{grouped}
 use Rattle.enet_chat.proofs.GroupingLemmas.{grouped_same}
 use Rattle.enet_chat.proofs.batch.batch_orders.Goals as goal
 

@@ -1,5 +1,5 @@
 use Rattle.std.proofs.Common.{◌≡◌, take}
-use Rattle.enet_chat.specs.Grouping.{grouped}
+use Rattle.enet_chat.specs.Private.Grouping.{grouped}
 use Rattle.enet_chat.proofs.batch.group.Given as goal
 
 abbrev pub invariant-loop-peer : goal.invariant-loop-peer

@@ -1,5 +1,5 @@
 use Rattle.std.proofs.Common.{◌<◌, length, subst, arith}
-use Rattle.enet_chat.specs.Relaying.{IsPacket}
+use Rattle.enet_chat.specs.Private.Relaying.{IsPacket}
 use Rattle.enet_chat.proofs.GroupingLemmas.{packets_more}
 use Rattle.enet_chat.proofs.batch.packets_first.Goals as goal
 

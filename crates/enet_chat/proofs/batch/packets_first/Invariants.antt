@@ -1,5 +1,5 @@
 use Rattle.std.proofs.Common.{◌-◌, ◌≤◌, length, take}
-use Rattle.enet_chat.specs.Relaying.{ArePackets}
+use Rattle.enet_chat.specs.Private.Relaying.{ArePackets}
 use Rattle.enet_chat.proofs.batch.packets_first.Given as goal
 
 abbrev pub invariant-loop-count : goal.invariant-loop-count

@@ -1,5 +1,5 @@
 use Rattle.std.proofs.Common.{◌≡◌, ◌++◌, take}
-use Rattle.enet_chat.specs.Grouping.{relayed_to}
+use Rattle.enet_chat.specs.Private.Grouping.{relayed_to}
 use Rattle.enet_chat.proofs.batch.push_all_for.Given as goal
 
 abbrev pub invariant-loop-at : goal.invariant-loop-at

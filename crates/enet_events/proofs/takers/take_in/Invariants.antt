@@ -1,7 +1,8 @@
 use Rattle.std.proofs.Common.{◌≡◌, ◌⊎◌, vec_len}
 use Rattle.std.specs.List.{All, Contains}
 use Rattle.crossbeam_queue.specs.Passes.{view, IsPassOf}
-use Rattle.enet_events.specs.Rule.{posting, takers_of, made_of, known_of, posted_of, share, Among}
+use Rattle.enet_events.specs.Rule.{posting, takers_of, known_of, posted_of, share, Among}
+use Rattle.enet_events.specs.Private.Rule.{made_of}
 use Rattle.enet_events.proofs.takers.take_in.Given as goal
 
 abbrev pub invariant-loop-last : goal.invariant-loop-last

@@ -9,7 +9,7 @@ use Rattle.enet_fleet.specs.declared.event.FleetEvent.TheVariants as happen
 use Rattle.enet_fleet.specs.declared.event.Node.TheVariants.{Client}
 use Rattle.enet_fleet.specs.Fleets.{Fleet, is_host}
 use Rattle.enet_fleet.specs.Reached.{IsReached}
-use Rattle.enet_fleet.specs.Turning.{PutsOut}
+use Rattle.enet_fleet.specs.Private.Turning.{PutsOut}
 use Rattle.enet_fleet.proofs.Reaching.{owned-at}
 use Rattle.enet_fleet.proofs.Stepping.{turned, not-turned, at-client}
 use Rattle.enet_fleet.proofs.turning.turn_client.Goals as goal

@@ -1,7 +1,7 @@
 use Rattle.std.proofs.Common.{◌-◌}
 use Rattle.enet_slot.specs.Calls.{tells}
 use Rattle.enet_slot.specs.Slotted.{all_shown}
-use Rattle.enet_host.specs.Skips.{AwakeAt}
+use Rattle.enet_host.specs.Private.Skips.{AwakeAt}
 use Rattle.enet_host.proofs.Asking.{NoneBefore}
 use Rattle.enet_host.proofs.events.first_telling.Given as goal
 

@@ -1,6 +1,7 @@
 use Rattle.std.proofs.Common.{◌≡◌, ◌-◌, length}
 use Rattle.enet_slot.specs.Slotted.{all_shown}
-use Rattle.enet_host.specs.Skips.{KeepsSkips, AwakeAt}
+use Rattle.enet_host.specs.Skips.{KeepsSkips}
+use Rattle.enet_host.specs.Private.Skips.{AwakeAt}
 use Rattle.enet_host.proofs.Asking.{AllAsked}
 use Rattle.enet_host.proofs.service.serve.Given as goal
 

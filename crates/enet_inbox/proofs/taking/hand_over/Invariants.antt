@@ -1,7 +1,8 @@
 use Rattle.std.proofs.Common.{◌≡◌, ◌+◌, ◌≤◌, ◌++◌, All, length, map}
 use Rattle.std.specs.VecDeque.{deque_len, deque_capacity}
 use Rattle.enet_inbox.specs.DataEffect.{packet_of, emptied}
-use Rattle.enet_inbox.specs.Invariant.{IsShort, bytes_in}
+use Rattle.enet_inbox.specs.Invariant.{IsShort}
+use Rattle.enet_inbox.specs.Private.Invariant.{bytes_in}
 use Rattle.enet_inbox.proofs.taking.hand_over.Given as goal
 
 abbrev pub invariant-loop-packet : goal.invariant-loop-packet

@@ -4,7 +4,7 @@ use Rattle.enet_outbox.specs.declared.packing.Progress.{Progress}
 use Rattle.enet_codec.specs.Message.{Message, view}
 use Rattle.enet_outbox.specs.Outbox.{Outbox}
 use Rattle.enet_outbox.specs.Emission.{acknowledgement_of, with_command}
-use Rattle.enet_outbox.specs.Packing.{TakesIn}
+use Rattle.enet_outbox.specs.Private.Packing.{TakesIn}
 use Rattle.enet_outbox.proofs.Fillings.{leads-by, holds-shut}
 use Rattle.enet_outbox.proofs.Stages.{more_acknowledgements, acknowledgements-go, acknowledgements-stop, acknowledgements-end}
 use Rattle.enet_outbox.proofs.packing.pack_acknowledgements.Goals as goal

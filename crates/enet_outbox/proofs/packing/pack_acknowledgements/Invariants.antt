@@ -1,7 +1,7 @@
 use Rattle.std.proofs.Common.{◌≡◌, ◌≤◌, ◌-◌, false}
 use Rattle.std.specs.VecDeque.{deque_len, deque_capacity}
 use Rattle.enet_outbox.specs.Emission.{Filling, with_acknowledgements}
-use Rattle.enet_outbox.specs.Packing.{Holds}
+use Rattle.enet_outbox.specs.Private.Packing.{Holds}
 use Rattle.enet_outbox.proofs.Stages.{more_acknowledgements}
 use Rattle.enet_outbox.proofs.packing.pack_acknowledgements.Given as goal
 

@@ -1,6 +1,6 @@
 use Rattle.std.proofs.Common.{◌≡◌, length}
 use Rattle.enet_outbox.specs.Emission.{Filling}
-use Rattle.enet_outbox.specs.Packing.{Holds, Shares}
+use Rattle.enet_outbox.specs.Private.Packing.{Holds, Shares}
 use Rattle.enet_outbox.proofs.Channels.{ChannelsAt}
 use Rattle.enet_outbox.proofs.packing.pack_channels.Given as goal
 

@@ -2,7 +2,7 @@ use Rattle.std.proofs.Common.{◌<◌, ℕ, ◌∙◌, ap, sym, subst, arith}
 use Rattle.enet_senders.specs.Controlling.{Commands, Did, next}
 use Rattle.enet_senders.specs.declared.outgoing.Written.TheVariants as written
 use Rattle.enet_outbox.specs.Emission.{control_turns, with_one_control}
-use Rattle.enet_outbox.specs.Packing.{place_in}
+use Rattle.enet_outbox.specs.Private.Packing.{place_in}
 use Rattle.enet_outbox.proofs.Fillings.{leads-by}
 use Rattle.enet_outbox.proofs.Repeats.{repeated-closed}
 use Rattle.enet_outbox.proofs.Controls.{did-sent, control-begin, control-room, control-put, control-full, control-none}

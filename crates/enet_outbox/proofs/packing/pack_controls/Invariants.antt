@@ -1,6 +1,6 @@
 use Rattle.std.proofs.Common.{◌≡◌, ◌≤◌}
 use Rattle.enet_outbox.specs.Emission.{Filling}
-use Rattle.enet_outbox.specs.Packing.{Holds}
+use Rattle.enet_outbox.specs.Private.Packing.{Holds}
 use Rattle.enet_outbox.proofs.Controls.{ControlAt}
 use Rattle.enet_outbox.proofs.Turns.{control_left}
 use Rattle.enet_outbox.proofs.packing.pack_controls.Given as goal

@@ -1,7 +1,7 @@
 use Rattle.std.proofs.Common.{◌≡◌, false}
 use Rattle.std.specs.VecDeque.{deque_len}
 use Rattle.enet_outbox.specs.Emission.{Filling, with_unsequenced}
-use Rattle.enet_outbox.specs.Packing.{Holds}
+use Rattle.enet_outbox.specs.Private.Packing.{Holds}
 use Rattle.enet_outbox.proofs.Stages.{more_unsequenced}
 use Rattle.enet_outbox.proofs.packing.pack_unsequenced.Given as goal
 

@@ -6,7 +6,8 @@ use Rattle.enet_fragment.specs.PartialPacket.{PartialPacket}
 use Rattle.enet_packets.specs.declared.incoming_packet.IncomingPacket.{IncomingPacket}
 use Rattle.enet_packets.proofs.Maps.{set_value-same}
 use Rattle.enet_packets.proofs.PacketLemmas.{Entries, keeps-set}
-use Rattle.enet_packets.specs.Invariant.{KeepsPackets, most_if}
+use Rattle.enet_packets.specs.Invariant.{KeepsPackets}
+use Rattle.enet_packets.specs.Private.Invariant.{most_if}
 use Rattle.enet_packets.proofs.packets.add_piece.Goals as goal
 
 pub returns-in-Err-clause-err : goal.returns-in-Err-clause-err

@@ -5,7 +5,7 @@ use Rattle.std.specs.Map.{lookup, set_value}
 use Rattle.std.specs.BTreeMap.{is_at, insert_entry}
 use Rattle.std.specs.FinMap.{get, insert, get-empty}
 use Rattle.enet_fragment.specs.PartialPacket.{with_piece}
-use Rattle.enet_packets.specs.Invariant.{line_in}
+use Rattle.enet_packets.specs.Private.Invariant.{line_in}
 use Rattle.enet_packets.proofs.Maps.{set_value-same, set_value-insert}
 use Rattle.enet_packets.proofs.PacketLemmas.{on_ok, on_err}
 use Rattle.enet_packets.proofs.LineLemmas.{Line, fits_into, line_there, line_absent, keeps-same, same_size}

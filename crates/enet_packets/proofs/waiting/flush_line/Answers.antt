@@ -1,6 +1,7 @@
 use Rattle.std.proofs.Common.{◌≡◌, ◌<◌, sym, ap, subst, ◌∙◌, arith}
 use Rattle.std.specs.FinMap.{len}
-use Rattle.enet_packets.specs.Invariant.{KeepsLine, line_in}
+use Rattle.enet_packets.specs.Invariant.{KeepsLine}
+use Rattle.enet_packets.specs.Private.Invariant.{line_in}
 use Rattle.enet_packets.specs.Packets.{bytes_of, still_ahead}
 use Rattle.enet_packets.proofs.Maps.{removed}
 use Rattle.enet_packets.proofs.LineLemmas.{Line, line_in-insert, settles-kept, settles-gone}

@@ -1,6 +1,6 @@
 use Rattle.std.proofs.Common.{◌≡◌, ℕ, ◌+◌, ◌-◌, ◌%◌, ◌<◌, ◌≤◌, sym, ap, ◌∙◌, arith, zero-add, Some, None}
 use Rattle.enet_seq.specs.Windows.{after}
-use Rattle.enet_receiver.specs.Walk.{walk, pieces_at, fresh_at}
+use Rattle.enet_receiver.specs.Private.Walk.{walk, pieces_at, fresh_at}
 use Rattle.enet_receiver.specs.declared.foreseeing.TheConstants.{MOST_TURNS}
 use Rattle.enet_receiver.proofs.Steps.{walk-on, walk-off, walk-end}
 use Rattle.enet_receiver.proofs.foreseeing.chain_count.Goals as goal

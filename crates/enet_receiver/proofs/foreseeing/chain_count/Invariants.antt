@@ -1,5 +1,5 @@
 use Rattle.std.proofs.Common.{◌≡◌, ◌+◌, ◌-◌, ◌*◌, ◌≤◌}
-use Rattle.enet_receiver.specs.Walk.{walk}
+use Rattle.enet_receiver.specs.Private.Walk.{walk}
 use Rattle.enet_receiver.specs.declared.foreseeing.TheConstants.{MOST_TURNS}
 use Rattle.enet_receiver.proofs.foreseeing.chain_count.Given as goal
 

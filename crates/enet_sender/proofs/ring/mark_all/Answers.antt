@@ -4,7 +4,7 @@ use Rattle.std.proofs.lemmas.List.{take_all, get_or_read}
 use Rattle.slab.specs.Slab.{get}
 use Rattle.enet_sender.specs.Sender.{marked}
 use Rattle.enet_sender.specs.Pending.{times}
-use Rattle.enet_sender.specs.Rounds.{marked_at}
+use Rattle.enet_sender.specs.Private.Rounds.{marked_at}
 use Rattle.enet_sender.proofs.Rounds.{changed-more, marked-twice, mark-step}
 use Rattle.enet_sender.proofs.ring.mark_all.Goals as goal
 

@@ -5,7 +5,7 @@ use Rattle.slab.specs.Slab.{get}
 use Rattle.enet_rtt.specs.Clock.{HappensIn}
 use Rattle.enet_rtt.proofs.Waits.{never, more-in, all-in}
 use Rattle.enet_sender.specs.Sender.{is_late}
-use Rattle.enet_sender.specs.Rounds.{test_at}
+use Rattle.enet_sender.specs.Private.Rounds.{test_at}
 use Rattle.enet_sender.proofs.ring.next_late.Goals as goal
 
 pub loop-place-init : goal.loop-place-init

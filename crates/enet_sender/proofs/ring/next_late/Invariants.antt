@@ -4,7 +4,7 @@ use Rattle.std.specs.VecDeque.{deque_len}
 use Rattle.slab.specs.Slab.{get}
 use Rattle.enet_rtt.specs.Clock.{HappensIn}
 use Rattle.enet_sender.specs.Sender.{is_late}
-use Rattle.enet_sender.specs.Rounds.{test_at}
+use Rattle.enet_sender.specs.Private.Rounds.{test_at}
 use Rattle.enet_sender.proofs.ring.next_late.Given as goal
 
 abbrev pub invariant-loop-place : goal.invariant-loop-place

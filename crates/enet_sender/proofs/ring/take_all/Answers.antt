@@ -2,7 +2,7 @@ use Rattle.std.proofs.Common.{◌<◌, length, None, refl, sym, ap, ◌∙◌, a
 use Rattle.std.proofs.lemmas.List.{take_all, get_or_read}
 use Rattle.slab.specs.Slab.{get}
 use Rattle.enet_sender.specs.Pending.{times}
-use Rattle.enet_sender.specs.Rounds.{taken_at}
+use Rattle.enet_sender.specs.Private.Rounds.{taken_at}
 use Rattle.enet_sender.proofs.Rounds.{changed-more}
 use Rattle.enet_sender.proofs.ring.take_all.Goals as goal
 

@@ -2,7 +2,7 @@ use Rattle.std.proofs.Common.{◌≡◌, ℕ, take}
 use Rattle.std.specs.VecDeque.{deque_len}
 use Rattle.slab.specs.Slab.{get}
 use Rattle.enet_sender.specs.Pending.{times}
-use Rattle.enet_sender.specs.Rounds.{taken_at}
+use Rattle.enet_sender.specs.Private.Rounds.{taken_at}
 use Rattle.enet_sender.proofs.ring.take_all.Given as goal
 
 abbrev pub invariant-loop-place : goal.invariant-loop-place

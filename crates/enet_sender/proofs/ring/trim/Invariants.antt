@@ -1,7 +1,7 @@
 use Rattle.std.proofs.Common.{◌≡◌, ◌≤◌, ℕ, Option}
 use Rattle.std.specs.VecDeque.{deque_len, deque_capacity}
 use Rattle.enet_sender.specs.declared.sent.Sent.{Sent}
-use Rattle.enet_sender.specs.Trims.{Trims}
+use Rattle.enet_sender.specs.Private.Trims.{Trims}
 use Rattle.enet_sender.proofs.ring.trim.Given as goal
 
 abbrev pub invariant-loop-sent : goal.invariant-loop-sent

@@ -1,7 +1,7 @@
 use Rattle.std.proofs.Common.{rules}
 use Rattle.enet_service.specs.declared.run_length.RunLength.TheVariants.{Turns}
 use Rattle.enet_service.specs.ServiceRuns.{HasTurned, state_of}
-use Rattle.enet_serve.specs.Playing.{HasVisited}
+use Rattle.enet_serve.specs.Private.Playing.{HasVisited}
 use Rattle.enet_serve.proofs.More.{visited_or_fault}
 use Rattle.enet_serve.proofs.client.run_client.Goals as goal
 

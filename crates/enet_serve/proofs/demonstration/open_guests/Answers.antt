@@ -2,7 +2,7 @@ use Rattle.std.proofs.Common.{◌≡◌, ℕ, ◌++◌, ◌∷◌, [], subst, ar
 use Rattle.std.proofs.lemmas.Grind.{common_steps}
 use Rattle.enet_codec.specs.declared.address.Addr.{Addr}
 use Rattle.enet_serve.specs.Visits.{plan_of}
-use Rattle.enet_serve.specs.Playing.{IsGuest}
+use Rattle.enet_serve.specs.Private.Playing.{IsGuest}
 use Rattle.enet_serve.proofs.More.{one_guest_more}
 use Rattle.enet_serve.proofs.demonstration.open_guests.Goals as goal
 

@@ -1,7 +1,7 @@
 use Rattle.std.proofs.Common.{◌≡◌, ℕ, ◌<◌, length, slice_index_or}
 use Rattle.enet_serve.specs.declared.client.Guest.{Guest}
 use Rattle.enet_serve.specs.Visits.{plan_of}
-use Rattle.enet_serve.specs.Playing.{IsGuest}
+use Rattle.enet_serve.specs.Private.Playing.{IsGuest}
 use Rattle.enet_serve.proofs.demonstration.open_guests.Given as goal
 
 abbrev pub invariant-loop-number : goal.invariant-loop-number

@@ -3,7 +3,7 @@ use Rattle.std.proofs.lemmas.Result.{IfOk-at_ok}
 use Rattle.std.specs.declared.alloc.Global.{Global}
 use Rattle.enet_codec.specs.declared.refusal.Refusal.{Refusal}
 use Rattle.enet_serve.specs.declared.player.Visit.{Visit}
-use Rattle.enet_serve.specs.Visits.{AreOutcomes}
+use Rattle.enet_serve.specs.Private.Visits.{AreOutcomes}
 use Rattle.enet_serve.proofs.More.{all_or_fault, fault_of_client}
 use Rattle.enet_serve.proofs.demonstration.run_all.Goals as goal
 

@@ -4,7 +4,8 @@ use Rattle.enet_network.specs.Network.{HostEnd, fresh_end}
 use Rattle.enet_records.specs.Records.{Records, AreKept}
 use Rattle.enet_records.proofs.Fresh.{fresh-kept}
 use Rattle.enet_records.proofs.Keeps.{kept-more}
-use Rattle.enet_site.specs.Sites.{AreShown, begun_if}
+use Rattle.enet_site.specs.Sites.{AreShown}
+use Rattle.enet_site.specs.Private.Sites.{begun_if}
 use Rattle.enet_site.proofs.Beginning.{next-other}
 use Rattle.enet_site.proofs.Hears.{brought-by}
 use Rattle.enet_site.proofs.arriving.hear.Goals as goal

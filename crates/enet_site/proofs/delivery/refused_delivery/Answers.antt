@@ -3,7 +3,8 @@ use Rattle.enet_network.specs.Lateness.{has_late}
 use Rattle.enet_network.specs.Log.{Logged, greatest_at}
 use Rattle.enet_network.specs.Network.{is_earlier, numbers_in, end_of}
 use Rattle.enet_records.specs.Records.{Records}
-use Rattle.enet_site.specs.Sites.{site, with_ends, unread}
+use Rattle.enet_site.specs.Sites.{site}
+use Rattle.enet_site.specs.Private.Sites.{with_ends, unread}
 use Rattle.enet_site.proofs.Refusing.{earlier-at, late-at}
 use Rattle.enet_site.proofs.delivery.refused_delivery.Goals as goal
 

@@ -1,6 +1,7 @@
 use Rattle.std.proofs.Common.{◌≡◌, ◌<◌, ℕ, vec_len, get_or}
 use Rattle.enet_slot.specs.declared.slot.Slot.{Slot}
-use Rattle.enet_slot.specs.Slotted.{HasRoom, all_shown}
+use Rattle.enet_slot.specs.Slotted.{all_shown}
+use Rattle.enet_slot.specs.Private.Slotted.{HasRoom}
 use Rattle.enet_slot.proofs.all.reserve_all.Given as goal
 
 abbrev pub invariant-loop-place : goal.invariant-loop-place

@@ -1,7 +1,8 @@
 use Rattle.std.proofs.Common.{◌≡◌, ◌⊎◌, vec_len}
 use Rattle.std.specs.List.{All, Contains}
 use Rattle.crossbeam_queue.specs.Passes.{view, IsPassOf}
-use Rattle.enet_submit.specs.Rule.{draining, seats_in, taken_in, finished_in, log, Among}
+use Rattle.enet_submit.specs.Rule.{draining, seats_in, taken_in, log, Among}
+use Rattle.enet_submit.specs.Private.Rule.{finished_in}
 use Rattle.enet_submit.specs.Words.{seat_of, all_sent, IsFinishedOf}
 use Rattle.enet_submit.proofs.settling.take_in.Given as goal
 

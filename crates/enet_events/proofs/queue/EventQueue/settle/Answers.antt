@@ -1,6 +1,7 @@
 use Rattle.std.proofs.Common.{sym, subst, rules}
 use Rattle.crossbeam_queue.specs.Passes.{view}
-use Rattle.enet_events.specs.Rule.{posting, takers_of, made_of, posted_of, known_of, PosterKnows}
+use Rattle.enet_events.specs.Rule.{posting, takers_of, posted_of, known_of, PosterKnows}
+use Rattle.enet_events.specs.Private.Rule.{made_of}
 use Rattle.enet_events.specs.Words.{IsAllTaken, IsSharedOut}
 use Rattle.enet_events.specs.Tokens.{poster_state}
 use Rattle.enet_events.proofs.Rules.{looks}

@@ -4,7 +4,7 @@ use Rattle.enet_host.specs.Turns.{IsFirst}
 use Rattle.enet_slot.specs.Calls.{tells}
 use Rattle.enet_slot.specs.Slotted.{all_shown}
 use Rattle.enet_host.specs.Foretelling.{teller_of, Foretells, IsTeller}
-use Rattle.enet_host.specs.Shown.{SlotIsNamed}
+use Rattle.enet_host.specs.Private.Shown.{SlotIsNamed}
 use Rattle.enet_host.specs.contracts.host.HostCore.{the_view}
 use Rattle.enet_host.proofs.Foretold.{is-teller, foretells-teller}
 use Rattle.enet_host.proofs.host.HostCore.next_event_of.Goals.{After-name_at}

@@ -6,7 +6,7 @@ use Rattle.enet_host.specs.Turns.{IsFirst, HoldsNowhere}
 use Rattle.enet_slot.specs.Calls.{tells}
 use Rattle.enet_host.specs.Foretelling.{packet_of}
 use Rattle.enet_slot.specs.Slotted.{all_shown}
-use Rattle.enet_host.specs.Shown.{SlotShows}
+use Rattle.enet_host.specs.Private.Shown.{SlotShows}
 use Rattle.enet_host.proofs.Foretold.{foretells-nothing, foretells-packet}
 use Rattle.enet_host.proofs.host.HostCore.next_packet.Goals as goal
 

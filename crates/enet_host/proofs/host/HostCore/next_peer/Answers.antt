@@ -3,7 +3,7 @@ use Rattle.enet_slot.specs.declared.slot.Slot.{Slot}
 use Rattle.enet_slot.specs.Slotted.{all_shown}
 use Rattle.enet_host.specs.Host.{Host}
 use Rattle.enet_host.specs.Foretelling.{next_name}
-use Rattle.enet_host.specs.Shown.{SlotIsNamed}
+use Rattle.enet_host.specs.Private.Shown.{SlotIsNamed}
 use Rattle.enet_host.proofs.Offering.{found-in}
 use Rattle.enet_host.proofs.Foretold.{next-named}
 use Rattle.enet_host.proofs.host.HostCore.next_peer.Goals as goal

@@ -1,5 +1,5 @@
 use Rattle.std.proofs.Common.{◌-◌, ◌≤◌}
-use Rattle.enet_host.specs.Skips.{PassesTurns}
+use Rattle.enet_host.specs.Private.Skips.{PassesTurns}
 use Rattle.enet_host.proofs.skips.Skips.next_turn.Given as goal
 
 abbrev pub invariant-loop-next : goal.invariant-loop-next

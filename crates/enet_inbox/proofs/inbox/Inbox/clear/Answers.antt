@@ -1,7 +1,8 @@
 use Rattle.std.proofs.Common.{◌≡◌, ◌-◌, sym, ap, subst, ◌∙◌, List}
 use Rattle.enet_receiver.specs.Foresight.{ReceivingEnd}
 use Rattle.enet_inbox.specs.Inbox.{Inbox, cleared}
-use Rattle.enet_inbox.specs.Invariant.{KeepsInbox, held_in}
+use Rattle.enet_inbox.specs.Invariant.{KeepsInbox}
+use Rattle.enet_inbox.specs.Private.Invariant.{held_in}
 use Rattle.enet_inbox.specs.InboxParts.{inbox_of}
 use Rattle.enet_inbox.proofs.Keeping.{keeps_cleared}
 use Rattle.enet_inbox.proofs.inbox.Inbox.clear.Goals as goal

@@ -1,7 +1,7 @@
 use Rattle.std.proofs.Common.{rules, ◌≡◌, ap, subst, ◌∙◌}
 use Rattle.enet_codec.specs.Message.{view}
 use Rattle.enet_inbox.specs.Inbox.{Inbox}
-use Rattle.enet_inbox.specs.Invariant.{HasFront}
+use Rattle.enet_inbox.specs.Private.Invariant.{HasFront}
 use Rattle.enet_inbox.specs.InboxParts.{foreseen, told}
 use Rattle.enet_inbox.proofs.Keeping.{has_front}
 use Rattle.enet_inbox.proofs.Foresights.{told_is, if_kept}

@@ -1,7 +1,8 @@
 use Rattle.std.proofs.Common.{◌≡◌, ◌<◌, ◌^◌, ◌-◌, List, drop, sym, ap, subst, ◌∙◌, arith}
 use Rattle.enet_receiver.specs.Foresight.{ReceivingEnd}
 use Rattle.enet_inbox.specs.Inbox.{Inbox, narrowed}
-use Rattle.enet_inbox.specs.Invariant.{KeepsInbox, held_in}
+use Rattle.enet_inbox.specs.Invariant.{KeepsInbox}
+use Rattle.enet_inbox.specs.Private.Invariant.{held_in}
 use Rattle.enet_inbox.specs.InboxParts.{inbox_of}
 use Rattle.enet_inbox.proofs.Keeping.{keeps_narrowed, dropped_counted, rest_of}
 use Rattle.enet_inbox.proofs.inbox.Inbox.narrow.Goals as goal

@@ -1,7 +1,7 @@
 use Rattle.std.proofs.Common.{◌≡◌, sym, subst, arith}
 use Rattle.enet_outbox.specs.Outbox.{Outbox, Sending, transit_of}
 use Rattle.enet_outbox.specs.Emission.{filled}
-use Rattle.enet_outbox.specs.Packing.{Leads}
+use Rattle.enet_outbox.specs.Private.Packing.{Leads}
 use Rattle.enet_outbox.specs.contracts.outbox.Outbox.{the_view}
 use Rattle.enet_outbox.proofs.Emissions.{filled-leads, left_by}
 use Rattle.enet_outbox.proofs.outbox.Outbox.pack.Goals.{After-pack_channels-sent}

@@ -5,7 +5,8 @@ use Rattle.std.specs.BTreeMap.{is_at}
 use Rattle.std.specs.FinMap.{FinMap, get}
 use Rattle.enet_packets.specs.declared.incoming_packet.IncomingPacket.{IncomingPacket}
 use Rattle.enet_packets.proofs.Maps.{get-from, inserted_entry, set_value-insert}
-use Rattle.enet_packets.specs.Invariant.{KeepsPackets, most_with}
+use Rattle.enet_packets.specs.Invariant.{KeepsPackets}
+use Rattle.enet_packets.specs.Private.Invariant.{most_with}
 use Rattle.enet_codec.specs.declared.refusal.Refusal.{Refusal}
 use Rattle.enet_packets.proofs.packets.Packets.add.Goals as goal
 

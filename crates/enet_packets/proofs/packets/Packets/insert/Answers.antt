@@ -4,7 +4,8 @@ use Rattle.std.specs.Map.{lookup}
 use Rattle.std.specs.BTreeMap.{is_at}
 use Rattle.std.specs.FinMap.{from_entries, len}
 use Rattle.enet_packets.specs.Packets.{bytes_of}
-use Rattle.enet_packets.specs.Invariant.{KeepsPackets, most_if, total_of}
+use Rattle.enet_packets.specs.Invariant.{KeepsPackets, total_of}
+use Rattle.enet_packets.specs.Private.Invariant.{most_if}
 use Rattle.enet_fragment.specs.Whole.{is_whole}
 use Rattle.enet_packets.proofs.Maps.{get-from, inserted_entry}
 use Rattle.enet_packets.proofs.PacketLemmas.{Entries, few_kept, light_kept, keeps-insert, bytes_bounded}

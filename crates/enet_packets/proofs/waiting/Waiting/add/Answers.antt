@@ -3,7 +3,7 @@ use Rattle.std.specs.Option.{IsSomeAnd}
 use Rattle.std.specs.FinMap.{len, get, insert, from_entries}
 use Rattle.enet_fragment.specs.PartialPacket.{with_piece}
 use Rattle.enet_packets.specs.declared.incoming_packet.IncomingPacket.{IncomingPacket}
-use Rattle.enet_packets.specs.Invariant.{line_in}
+use Rattle.enet_packets.specs.Private.Invariant.{line_in}
 use Rattle.enet_packets.specs.Packets.{Lines, packets_in, line_at, with_line}
 use Rattle.enet_packets.proofs.Maps.{inserted_entry, values-sorted}
 use Rattle.enet_packets.proofs.PacketLemmas.{on_ok}

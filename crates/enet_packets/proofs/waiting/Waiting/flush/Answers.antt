@@ -4,7 +4,7 @@ use Rattle.std.specs.Map.{lookup, values_of}
 use Rattle.std.specs.BTreeMap.{is_at}
 use Rattle.std.specs.FinMap.{len, get, entries, empty, from_entries}
 use Rattle.std.proofs.lemmas.List.{append-nil}
-use Rattle.enet_packets.specs.Invariant.{line_in}
+use Rattle.enet_packets.specs.Private.Invariant.{line_in}
 use Rattle.enet_packets.specs.Packets.{Lines, bytes_of, packets_in, line_at, with_line, fresh, last_fresh, still_ahead}
 use Rattle.enet_packets.proofs.Maps.{get-from, values-sorted}
 use Rattle.enet_packets.proofs.LineLemmas.{Line, line-is, line_absent, line_le, len_nothing, bytes_nothing, lines_bytes_bounded, none_from, fresh_nothing, last_nothing, nothing_settles}

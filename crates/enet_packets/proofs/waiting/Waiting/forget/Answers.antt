@@ -1,7 +1,7 @@
 use Rattle.std.proofs.Common.{◌≡◌, sum_by, sym, ap, ◌∙◌, arith}
 use Rattle.std.specs.Map.{values_of}
 use Rattle.std.specs.FinMap.{len, from_entries}
-use Rattle.enet_packets.specs.Invariant.{line_in}
+use Rattle.enet_packets.specs.Private.Invariant.{line_in}
 use Rattle.enet_packets.specs.Packets.{Lines, bytes_of, packets_in}
 use Rattle.enet_packets.proofs.Maps.{removed, values-sorted}
 use Rattle.enet_packets.proofs.LineLemmas.{Line, line_there, sum_without, len_nothing, bytes_nothing, keeps-without}

@@ -1,7 +1,8 @@
 use Rattle.std.proofs.Common.{◌≡◌, ◌+◌, None, sum_by, sym, ap, ◌∙◌, arith}
 use Rattle.std.specs.Map.{values_of}
 use Rattle.std.specs.FinMap.{len, get, insert, from_entries}
-use Rattle.enet_packets.specs.Invariant.{line_in, total_of}
+use Rattle.enet_packets.specs.Invariant.{total_of}
+use Rattle.enet_packets.specs.Private.Invariant.{line_in}
 use Rattle.enet_packets.specs.Packets.{Lines, packets_in, line_at, with_line}
 use Rattle.enet_packets.proofs.Maps.{inserted_entry, values-sorted}
 use Rattle.enet_packets.proofs.LineLemmas.{Line, line-is, with_line-some, len-insert_some, grown, packets_bounded, lines_bytes_bounded}

@@ -3,7 +3,7 @@ use Rattle.std.specs.Prelude.{is_some}
 use Rattle.std.proofs.lemmas.Result.{err_from_is_err_and}
 use Rattle.enet_codec.specs.Message.{view}
 use Rattle.enet_peer.specs.CommandEffect.{Outcome, answered, is_kept, obeyed, wants_memory}
-use Rattle.enet_peer.specs.Acting.{acted, by_foresight, Replies}
+use Rattle.enet_peer.specs.Private.Acting.{acted, by_foresight, Replies}
 use Rattle.enet_peer.specs.Peering.{Peering}
 use Rattle.enet_peer.proofs.Arriving.{obeyed_is, stopped_before, no_memory}
 use Rattle.enet_peer.proofs.Places.{has_place, kept_wanted, place_wanted, replied}

@@ -1,9 +1,9 @@
 use Rattle.std.proofs.Common.{refl, ◌∙◌, subst, sym, arith}
 use Rattle.enet_receiver.specs.ArrivingData.{data_command}
 use Rattle.enet_receiver.specs.Foresight.{ReceivingEnd}
-use Rattle.enet_receiver.specs.Admitted.{Admitted, IsInside}
+use Rattle.enet_receiver.specs.Private.Admitted.{Admitted, IsInside}
 use Rattle.enet_receiver.specs.ReceiverParts.{receiver_of}
-use Rattle.enet_receiver.specs.Walk.{Completes}
+use Rattle.enet_receiver.specs.Private.Walk.{Completes}
 use Rattle.enet_receiver.specs.declared.foreseeing.TheConstants.{MOST_TURNS}
 use Rattle.enet_receiver.proofs.Taken.{dispatches-at}
 use Rattle.enet_receiver.proofs.incoming.Incoming.dispatches.Goals as goal

@@ -1,7 +1,7 @@
 use Rattle.std.proofs.Common.{arith, subst, sym, ◌∙◌}
 use Rattle.enet_receiver.specs.ArrivingData.{data_command}
 use Rattle.enet_receiver.specs.Foresight.{ReceivingEnd}
-use Rattle.enet_receiver.specs.Admitted.{Admitted, IsInside}
+use Rattle.enet_receiver.specs.Private.Admitted.{Admitted, IsInside}
 use Rattle.enet_receiver.specs.Invariant.{Keeps}
 use Rattle.enet_receiver.specs.ReceiverParts.{receiver_of}
 use Rattle.enet_receiver.proofs.Keeping.{pieces_of_kept, Keeps-all_released}

@@ -1,7 +1,7 @@
 use Rattle.std.proofs.Common.{sym, ap, ◌∙◌}
 use Rattle.slab.specs.Slab.{get}
 use Rattle.enet_sender.specs.Pending.{times, named}
-use Rattle.enet_sender.specs.Rounds.{taken_at}
+use Rattle.enet_sender.specs.Private.Rounds.{taken_at}
 use Rattle.enet_sender.specs.Rings.{rings_of, commands_at}
 use Rattle.enet_sender.proofs.Named.{times-append}
 use Rattle.enet_sender.proofs.Rounds.{Leaves, leaves-keeps, leaves-passes, taken-both}

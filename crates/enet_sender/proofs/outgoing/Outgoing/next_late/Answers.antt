@@ -3,7 +3,7 @@ use Rattle.std.specs.List.{list_any}
 use Rattle.slab.specs.Slab.{get}
 use Rattle.enet_rtt.proofs.Waits.{same-in}
 use Rattle.enet_sender.specs.Sender.{is_late}
-use Rattle.enet_sender.specs.Rounds.{test_at}
+use Rattle.enet_sender.specs.Private.Rounds.{test_at}
 use Rattle.enet_sender.specs.Rings.{sender_in}
 use Rattle.enet_sender.proofs.Rounds.{any-named}
 use Rattle.enet_sender.proofs.outgoing.Outgoing.next_late.Goals as goal

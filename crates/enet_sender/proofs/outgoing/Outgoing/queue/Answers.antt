@@ -2,7 +2,8 @@ use Rattle.std.proofs.Common.{◌≡◌, ℕ, ◌+◌, ◌++◌, ◌∷◌, [], 
 use Rattle.std.proofs.lemmas.List.{length-map}
 use Rattle.slab.specs.Slab.{get}
 use Rattle.enet_sender.proofs.Counting.{reliable_in-le}
-use Rattle.enet_sender.specs.Pending.{named, queued, Passes}
+use Rattle.enet_sender.specs.Pending.{named, Passes}
+use Rattle.enet_sender.specs.Private.Pending.{queued}
 use Rattle.enet_sender.specs.Rings.{Rings, Keeps, rings_of, keys_of, commands_at, command_of}
 use Rattle.enet_sender.proofs.Named.{named-length}
 use Rattle.enet_sender.proofs.Queueing.{Comes, queued_on, comes-queued, comes-sent, comes-keeps, comes-passes}

@@ -4,7 +4,7 @@ use Rattle.std.specs.VecDeque.{deque_len, deque_capacity}
 use Rattle.slab.specs.Slab.{get, slab_len}
 use Rattle.enet_fragment.specs.Cutting.{piece_length}
 use Rattle.enet_sender.specs.Sender.{piece_of_body}
-use Rattle.enet_sender.specs.Queues.{Queues}
+use Rattle.enet_sender.specs.Private.Queues.{Queues}
 use Rattle.enet_sender.proofs.outgoing.Outgoing.queue_pieces.Given as goal
 
 abbrev pub invariant-loop-i : goal.invariant-loop-i

@@ -3,7 +3,7 @@ use Rattle.slab.specs.Slab.{get}
 use Rattle.enet_seq.specs.Windows.{after}
 use Rattle.enet_sender.specs.declared.course.Course.{Course}
 use Rattle.enet_sender.specs.declared.sent.Sent.{Sent}
-use Rattle.enet_sender.specs.Course.{course_commands}
+use Rattle.enet_sender.specs.Private.Course.{course_commands}
 use Rattle.enet_sender.specs.Due.{SendingEnd}
 use Rattle.enet_sender.specs.Pending.{named}
 use Rattle.enet_sender.specs.Rings.{Rings, rings_of, commands_at}

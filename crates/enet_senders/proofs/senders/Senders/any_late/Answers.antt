@@ -5,7 +5,8 @@ use Rattle.enet_sender.specs.Due.{SendingEnd}
 use Rattle.enet_sender.specs.declared.outgoing.Outgoing.{Outgoing}
 use Rattle.enet_senders.specs.declared.quiet.Quiet.{Quiet}
 use Rattle.enet_senders.specs.Senders.{ends_in}
-use Rattle.enet_senders.specs.Quiets.{FitsQuiet, AllQuiet, found_quiet}
+use Rattle.enet_senders.specs.Quiets.{FitsQuiet, AllQuiet}
+use Rattle.enet_senders.specs.Private.Quiets.{found_quiet}
 use Rattle.enet_senders.proofs.Quieting.{none-late, quiet-found, fits-found, late-found}
 use Rattle.enet_senders.proofs.senders.Senders.any_late.Goals as goal
 

@@ -3,7 +3,8 @@ use Rattle.enet_sender.specs.Due.{SendingEnd}
 use Rattle.enet_sender.specs.declared.outgoing.Due.TheVariants as due
 use Rattle.enet_senders.specs.declared.quiet.Quiet.{Quiet}
 use Rattle.enet_senders.specs.Senders.{ends_in}
-use Rattle.enet_senders.specs.Quiets.{FitsQuiet, AllQuiet, after_send}
+use Rattle.enet_senders.specs.Quiets.{FitsQuiet, AllQuiet}
+use Rattle.enet_senders.specs.Private.Quiets.{after_send}
 use Rattle.enet_senders.proofs.Quieting.{quiet-due, quiet-unsent, fits-after}
 use Rattle.enet_senders.proofs.senders.Senders.next_due.Goals as goal
 

@@ -1,4 +1,4 @@
-use Rattle.enet_serve.specs.Playing.{HasPlayed, IsSame}
+use Rattle.enet_serve.specs.Private.Playing.{HasPlayed, IsSame}
 use Rattle.enet_serve.proofs.player.Player.run.Given as goal
 
 abbrev pub invariant-loop : goal.invariant-loop

@@ -5,7 +5,8 @@ use Rattle.crossbeam_queue.specs.Passes.{view}
 use Rattle.enet_submit.specs.declared.order.Submission.{Submission}
 use Rattle.enet_submit.specs.declared.rule.SeatLog.{SeatLog}
 use Rattle.enet_submit.specs.History.{of, IsHistory}
-use Rattle.enet_submit.specs.Rule.{Shows, draining, seats_in, taken_in, finished_in}
+use Rattle.enet_submit.specs.Rule.{Shows, draining, seats_in, taken_in}
+use Rattle.enet_submit.specs.Private.Rule.{finished_in}
 use Rattle.enet_submit.specs.Words.{AllBack, HasSent, IsFinishedOf, seat_of, all_sent}
 use Rattle.enet_submit.proofs.Rules.{looks}
 use Rattle.enet_submit.proofs.Settles.{got_within, seen, all_taken, none_held, sum_of_counts, to_all}

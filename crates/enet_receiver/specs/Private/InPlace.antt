@@ -5,7 +5,7 @@ use Rattle.enet_fragment.specs.declared.data.DataCommand.{DataCommand}
 use Rattle.enet_packets.specs.Packets.{handed_out}
 use Rattle.enet_receiver.specs.Receiver.{Receiver}
 use Rattle.enet_receiver.specs.Foresight.{ReceivingEnd}
-use Rattle.enet_receiver.specs.Next.{only_packet}
+use Rattle.enet_receiver.specs.Private.Next.{only_packet}
 
 -- an unreliable command that is its whole packet and goes with the front, where nothing is held and nothing waits
 pub record IsInPlace (r : Receiver) (c : DataCommand) (place : ℕ) : Type 0 where

@@ -10,7 +10,7 @@ use Rattle.enet_packets.specs.declared.incoming_packet.IncomingPacket.{IncomingP
 use Rattle.enet_packets.specs.Packets.{Lines, line_at, fresh}
 use Rattle.enet_receiver.specs.declared.foreseeing.Completed.{Completed}
 use Rattle.enet_receiver.specs.Receiver.{Receiver, next_whole}
-use Rattle.enet_receiver.specs.ReceiverParts.{grown_at}
+use Rattle.enet_receiver.specs.Private.ReceiverParts.{grown_at}
 
 -- how many pieces a packet has
 abbrev pub pieces_of : Option IncomingPacket → Option ℕ

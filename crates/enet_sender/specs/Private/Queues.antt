@@ -4,7 +4,7 @@ use Rattle.std.specs.List.{range_with_len}
 use Rattle.enet_seq.specs.Windows.{after}
 use Rattle.enet_sender.specs.declared.course.Course.{Course}
 use Rattle.enet_sender.specs.declared.sent.Sent.{Sent}
-use Rattle.enet_sender.specs.Course.{piece_command}
+use Rattle.enet_sender.specs.Private.Course.{piece_command}
 use Rattle.enet_sender.specs.declared.outgoing.Outgoing.{Outgoing}
 use Rattle.enet_sender.specs.Pending.{named, Passes}
 use Rattle.enet_sender.specs.Rings.{Keeps, rings_of, keys_of, commands_at}

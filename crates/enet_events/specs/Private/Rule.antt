@@ -1,0 +1,11 @@
+-- The rule of the queue, and what a step of it does to what a pass knows.
+use Rattle.std.specs.Prelude.{ℕ}
+use mathlib.Core.Option.{some}
+use lib.ListN.{get_elem?}
+use Rattle.enet_events.specs.declared.rule.View.{View}
+use Rattle.enet_events.specs.declared.rule.View.TheVariants.{Posting, Taking, Spent}
+
+abbrev pub made_of : View → ℕ
+made_of (Posting takers made posted known) = made
+made_of (Taking takers index taken) = 0
+made_of Spent = 0

@@ -1,0 +1,12 @@
+-- What holds at every moment, whatever the schedule, and what a step tells the token that takes it.
+use Rattle.std.specs.Prelude.{List, []}
+use mathlib.Core.Option.{some}
+use lib.ListN.{get_elem?}
+use Rattle.enet_submit.specs.declared.rule.SeatLog.{SeatLog}
+use Rattle.enet_submit.specs.declared.rule.View.{View}
+use Rattle.enet_submit.specs.declared.rule.View.TheVariants.{Draining, Sending, Spent}
+
+abbrev pub finished_in : View → List SeatLog
+finished_in (Draining seats made taken finished) = finished
+finished_in (Sending seat seats sent) = []
+finished_in Spent = []
