@@ -1,7 +1,8 @@
 #!/usr/bin/env bash
 # All tests: the gate (every proof from nothing, the must-fail edits, the tests, the programs), then whether the edits that the gate
-# leaves alone still fit the text, the worked scripts and captured datagrams through the built program, and clients of the reference library
-# that talk through it. Each of the four last ends with a line 'N passed, M failed'; the status is other than 0 where anything failed.
+# leaves alone still fit the text, the worked scripts and captured datagrams through the built program, clients of the reference library that
+# talk through it, and the library for C. Each of the five last ends with a line 'N passed, M failed'; the status is other than 0 where
+# anything failed.
 set -u
 cd "$(dirname "$0")/.." || exit 1
 begun=$SECONDS
@@ -16,4 +17,8 @@ bash scripts/check-rows.sh
 rows=$?
 bash scripts/check-inspect.sh
 inspected=$?
-bash scripts/check-clients.sh && [ "$edits" = 0 ] && [ "$rows" = 0 ] && [ "$inspected" = 0 ]
+bash scripts/check-clients.sh
+clients=$?
+bash scripts/check-c.sh
+library=$?
+[ "$edits $rows $inspected $clients $library" = '0 0 0 0 0' ]
