@@ -1,7 +1,7 @@
 #!/usr/bin/env bash
-# The proved part of the library for C, crates/enet_c/out/libenet_c.a, over the libraries that `rt ci` has left in the crates' folders: it
-# proves `enet_c` alone, within some two minutes of one processor, where `rt lib` would prove all below it once more. It leans on how the
-# kit's `rt` calls its compiler.
+# The proved part of the library for C, crates/enet_c/out/libenet_c.a, over the libraries that `rt ci` has left in the crates' folders,
+# which scripts/test.sh clears before (`rt ci` puts those back that stood there). It proves `enet_c` alone, within some minutes of one
+# processor, where `rt lib` would prove all below it once more. It leans on how the kit's `rt` calls its compiler.
 set -eu
 cd "$(dirname "$0")/.."
 kit=$(dirname "$(rt doc)")

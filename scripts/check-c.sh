@@ -1,6 +1,6 @@
 #!/usr/bin/env bash
-# The library for C and libenet's API over it: `check-c.sh [ARCHIVE]`. ARCHIVE is the proved part, by default crates/enet_c/out/libenet_c.a;
-# where `rt lib` hasn't made that, scripts/archive-c.sh makes it of what `rt ci` left. Builds both (scripts/build-c.sh) and runs
+# The library for C and libenet's API over it: `check-c.sh [ARCHIVE]`. ARCHIVE is the proved part, by default crates/enet_c/out/libenet_c.a,
+# which `rt lib` makes there, or after `rt ci` scripts/archive-c.sh. Builds both (scripts/build-c.sh) and runs
 # - the tests of c/tests: the header against the library and bad use (border), two hosts in memory over a lossy net (lossy), and each
 #   allocation failing in turn (memory); plain, with AddressSanitizer and UndefinedBehaviorSanitizer, and under valgrind;
 # - the layer: its structures lie as the reference library's header says (layout), and what isn't offered is refused (refusals);
@@ -10,11 +10,10 @@
 # - programs that weren't written for it: libenet's tutorial (c/tests/tutorial.c) on the layer, and Debian's python3-enet, which was built
 #   for libenet, on our shared library (c/tests/binding.py), each with the reference library at the other end, both ways round.
 # Prints what failed, and as last line 'N passed, M failed'; the status is 1 where one failed or nothing was tried. It ends within 4
-# minutes, and 3 more where the archive is to be made. As root it installs what is missing of gcc, libenet-dev, valgrind and python3-enet.
+# minutes. As root it installs what is missing of gcc, libenet-dev, valgrind and python3-enet.
 cd "$(dirname "$0")/.." || exit 1
 . scripts/clients.sh
 archive=${1:-crates/enet_c/out/libenet_c.a}
-[ -e "$archive" ] || bash scripts/archive-c.sh > /dev/null || exit 1
 passed=0
 failed=0
 

@@ -6,6 +6,8 @@
 set -u
 cd "$(dirname "$0")/.." || exit 1
 begun=$SECONDS
+# What the crates' folders have of built libraries goes first, so that those that stand there afterwards are the gate's.
+rm -rf crates/*/out/rlib crates/enet_c/out/libenet_c.a
 # One check a processor: several processors on one check take twice the processor time for the same proof.
 RT_JOBS=${RT_JOBS:-$(nproc)} rt ci
 gate=$?
@@ -19,6 +21,6 @@ bash scripts/check-inspect.sh
 inspected=$?
 bash scripts/check-clients.sh
 clients=$?
-bash scripts/check-c.sh
+if bash scripts/archive-c.sh > /dev/null; then bash scripts/check-c.sh; else echo '0 passed, 1 failed'; false; fi
 library=$?
 [ "$edits $rows $inspected $clients $library" = '0 0 0 0 0' ]

@@ -5,4 +5,3 @@ pub mod Serving
 pub mod WireMemory
 pub mod Socket
 pub mod Wires
-pub mod Private

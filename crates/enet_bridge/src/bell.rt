@@ -8,14 +8,14 @@ use std::sync::atomic::Ordering::SeqCst;
 const WAKER: Token = Token(1);
 
 /// Ends the wait of a socket's wire. Whoever hands work over rings it afterwards; a ring before the wait counts too, so no
-/// work is slept over. Threads share it by reference.
+/// work is slept over. It also tells whether that thread has orders left. Threads share it by reference.
 #[derive(Drop)]
 pub struct Bell {
     // Rung since this was last asked.
     rung: AtomicBool,
     // The waiting thread sleeps, or is about to.
     asleep: AtomicBool,
-    // The waiting thread found no order, and none was handed over since.
+    // The waiting thread found no order lately. It may still be true where orders were handed over while it looked.
     idle: AtomicBool,
     waker: Waker,
 }

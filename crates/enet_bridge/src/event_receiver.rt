@@ -53,7 +53,7 @@ impl TakerBell {
         }
     }
 
-    /// Asks for the bell to be rung at the end of the service's turn, also where it puts no event.
+    /// Asks for the bell to be rung at the end of the service's turn at the latest, also where it puts no event.
     pub fn want(&self) {
         self.wanted.store(true, SeqCst);
     }

@@ -1,6 +1,6 @@
 //! A wire in memory.
 ghost use Rattle.std.specs.Prelude.{◌≡◌, ◌∷◌, ◌+◌, ◌<◌, ◌≤◌, IfOk, IfErr, IfSome, take, length};
-ghost use Rattle.enet_bridge.specs.Private.WireMemory.{NextIs, Takes, Waits};
+ghost use Rattle.enet_bridge.specs.WireMemory.{NextIs, Takes, Waits};
 
 use crate::told::{Step, Told};
 use crate::wire::Wire;
@@ -56,9 +56,8 @@ impl MemoryWire {
 
 impl Wire for MemoryWire {
     ghost use Rattle.std.specs.Prelude.{◌≡◌, ◌≤◌, ◌++◌, ◌<◌, Some, None, Ok, false, IfOk, IfSome, IfErr};
-    ghost use Rattle.enet_bridge.specs.Wires.{unless_spent, last_fault};
-    ghost use Rattle.enet_bridge.specs.Private.Wires.{came, went, waited, faults_after};
-    ghost use Rattle.enet_bridge.specs.Private.WireMemory.{NextIs, Takes, Waits, Fails, given_of};
+    ghost use Rattle.enet_bridge.specs.Wires.{came, went, waited, unless_spent, faults_after, last_fault};
+    ghost use Rattle.enet_bridge.specs.WireMemory.{NextIs, Takes, Waits, Fails, given_of};
 
     ghost told = { λ w. Some w.told };
 

@@ -84,7 +84,8 @@ impl<'a> OrderSender<'a> {
         pump(rt, self.queue, &mut self.seat, &mut self.waiting)
     }
 
-    /// Whether the service found no order after the last that was submitted here, as far as this thread knows.
+    /// Whether the service has lately found no order. It may answer true though an order has just been submitted, until the next
+    /// `submit`; with a new bell it answers true.
     pub fn is_service_idle(&self) -> bool {
         self.bell.is_idle()
     }

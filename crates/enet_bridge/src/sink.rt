@@ -22,7 +22,8 @@ pub trait Sink {
         ensures put { puts self.old event (is_ok result) self.new }
         ensures back { IfErr result (λ back. back ≡ event) };
 
-    /// The service calls it at the end of each turn: whoever takes the events is woken, where some were put.
+    /// The service calls it at the end of each turn: whoever takes the events is woken, where some were put or it asked
+    /// for that.
     fn announce(&self);
 }
 
@@ -84,8 +85,8 @@ impl Sink for MemorySink {
     fn announce(&self) {}
 }
 
-/// The event queue with its poster. It wakes the thread that takes at the end of each turn in which it put events, and after each 64 of
-/// them; and it tells it once where one is held back for want of room.
+/// The event queue with its poster. It wakes the thread that takes at the end of each turn in which it put events or that this thread
+/// asked for (`TakerBell::want`), and after each 64 events; and it tells it once where one is held back for want of room.
 #[derive(Drop)]
 pub struct QueueSink<'a> {
     queue: &'a EventQueue,

@@ -1,7 +1,6 @@
 //! Datagrams in and out.
 ghost use Rattle.std.specs.Prelude.{◌≡◌, ℕ, ◌≤◌, List, Option, None, IfOk, IfSome, IfErr, Ok, false};
-ghost use Rattle.enet_bridge.specs.Wires.{also, unless_spent, last_fault};
-ghost use Rattle.enet_bridge.specs.Private.Wires.{came, went, waited, faults_after};
+ghost use Rattle.enet_bridge.specs.Wires.{also, came, went, waited, unless_spent, faults_after, last_fault};
 
 use enet_codec::{Addr, Refusal};
 use std::sync::Wait;

@@ -26,6 +26,7 @@ const MOST_EVENTS: usize = 64;
 /// what they give.
 const MANY_PEERS: usize = 16;
 
+/// So many kept events are enough to be expanded together.
 const ENOUGH: usize = 32;
 
 /// With so many events expanded since the last rest it pays to look a few times before the next.
@@ -38,7 +39,7 @@ const BETWEEN_SHOWS: u64 = 32;
 
 /// The connected peers, the events that were taken and not yet expanded into orders, and the orders that wait for room.
 ///
-/// An event is expanded once no order waits. So what is kept while the service takes no orders is events, of which a chat packet
+/// An event is expanded once no order waits; with many peers it may be kept until the service has no orders left. So what is kept while the service takes no orders is events, of which a chat packet
 /// is one, whatever the number of its receivers. Chat packets that follow one another are expanded together, up to a bound: their
 /// orders are asked for receiver by receiver, so that the host sends a receiver what is for it in few datagrams.
 #[derive(Drop)]
@@ -211,6 +212,7 @@ impl<'a> Relay<'a> {
                 Ok(false)
             }
             Found::Kept => {
+                self.show(gauge);
                 self.rest_with_some(rt, bell, pace);
                 Ok(false)
             }

@@ -102,9 +102,10 @@ fn log_all<R: Eprint>(rt: &R, host: &WatchedHost) {
 
 fn log<R: Eprint>(rt: &R, note: &Note) {
     match note {
-        Note::Asked { met, connect_id } => log_met(rt, "asks", met, "as", *connect_id),
-        Note::Came { met, info } => log_met(rt, "connect", met, "info", *info),
-        Note::Went { met, info } => log_met(rt, "disconnect", met, "info", *info),
+        // A server that only relays gives no order to connect.
+        Note::Asked { .. } => {}
+        Note::Came { met, info } => log_met(rt, "connect", met, *info),
+        Note::Went { met, info } => log_met(rt, "disconnect", met, *info),
         Note::Refused { peer, why } => {
             let _ = match peer {
                 Some(peer) => {
@@ -118,10 +119,10 @@ fn log<R: Eprint>(rt: &R, note: &Note) {
     }
 }
 
-fn log_met<R: Eprint>(rt: &R, what: &str, met: &Met, word: &str, number: u32) {
+fn log_met<R: Eprint>(rt: &R, what: &str, met: &Met, info: u32) {
     let slot = met.peer.slot;
     let generation = met.peer.generation;
     let ip = Ipv4Addr::from_bits(met.address.ip);
     let port = met.address.port;
-    let _ = eprintln!(rt; "{what} {slot}.{generation} at {ip}:{port} {word} {number}");
+    let _ = eprintln!(rt; "{what} {slot}.{generation} at {ip}:{port} info {info}");
 }

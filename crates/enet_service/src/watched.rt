@@ -18,7 +18,8 @@ const MOST_NOTES: usize = 4_096;
 #[derive(Clone, Copy, Debug, PartialEq, Eq)]
 pub enum Note {
     /// An order to connect was carried out: this peer asks there, under this connect id, which is the order's `word`. Its Connect event
-    /// names the same peer, so of several orders to connect each is known again by its word.
+    /// names the same peer, so of several orders to connect each is known again by its word, where the words differ. Where the other host
+    /// doesn't answer no further note comes; the Disconnect event names this peer.
     Asked { met: Met, connect_id: u32 },
     /// This peer connected. `info` is the word that it gave.
     Came { met: Met, info: u32 },

@@ -3,8 +3,7 @@ use Rattle.std.proofs.lemmas.List.{append-nil}
 use Rattle.enet_codec.specs.declared.address.Addr.{Addr}
 use Rattle.enet_bridge.specs.declared.told.Told.{Told}
 use Rattle.enet_bridge.specs.declared.told.Told.TheVariants.{Came, NothingCame}
-use Rattle.enet_bridge.specs.Wires.{also, unless_spent}
-use Rattle.enet_bridge.specs.Private.Wires.{came}
+use Rattle.enet_bridge.specs.Wires.{also, unless_spent, came}
 use Rattle.enet_service.specs.Phases.{HearsAll}
 use Rattle.enet_service.proofs.PhaseSteps.{hears_on}
 use Rattle.enet_service.proofs.Tellings.{told_on, told_no_more, came_more}

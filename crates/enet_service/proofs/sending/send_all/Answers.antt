@@ -2,8 +2,7 @@ use Rattle.std.proofs.Common.{◌≡◌, ◌+◌, ℕ, List, [], ◌∷◌, ◌+
 use Rattle.std.proofs.lemmas.List.{append-nil}
 use Rattle.enet_bridge.specs.declared.told.Told.{Told}
 use Rattle.enet_bridge.specs.declared.told.Told.TheVariants.{Went, Blocked}
-use Rattle.enet_bridge.specs.Wires.{also, unless_spent}
-use Rattle.enet_bridge.specs.Private.Wires.{went}
+use Rattle.enet_bridge.specs.Wires.{also, unless_spent, went}
 use Rattle.enet_service.specs.Phases.{SendsAll}
 use Rattle.enet_service.proofs.PhaseSteps.{sends_on}
 use Rattle.enet_service.proofs.Tellings.{told_on, told_no_more, went_more, blocked_more}
