@@ -1,31 +1,39 @@
--- A whole unreliable packet that comes in its place is dispatched as if it had waited.
-use Rattle.std.proofs.Common.{◌≡◌, ℕ, ◌+◌, ◌<◌, ◌&&◌, ◌||◌, ltb, leb, eqb, true, false, cond, [], ◌∷◌, ◌++◌, refl, sym, ap, ◌∙◌, arith, Option, None, unwrap_or}
+-- A whole packet that comes in its place is dispatched as if it had been held, or had waited.
+use Rattle.std.proofs.Common.{◌≡◌, ℕ, ◌+◌, ◌<◌, ◌&&◌, ◌||◌, ltb, leb, eqb, true, false, cond, [], ◌∷◌, ◌++◌, List, refl, sym, ap, subst, ◌∙◌, arith, Option, Some, None, unwrap_or, append-nil}
 use Rattle.std.specs.Prelude.{nat_lt}
 use Rattle.std.specs.Ordering.{nat_cmp}
 use Rattle.std.specs.Cmp.{nat_cmp_total}
-use Rattle.std.specs.FinMap.{get, insert, remove, empty, entries, put, from_entries, entries-insert}
+use Rattle.std.specs.FinMap.{FinMap, get, insert, remove, empty, len, entries, put, from_entries, entries-insert}
 use Rattle.std.proofs.lemmas.Bool.Decides.{nat_tests}
 use Rattle.enet_seq.specs.Numbering.{wire}
 use Rattle.enet_seq.specs.Windows.{after}
-use Rattle.enet_fragment.specs.Whole.{is_whole}
+use Rattle.enet_codec.specs.declared.command.Fragment.{Fragment}
+use Rattle.enet_fragment.specs.PartialPacket.{PartialPacket, nothing_yet, with_piece, joined}
+use Rattle.enet_fragment.specs.Whole.{is_whole, single_of}
+use Rattle.enet_fragment.specs.DataCommand.{piece_or_only, fragment_place}
+use Rattle.enet_fragment.proofs.Laws.{single-made, joined-whole_of}
 use Rattle.enet_fragment.specs.declared.data.DataCommand.{DataCommand}
 use Rattle.enet_packets.specs.declared.incoming_packet.IncomingPacket.{IncomingPacket}
+use Rattle.enet_packets.specs.declared.incoming_packet.Dispatched.{Dispatched}
 use Rattle.enet_packets.specs.Packets.{Lines, handed_out, line_at, with_line, fresh, last_fresh, still_ahead}
-use Rattle.enet_packets.proofs.Maps.{entries-empty, retained, remove-insert, remove-absent}
+use Rattle.enet_packets.proofs.Maps.{entries-empty, retained, retained-empty, remove-insert, remove-absent}
 use Rattle.enet_packets.proofs.LineLemmas.{with_line-some, with_line-none, len-insert_some, len_nothing}
-use Rattle.enet_receiver.specs.Receiver.{Receiver, next_whole, flushed, all_released}
-use Rattle.enet_receiver.specs.DataOutcome.{came_at, is_behind, earlier_or_new, with_more, with_added}
+use Rattle.enet_receiver.specs.Receiver.{Receiver, without, next_whole, flushed_from, flushed, with_passed, all_released}
+use Rattle.enet_receiver.specs.Laws.{HavePieces}
+use Rattle.enet_receiver.specs.Invariant.{Keeps}
+use Rattle.enet_receiver.specs.DataOutcome.{came_at, is_behind, flags_of, earlier_or_new, with_more, with_added}
 use Rattle.enet_receiver.specs.ReceiverParts.{receiver_of}
 use Rattle.enet_receiver.specs.Private.ReceiverParts.{with_stored, with_kept}
 use Rattle.enet_receiver.specs.Foresight.{ReceivingEnd}
-use Rattle.enet_receiver.specs.Private.Admitted.{Admitted}
+use Rattle.enet_receiver.specs.Private.Admitted.{Admitted, IsInside}
 use Rattle.enet_receiver.specs.Private.Next.{only_packet}
 use Rattle.enet_receiver.specs.Private.InPlace.{IsInPlace, with_handed_out}
 use Rattle.enet_receiver.proofs.LineLemmas.{Line, line_at-same}
-use Rattle.enet_receiver.proofs.Admission.{piece_sound}
+use Rattle.enet_receiver.proofs.Admission.{piece_sound, Keeps-stored}
+use Rattle.enet_receiver.proofs.Keeping.{Keeps-all_released}
 use Rattle.enet_receiver.proofs.Released.{nothing_held, all_released-none}
 use Rattle.enet_receiver.proofs.Turns.{end_is}
-use Rattle.enet_receiver.proofs.Ordered.{only_whole, nothing_came}
+use Rattle.enet_receiver.proofs.Ordered.{only_whole, only_count, nothing_came, next_stored, released_at_once}
 
 -- a line of one packet
 only_entry : (k : ℕ) (p : IncomingPacket) → entries (insert (empty {X = IncomingPacket} {R = nat_cmp}) k p) ≡ (k, p) ∷ []
@@ -65,14 +73,14 @@ flushed_alone r k p absent whole above =
     (sym (ap (λ (line : Line). with_line (with_line r.waiting r.front (insert empty k p)) r.front (still_ahead line k)) at ∙ none_left r.waiting r.front k p absent))
 
 -- such a packet, once it is stored
-stored_alone : (most : ℕ) (r : Receiver) (c : DataCommand) (place : ℕ) → Admitted most r c place → IsInPlace r c place → get r.waiting r.front ≡ None
+stored_alone : (most : ℕ) (r : Receiver) (c : DataCommand) (place : ℕ) → Admitted most r c place → c.fragment ≡ None → c.reliable ≡ false → place ≡ r.front → get r.waiting r.front ≡ None
     → record r { waiting = with_line r.waiting r.front (insert empty c.unreliable (only_packet c)) } ≡ with_stored r c place
-stored_alone most r c place a there absent =
-    let none : came_at r c place ≡ None = nothing_came (came_at r c place) c there.single a.missing in
+stored_alone most r c place a single unreliable at absent =
+    let none : came_at r c place ≡ None = nothing_came (came_at r c place) c single a.missing in
     let no_line : line_at r.waiting r.front ≡ empty = ap (λ (o : Option Line). unwrap_or o empty) absent in
     sym (ap (λ (o : Option IncomingPacket). with_added r c place (with_more (earlier_or_new o c) c)) none
-    ∙ ap (λ b. record r { held = cond b (insert r.held place (only_packet c)) r.held; waiting = cond b r.waiting (with_line r.waiting place (insert (line_at r.waiting place) c.unreliable (only_packet c))) }) there.unreliable
-    ∙ ap (λ n. record r { waiting = with_line r.waiting n (insert (line_at r.waiting n) c.unreliable (only_packet c)) }) there.at
+    ∙ ap (λ b. record r { held = cond b (insert r.held place (only_packet c)) r.held; waiting = cond b r.waiting (with_line r.waiting place (insert (line_at r.waiting place) c.unreliable (only_packet c))) }) unreliable
+    ∙ ap (λ n. record r { waiting = with_line r.waiting n (insert (line_at r.waiting n) c.unreliable (only_packet c)) }) at
     ∙ ap (λ (line : Line). record r { waiting = with_line r.waiting r.front (insert line c.unreliable (only_packet c)) }) no_line)
 
 -- it is past the last one that was dispatched
@@ -83,16 +91,91 @@ past_last r c place at unreliable not_behind =
     let above : leb c.unreliable r.unreliable ≡ false = sym is ∙ not_behind in
     grind (arith, nat_tests)
 
-handed_out_is : (most : ℕ) (r : Receiver) (c : DataCommand) (place : ℕ) → Admitted most r c place → IsInPlace r c place
+unreliable_out : (most : ℕ) (r : Receiver) (c : DataCommand) (place : ℕ) → Admitted most r c place → IsInPlace r c place → c.reliable ≡ false → place ≡ r.front
     → receiver_of r.front c.unreliable r.held r.waiting (r.dispatched ++ handed_out (only_packet c) ∷ []) ≡ all_released wire (with_stored r c place)
-handed_out_is most r c place a there =
-    let absent : get r.waiting r.front ≡ None = nothing_held r.waiting r.front (omega arith) in
-    let none : get r.held (after r.front 1) ≡ None = nothing_held r.held (after r.front 1) (omega arith) in
+unreliable_out most r c place a there unreliable at =
+    let absent : get r.waiting r.front ≡ None = nothing_held r.waiting r.front (omega (arith, there.nothing_waits)) in
+    let none : get r.held (after r.front 1) ≡ None = nothing_held r.held (after r.front 1) (omega (arith, there.nothing_held)) in
     let stored : Receiver = record r { waiting = with_line r.waiting r.front (insert empty c.unreliable (only_packet c)) } in
-    flushed_alone r c.unreliable (only_packet c) absent (only_whole c there.single (piece_sound most c a.piece).0) (past_last r c place there.at there.unreliable a.not_behind)
+    flushed_alone r c.unreliable (only_packet c) absent (only_whole c there.single (piece_sound most c a.piece).0) (past_last r c place at unreliable a.not_behind)
     ∙ sym (all_released-none wire stored (ap next_whole none))
-    ∙ ap (all_released wire) (stored_alone most r c place a there absent)
+    ∙ ap (all_released wire) (stored_alone most r c place a there.single unreliable at absent)
+
+-- where nothing waits, no unreliable packet is dispatched
+flushed_nothing : (first : ℕ) (r : Receiver) → len r.waiting ≡ 0 → flushed_from first r ≡ r
+flushed_nothing first r nothing =
+    let absent : get r.waiting r.front ≡ None = nothing_held r.waiting r.front (omega arith) in
+    let line : line_at r.waiting r.front ≡ empty = ap (λ (o : Option Line). unwrap_or o empty) absent in
+    let none : entries (line_at r.waiting r.front) ≡ [] = ap (λ (l : Line). entries l) line ∙ entries-empty {X = IncomingPacket} in
+    let last : last_fresh r.unreliable (entries (line_at r.waiting r.front)) ≡ r.unreliable = ap (last_fresh r.unreliable) none in
+    let out : r.dispatched ++ fresh first (entries (line_at r.waiting r.front)) ≡ r.dispatched = ap (λ es. r.dispatched ++ fresh first es) none ∙ append-nil r.dispatched in
+    let lines : with_line r.waiting r.front (still_ahead (line_at r.waiting r.front) (last_fresh r.unreliable (entries (line_at r.waiting r.front)))) ≡ r.waiting =
+        ap (λ (l : Line). with_line r.waiting r.front (still_ahead l (last_fresh r.unreliable (entries (line_at r.waiting r.front))))) line
+        ∙ ap (λ (l : Line). with_line r.waiting r.front l) (retained-empty (nat_lt (last_fresh r.unreliable (entries (line_at r.waiting r.front)))))
+        ∙ with_line-none r.waiting r.front empty len_nothing
+        ∙ remove-absent r.waiting r.front absent in
+    λ i. receiver_of r.front (last i) r.held (lines i) (out i)
+
+without_one : {X : Type 0} (m : FinMap nat_cmp X) (k : ℕ) → len m ≡ 0 → without wire m k 1 ≡ m
+unfolding without
+without_one m k nothing = remove-absent m (after k 0) (nothing_held m (after k 0) (omega arith))
+
+-- the front passes a packet of one piece, where nothing is held and nothing waits
+passed_alone : (r : Receiver) (c : DataCommand) → c.fragment ≡ None → len r.held ≡ 0 → len r.waiting ≡ 0
+    → with_passed wire r (only_packet c) ≡ receiver_of (after r.front 1) 0 r.held r.waiting (r.dispatched ++ handed_out (only_packet c) ∷ [])
+passed_alone r c single nothing_held nothing_waits =
+    ap {B = Receiver} (λ n. record {
+      front = after r.front n;
+      unreliable = 0;
+      held = without wire r.held (after r.front 1) n;
+      waiting = without wire r.waiting r.front n;
+      dispatched = r.dispatched ++ handed_out (only_packet c) ∷ [];
+    }) (only_count c single)
+    ∙ (λ i. receiver_of (after r.front 1) 0 (without_one r.held (after r.front 1) nothing_held i) (without_one r.waiting r.front nothing_waits i) (r.dispatched ++ handed_out (only_packet c) ∷ []))
+
+reliable_out : (most : ℕ) (r : Receiver) (c : DataCommand) (place : ℕ) → Admitted most r c place → IsInPlace r c place → c.reliable ≡ true → place ≡ after r.front 1
+    → receiver_of (after r.front 1) 0 r.held r.waiting (r.dispatched ++ handed_out (only_packet c) ∷ []) ≡ all_released wire (with_stored r c place)
+reliable_out most r c place a there reliable at =
+    let out : Receiver = receiver_of (after r.front 1) 0 r.held r.waiting (r.dispatched ++ handed_out (only_packet c) ∷ []) in
+    let pieces : HavePieces r = λ q x e. absurd (let none : get r.held q ≡ None = nothing_held r.held q (omega (arith, there.nothing_held)) in cc) in
+    let due : next_whole (get r.held (after (after r.front 1) 1)) ≡ None = ap next_whole (nothing_held r.held (after (after r.front 1) 1) (omega (arith, there.nothing_held))) in
+    sym (
+      ap (all_released wire) (sym (next_stored most r c place a (record { reliable = reliable; single = there.single; at = at })))
+      ∙ sym (released_at_once r c there.single (piece_sound most c a.piece).0 pieces)
+      ∙ ap (λ (s : Receiver). all_released wire (flushed_from 0 s)) (passed_alone r c there.single there.nothing_held there.nothing_waits)
+      ∙ ap (all_released wire) (flushed_nothing 0 out there.nothing_waits)
+      ∙ all_released-none wire out due
+      ∙ flushed_nothing 1 out there.nothing_waits
+    )
+
+pub handed_out_is : (most : ℕ) (r : Receiver) (c : DataCommand) (place : ℕ) → Admitted most r c place → IsInPlace r c place
+    → receiver_of place (cond c.reliable 0 c.unreliable) r.held r.waiting (r.dispatched ++ handed_out (only_packet c) ∷ []) ≡ all_released wire (with_stored r c place)
+handed_out_is most r c place a there =
+    elim c.reliable as (λ b. c.reliable ≡ b → place ≡ cond b (after r.front 1) r.front
+    → receiver_of place (cond b 0 c.unreliable) r.held r.waiting (r.dispatched ++ handed_out (only_packet c) ∷ []) ≡ all_released wire (with_stored r c place)) [
+      | true ↦ λ t at. ap (λ p. receiver_of p 0 r.held r.waiting (r.dispatched ++ handed_out (only_packet c) ∷ [])) at ∙ reliable_out most r c place a there t at
+      | false ↦ λ t at. ap (λ p. receiver_of p c.unreliable r.held r.waiting (r.dispatched ++ handed_out (only_packet c) ∷ [])) at ∙ unreliable_out most r c place a there t at
+    ] refl there.at
 
 -- what is dispatched at once is what would be kept
-pub in_place_kept : (e : ReceivingEnd) (c : DataCommand) (place : ℕ) → Admitted e.max_packet e.receiver c place → IsInPlace e.receiver c place → with_handed_out e c ≡ with_kept e c place
+pub in_place_kept : (e : ReceivingEnd) (c : DataCommand) (place : ℕ) → Admitted e.max_packet e.receiver c place → IsInPlace e.receiver c place → with_handed_out e c place ≡ with_kept e c place
 in_place_kept e c place a there = ap (λ (r : Receiver). record e { receiver = r }) (handed_out_is e.max_packet e.receiver c place a there)
+
+-- and keeps what a receiver keeps
+pub in_place_keeps : (most : ℕ) (r : Receiver) (c : DataCommand) (place : ℕ) → Keeps most r → IsInside r.front place → c.unreliable < 65536 → Admitted most r c place → IsInPlace r c place
+    → Keeps most (receiver_of place (cond c.reliable 0 c.unreliable) r.held r.waiting (r.dispatched ++ handed_out (only_packet c) ∷ []))
+in_place_keeps most r c place k inside count a there =
+    subst (Keeps most) (sym (handed_out_is most r c place a there)) (Keeps-all_released most (with_stored r c place) (Keeps-stored most r c place k inside count a))
+
+-- the bytes of a packet of one command
+pub only_body : (c : DataCommand) → c.fragment ≡ None → handed_out (only_packet c) ≡ record { flags = flags_of c; body = c.body }
+only_body c single =
+    let alone : (only_packet c).making ≡ single_of c.body =
+        ap (λ (f : Option Fragment). let p : Fragment = piece_or_only f c.number c.body in with_piece (nothing_yet p.count p.total) (fragment_place p c.body) c.body) single
+        ∙ single-made c.body in
+    λ i. record { flags = flags_of c; body = (ap (λ (m : PartialPacket). joined m.pieces) alone ∙ joined-whole_of c.body 1 (Some 0) (omega arith)) i }
+
+pub out_is : (before room after : List Dispatched) (c : DataCommand) (flags : ℕ) (body : List ℕ) → room ≡ before → after ≡ room ++ record { flags = flags; body = body } ∷ []
+    → flags ≡ flags_of c → body ≡ c.body → c.fragment ≡ None → after ≡ before ++ handed_out (only_packet c) ∷ []
+out_is before room after c flags body same pushed flagged is single =
+    pushed ∙ (λ i. same i ++ (let d : Dispatched = record { flags = flagged i; body = is i } in d) ∷ []) ∙ ap (λ (d : Dispatched). before ++ d ∷ []) (sym (only_body c single))

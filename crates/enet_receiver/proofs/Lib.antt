@@ -14,6 +14,7 @@ pub mod Steps
 pub mod Turns
 pub mod Ordered
 pub mod InPlace
+pub mod AtOnce
 pub mod Taken
 pub mod Answered
 pub mod Sequenced

@@ -1,6 +1,6 @@
 //! A sequenced data command that comes.
 
-ghost use Rattle.std.specs.Prelude.{◌≡◌, ◌+◌, ◌<◌, ◌^◌, ◌%◌, IfSome, IsTrue, length};
+ghost use Rattle.std.specs.Prelude.{◌≡◌, ◌+◌, ◌<◌, ◌^◌, ◌%◌, if◌then◌else◌, IfSome, IsTrue, length};
 ghost use Rattle.std.specs.Option.{option_copied, option_map};
 ghost use Rattle.enet_codec.specs.Message.{view};
 ghost use Rattle.enet_fragment.specs.DataCommand.{data_of, piece_of, place_in_packet};
@@ -168,6 +168,13 @@ impl<'a> ArrivingData<'a> {
             None => false,
             Some(coming) => self.fragment.is_none() || coming.making.has(self.piece().number),
         }
+    }
+
+    /// The last unreliable number that was dispatched, once its packet is.
+    pub(crate) fn last_unreliable(self) -> u16
+        ensures { result ≡ (if self.entry.reliable then 0 else self.entry.unreliable) }
+    {
+        if self.reliable { 0 } else { self.unreliable }
     }
 
     /// The flags of its packet.

@@ -1,9 +1,10 @@
 //! One channel's receiver.
 
-ghost use Rattle.std.specs.Prelude.{◌≡◌, ◌≢◌, ◌<◌, ◌^◌, ◌+◌, [], Bool, false, Ok, Some, None, IfOk, IfSome, IfErr, IsTrue, MatchOption, length};
+ghost use Rattle.std.specs.Prelude.{◌≡◌, ◌≢◌, ◌<◌, ◌^◌, ◌+◌, [], Bool, false, if◌then◌else◌, Ok, Some, None, IfOk, IfSome, IfErr, IsTrue, MatchOption, length};
 ghost use Rattle.std.specs.Option.{option_copied};
 ghost use Rattle.enet_codec.specs.Message.{view};
 ghost use Rattle.enet_seq.specs.Numbering.{wire};
+ghost use Rattle.enet_seq.specs.Windows.{after};
 ghost use Rattle.enet_fragment.specs.DataCommand.{data_of, place_in_packet};
 ghost use Rattle.enet_fragment.specs.Place.{is_sound};
 ghost use Rattle.enet_fragment.specs.Whole.{is_whole};
@@ -12,7 +13,7 @@ ghost use Rattle.enet_receiver.specs.Private.Admitted.{Admitted, IsInside};
 ghost use Rattle.enet_receiver.specs.ReceiverParts.{with_first};
 ghost use Rattle.enet_receiver.specs.Private.ReceiverParts.{with_kept, grown_at, answered_with};
 ghost use Rattle.enet_receiver.specs.Private.Next.{IsNext};
-ghost use Rattle.enet_receiver.specs.Private.InPlace.{IsInPlace, with_handed_out};
+ghost use Rattle.enet_receiver.specs.Private.InPlace.{IsInPlace, GoesAtOnce, with_handed_out};
 ghost use Rattle.enet_receiver.specs.Private.Walk.{Completes};
 ghost use Rattle.enet_receiver.specs.Receiver.{held_bytes, cleared};
 ghost use Rattle.enet_receiver.specs.DataOutcome.{outcome, outcome_of, place_read, came_at, came_before, is_behind, is_handled, dispatch_count};
@@ -22,8 +23,9 @@ use crate::arriving_data::ArrivingData;
 use crate::foreseeing::{Completed, dispatches};
 use crate::held::Held;
 use crate::releasing::{pass_on, release};
-use crate::storing::{begun, make_room, store};
+use crate::storing::{make_room, store};
 use crate::{Foresight, Took};
+use bytes::Bytes;
 use enet_codec::{Command, Packet, Refusal};
 use enet_fragment::Put;
 use enet_packets::{Dispatched, IncomingPacket, Waiting};
@@ -214,6 +216,9 @@ impl Incoming {
                 dispatches: 0,
             };
         };
+        if !full && self.goes_at_once(arriving) {
+            return self.answer(Took::Held, arriving.head.number, 1);
+        }
         match self.admit(arriving, full) {
             Ok(place) => {
                 let dispatches = self.dispatches(arriving, place);
@@ -284,7 +289,7 @@ impl Incoming {
     }
 
     /// Keeps a command that is taken in, and dispatches what that completes; the next packet in order is dispatched without
-    /// being held, and so is an unreliable one in its place, where nothing is held and nothing waits. False, with nothing
+    /// being held, and so is an unreliable one of the front, where nothing is held and nothing waits. False, with nothing
     /// changed, where memory is refused.
     fn keep(&mut self, arriving: ArrivingData<'_>, place: u16) -> bool
         requires short { length arriving.payload.now < 2 ^ 32 }
@@ -294,7 +299,7 @@ impl Incoming {
         ensures unchanged { result ≡ false → self.new ≡ self.old }
     {
         if self.is_in_place(arriving, place) {
-            return self.dispatch_in_place(arriving);
+            return self.dispatch_in_place(arriving, place);
         }
         if !make_room(&self.held, &self.waiting, &mut self.dispatched) {
             return false;
@@ -329,33 +334,58 @@ impl Incoming {
         true
     }
 
-    /// Whether a command is a whole unreliable packet that goes with the front, while nothing is held and nothing waits.
+    /// Whether a command is a whole packet that is dispatched as it comes, while nothing is held and nothing waits: the next
+    /// reliable one in order, or an unreliable one that goes with the front.
     fn is_in_place(&self, arriving: ArrivingData<'_>, place: u16) -> bool
         ensures { IsTrue result → IsInPlace self.now.receiver (data_command arriving.entry) place }
     {
-        !arriving.reliable
-            && arriving.fragment.is_none()
-            && place == self.front
+        arriving.fragment.is_none()
+            && place == self.place_in_order(arriving.reliable)
             && self.held.len() == 0
             && self.waiting.is_empty()
     }
 
+    /// The number with which a packet goes that is dispatched as it comes.
+    fn place_in_order(&self, reliable: bool) -> u16
+        ensures { result ≡ (if reliable then after self.now.receiver.front 1 else self.now.receiver.front) }
+    {
+        if reliable {
+            after(self.front, 1)
+        } else {
+            self.front
+        }
+    }
+
+    /// Whether a command is taken in and is all that this dispatches, so that no more has to be looked at.
+    fn goes_at_once(&self, arriving: ArrivingData<'_>) -> bool
+        ensures { IsTrue result → GoesAtOnce self.now.max_packet self.now.receiver (data_command arriving.entry) }
+    {
+        let place = arriving.head.number;
+        arriving.payload.len() <= self.max_packet as usize
+            && self.is_in_place(arriving, place)
+            && !self.is_behind(arriving, place)
+    }
+
     /// Dispatches a packet of one command that comes in its place. False, with nothing changed, where memory is refused.
-    fn dispatch_in_place(&mut self, arriving: ArrivingData<'_>) -> bool
-        requires short { length arriving.payload.now < 2 ^ 32 }
-        requires sound { IsTrue (is_sound (place_in_packet (data_command arriving))) }
-        requires single { arriving.fragment ≡ None }
-        ensures dispatched { IsTrue result → self.new ≡ with_handed_out self.old (data_command arriving.entry) }
+    fn dispatch_in_place(&mut self, arriving: ArrivingData<'_>, place: u16) -> bool
+        requires admitted { Admitted self.old.max_packet self.old.receiver (data_command arriving) place }
+        requires inside { IsInside self.old.receiver.front place }
+        requires in_place { IsInPlace self.old.receiver (data_command arriving) place }
+        ensures dispatched { IsTrue result → self.new ≡ with_handed_out self.old (data_command arriving.entry) place }
         ensures unchanged { result ≡ false → self.new ≡ self.old }
     {
         if self.dispatched.reserve(1).is_err() {
             return false;
         }
-        let Ok(coming) = begun(self.alloc, arriving) else {
+        let Ok(body) = Bytes::copy_from_slice(self.alloc, arriving.payload) else {
             return false;
         };
-        self.dispatched.push_back_reserved(coming.handed_out());
-        self.unreliable = arriving.unreliable;
+        self.dispatched.push_back_reserved(Dispatched {
+            flags: arriving.flags(),
+            body,
+        });
+        self.front = place;
+        self.unreliable = arriving.last_unreliable();
         true
     }
 

@@ -1,22 +1,36 @@
 -- A command whose packet is dispatched as it comes, since nothing else is there.
-use Rattle.std.specs.Prelude.{◌≡◌, ℕ, false, [], ◌∷◌, ◌++◌, None}
+use Rattle.std.specs.Prelude.{◌≡◌, ◌<◌, ◌≤◌, ℕ, false, if◌then◌else◌, length, [], ◌∷◌, ◌++◌, None}
 use Rattle.std.specs.FinMap.{len}
+use Rattle.enet_seq.specs.Windows.{after}
 use Rattle.enet_fragment.specs.declared.data.DataCommand.{DataCommand}
 use Rattle.enet_packets.specs.Packets.{handed_out}
 use Rattle.enet_receiver.specs.Receiver.{Receiver}
+use Rattle.enet_receiver.specs.DataOutcome.{is_behind}
 use Rattle.enet_receiver.specs.Foresight.{ReceivingEnd}
 use Rattle.enet_receiver.specs.Private.Next.{only_packet}
 
--- an unreliable command that is its whole packet and goes with the front, where nothing is held and nothing waits
+-- a command that is its whole packet, where nothing is held and nothing waits: the next reliable one in order, or an unreliable
+-- one that goes with the front
 pub record IsInPlace (r : Receiver) (c : DataCommand) (place : ℕ) : Type 0 where
-  pub unreliable : c.reliable ≡ false
   pub single : c.fragment ≡ None
-  pub at : place ≡ r.front
+  pub at : place ≡ (if c.reliable then after r.front 1 else r.front)
   pub nothing_held : len r.held ≡ 0
   pub nothing_waits : len r.waiting ≡ 0
 
+-- such a command that is short enough and hasn't fallen behind
+pub record GoesAtOnce (most : ℕ) (r : Receiver) (c : DataCommand) : Type 0 where
+  pub in_place : IsInPlace r c c.number
+  pub short : length c.body ≤ most
+  pub not_behind : is_behind r c c.number ≡ false
+  pub front : r.front < 65536
+  pub number : c.number < 65536
+
 -- the receiver once the packet of such a command is dispatched
-abbrev pub with_handed_out : ReceivingEnd → DataCommand → ReceivingEnd
-with_handed_out e c = record e {
-  receiver = record e.receiver { unreliable = c.unreliable; dispatched = e.receiver.dispatched ++ handed_out (only_packet c) ∷ [] };
+abbrev pub with_handed_out : ReceivingEnd → DataCommand → ℕ → ReceivingEnd
+with_handed_out e c place = record e {
+  receiver = record e.receiver {
+    front = place;
+    unreliable = if c.reliable then 0 else c.unreliable;
+    dispatched = e.receiver.dispatched ++ handed_out (only_packet c) ∷ [];
+  };
 }

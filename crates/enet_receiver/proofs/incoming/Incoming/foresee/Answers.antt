@@ -3,6 +3,7 @@ use Rattle.enet_fragment.specs.declared.data.DataCommand.{DataCommand}
 use Rattle.enet_receiver.specs.ArrivingData.{data_command}
 use Rattle.enet_receiver.specs.Foresight.{foreseen}
 use Rattle.enet_receiver.proofs.Admission.{admitted}
+use Rattle.enet_receiver.proofs.AtOnce.{dispatched_at_once}
 use Rattle.enet_receiver.proofs.Answered.{foreseen_held, foreseen_other}
 use Rattle.enet_receiver.proofs.incoming.Incoming.foresee.Goals as goal
 
@@ -15,7 +16,7 @@ pub returns-in-Ok : goal.returns-in-Ok
 returns-in-Ok c =
     let e = c.args.self.now in
     let d = data_command c.in-Some.arriving in
-    c.answer.ensures
+    c.answer-in-Ok.ensures
     ∙ foreseen_held e d c.args.full c.dispatches-dispatches.result c.in-Ok.ensures.held.0 (c.dispatches-dispatches.ensures c.args.full c.in-Ok.ensures.held.0)
     ∙ ap (λ (o : Option DataCommand). foreseen e o c.args.full) c.in-Some.ensures.data
 
@@ -25,4 +26,13 @@ returns-in-Err c =
     let d = data_command c.in-Some.arriving in
     c.answer-in-Err.ensures
     ∙ foreseen_other e d c.args.full c.in-Err.took c.in-Err.ensures.other c.in-Err.ensures.known.0
+    ∙ ap (λ (o : Option DataCommand). foreseen e o c.args.full) c.in-Some.ensures.data
+
+pub returns-then-goes_at_once : goal.returns-then-goes_at_once
+returns-then-goes_at_once c =
+    let e = c.args.self.now in
+    let d = data_command c.in-Some.arriving in
+    let at = dispatched_at_once e.max_packet e.receiver d c.args.full (c.goes_at_once.ensures c.if-goes_at_once.true) c.if-not-full.true in
+    c.answer.ensures
+    ∙ foreseen_held e d c.args.full 1 at.held at.one
     ∙ ap (λ (o : Option DataCommand). foreseen e o c.args.full) c.in-Some.ensures.data
