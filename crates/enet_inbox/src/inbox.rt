@@ -214,7 +214,7 @@ impl Inbox {
         if channel >= self.receivers.len() {
             return Err(Stop::BadChannel);
         }
-        Ok(self.receivers[channel].foresee(command, self.is_full()))
+        Ok(self.receivers[channel].foresee_data(arriving, self.is_full()))
     }
 
     /// What becomes of a sequenced data command with ample memory.
@@ -238,7 +238,7 @@ impl Inbox {
         let full = self.is_full();
         let receiver = &mut self.receivers[arriving.head.channel as usize];
         let before = receiver.held();
-        let Some(bytes) = take_in(receiver, &mut self.untaken, command, full, what.dispatches)
+        let Some(bytes) = take_in(receiver, &mut self.untaken, arriving, full, what.dispatches)
         else {
             return false;
         };

@@ -1,10 +1,9 @@
 //! How what comes is put to the packets that wait to be taken.
 
-ghost use Rattle.std.specs.Prelude.{◌≡◌, ◌+◌, ◌++◌, ◌≤◌, [], ◌∷◌, All, IsTrue, IfSome, IfNone, false, length, map};
+ghost use Rattle.std.specs.Prelude.{◌≡◌, ◌+◌, ◌++◌, ◌≤◌, [], ◌∷◌, All, IsTrue, IfSome, IfNone, Some, false, length, map};
 ghost use Rattle.std.specs.VecDeque.{deque_len, deque_capacity};
-ghost use Rattle.enet_codec.specs.Message.{view};
 ghost use Rattle.enet_codec.specs.declared.packet.Packet.{Packet};
-ghost use Rattle.enet_fragment.specs.DataCommand.{data_of};
+ghost use Rattle.enet_receiver.specs.ArrivingData.{data_command};
 ghost use Rattle.enet_receiver.specs.declared.took.Took.TheVariants.{Held};
 ghost use Rattle.enet_receiver.specs.Foresight.{outcome_for, after_command, foreseen};
 ghost use Rattle.enet_inbox.specs.DataEffect.{packet_of, emptied};
@@ -12,8 +11,8 @@ ghost use Rattle.enet_inbox.specs.Invariant.{IsShort};
 ghost use Rattle.enet_inbox.specs.Private.Invariant.{bytes_in};
 
 use bytes::Bytes;
-use enet_codec::{Command, Packet, UNSEQUENCED};
-use enet_receiver::Incoming;
+use enet_codec::{Packet, UNSEQUENCED};
+use enet_receiver::{ArrivingData, Incoming};
 use std::alloc::Global;
 use std::collections::VecDeque;
 
@@ -39,17 +38,17 @@ fn hand_over(receiver: &mut Incoming, untaken: &mut VecDeque<Packet>) -> u128
 pub(crate) fn take_in(
     receiver: &mut Incoming,
     untaken: &mut VecDeque<Packet>,
-    command: &Command<'_>,
+    arriving: ArrivingData<'_>,
     full: bool,
     dispatches: u32,
 ) -> Option<u128>
-    requires held { outcome_for receiver.old (data_of (view command.now)) full ≡ Held }
-    requires dispatches { dispatches ≡ (foreseen receiver.old (data_of (view command.now)) full).dispatches }
+    requires held { outcome_for receiver.old (Some (data_command arriving)) full ≡ Held }
+    requires dispatches { dispatches ≡ (foreseen receiver.old (Some (data_command arriving)) full).dispatches }
     requires none_left { receiver.old.receiver.dispatched ≡ [] }
     requires short { All IsShort untaken.old.items }
-    ensures receiver { IfSome result (λ _. receiver.new ≡ emptied (after_command receiver.old (data_of (view command.now)) full)) }
+    ensures receiver { IfSome result (λ _. receiver.new ≡ emptied (after_command receiver.old (Some (data_command arriving.entry)) full)) }
     ensures untaken { IfSome result (λ _. untaken.new.items
-        ≡ untaken.old.items ++ map (packet_of receiver.old.channel) (after_command receiver.old (data_of (view command.now)) full).receiver.dispatched) }
+        ≡ untaken.old.items ++ map (packet_of receiver.old.channel) (after_command receiver.old (Some (data_command arriving.entry)) full).receiver.dispatched) }
     ensures bytes { IfSome result (λ bytes. bytes_in untaken.new.items ≡ bytes_in untaken.old.items + bytes) }
     ensures short { All IsShort untaken.new.items }
     ensures same_receiver { IfNone result (receiver.new ≡ receiver.old) }
@@ -58,7 +57,7 @@ pub(crate) fn take_in(
     if untaken.reserve(dispatches as usize).is_err() {
         return None;
     }
-    if !receiver.take_in(command) {
+    if !receiver.take_in(arriving) {
         return None;
     }
     Some(hand_over(receiver, untaken))

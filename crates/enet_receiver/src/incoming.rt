@@ -209,13 +209,20 @@ impl Incoming {
     pub fn foresee(&self, command: &Command<'_>, full: bool) -> Foresight
         ensures { result ≡ foreseen self.now (data_of (view command.now)) full }
     {
-        let Some(arriving) = ArrivingData::of(command) else {
-            return Foresight {
+        match ArrivingData::of(command) {
+            Some(arriving) => self.foresee_data(arriving, full),
+            None => Foresight {
                 took: Took::Bad,
                 acknowledged: false,
                 dispatches: 0,
-            };
-        };
+            },
+        }
+    }
+
+    /// The same of a sequenced data command.
+    pub fn foresee_data(&self, arriving: ArrivingData<'_>, full: bool) -> Foresight
+        ensures { result ≡ foreseen self.now (Some (data_command arriving.entry)) full }
+    {
         if !full && self.goes_at_once(arriving) {
             return self.answer(Took::Held, arriving.head.number, 1);
         }
@@ -228,18 +235,15 @@ impl Incoming {
         }
     }
 
-    /// Takes a command in of which `foresee` told that it would be held, without looking at that again. False, with nothing
-    /// changed, where memory is refused.
-    pub fn take_in(&mut self, command: &Command<'_>) -> bool
-        requires { WouldBeHeld self.old (data_of (view command.now)) }
-        ensures taken { IsTrue result → ((full : Bool) → outcome_for self.old (data_of (view command.now)) full ≡ Took.Held
-            → self.new ≡ after_command self.old (data_of (view command.now)) full) }
+    /// Takes a command in of which `foresee_data` told that it would be held, without looking at that again. False, with
+    /// nothing changed, where memory is refused.
+    pub fn take_in(&mut self, arriving: ArrivingData<'_>) -> bool
+        requires { WouldBeHeld self.old (Some (data_command arriving)) }
+        ensures taken { IsTrue result → ((full : Bool) → outcome_for self.old (Some (data_command arriving.entry)) full ≡ Took.Held
+            → self.new ≡ after_command self.old (Some (data_command arriving.entry)) full) }
         ensures unchanged { result ≡ false → self.new ≡ self.old }
     {
         let _held = &self.held;
-        let Some(arriving) = ArrivingData::of(command) else {
-            unreachable!()
-        };
         self.keep(arriving, arriving.own_place())
     }
 

@@ -1,10 +1,12 @@
-use Rattle.std.proofs.Common.{◌≡◌, ◌<◌, ◌+◌, ◌-◌, ◌^◌, length, ap, ◌∙◌, arith}
+use Rattle.std.proofs.Common.{◌≡◌, ◌<◌, ◌+◌, ◌-◌, ◌^◌, length, ap, ◌∙◌, arith, Option, Some}
 use Rattle.std.specs.Prelude.{slice_set}
 use Rattle.enet_codec.specs.Message.{view}
-use Rattle.enet_fragment.specs.DataCommand.{data_of}
+use Rattle.enet_fragment.specs.declared.data.DataCommand.{DataCommand}
+use Rattle.enet_receiver.specs.ArrivingData.{data_command}
 use Rattle.enet_receiver.specs.Receiver.{held_bytes}
 use Rattle.enet_inbox.specs.Inbox.{Inbox}
 use Rattle.enet_inbox.specs.DataEffect.{sequenced}
+use Rattle.enet_inbox.specs.InboxParts.{foreseen_sequenced}
 use Rattle.enet_inbox.specs.Invariant.{KeepsInbox}
 use Rattle.enet_inbox.specs.contracts.inbox.Inbox.{the_view}
 use Rattle.enet_inbox.proofs.Outcomes.{foresight_in}
@@ -12,13 +14,14 @@ use Rattle.enet_inbox.proofs.Keeping.{Reached, taken_at, handed_at, kept_after, 
 use Rattle.enet_inbox.proofs.inbox.Inbox.take_in_sequenced.Goals.{After-index_mut-receiver, After-from-2}
 use Rattle.enet_inbox.proofs.inbox.Inbox.take_in_sequenced.Goals as goal
 
-reached : (c : After-index_mut-receiver) → Reached (the_view c.self.inside) c.in-Some.arriving.head (view c.args.command.now).head (data_of (view c.args.command.now)) c.args.what c.index_mut-receiver.result.now c.is_full-full.result
+reached : (c : After-index_mut-receiver) → Reached (the_view c.self.inside) c.in-Some.arriving.head (view c.args.command.now).head (Some (data_command c.in-Some.arriving)) c.args.what c.index_mut-receiver.result.now c.is_full-full.result
 reached c =
     let m = view c.args.command.now in
-    taken_at c.args.self.now (the_view c.self.inside) c.self.inside.waiting c.in-Some.arriving.head m.head (data_of m) c.args.what c.index_mut-receiver.result.now c.is_full-full.result c.self.view_is c.self.invariant c.in-Some.ensures.head c.index_mut-receiver.ensures.value c.is_full-full.ensures c.requires.foreseen c.requires.kept
+    taken_at c.args.self.now (the_view c.self.inside) c.self.inside.waiting c.in-Some.arriving.head m.head (Some (data_command c.in-Some.arriving)) c.args.what c.index_mut-receiver.result.now c.is_full-full.result c.self.view_is c.self.invariant c.in-Some.ensures.head c.index_mut-receiver.ensures.value c.is_full-full.ensures
+    (ap (λ (o : Option DataCommand). foreseen_sequenced c.args.self.now m.head.channel o) c.in-Some.ensures.data ∙ c.requires.foreseen) c.requires.kept
 
 -- the inbox keeps what it keeps, with what the receiver holds counted anew, and the counter fits
-kept : (c : After-from-2) → Reached (the_view c.self.inside) c.in-Some.arriving.head (view c.args.command.now).head (data_of (view c.args.command.now)) c.args.what c.index_mut-receiver.result.now c.is_full-full.result
+kept : (c : After-from-2) → Reached (the_view c.self.inside) c.in-Some.arriving.head (view c.args.command.now).head (Some (data_command c.in-Some.arriving)) c.args.what c.index_mut-receiver.result.now c.is_full-full.result
     → KeepsInbox (record (the_view c.self.inside) { receivers = slice_set c.self.inside.receivers.items c.in-Some.arriving.head.channel c.take_in.new.receiver; untaken = c.take_in.new.untaken.items })
     (c.self.inside.waiting - c.from.result + c.from-2.result + c.in-Some-take_in.bytes) × (c.self.inside.waiting - c.from.result + c.from-2.result + c.in-Some-take_in.bytes < 2 ^ 127)
 kept c t =
@@ -26,7 +29,7 @@ kept c t =
     let qs = c.take_in.new.untaken.items in
     let was : c.from.result ≡ held_bytes c.index_mut-receiver.result.now.receiver = c.from.ensures ∙ c.held-before.ensures in
     let now : c.from-2.result ≡ held_bytes new.receiver = c.from-2.ensures ∙ c.held.ensures in
-    let k = kept_after (the_view c.self.inside) c.self.inside.waiting c.in-Some.arriving.head.channel c.index_mut-receiver.result.now new (data_of (view c.args.command.now)) c.is_full-full.result qs c.in-Some-take_in.bytes
+    let k = kept_after (the_view c.self.inside) c.self.inside.waiting c.in-Some.arriving.head.channel c.index_mut-receiver.result.now new (Some (data_command c.in-Some.arriving)) c.is_full-full.result qs c.in-Some-take_in.bytes
     c.from.result c.from-2.result c.self.invariant t.0 c.index_mut-receiver.ensures.value t.2 c.in-Some-take_in.ensures.receiver was now (omega arith) c.in-Some-take_in.ensures.short c.in-Some-take_in.ensures.bytes in
     let few : length qs < 2 ^ 63 = omega (arith, c.take_in.new.untaken.ok.0, c.take_in.new.untaken.small.0, c.take_in.new.untaken.small.1) in
     (k, bounded _ _ k few)
@@ -67,5 +70,6 @@ pub returns-clause-taken : goal.returns-clause-taken
 returns-clause-taken c = λ _.
     let m = view c.args.command.now in
     let t = reached (goal.at.returns-clause-taken c).After-index_mut-receiver in
-    handed_at (the_view c.self.inside) c.in-Some.arriving.head m.head (data_of m) (foresight_in c.args.what) c.index_mut-receiver.result.now c.take_in.new.receiver c.is_full-full.result c.take_in.new.untaken.items c.in-Some.ensures.head t.1 t.2 c.in-Some-take_in.ensures.receiver c.in-Some-take_in.ensures.untaken
-    ∙ ap (λ (x : Inbox). (sequenced x m.head.channel (data_of m)).after) c.self.view_is
+    handed_at (the_view c.self.inside) c.in-Some.arriving.head m.head (Some (data_command c.in-Some.arriving)) (foresight_in c.args.what) c.index_mut-receiver.result.now c.take_in.new.receiver c.is_full-full.result c.take_in.new.untaken.items c.in-Some.ensures.head t.1 t.2 c.in-Some-take_in.ensures.receiver c.in-Some-take_in.ensures.untaken
+    ∙ ap (λ (x : Inbox). (sequenced x m.head.channel (Some (data_command c.in-Some.arriving))).after) c.self.view_is
+    ∙ ap (λ (o : Option DataCommand). (sequenced c.args.self.now m.head.channel o).after) c.in-Some.ensures.data

@@ -8,33 +8,31 @@ use Rattle.enet_receiver.proofs.incoming.Incoming.take_in.Goals as goal
 
 pub keep-requires-clause-short : goal.keep-requires-clause-short
 keep-requires-clause-short c =
-    let d = data_command c.in-Some.arriving in
+    let d = data_command c.args.arriving in
     let own : IsOwn c.args.self.now d c.own_place.result = own_command c.args.self.now d (c.requires.0) c.own_place.result
     (subst (λ (e : ReceivingEnd). e.receiver.front < 65536) c.self.view_is c.self.invariant.wire) (omega arith) c.own_place.ensures
-    (ap (λ (o : Option DataCommand). outcome_for c.args.self.now o c.requires.0) c.in-Some.ensures.data ∙ c.requires.1) in
+    c.requires.1 in
     let short = own.short in
     let most : c.args.self.now.max_packet < 2 ^ 32 = subst (λ (e : ReceivingEnd). e.max_packet < 2 ^ 32) c.self.view_is c.self.invariant.packet in
     omega arith
 
 pub keep-requires-clause-admitted : goal.keep-requires-clause-admitted
 keep-requires-clause-admitted c =
-    let d = data_command c.in-Some.arriving in
+    let d = data_command c.args.arriving in
     (own_command c.args.self.now d c.requires.0 c.own_place.result
     (subst (λ (e : ReceivingEnd). e.receiver.front < 65536) c.self.view_is c.self.invariant.wire) (omega arith) c.own_place.ensures
-    (ap (λ (o : Option DataCommand). outcome_for c.args.self.now o c.requires.0) c.in-Some.ensures.data ∙ c.requires.1)).admitted
+    c.requires.1).admitted
 
 pub keep-requires-clause-inside : goal.keep-requires-clause-inside
 keep-requires-clause-inside c =
-    let d = data_command c.in-Some.arriving in
+    let d = data_command c.args.arriving in
     (own_command c.args.self.now d c.requires.0 c.own_place.result
     (subst (λ (e : ReceivingEnd). e.receiver.front < 65536) c.self.view_is c.self.invariant.wire) (omega arith) c.own_place.ensures
-    (ap (λ (o : Option DataCommand). outcome_for c.args.self.now o c.requires.0) c.in-Some.ensures.data ∙ c.requires.1)).inside
+    c.requires.1).inside
 
 pub returns-clause-taken : goal.returns-clause-taken
 returns-clause-taken c = λ taken full held.
-    let d = data_command c.in-Some.arriving in
-    let held_d : outcome_for c.args.self.now (Some (data_command c.in-Some.arriving)) full ≡ Held = ap (λ (o : Option DataCommand). outcome_for c.args.self.now o full) c.in-Some.ensures.data ∙ held in
-    let own : IsOwn c.args.self.now (data_command c.in-Some.arriving) c.own_place.result = own_command c.args.self.now d full c.own_place.result
-    (subst (λ (e : ReceivingEnd). e.receiver.front < 65536) c.self.view_is c.self.invariant.wire) (omega arith) c.own_place.ensures held_d in
-    c.keep.ensures.kept taken ∙ kept_is c.args.self.now d full c.own_place.result held_d own
-    ∙ ap (λ (o : Option DataCommand). after_command c.args.self.now o full) c.in-Some.ensures.data
+    let d = data_command c.args.arriving in
+    let own : IsOwn c.args.self.now (data_command c.args.arriving) c.own_place.result = own_command c.args.self.now d full c.own_place.result
+    (subst (λ (e : ReceivingEnd). e.receiver.front < 65536) c.self.view_is c.self.invariant.wire) (omega arith) c.own_place.ensures held in
+    c.keep.ensures.kept taken ∙ kept_is c.args.self.now d full c.own_place.result held own

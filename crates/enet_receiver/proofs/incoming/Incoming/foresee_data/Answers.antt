@@ -5,34 +5,31 @@ use Rattle.enet_receiver.specs.Foresight.{foreseen}
 use Rattle.enet_receiver.proofs.Admission.{admitted}
 use Rattle.enet_receiver.proofs.AtOnce.{dispatched_at_once}
 use Rattle.enet_receiver.proofs.Answered.{foreseen_held, foreseen_other}
-use Rattle.enet_receiver.proofs.incoming.Incoming.foresee.Goals as goal
+use Rattle.enet_receiver.proofs.incoming.Incoming.foresee_data.Goals as goal
 
 pub dispatches-dispatches-requires-clause-admitted : goal.dispatches-dispatches-requires-clause-admitted
 dispatches-dispatches-requires-clause-admitted c =
     let e = c.args.self.now in
-    admitted e.max_packet e.receiver (data_command c.in-Some.arriving) c.args.full c.in-Ok.place c.in-Ok.ensures.held.0 c.in-Ok.ensures.held.1
+    admitted e.max_packet e.receiver (data_command c.args.arriving) c.args.full c.in-Ok.place c.in-Ok.ensures.held.0 c.in-Ok.ensures.held.1
 
 pub returns-in-Ok : goal.returns-in-Ok
 returns-in-Ok c =
     let e = c.args.self.now in
-    let d = data_command c.in-Some.arriving in
+    let d = data_command c.args.arriving in
     c.answer-in-Ok.ensures
     ∙ foreseen_held e d c.args.full c.dispatches-dispatches.result c.in-Ok.ensures.held.0 (c.dispatches-dispatches.ensures c.args.full c.in-Ok.ensures.held.0)
-    ∙ ap (λ (o : Option DataCommand). foreseen e o c.args.full) c.in-Some.ensures.data
 
 pub returns-in-Err : goal.returns-in-Err
 returns-in-Err c =
     let e = c.args.self.now in
-    let d = data_command c.in-Some.arriving in
+    let d = data_command c.args.arriving in
     c.answer-in-Err.ensures
     ∙ foreseen_other e d c.args.full c.in-Err.took c.in-Err.ensures.other c.in-Err.ensures.known.0
-    ∙ ap (λ (o : Option DataCommand). foreseen e o c.args.full) c.in-Some.ensures.data
 
 pub returns-then-goes_at_once : goal.returns-then-goes_at_once
 returns-then-goes_at_once c =
     let e = c.args.self.now in
-    let d = data_command c.in-Some.arriving in
+    let d = data_command c.args.arriving in
     let at = dispatched_at_once e.max_packet e.receiver d c.args.full (c.goes_at_once.ensures c.if-goes_at_once.true) c.if-not-full.true in
     c.answer.ensures
     ∙ foreseen_held e d c.args.full 1 at.held at.one
-    ∙ ap (λ (o : Option DataCommand). foreseen e o c.args.full) c.in-Some.ensures.data
