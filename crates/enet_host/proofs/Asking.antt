@@ -11,6 +11,7 @@ use Rattle.enet_host.specs.Turns.{turn_of, IsFirst, HoldsNowhere}
 use Rattle.enet_slot.specs.Serving.{Passes, Gives}
 use Rattle.enet_slot.specs.Calls.{tells}
 use Rattle.enet_slot.proofs.Sleeping.{passes-asleep, mute-asleep}
+use Rattle.enet_host.specs.declared.skips.Skips.{Skips}
 use Rattle.enet_host.specs.Skips.{KeepsSkips}
 use Rattle.enet_host.specs.Private.Skips.{PassesTurns}
 use Rattle.enet_host.specs.Serving.{InTurn, GivesInTurn, AllPass}
@@ -82,14 +83,14 @@ all-asked-more now n from k number old new after f count inside place asked p = 
     (nat_eq i number) refl
 
 -- those that sleep are as good as asked
-pub all-passed : (now n from k m : ℕ) (next : List ℕ) (old new : List SlotState) → length old ≡ n → KeepsSkips n next old → PassesTurns next n from k m → k ≤ m
+pub all-passed : (now n from k m : ℕ) (skips : Skips) (old new : List SlotState) → length old ≡ n → KeepsSkips n skips old → PassesTurns skips.next.items n from k m → k ≤ m
     → AllAsked now n from k old new → AllAsked now n from m old new
-all-passed now n from k m next old new count skips passes more asked = λ i s t a b.
+all-passed now n from k m skips old new count rests passes more asked = λ i s t a b.
     let inside : i < n = subst (λ (c : ℕ). i < c) count (slice_get_within old i s a) in
     record {
       before = λ less. elim (cases_lt (turn_of n from i) k) [
         | inl earlier ↦ (asked i s t a b).before earlier
-        | inr later ↦ subst (λ (u : SlotState). Passes now s u) (sym ((asked i s t a b).after later)) (passes-asleep now s (skips.asleep i s a (passes i inside later less)))
+        | inr later ↦ subst (λ (u : SlotState). Passes now s u) (sym ((asked i s t a b).after later)) (passes-asleep now s (rests.asleep i s a (passes i inside later less)).sleeps)
       ];
       after = λ past. (asked i s t a b).after (omega (arith, past, more));
     }
@@ -179,11 +180,11 @@ none-more holds slots n from k number slot f count inside place none there not =
     none-more-by holds slots n from k number j slot s f count inside place none there not a less (nat_eq j number) refl
 
 -- those that sleep have no event
-pub none-passed : (slots : List SlotState) (n from k m : ℕ) (next : List ℕ) → length slots ≡ n → KeepsSkips n next slots → PassesTurns next n from k m
+pub none-passed : (slots : List SlotState) (n from k m : ℕ) (skips : Skips) → length slots ≡ n → KeepsSkips n skips slots → PassesTurns skips.next.items n from k m
     → NoneBefore tells slots n from k → NoneBefore tells slots n from m
-none-passed slots n from k m next count skips passes none = λ j s a less.
+none-passed slots n from k m skips count rests passes none = λ j s a less.
     let inside : j < n = subst (λ (c : ℕ). j < c) count (slice_get_within slots j s a) in
-    elim (cases_lt (turn_of n from j) k) [ inl earlier ↦ none j s a earlier | inr later ↦ mute-asleep s (skips.asleep j s a (passes j inside later less)) ]
+    elim (cases_lt (turn_of n from j) k) [ inl earlier ↦ none j s a earlier | inr later ↦ mute-asleep s (rests.asleep j s a (passes j inside later less)).sleeps ]
 
 pub none-at-all : (holds : SlotState → Bool) (slots : List SlotState) (n from k : ℕ) → from < n → length slots ≡ n → n ≤ k → NoneBefore holds slots n from k
     → HoldsNowhere holds slots

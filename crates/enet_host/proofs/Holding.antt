@@ -23,6 +23,7 @@ use Rattle.enet_slot.specs.declared.slot.Slot.{Slot}
 use Rattle.enet_slot.specs.Slotted.{all_shown}
 use Rattle.enet_host.specs.Shown.{KeepsHost}
 use Rattle.enet_host.specs.Private.Shown.{SlotGivesEvent}
+use Rattle.enet_host.specs.declared.skips.Skips.{Skips}
 use Rattle.enet_host.specs.Skips.{entry, KeepsSkips}
 use Rattle.enet_host.proofs.Skipping.{skips-none, skips-set}
 use Rattle.enet_slot.proofs.Shown.{length-shown}
@@ -146,23 +147,23 @@ submits-held slots new name q call r old d = submits-over HoldsNoFree slots new 
 
 -- What a host keeps of its slots: none holds a free peer, and those that are passed over sleep. A call keeps that where the slot that
 -- it names is awake.
-abbrev pub IsKept : ℕ → List ℕ → List SlotState → Type 0
-IsKept n next slots = HoldsNoFree slots × KeepsSkips n next slots
+abbrev pub IsKept : ℕ → Skips → List SlotState → Type 0
+IsKept n skips slots = HoldsNoFree slots × KeepsSkips n skips slots
 
-each-kept : (n : ℕ) (next : List ℕ) (slots : List SlotState) (i : ℕ) → IsKept n next slots → entry next i ≤ i → (s : SlotState) (q : Peering) → IsKept n next (slice_set slots i (with_peer s q))
-each-kept n next slots i old awake s q = (each-held slots i old.0 s q, skips-set n next slots i (with_peer s q) old.1 awake)
+each-kept : (n : ℕ) (skips : Skips) (slots : List SlotState) (i : ℕ) → IsKept n skips slots → entry skips.next.items i ≤ i → (s : SlotState) (q : Peering) → IsKept n skips (slice_set slots i (with_peer s q))
+each-kept n skips slots i old awake s q = (each-held slots i old.0 s q, skips-set n skips slots i (with_peer s q) old.1 awake)
 
-pub does-kept : {T : Type 0} (n : ℕ) (next : List ℕ) (slots new : List SlotState) (name : PeerRef) (call : Peering → Result Peering Refusal) (r : Result T Refusal) → IsKept n next slots
-    → entry next name.slot ≤ name.slot → Does r (on_named slots name call) slots new → IsKept n next new
-does-kept n next slots new name call r old awake d = does-over (IsKept n next) slots new name call r old (each-kept n next slots name.slot old awake) d
+pub does-kept : {T : Type 0} (n : ℕ) (skips : Skips) (slots new : List SlotState) (name : PeerRef) (call : Peering → Result Peering Refusal) (r : Result T Refusal) → IsKept n skips slots
+    → entry skips.next.items name.slot ≤ name.slot → Does r (on_named slots name call) slots new → IsKept n skips new
+does-kept n skips slots new name call r old awake d = does-over (IsKept n skips) slots new name call r old (each-kept n skips slots name.slot old awake) d
 
-pub does-with-memory-kept : {T : Type 0} (n : ℕ) (next : List ℕ) (slots new : List SlotState) (name : PeerRef) (call : Peering → Result Peering Refusal) (r : Result T Refusal) → IsKept n next slots
-    → entry next name.slot ≤ name.slot → DoesWithMemory r (on_named slots name call) slots new → IsKept n next new
-does-with-memory-kept n next slots new name call r old awake d = does-with-memory-over (IsKept n next) slots new name call r old (each-kept n next slots name.slot old awake) d
+pub does-with-memory-kept : {T : Type 0} (n : ℕ) (skips : Skips) (slots new : List SlotState) (name : PeerRef) (call : Peering → Result Peering Refusal) (r : Result T Refusal) → IsKept n skips slots
+    → entry skips.next.items name.slot ≤ name.slot → DoesWithMemory r (on_named slots name call) slots new → IsKept n skips new
+does-with-memory-kept n skips slots new name call r old awake d = does-with-memory-over (IsKept n skips) slots new name call r old (each-kept n skips slots name.slot old awake) d
 
-pub submits-kept : {T : Type 0} (n : ℕ) (next : List ℕ) (slots new : List SlotState) (name : PeerRef) (q : Packet) (call : Peering → Result Peering Refusal) (r : Result T (Refusal × List ℕ))
-    → IsKept n next slots → entry next name.slot ≤ name.slot → Submits r q (on_named slots name call) slots new → IsKept n next new
-submits-kept n next slots new name q call r old awake d = submits-over (IsKept n next) slots new name q call r old (each-kept n next slots name.slot old awake) d
+pub submits-kept : {T : Type 0} (n : ℕ) (skips : Skips) (slots new : List SlotState) (name : PeerRef) (q : Packet) (call : Peering → Result Peering Refusal) (r : Result T (Refusal × List ℕ))
+    → IsKept n skips slots → entry skips.next.items name.slot ≤ name.slot → Submits r q (on_named slots name call) slots new → IsKept n skips new
+submits-kept n skips slots new name q call r old awake d = submits-over (IsKept n skips) slots new name q call r old (each-kept n skips slots name.slot old awake) d
 
 -- a connection begins
 given-held : (s : SlotState) (address : Addr) (q : Peering) → q.state ≢ state.Free → IsHeld (given s address q)
@@ -268,23 +269,23 @@ shared-if-held due outgoing slots new e old =
     subst HoldsNoFree (sym e) (held-if due (map (shared outgoing (count_by is_standing slots)) slots) slots (shared-held outgoing (count_by is_standing slots) slots old) old)
 
 -- what a host keeps once its slots and turns have changed
-pub keeps-after : (peers generations from event first last : ℕ) (next later : List ℕ) (xs ys : List Slot) → KeepsHost peers generations from event next xs → length ys ≡ length xs
+pub keeps-after : (peers generations from event first last : ℕ) (skips later : Skips) (xs ys : List Slot) → KeepsHost peers generations from event skips xs → length ys ≡ length xs
     → first < peers → last < peers → IsKept peers later (all_shown ys) → KeepsHost peers generations first last later ys
-keeps-after peers generations from event first last next later xs ys k e a b after =
-    record { count = e ∙ k.count; many = k.many; service = a; event = b; few = k.few; held = after.0; skips = after.1 }
+keeps-after peers generations from event first last skips later xs ys k e a b after =
+    record { count = e ∙ k.count; many = k.many; service = a; event = b; few = k.few; held = after.0; resting = after.1 }
 
 -- and once a slot was woken
-pub woken-kept : (peers generations from event : ℕ) (next later : List ℕ) (xs : List Slot) → KeepsHost peers generations from event next xs
-    → ((n : ℕ) (slots : List SlotState) → KeepsSkips n next slots → KeepsSkips n later slots) → IsKept peers later (all_shown xs)
-woken-kept peers generations from event next later xs k woken = (k.held, woken peers (all_shown xs) k.skips)
+pub woken-kept : (peers generations from event : ℕ) (skips later : Skips) (xs : List Slot) → KeepsHost peers generations from event skips xs
+    → ((n : ℕ) (slots : List SlotState) → KeepsSkips n skips slots → KeepsSkips n later slots) → IsKept peers later (all_shown xs)
+woken-kept peers generations from event skips later xs k woken = (k.held, woken peers (all_shown xs) k.resting)
 
 -- what it keeps at first
 in-range : (c : Config) → is_in_range c ≡ true → (0 < c.peers) × (c.peers ≤ 4095) × (c.generations ≤ greatest)
 in-range c h = (grind (arith, nat_tests), grind (arith, nat_tests), grind (arith, nat_tests))
 
-keeps-fresh : (c : Config) (r : Bool) (next : List ℕ) (xs : List Slot) (slots : List SlotState) → r ≡ is_in_range c → r ≡ true → next ≡ replicate c.peers 0 → all_shown xs ≡ slots
-    → length slots ≡ c.peers → HoldsNoFree slots → KeepsHost c.peers c.generations 0 0 next xs
-keeps-fresh c r next xs slots is go awake e count held =
+keeps-fresh : (c : Config) (r : Bool) (skips : Skips) (xs : List Slot) (slots : List SlotState) → r ≡ is_in_range c → r ≡ true → skips.next.items ≡ replicate c.peers 0 → all_shown xs ≡ slots
+    → length slots ≡ c.peers → HoldsNoFree slots → KeepsHost c.peers c.generations 0 0 skips xs
+keeps-fresh c r skips xs slots is go awake e count held =
     let h : (0 < c.peers) × (c.peers ≤ 4095) × (c.generations ≤ greatest) = in-range c (sym is ∙ go) in
     record {
       count = sym (length-shown xs) ∙ ap length e ∙ count;
@@ -293,16 +294,16 @@ keeps-fresh c r next xs slots is go awake e count held =
       event = h.0;
       few = h.2;
       held = subst HoldsNoFree (sym e) held;
-      skips = skips-none c.peers next (all_shown xs) awake;
+      resting = skips-none c.peers skips (all_shown xs) awake;
     }
 
-pub keeps-opened : (c : Config) (r : Bool) (next : List ℕ) (xs : List Slot) → r ≡ is_in_range c → r ≡ true → next ≡ replicate c.peers 0 → all_shown xs ≡ replicate c.peers unused_slot
-    → KeepsHost c.peers c.generations 0 0 next xs
-keeps-opened c r next xs is go awake e = keeps-fresh c r next xs (replicate c.peers unused_slot) is go awake e (length-replicate c.peers unused_slot) (unused-held c.peers)
+pub keeps-opened : (c : Config) (r : Bool) (skips : Skips) (xs : List Slot) → r ≡ is_in_range c → r ≡ true → skips.next.items ≡ replicate c.peers 0 → all_shown xs ≡ replicate c.peers unused_slot
+    → KeepsHost c.peers c.generations 0 0 skips xs
+keeps-opened c r skips xs is go awake e = keeps-fresh c r skips xs (replicate c.peers unused_slot) is go awake e (length-replicate c.peers unused_slot) (unused-held c.peers)
 
-pub keeps-joined : (c : Config) (address : Addr) (r : Bool) (next : List ℕ) (xs : List Slot) → r ≡ is_in_range c → r ≡ true → next ≡ replicate c.peers 0
-    → all_shown xs ≡ joined_slots c address → KeepsHost c.peers c.generations 0 0 next xs
-keeps-joined c address r next xs is go awake e =
-    keeps-fresh c r next xs (joined_slots c address) is go awake e
+pub keeps-joined : (c : Config) (address : Addr) (r : Bool) (skips : Skips) (xs : List Slot) → r ≡ is_in_range c → r ≡ true → skips.next.items ≡ replicate c.peers 0
+    → all_shown xs ≡ joined_slots c address → KeepsHost c.peers c.generations 0 0 skips xs
+keeps-joined c address r skips xs is go awake e =
+    keeps-fresh c r skips xs (joined_slots c address) is go awake e
     (length-set (replicate c.peers unused_slot) 0 (given unused_slot address (peers.joined c.clock (joined_terms c) (limits_of c))) ∙ length-replicate c.peers unused_slot)
     (joined-held c address)

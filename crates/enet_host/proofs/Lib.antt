@@ -8,4 +8,5 @@ pub mod Serving
 pub mod Telling
 pub mod Holding
 pub mod Foretold
-pub mod Calm
+pub mod Bringing
+pub mod Resting

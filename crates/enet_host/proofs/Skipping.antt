@@ -1,11 +1,9 @@
 -- Slots that sleep are passed over.
-use Rattle.std.proofs.Common.{◌≡◌, ◌≢◌, ℕ, ◌+◌, ◌-◌, ◌<◌, ◌≤◌, ◌⊎◌, inl, inr, min, Some, List, length, replicate, slice_get, slice_set, get_or, refl, sym, ap, subst, ◌∙◌, arith}
+use Rattle.std.proofs.Common.{◌≡◌, ◌≢◌, ℕ, ◌+◌, ◌-◌, ◌<◌, ◌≤◌, ◌⊎◌, inl, inr, min, Some, List, length, replicate, slice_get, slice_set, sym, ap, subst, ◌∙◌, arith}
 use Rattle.std.proofs.lemmas.Bool.{cases_lt, cases_eq}
 use Rattle.std.proofs.lemmas.List.{get_or-set_other, get_or-set_same, get_or-replicate, get_or_past, length-set, length-replicate}
-use Rattle.std.proofs.lemmas.Option.{slice_get_within}
 use Rattle.enet_slot.specs.declared.slot.Slot.{Slot}
 use Rattle.enet_slot.specs.Slot.{SlotState}
-use Rattle.enet_slot.specs.Sleeping.{Sleeps}
 use Rattle.enet_slot.specs.Slotted.{shown, all_shown}
 use Rattle.enet_slot.proofs.Shown.{set-shown}
 use Rattle.enet_host.specs.Turns.{turn_of}
@@ -13,8 +11,10 @@ use Rattle.enet_codec.specs.declared.address.Addr.{Addr}
 use Rattle.enet_codec.specs.declared.event.Event.{Event}
 use Rattle.enet_codec.specs.declared.event.PeerRef.{PeerRef}
 use Rattle.enet_host.specs.Private.Shown.{SlotGives, SlotPasses, SlotGivesEvent}
-use Rattle.enet_host.specs.Skips.{entry, Marks, KeepsSkips}
-use Rattle.enet_host.specs.Private.Skips.{SlotSleeps, PassesTurns, AwakeAt}
+use Rattle.enet_host.specs.declared.calm.Calm.{Calm}
+use Rattle.enet_host.specs.declared.skips.Skips.{Skips}
+use Rattle.enet_host.specs.Skips.{entry, Marks, Rests, KeepsSkips}
+use Rattle.enet_host.specs.Private.Skips.{IsPartOf, SlotRests, PassesTurns, AwakeAt}
 use Rattle.enet_host.proofs.Asking.{get-set-other}
 use Rattle.enet_host.proofs.Turning.{turn-below, same-turn, passed-between}
 
@@ -22,35 +22,39 @@ use Rattle.enet_host.proofs.Turning.{turn-below, same-turn, passed-between}
 none-marked : (n i : ℕ) → entry (replicate n 0) i ≡ 0
 none-marked n i = elim (cases_lt i n) [ inl inside ↦ get_or-replicate n i 0 0 inside | inr past ↦ get_or_past (replicate n 0) i 0 (omega (arith, past, length-replicate {A = ℕ} n 0)) ]
 
-pub skips-none : (n : ℕ) (next : List ℕ) (slots : List SlotState) → next ≡ replicate n 0 → KeepsSkips n next slots
-skips-none n next slots e =
-    subst (λ (xs : List ℕ). KeepsSkips n xs slots) (sym e)
-    (record {
-      marks = record { count = length-replicate {A = ℕ} n 0; passed = λ i j low less. absurd (omega (arith, less, none-marked n j)) };
-      asleep = λ i s there less. absurd (omega (arith, less, none-marked n i));
-    })
+pub skips-none : (n : ℕ) (skips : Skips) (slots : List SlotState) → skips.next.items ≡ replicate n 0 → KeepsSkips n skips slots
+skips-none n skips slots e =
+    let none : (i : ℕ) → entry skips.next.items i ≡ 0 = λ i. ap (λ (xs : List ℕ). entry xs i) e ∙ none-marked n i in
+    record {
+      marks = record { count = ap length e ∙ length-replicate {A = ℕ} n 0; passed = λ i j low less. absurd (omega (arith, less, none j)) };
+      asleep = λ i s there less. absurd (omega (arith, less, none i));
+    }
 
 -- a slot that is awake may change
-pub skips-set : (n : ℕ) (next : List ℕ) (slots : List SlotState) (i : ℕ) (t : SlotState) → KeepsSkips n next slots → entry next i ≤ i → KeepsSkips n next (slice_set slots i t)
-skips-set n next slots i t k awake = record {
+pub skips-set : (n : ℕ) (skips : Skips) (slots : List SlotState) (i : ℕ) (t : SlotState) → KeepsSkips n skips slots → entry skips.next.items i ≤ i → KeepsSkips n skips (slice_set slots i t)
+skips-set n skips slots i t k awake = record {
   marks = k.marks;
   asleep = λ j s there less. elim (cases_eq j i)
-      [ inl same ↦ absurd (omega (arith, subst (λ (m : ℕ). m < entry next m) same less, awake)) | inr other ↦ k.asleep j s (get-set-other slots i j t s other there) less ];
+      [ inl same ↦ absurd (omega (arith, subst (λ (m : ℕ). m < entry skips.next.items m) same less, awake)) | inr other ↦ k.asleep j s (get-set-other slots i j t s other there) less ];
 }
 
-pub skips-at : (n : ℕ) (next : List ℕ) (xs : List Slot) (i : ℕ) (y : Slot) → KeepsSkips n next (all_shown xs) → entry next i ≤ i → KeepsSkips n next (all_shown (slice_set xs i y))
-skips-at n next xs i y k awake = subst (KeepsSkips n next) (sym (set-shown xs i y)) (skips-set n next (all_shown xs) i (shown y) k awake)
+pub skips-at : (n : ℕ) (skips : Skips) (xs : List Slot) (i : ℕ) (y : Slot) → KeepsSkips n skips (all_shown xs) → entry skips.next.items i ≤ i → KeepsSkips n skips (all_shown (slice_set xs i y))
+skips-at n skips xs i y k awake = subst (KeepsSkips n skips) (sym (set-shown xs i y)) (skips-set n skips (all_shown xs) i (shown y) k awake)
 
-pub skips-passes : (n now i : ℕ) (next : List ℕ) (old new : List SlotState) → KeepsSkips n next old → entry next i ≤ i → SlotPasses now old i new → KeepsSkips n next new
-skips-passes n now i next old new k awake p = subst (KeepsSkips n next) (sym p.after) (skips-set n next old i p.left k awake)
+pub skips-passes : (n now i : ℕ) (skips : Skips) (old new : List SlotState) → KeepsSkips n skips old → entry skips.next.items i ≤ i → SlotPasses now old i new → KeepsSkips n skips new
+skips-passes n now i skips old new k awake p = subst (KeepsSkips n skips) (sym p.after) (skips-set n skips old i p.left k awake)
 
-pub skips-gives : (n now i len : ℕ) (name : PeerRef) (address : Addr) (buf next : List ℕ) (old new : List SlotState) → KeepsSkips n next old → entry next i ≤ i
-    → SlotGives now old i name address len buf new → KeepsSkips n next new
-skips-gives n now i len name address buf next old new k awake g = subst (KeepsSkips n next) (sym g.after) (skips-set n next old i g.left k awake)
+pub skips-gives : (n now i len : ℕ) (name : PeerRef) (address : Addr) (buf : List ℕ) (skips : Skips) (old new : List SlotState) → KeepsSkips n skips old → entry skips.next.items i ≤ i
+    → SlotGives now old i name address len buf new → KeepsSkips n skips new
+skips-gives n now i len name address buf skips old new k awake g = subst (KeepsSkips n skips) (sym g.after) (skips-set n skips old i g.left k awake)
 
-pub skips-gives-event : (n i : ℕ) (event : Event) (next : List ℕ) (old new : List SlotState) → KeepsSkips n next old → entry next i ≤ i → SlotGivesEvent old i event new
-    → KeepsSkips n next new
-skips-gives-event n i event next old new k awake g = subst (KeepsSkips n next) (sym g.after) (skips-set n next old i g.left k awake)
+pub skips-gives-event : (n i : ℕ) (event : Event) (skips : Skips) (old new : List SlotState) → KeepsSkips n skips old → entry skips.next.items i ≤ i → SlotGivesEvent old i event new
+    → KeepsSkips n skips new
+skips-gives-event n i event skips old new k awake g = subst (KeepsSkips n skips) (sym g.after) (skips-set n skips old i g.left k awake)
+
+-- a slot rests for a part of the time, too
+pub rests-for-part : (part whole : Calm) (s : SlotState) → IsPartOf part whole → Rests whole s → Rests part s
+rests-for-part part whole s within r = record { sleeps = r.sleeps; still = λ moment fits h. r.still moment fits (within moment fits h) }
 
 -- Slot `number` is woken: those from slot `place` on that were passed over with it end at it by now.
 pub record Waking (old new : List ℕ) (number place : ℕ) : Type 0 where
@@ -136,29 +140,32 @@ passed-after old new n number place i j w marks low past over =
       ]
     ]
 
-pub woken : (old new : List ℕ) (number place n : ℕ) (slots : List SlotState) → Waking old new number place → ((m : ℕ) → m + 1 ≡ place → entry new m ≤ m)
-    → KeepsSkips n old slots → KeepsSkips n new slots
-woken old new number place n slots w stop k = record {
-  marks = record {
-    count = w.count ∙ k.marks.count;
-    passed = λ i j low over. elim (cases_lt j place)
-        [ inl less ↦ passed-before old new n number place i j w k.marks stop low less over | inr past ↦ passed-after old new n number place i j w k.marks low past over ];
-  };
-  asleep = λ i s there less. k.asleep i s there (still-marked old new number place i w less);
-}
+pub woken : (old new : Skips) (number place n : ℕ) (slots : List SlotState) → Waking old.next.items new.next.items number place → new.calm ≡ old.calm
+    → ((m : ℕ) → m + 1 ≡ place → entry new.next.items m ≤ m) → KeepsSkips n old slots → KeepsSkips n new slots
+woken old new number place n slots w calm stop k =
+    let olds = old.next.items in
+    let news = new.next.items in
+    record {
+      marks = record {
+        count = w.count ∙ k.marks.count;
+        passed = λ i j low over. elim (cases_lt j place)
+            [ inl less ↦ passed-before olds news n number place i j w k.marks stop low less over | inr past ↦ passed-after olds news n number place i j w k.marks low past over ];
+      };
+      asleep = λ i s there less. subst (λ (c : Calm). Rests c s) (sym calm) (k.asleep i s there (still-marked olds news number place i w less));
+    }
 
 -- The slots from `number` on were looked at anew; `next` is the first of them that is awake, or their number.
-pub record Refreshed (xs : List ℕ) (slots : List SlotState) (n number next : ℕ) : Type 0 where
+pub record Refreshed (calm : Calm) (xs : List ℕ) (slots : List SlotState) (n number next : ℕ) : Type 0 where
   pub count : length xs ≡ n
   pub all : length slots ≡ n
   pub within : number ≤ n
   pub low : number ≤ next
   pub run : (i : ℕ) → number ≤ i → i < next → i < entry xs i
   pub passed : (i j : ℕ) → number ≤ j → j ≤ i → i < entry xs j → i < entry xs i
-  pub asleep : (i : ℕ) (s : SlotState) → number ≤ i → slice_get slots i ≡ Some s → i < entry xs i → Sleeps s
+  pub asleep : (i : ℕ) (s : SlotState) → number ≤ i → slice_get slots i ≡ Some s → i < entry xs i → Rests calm s
 
-pub refreshed-first : (xs : List ℕ) (slots : List SlotState) (n : ℕ) → length xs ≡ n → length slots ≡ n → Refreshed xs slots n n n
-refreshed-first xs slots n count all = record {
+pub refreshed-first : (calm : Calm) (xs : List ℕ) (slots : List SlotState) (n : ℕ) → length xs ≡ n → length slots ≡ n → Refreshed calm xs slots n n n
+refreshed-first calm xs slots n count all = record {
   count = count;
   all = all;
   within = omega arith;
@@ -169,9 +176,9 @@ refreshed-first xs slots n count all = record {
 }
 
 -- one slot more, whose entry is its own number, or past it where it sleeps
-refreshed-by : (xs : List ℕ) (slots : List SlotState) (n number next m v : ℕ) → Refreshed xs slots n number next → m + 1 ≡ number → m ≤ v
-    → ((i : ℕ) → m < i → i < v → i < entry xs i) → (m < v → SlotSleeps slots m) → Refreshed (slice_set xs m v) slots n m v
-refreshed-by xs slots n number next m v r is low run sleeps =
+refreshed-by : (old calm : Calm) (xs : List ℕ) (slots : List SlotState) (n number next m v : ℕ) → Refreshed old xs slots n number next → IsPartOf calm old → m + 1 ≡ number → m ≤ v
+    → ((i : ℕ) → m < i → i < v → i < entry xs i) → (m < v → SlotRests calm slots m) → Refreshed calm (slice_set xs m v) slots n m v
+refreshed-by old calm xs slots n number next m v r part is low run sleeps =
     let inside : m < length xs = omega (arith, is, r.within, r.count) in
     let here : entry (slice_set xs m v) m ≡ v = get_or-set_same xs m v 0 inside in
     let other : (i : ℕ) → m < i → entry (slice_set xs m v) i ≡ entry xs i = λ i more. get_or-set_other xs m i v 0 (λ same. absurd (omega (arith, more, same))) in
@@ -190,22 +197,22 @@ refreshed-by xs slots n number next m v r is low run sleeps =
         | inr at ↦ let same : j ≡ m = omega (arith, past, at) in run_on i (omega (arith, past, below)) (omega (arith, less, ap (entry (slice_set xs m v)) same, here))
       ];
       asleep = λ i s past there less. elim (cases_lt m i) [
-        | inl more ↦ r.asleep i s (omega (arith, more, is)) there (subst (λ (e : ℕ). i < e) (other i more) less)
+        | inl more ↦ rests-for-part calm old s part (r.asleep i s (omega (arith, more, is)) there (subst (λ (e : ℕ). i < e) (other i more) less))
         | inr at ↦
             let same : i ≡ m = omega (arith, past, at) in
             sleeps (omega (arith, less, ap (entry (slice_set xs m v)) same, here, same)) s (subst (λ (k : ℕ). slice_get slots k ≡ Some s) same there)
       ];
     }
 
-pub refreshed-more : (xs : List ℕ) (slots : List SlotState) (n number next m v : ℕ) → Refreshed xs slots n number next → m + 1 ≡ number
-    → (v ≡ m) ⊎ ((v ≡ next) × SlotSleeps slots m) → Refreshed (slice_set xs m v) slots n m v
-refreshed-more xs slots n number next m v r is (inl awake) =
-    refreshed-by xs slots n number next m v r is (omega (arith, awake)) (λ i more less. absurd (omega (arith, more, less, awake))) (λ more. absurd (omega (arith, more, awake)))
-refreshed-more xs slots n number next m v r is (inr asleep) =
-    refreshed-by xs slots n number next m v r is (omega (arith, asleep.0, r.low, is)) (λ i more less. r.run i (omega (arith, more, is)) (omega (arith, less, asleep.0))) (λ more. asleep.1)
+pub refreshed-more : (old calm : Calm) (xs : List ℕ) (slots : List SlotState) (n number next m v : ℕ) → Refreshed old xs slots n number next → IsPartOf calm old → m + 1 ≡ number
+    → (v ≡ m) ⊎ ((v ≡ next) × SlotRests calm slots m) → Refreshed calm (slice_set xs m v) slots n m v
+refreshed-more old calm xs slots n number next m v r part is (inl awake) =
+    refreshed-by old calm xs slots n number next m v r part is (omega (arith, awake)) (λ i more less. absurd (omega (arith, more, less, awake))) (λ more. absurd (omega (arith, more, awake)))
+refreshed-more old calm xs slots n number next m v r part is (inr asleep) =
+    refreshed-by old calm xs slots n number next m v r part is (omega (arith, asleep.0, r.low, is)) (λ i more less. r.run i (omega (arith, more, is)) (omega (arith, less, asleep.0))) (λ more. asleep.1)
 
-pub refreshed-all : (xs : List ℕ) (slots : List SlotState) (n number next : ℕ) → Refreshed xs slots n number next → number ≡ 0 → KeepsSkips n xs slots
-refreshed-all xs slots n number next r none = record {
+pub refreshed-all : (skips : Skips) (slots : List SlotState) (n number next : ℕ) → Refreshed skips.calm skips.next.items slots n number next → number ≡ 0 → KeepsSkips n skips slots
+refreshed-all skips slots n number next r none = record {
   marks = record { count = r.count; passed = λ i j low less. r.passed i j (omega (arith, none)) low less };
   asleep = λ i s there less. r.asleep i s (omega (arith, none)) there less;
 }

@@ -11,6 +11,14 @@ split-by n from i false e = let high : from ≤ i = grind (arith, nat_tests, e) 
 turn-split : (n from i : ℕ) → ((i < from) × (turn_of n from i ≡ n - from + i)) ⊎ ((from ≤ i) × (turn_of n from i ≡ i - from))
 turn-split n from i = split-by n from i (nat_lt i from) refl
 
+zero-by : (n i : ℕ) → ((i < 0) × (turn_of n 0 i ≡ n - 0 + i)) ⊎ ((0 ≤ i) × (turn_of n 0 i ≡ i - 0)) → turn_of n 0 i ≡ i
+zero-by n i (inl h) = absurd (omega (arith, h.0))
+zero-by n i (inr h) = omega (arith, h.1)
+
+-- where slot 0 is first, each slot has the turn of its number
+pub turn-from-zero : (n i : ℕ) → turn_of n 0 i ≡ i
+turn-from-zero n i = zero-by n i (turn-split n 0 i)
+
 below-by : (n from i : ℕ) → ((i < from) × (turn_of n from i ≡ n - from + i)) ⊎ ((from ≤ i) × (turn_of n from i ≡ i - from)) → from < n → i < n → turn_of n from i < n
 below-by n from i (inl h) f inside = omega (arith, h.0, h.1)
 below-by n from i (inr h) f inside = omega (arith, h.0, h.1)

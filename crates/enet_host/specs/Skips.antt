@@ -1,7 +1,11 @@
 -- Which slots are passed over where slots are asked in turn.
-use Rattle.std.specs.Prelude.{◌≡◌, ℕ, ◌<◌, ◌≤◌, Some, List, length, get_or, slice_get}
-use Rattle.enet_slot.specs.Slot.{SlotState}
+use Rattle.std.specs.Prelude.{◌≡◌, ℕ, ◌^◌, ◌<◌, ◌≤◌, Some, List, length, get_or, slice_get}
+use Rattle.enet_rtt.specs.Clock.{elapsed_time}
+use Rattle.enet_peer.specs.Calls as peers
+use Rattle.enet_slot.specs.Slot.{SlotState, changed}
 use Rattle.enet_slot.specs.Sleeping.{Sleeps}
+use Rattle.enet_host.specs.declared.calm.Calm.{Calm}
+use Rattle.enet_host.specs.declared.skips.Skips.{Skips}
 
 -- the entry of a slot. Where it is past the slot's number, the slot is passed over, with all up to the entry
 abbrev pub entry : List ℕ → ℕ → ℕ
@@ -12,7 +16,16 @@ pub record Marks (peers : ℕ) (next : List ℕ) : Type 0 where
   pub count : length next ≡ peers
   pub passed : (i j : ℕ) → j ≤ i → i < entry next j → i < entry next i
 
--- slots that are passed over sleep
-pub record KeepsSkips (peers : ℕ) (next : List ℕ) (slots : List SlotState) : Type 0 where
-  pub marks : Marks peers next
-  pub asleep : (i : ℕ) (s : SlotState) → slice_get slots i ≡ Some s → i < entry next i → Sleeps s
+-- a moment is within a time in which nothing happens
+abbrev pub IsWithin : Calm → ℕ → Type 0
+IsWithin calm moment = elapsed_time moment calm.from < calm.lasts
+
+-- a slot sleeps, and a tick at a moment of this time changes nothing of it
+pub record Rests (calm : Calm) (s : SlotState) : Type 0 where
+  pub sleeps : Sleeps s
+  pub still : (moment : ℕ) → moment < 2 ^ 32 → IsWithin calm moment → changed (λ p. peers.ticked p moment) s ≡ s
+
+-- slots that are passed over rest
+pub record KeepsSkips (peers : ℕ) (skips : Skips) (slots : List SlotState) : Type 0 where
+  pub marks : Marks peers skips.next.items
+  pub asleep : (i : ℕ) (s : SlotState) → slice_get slots i ≡ Some s → i < entry skips.next.items i → Rests skips.calm s

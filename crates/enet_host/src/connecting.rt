@@ -18,9 +18,9 @@ pub(crate) fn connect(
     question: Question,
 ) -> Result<PeerRef, Refusal>
     requires many { length slots.old.items ≤ 4095 }
-    requires skips { KeepsSkips start.now.config.peers skips.old.next.items (all_shown slots.old.items) }
+    requires skips { KeepsSkips start.now.config.peers skips.old (all_shown slots.old.items) }
     ensures count { length slots.new.items ≡ length slots.old.items }
-    ensures skips { KeepsSkips start.now.config.peers skips.new.next.items (all_shown slots.new.items) }
+    ensures skips { KeepsSkips start.now.config.peers skips.new (all_shown slots.new.items) }
     ensures connects { Connects start.now.config start.now.clock (all_shown slots.old.items) question.address question.channels question.info question.word result (all_shown slots.new.items) }
 {
     if question.channels == 0 {

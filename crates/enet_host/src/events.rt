@@ -17,7 +17,7 @@ use enet_slot::Slot;
 pub(crate) fn first_telling(slots: &[Slot], skips: &Skips, peers: u16, from: u16) -> Option<u16>
     requires within { from < peers }
     requires all { peers ≡ length slots.now }
-    requires skips { KeepsSkips peers skips.now.next.items (all_shown slots.now) }
+    requires skips { KeepsSkips peers skips.now (all_shown slots.now) }
     ensures first { IfSome result (λ i. IsFirst tells (all_shown slots.now) from i) }
     ensures none { IfNone result (HoldsNowhere tells (all_shown slots.now)) }
     ensures within { IfSome result (λ i. i < peers) }

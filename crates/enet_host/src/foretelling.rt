@@ -8,7 +8,8 @@ ghost use Rattle.enet_host.specs.Ticking.{IsDueIn};
 ghost use Rattle.enet_host.specs.Foretelling.{next_name, teller_of, packet_of, body_of, Foretells, IsTeller};
 
 use crate::events::{first_telling, name_at, packet_of};
-use crate::host::{HostCore, SHARING_INTERVAL};
+use crate::host::HostCore;
+use crate::ticking::SHARING_INTERVAL;
 use bytes::Bytes;
 use enet_codec::{Packet, PeerRef};
 use enet_rtt::elapsed;

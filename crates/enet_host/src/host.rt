@@ -1,13 +1,12 @@
 //! A host, and what it does with slots, datagrams and time.
 
-ghost use Rattle.std.specs.Prelude.{◌≡◌, ◌≤◌, true, nat_le, if◌then◌else◌, IfSome, IfErr, OnOk, OnErr, length, map};
-ghost use Rattle.std.specs.List.{count_by, list_any};
-ghost use Rattle.enet_rtt.specs.Clock.{elapsed_time};
+ghost use Rattle.std.specs.Prelude.{◌≡◌, ◌≤◌, true, IfSome, IfErr, OnOk, OnErr};
+ghost use Rattle.std.specs.List.{list_any};
 ghost use Rattle.enet_host.specs.Host.{Keeps, KeepsRest};
 ghost use Rattle.enet_host.specs.Opening.{opened, joined, Opens, Connects};
 ghost use Rattle.enet_host.specs.Receiving.{Receives};
 ghost use Rattle.enet_host.specs.Shown.{KeepsHost};
-ghost use Rattle.enet_slot.specs.Sharing.{is_standing, shared, wants_room};
+ghost use Rattle.enet_slot.specs.Sharing.{wants_room};
 ghost use Rattle.enet_slot.specs.Slotted.{all_shown};
 ghost use Rattle.enet_host.specs.Serving.{Serves};
 ghost use Rattle.enet_host.specs.Ticking.{ticked, clock_after};
@@ -18,44 +17,22 @@ use crate::events::{first_telling, take_from};
 use crate::receiving::receive;
 use crate::service::serve;
 use crate::skips::Skips;
+use crate::ticking::pass_time;
 use crate::totals::Totals;
 use crate::turns::slot_after;
 use enet_codec::{Addr, Config, Event, PeerRef, Received, Refusal};
-use enet_rtt::elapsed;
-use enet_slot::{
-    Question, Slot, Start, joined_slots, set_bandwidth, share_out, tick_all, unused_slots,
-};
+use enet_slot::{Question, Slot, Start, joined_slots, set_bandwidth, unused_slots};
 use std::alloc::Global;
 use std::marker::Model;
 
 /// The longest tick, in milliseconds (our profile).
 const LONGEST_TICK: u32 = 60_000;
 
-/// How many milliseconds pass at least between two moments at which the bandwidth is shared out (our profile).
-pub(crate) const SHARING_INTERVAL: u32 = 1000;
-
 /// The clock after so many milliseconds, of which a minute counts at most.
 fn clock_after(clock: u32, ms: u32) -> u32
     ensures { result ≡ clock_after clock ms }
 {
     clock.wrapping_add(ms.min(LONGEST_TICK))
-}
-
-/// Shares the outgoing bandwidth out among the connected peers where a second or more has passed since it was last shared out; when
-/// that is from then on.
-fn share_if_due(slots: &mut Vec<Slot>, start: &Start, shared_at: u32) -> u32
-    requires { length slots.old.items ≤ 4095 }
-    ensures moment { result ≡ (if nat_le 1000 (elapsed_time start.now.clock shared_at) then start.now.clock else shared_at) }
-    ensures slots { all_shown slots.new.items ≡ (if nat_le 1000 (elapsed_time start.now.clock shared_at)
-        then map (shared start.now.config.outgoing (count_by is_standing (all_shown slots.old.items))) (all_shown slots.old.items)
-        else all_shown slots.old.items) }
-    ensures count { length slots.new.items ≡ length slots.old.items }
-{
-    if elapsed(start.clock, shared_at) < SHARING_INTERVAL {
-        return shared_at;
-    }
-    share_out(slots, start.config.outgoing);
-    start.clock
 }
 
 /// A host of ENet 1.3 without a socket. It has a fixed number of slots, each of which is free or holds one peer; contracts see
@@ -97,7 +74,7 @@ impl Model for HostCore {
       slots = all_shown h.slots.items;
     } };
 
-    ghost invariant = { λ h. KeepsHost h.start.config.peers h.start.config.generations h.service_from h.event_from h.skips.next.items h.slots.items };
+    ghost invariant = { λ h. KeepsHost h.start.config.peers h.start.config.generations h.service_from h.event_from h.skips h.slots.items };
 }
 
 impl HostCore {
@@ -137,7 +114,7 @@ impl HostCore {
 
     /// A host with these settings and slots, to which nothing has happened.
     fn with_slots(alloc: Global, config: Config, slots: Vec<Slot>, skips: Skips) -> HostCore
-        requires { KeepsHost config.peers config.generations 0 0 skips.next.items slots.items }
+        requires { KeepsHost config.peers config.generations 0 0 skips slots.items }
         ensures { result ≡ record (opened config) { slots = all_shown slots.items } }
     {
         HostCore {
@@ -222,9 +199,12 @@ impl HostCore {
         ensures { self.new ≡ ticked self.old ms }
     {
         self.start.clock = clock_after(self.start.clock, ms);
-        tick_all(&mut self.slots, self.start.clock);
-        self.shared_at = share_if_due(&mut self.slots, &self.start, self.shared_at);
-        self.skips.refresh(&self.slots, self.start.config.peers);
+        self.shared_at = pass_time(
+            &mut self.slots,
+            &mut self.skips,
+            &self.start,
+            self.shared_at,
+        );
     }
 
     /// Sets the host's bandwidths, in bytes per second, where 0 says that no limit is known. Each connected peer is told (ENet
@@ -239,7 +219,8 @@ impl HostCore {
         set_bandwidth(&mut self.slots, incoming, outgoing)?;
         self.start.config.incoming = incoming;
         self.start.config.outgoing = outgoing;
-        self.skips.refresh(&self.slots, self.start.config.peers);
+        self.skips
+            .refresh(&self.slots, self.start.config.peers, self.start.clock);
         Ok(())
     }
 

@@ -20,6 +20,7 @@
 #![tactic(auto)]
 
 mod calls;
+mod calm;
 mod connecting;
 mod events;
 mod foretelling;
@@ -28,6 +29,7 @@ mod peers;
 mod receiving;
 mod service;
 mod skips;
+mod ticking;
 mod totals;
 mod turns;
 

@@ -62,9 +62,9 @@ fn take_offer(
     offer: Offer,
 ) -> Received
     requires many { length slots.old.items ≤ 4095 }
-    requires skips { KeepsSkips start.now.config.peers skips.old.next.items (all_shown slots.old.items) }
+    requires skips { KeepsSkips start.now.config.peers skips.old (all_shown slots.old.items) }
     ensures count { length slots.new.items ≡ length slots.old.items }
-    ensures skips { KeepsSkips start.now.config.peers skips.new.next.items (all_shown slots.new.items) }
+    ensures skips { KeepsSkips start.now.config.peers skips.new (all_shown slots.new.items) }
     ensures offers { Offers start.now.config start.now.clock (all_shown slots.old.items) from offer result (all_shown slots.new.items) }
 {
     if let Some(why) = offer_refused(&offer) {
@@ -93,9 +93,9 @@ pub(crate) fn receive(
     bytes: &[u8],
 ) -> Received
     requires many { length slots.old.items ≤ 4095 }
-    requires skips { KeepsSkips start.now.config.peers skips.old.next.items (all_shown slots.old.items) }
+    requires skips { KeepsSkips start.now.config.peers skips.old (all_shown slots.old.items) }
     ensures count { length slots.new.items ≡ length slots.old.items }
-    ensures skips { KeepsSkips start.now.config.peers skips.new.next.items (all_shown slots.new.items) }
+    ensures skips { KeepsSkips start.now.config.peers skips.new (all_shown slots.new.items) }
     ensures arrives { Arrives start.now.config start.now.clock (all_shown slots.old.items) from bytes.now result (all_shown slots.new.items) }
 {
     let (header, commands) = match read_heading(bytes) {

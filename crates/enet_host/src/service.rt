@@ -47,13 +47,13 @@ pub(crate) fn serve(
 ) -> Option<(PeerRef, Addr, usize)>
     requires within { from < peers }
     requires all { length slots.old.items ≡ peers }
-    requires skips { KeepsSkips peers skips.now.next.items (all_shown slots.old.items) }
+    requires skips { KeepsSkips peers skips.now (all_shown slots.old.items) }
     ensures gives { IfSome result (λ gave. GivesInTurn now from (all_shown slots.old.items) gave.0 gave.1 gave.2 buf.new (all_shown slots.new.items)) }
     ensures passes { IfNone result (AllPass now (all_shown slots.old.items) (all_shown slots.new.items)) }
     ensures within { IfSome result (λ gave. gave.0.slot < peers) }
     ensures fits { IfSome result (λ gave. gave.2 ≤ 4096) }
     ensures count { length slots.new.items ≡ length slots.old.items }
-    ensures skips { KeepsSkips peers skips.now.next.items (all_shown slots.new.items) }
+    ensures skips { KeepsSkips peers skips.now (all_shown slots.new.items) }
 {
     let mut turn = skips.next_turn(peers, from, 0);
     while turn < peers {

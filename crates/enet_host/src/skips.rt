@@ -1,11 +1,12 @@
 //! Which slots of a host need not be asked.
 
-ghost use Rattle.std.specs.Prelude.{◌≡◌, ℕ, ◌-◌, ◌<◌, ◌≤◌, ◌⊎◌, min, nat_lt, IsTrue, IfOk, IfErr, List, length, replicate, get_or};
+ghost use Rattle.std.specs.Prelude.{◌≡◌, ℕ, ◌-◌, ◌<◌, ◌≤◌, ◌⊎◌, min, nat_lt, IsTrue, IfOk, IfErr, List, length, replicate, get_or, slice_set};
 ghost use Rattle.enet_host.specs.Skips.{entry, Marks, KeepsSkips};
-ghost use Rattle.enet_host.specs.Private.Skips.{SlotSleeps, PassesTurns, AwakeAt};
+ghost use Rattle.enet_host.specs.Private.Skips.{IsPartOf, SlotRests, PassesTurns, AwakeAt};
 ghost use Rattle.enet_slot.specs.Slot.{SlotState};
 ghost use Rattle.enet_slot.specs.Slotted.{all_shown};
 
+use crate::calm::Calm;
 use crate::turns::slot_of_turn;
 use enet_codec::Refusal;
 use enet_slot::Slot;
@@ -19,6 +20,8 @@ pub(crate) struct Skips {
     /// An entry a slot. One past the slot's own number says that it sleeps, as do all between it and the entry: the next slot that
     /// is worth asking, or the number of slots. With any other the slot is awake.
     pub(crate) next: Vec<u16>,
+    /// A time in which a tick changes nothing of the slots that sleep.
+    pub(crate) calm: Calm,
 }
 
 impl Skips {
@@ -30,7 +33,10 @@ impl Skips {
         let Ok(next) = vec![in alloc; 0u16; usize::from(peers)] else {
             return Err(Refusal::Memory);
         };
-        Ok(Skips { next })
+        Ok(Skips {
+            next,
+            calm: Calm::none(),
+        })
     }
 
     /// Whether the slot of this number sleeps; one that there isn't doesn't.
@@ -46,7 +52,7 @@ impl Skips {
 
     /// From now on the slot of this number is asked. Those before it that were passed over with it are passed over up to it.
     pub(crate) fn wake(&mut self, number: u16)
-        ensures kept { (peers : ℕ) (slots : List SlotState) → KeepsSkips peers self.old.next.items slots → KeepsSkips peers self.new.next.items slots }
+        ensures kept { (peers : ℕ) (slots : List SlotState) → KeepsSkips peers self.old slots → KeepsSkips peers self.new slots }
         ensures awake { entry self.new.next.items number ≤ number }
     {
         if !self.sleeps(number) {
@@ -60,19 +66,45 @@ impl Skips {
         }
     }
 
-    /// Looks anew at each slot of a host with so many.
-    pub(crate) fn refresh(&mut self, slots: &[Slot], peers: u16)
+    /// Looks anew at each slot of a host with so many, at the moment `now`.
+    pub(crate) fn refresh(&mut self, slots: &[Slot], peers: u16, now: u32)
         requires all { length slots.now ≡ peers }
         requires count { length self.old.next.items ≡ peers }
-        ensures { KeepsSkips peers self.new.next.items (all_shown slots.now) }
+        ensures { KeepsSkips peers self.new (all_shown slots.now) }
     {
+        self.calm = Calm::after(now);
         let mut next = peers;
         let mut number = peers;
         while number > 0 {
             number -= 1;
-            next = awake_from(slots, number, next);
+            next = awake_from(slots, number, next, now, &mut self.calm);
             self.next[usize::from(number)] = next;
         }
+    }
+
+    /// Looks anew at each slot that is awake, at the moment `now`: those that have nothing to do fall asleep.
+    pub(crate) fn rest(&mut self, slots: &[Slot], peers: u16, now: u32)
+        requires all { length slots.now ≡ peers }
+        requires some { 0 < peers }
+        requires skips { KeepsSkips peers self.old (all_shown slots.now) }
+        ensures { KeepsSkips peers self.new (all_shown slots.now) }
+    {
+        let mut number = self.next_turn(peers, 0, 0);
+        while number < peers {
+            let after = self.next_turn(peers, 0, number + 1);
+            let next = awake_from(slots, number, after, now, &mut self.calm);
+            self.mark(number, next);
+            number = after;
+        }
+    }
+
+    /// From now on this is the entry of the slot of this number.
+    fn mark(&mut self, number: u16, entry: u16)
+        requires { number < length self.old.next.items }
+        ensures entries { self.new.next.items ≡ slice_set self.old.next.items number entry }
+        ensures calm { self.new.calm ≡ self.old.calm }
+    {
+        self.next[usize::from(number)] = entry;
     }
 
     /// How many slots in a row sleep, from this one on.
@@ -93,6 +125,7 @@ impl Skips {
         ensures passed { PassesTurns self.now.next.items peers from turn result }
         ensures awake { AwakeAt self.now.next.items peers from result }
         ensures later { turn ≤ result }
+        ensures within { result ≤ peers }
     {
         let mut next = turn;
         while next < peers {
@@ -107,14 +140,17 @@ impl Skips {
     }
 }
 
-/// The first slot from this one on that is awake, where `next` is the first of those after it.
-fn awake_from(slots: &[Slot], number: u16, next: u16) -> u16
+/// The first slot from this one on that is awake at the moment `now`, where `next` is the first of those after it. Where this one
+/// sleeps, the time in which nothing happens lasts no longer than nothing happens there.
+fn awake_from(slots: &[Slot], number: u16, next: u16, now: u32, calm: &mut Calm) -> u16
     requires { number < length slots.now }
-    ensures { (result ≡ number) ⊎ ((result ≡ next) × SlotSleeps (all_shown slots.now) number) }
+    ensures next { (result ≡ number) ⊎ ((result ≡ next) × SlotRests calm.new (all_shown slots.now) number) }
+    ensures part { IsPartOf calm.new calm.old }
 {
-    if slots[usize::from(number)].is_asleep() {
-        next
-    } else {
-        number
+    let slot = &slots[usize::from(number)];
+    if !slot.is_asleep() {
+        return number;
     }
+    *calm = calm.cut(now, slot.due_in(now));
+    next
 }

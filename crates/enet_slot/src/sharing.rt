@@ -15,7 +15,7 @@ use enet_throttle::{budget_of, limit_of};
 
 impl Slot {
     /// Time has come to `now`, in milliseconds.
-    pub(crate) fn tick(&mut self, now: u32)
+    pub fn tick(&mut self, now: u32)
         ensures { self.new.slot ≡ changed (λ (p : Peering). peers.ticked p now) self.old.slot }
     {
         if let Some(peer) = &mut self.peer {
@@ -25,7 +25,7 @@ impl Slot {
     }
 
     /// In how many milliseconds after the moment `now` time brings its peer anything; 4,294,967,295 where it brings nothing.
-    pub(crate) fn due_in(&self, now: u32) -> u32
+    pub fn due_in(&self, now: u32) -> u32
         ensures { HappensIn (λ (later : ℕ). is_due later self.now.slot) now result }
     {
         match &self.peer {

@@ -1,13 +1,17 @@
 -- Which slots are passed over where slots are asked in turn.
-use Rattle.std.specs.Prelude.{◌≡◌, ℕ, ◌<◌, ◌≤◌, Some, List, slice_get}
+use Rattle.std.specs.Prelude.{◌≡◌, ℕ, ◌^◌, ◌<◌, ◌≤◌, Some, List, slice_get}
 use Rattle.enet_slot.specs.Slot.{SlotState}
-use Rattle.enet_slot.specs.Sleeping.{Sleeps}
+use Rattle.enet_host.specs.declared.calm.Calm.{Calm}
 use Rattle.enet_host.specs.Turns.{turn_of}
-use Rattle.enet_host.specs.Skips.{entry}
+use Rattle.enet_host.specs.Skips.{entry, IsWithin, Rests}
 
--- slot i sleeps
-abbrev pub SlotSleeps : List SlotState → ℕ → Type 0
-SlotSleeps slots i = (s : SlotState) → slice_get slots i ≡ Some s → Sleeps s
+-- each moment of the one is one of the other
+abbrev pub IsPartOf : Calm → Calm → Type 0
+IsPartOf part whole = (moment : ℕ) → moment < 2 ^ 32 → IsWithin part moment → IsWithin whole moment
+
+-- slot i rests
+abbrev pub SlotRests : Calm → List SlotState → ℕ → Type 0
+SlotRests calm slots i = (s : SlotState) → slice_get slots i ≡ Some s → Rests calm s
 
 -- the slots whose turn is one of these, the last excepted, are passed over
 abbrev pub PassesTurns : List ℕ → ℕ → ℕ → ℕ → ℕ → Type 0

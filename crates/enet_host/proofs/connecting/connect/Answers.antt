@@ -21,5 +21,5 @@ returns-clause-connects c =
 
 pub returns-clause-skips : goal.returns-clause-skips
 returns-clause-skips c =
-    skips-at c.args.start.now.config.peers c.wake.new.self.next.items c.args.slots.now.items c.in-Some.place c.ask.new.self
+    skips-at c.args.start.now.config.peers c.wake.new.self c.args.slots.now.items c.in-Some.place c.ask.new.self
     (c.wake.ensures.kept c.args.start.now.config.peers (all_shown c.args.slots.now.items) c.requires.skips) c.wake.ensures.awake

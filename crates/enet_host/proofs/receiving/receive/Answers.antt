@@ -37,6 +37,6 @@ returns-clause-arrives c =
 
 pub returns-clause-skips : goal.returns-clause-skips
 returns-clause-skips c =
-    skips-at c.args.start.now.config.peers c.wake.new.self.next.items c.args.slots.now.items c.from.result c.hear.new.self
+    skips-at c.args.start.now.config.peers c.wake.new.self c.args.slots.now.items c.from.result c.hear.new.self
     (c.wake.ensures.kept c.args.start.now.config.peers (all_shown c.args.slots.now.items) c.requires.skips)
     (subst (λ (i : ℕ). entry c.wake.new.self.next.items i ≤ i) (sym c.from.ensures) c.wake.ensures.awake)

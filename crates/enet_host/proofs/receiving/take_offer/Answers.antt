@@ -41,10 +41,10 @@ returns-in-Err-clause-offers c =
 
 pub returns-in-Ok-clause-skips : goal.returns-in-Ok-clause-skips
 returns-in-Ok-clause-skips c =
-    skips-at c.args.start.now.config.peers c.wake.new.self.next.items c.args.slots.now.items c.in-Some-first_available.place c.answer.new.self
+    skips-at c.args.start.now.config.peers c.wake.new.self c.args.slots.now.items c.in-Some-first_available.place c.answer.new.self
     (c.wake.ensures.kept c.args.start.now.config.peers (all_shown c.args.slots.now.items) c.requires.skips) c.wake.ensures.awake
 
 pub returns-in-Err-clause-skips : goal.returns-in-Err-clause-skips
 returns-in-Err-clause-skips c =
-    skips-at c.args.start.now.config.peers c.wake.new.self.next.items c.args.slots.now.items c.in-Some-first_available.place c.answer.new.self
+    skips-at c.args.start.now.config.peers c.wake.new.self c.args.slots.now.items c.in-Some-first_available.place c.answer.new.self
     (c.wake.ensures.kept c.args.start.now.config.peers (all_shown c.args.slots.now.items) c.requires.skips) c.wake.ensures.awake

@@ -9,7 +9,7 @@ pub loop-turn-init : goal.loop-turn-init
 loop-turn-init c =
     let slots = all_shown c.args.slots.now.items in
     record {
-      asked = all-passed c.args.now c.args.peers c.args.from 0 c.next_turn-turn.result c.args.skips.now.next.items slots slots (length-shown c.args.slots.now.items ∙ c.requires.all)
+      asked = all-passed c.args.now c.args.peers c.args.from 0 c.next_turn-turn.result c.args.skips.now slots slots (length-shown c.args.slots.now.items ∙ c.requires.all)
           c.requires.skips c.next_turn-turn.ensures.passed (omega arith) (none-asked c.args.now c.args.peers c.args.from slots slots refl);
       awake = c.next_turn-turn.ensures.awake;
       skips = c.requires.skips;
@@ -28,10 +28,10 @@ loop-turn-preserved c =
     let asked = all-asked-more c.args.now c.args.peers c.args.from turn c.slot_of_turn-number.result first slots after c.requires.within count inside place
     c.loop-turn.invariant.asked c.in_default.ensures.passes in
     record {
-      asked = all-passed c.args.now c.args.peers c.args.from (turn + 1) c.next_turn-turn-in-loop-turn.result c.args.skips.now.next.items first after count
+      asked = all-passed c.args.now c.args.peers c.args.from (turn + 1) c.next_turn-turn-in-loop-turn.result c.args.skips.now first after count
           c.requires.skips c.next_turn-turn-in-loop-turn.ensures.passed c.next_turn-turn-in-loop-turn.ensures.later asked;
       awake = c.next_turn-turn-in-loop-turn.ensures.awake;
-      skips = skips-passes c.args.peers c.args.now c.slot_of_turn-number.result c.args.skips.now.next.items slots after c.loop-turn.invariant.skips
+      skips = skips-passes c.args.peers c.args.now c.slot_of_turn-number.result c.args.skips.now slots after c.loop-turn.invariant.skips
           (c.loop-turn.invariant.awake c.slot_of_turn-number.result inside place) c.in_default.ensures.passes;
       count = c.serve_slot.ensures.count ∙ c.loop-turn.invariant.count;
     }
@@ -50,7 +50,7 @@ returns-in-Some-clause-gives c =
 
 pub returns-in-Some-clause-skips : goal.returns-in-Some-clause-skips
 returns-in-Some-clause-skips c =
-    skips-gives c.args.peers c.args.now c.slot_of_turn-number.result c.in-Some.sent.2 c.in-Some.sent.0 c.in-Some.sent.1 c.serve_slot.new.buf c.args.skips.now.next.items
+    skips-gives c.args.peers c.args.now c.slot_of_turn-number.result c.in-Some.sent.2 c.in-Some.sent.0 c.in-Some.sent.1 c.serve_slot.new.buf c.args.skips.now
     (all_shown c.loop-turn.slots.items) (all_shown c.serve_slot.new.slots.items) c.loop-turn.invariant.skips
     (c.loop-turn.invariant.awake c.slot_of_turn-number.result c.slot_of_turn-number.ensures.within c.slot_of_turn-number.ensures.place) c.in-Some.ensures.gives
 

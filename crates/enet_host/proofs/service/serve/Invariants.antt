@@ -9,7 +9,7 @@ abbrev pub invariant-loop-turn : goal.invariant-loop-turn
 invariant-loop-turn l = record {
   asked : AllAsked l.now l.peers l.from l.turn (all_shown l.initial.slots.items) (all_shown l.slots.items);
   awake : AwakeAt l.skips.next.items l.peers l.from l.turn;
-  skips : KeepsSkips l.peers l.skips.next.items (all_shown l.slots.items);
+  skips : KeepsSkips l.peers l.skips (all_shown l.slots.items);
   count : length l.slots.items ≡ length l.initial.slots.items;
 }
 

@@ -9,11 +9,11 @@ use Rattle.enet_host.proofs.host.HostCore.disconnect_now.Goals as goal
 
 pub invariant_of-self : goal.invariant_of-self
 invariant_of-self c =
-    keeps-after c.self.inside.start.config.peers c.self.inside.start.config.generations c.self.inside.service_from c.self.inside.event_from c.self.inside.service_from c.self.inside.event_from c.self.inside.skips.next.items c.wake.new.self.next.items
+    keeps-after c.self.inside.start.config.peers c.self.inside.start.config.generations c.self.inside.service_from c.self.inside.event_from c.self.inside.service_from c.self.inside.event_from c.self.inside.skips c.wake.new.self
     c.self.inside.slots.items c.disconnect.new.slots.items c.self.invariant
     c.disconnect.ensures.count c.self.invariant.service c.self.invariant.event
-    (does-kept c.self.inside.start.config.peers c.wake.new.self.next.items (all_shown c.self.inside.slots.items) (all_shown c.disconnect.new.slots.items) c.args.peer (leaving mode.Now c.args.info) c.disconnect.result
-    (woken-kept c.self.inside.start.config.peers c.self.inside.start.config.generations c.self.inside.service_from c.self.inside.event_from c.self.inside.skips.next.items c.wake.new.self.next.items c.self.inside.slots.items c.self.invariant c.wake.ensures.kept) c.wake.ensures.awake c.disconnect.ensures.does)
+    (does-kept c.self.inside.start.config.peers c.wake.new.self (all_shown c.self.inside.slots.items) (all_shown c.disconnect.new.slots.items) c.args.peer (leaving mode.Now c.args.info) c.disconnect.result
+    (woken-kept c.self.inside.start.config.peers c.self.inside.start.config.generations c.self.inside.service_from c.self.inside.event_from c.self.inside.skips c.wake.new.self c.self.inside.slots.items c.self.invariant c.wake.ensures.kept) c.wake.ensures.awake c.disconnect.ensures.does)
 
 pub returns-clause-disconnects : goal.returns-clause-disconnects
 returns-clause-disconnects c =

@@ -8,7 +8,7 @@ use Rattle.enet_slot.specs.Slotted.{all_shown}
 use Rattle.enet_host.specs.Host.{Host}
 use Rattle.enet_host.specs.Ticking.{brings, IsDueIn}
 use Rattle.enet_host.specs.contracts.host.HostCore.{the_view}
-use Rattle.enet_host.proofs.Calm.{due-in}
+use Rattle.enet_host.proofs.Bringing.{due-in}
 use Rattle.enet_host.proofs.host.HostCore.due_in.Goals as goal
 
 pub returns : goal.returns

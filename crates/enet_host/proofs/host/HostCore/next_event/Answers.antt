@@ -19,10 +19,10 @@ returns c =
 
 pub invariant_of-self-2 : goal.invariant_of-self-2
 invariant_of-self-2 c =
-    keeps-after c.self.inside.start.config.peers c.self.inside.start.config.generations c.self.inside.service_from c.self.inside.event_from c.self.inside.service_from c.slot_after-self-inside.result c.self.inside.skips.next.items c.self.inside.skips.next.items
+    keeps-after c.self.inside.start.config.peers c.self.inside.start.config.generations c.self.inside.service_from c.self.inside.event_from c.self.inside.service_from c.slot_after-self-inside.result c.self.inside.skips c.self.inside.skips
     c.self.inside.slots.items c.take_from.new.slots.items c.self.invariant
     c.take_from.ensures.count c.self.invariant.service c.slot_after-self-inside.ensures.within (
       gave-held (all_shown c.self.inside.slots.items) (all_shown c.take_from.new.slots.items) c.in_ok-slot.slot c.in_ok-event.event c.self.invariant.held c.in_ok-event.ensures.gives,
-      skips-gives-event c.self.inside.start.config.peers c.in_ok-slot.slot c.in_ok-event.event c.self.inside.skips.next.items (all_shown c.self.inside.slots.items) (all_shown c.take_from.new.slots.items)
-          c.self.invariant.skips c.in_ok-slot.ensures.awake c.in_ok-event.ensures.gives,
+      skips-gives-event c.self.inside.start.config.peers c.in_ok-slot.slot c.in_ok-event.event c.self.inside.skips (all_shown c.self.inside.slots.items) (all_shown c.take_from.new.slots.items)
+          c.self.invariant.resting c.in_ok-slot.ensures.awake c.in_ok-event.ensures.gives,
     )

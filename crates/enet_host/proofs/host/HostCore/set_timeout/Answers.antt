@@ -5,8 +5,8 @@ use Rattle.enet_host.proofs.host.HostCore.set_timeout.Goals as goal
 
 pub invariant_of-self : goal.invariant_of-self
 invariant_of-self c =
-    keeps-after c.self.inside.start.config.peers c.self.inside.start.config.generations c.self.inside.service_from c.self.inside.event_from c.self.inside.service_from c.self.inside.event_from c.self.inside.skips.next.items c.wake.new.self.next.items
+    keeps-after c.self.inside.start.config.peers c.self.inside.start.config.generations c.self.inside.service_from c.self.inside.event_from c.self.inside.service_from c.self.inside.event_from c.self.inside.skips c.wake.new.self
     c.self.inside.slots.items c.set.new.slots.items c.self.invariant
     c.set.ensures.count c.self.invariant.service c.self.invariant.event
-    (does-kept c.self.inside.start.config.peers c.wake.new.self.next.items (all_shown c.self.inside.slots.items) (all_shown c.set.new.slots.items) c.args.peer (waiting c.args.limit c.args.minimum c.args.maximum) c.set.result
-    (woken-kept c.self.inside.start.config.peers c.self.inside.start.config.generations c.self.inside.service_from c.self.inside.event_from c.self.inside.skips.next.items c.wake.new.self.next.items c.self.inside.slots.items c.self.invariant c.wake.ensures.kept) c.wake.ensures.awake c.set.ensures.does)
+    (does-kept c.self.inside.start.config.peers c.wake.new.self (all_shown c.self.inside.slots.items) (all_shown c.set.new.slots.items) c.args.peer (waiting c.args.limit c.args.minimum c.args.maximum) c.set.result
+    (woken-kept c.self.inside.start.config.peers c.self.inside.start.config.generations c.self.inside.service_from c.self.inside.event_from c.self.inside.skips c.wake.new.self c.self.inside.slots.items c.self.invariant c.wake.ensures.kept) c.wake.ensures.awake c.set.ensures.does)

@@ -1,8 +1,12 @@
+use Rattle.std.proofs.Common.{◌≡◌}
 use Rattle.enet_host.proofs.Skipping.{Waking}
 use Rattle.enet_host.proofs.skips.Skips.wake.Given as goal
 
 abbrev pub invariant-loop-place : goal.invariant-loop-place
-invariant-loop-place l = Waking l.fn.self.next.items l.self.next.items l.number l.place
+invariant-loop-place l = record {
+  waking : Waking l.fn.self.next.items l.self.next.items l.number l.place;
+  calm : l.self.calm ≡ l.fn.self.calm;
+}
 
 abbrev pub decreases-loop-place : goal.decreases-loop-place
 decreases-loop-place l = l.place

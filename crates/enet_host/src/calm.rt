@@ -1,0 +1,54 @@
+//! A time in which nothing happens.
+
+ghost use Rattle.std.specs.Prelude.{◌≡◌, ℕ, ◌<◌, ◌^◌, IsTrue};
+ghost use Rattle.enet_rtt.specs.Clock.{elapsed_time};
+ghost use Rattle.enet_host.specs.Skips.{IsWithin};
+
+use enet_rtt::elapsed;
+
+/// A time in which nothing happens, in milliseconds of a clock that counts modulo 2^32.
+#[derive(Clone, Copy)]
+pub(crate) struct Calm {
+    /// The moment at which it begins.
+    pub(crate) from: u32,
+    /// How long it lasts.
+    pub(crate) lasts: u32,
+}
+
+impl Calm {
+    /// No time at all.
+    pub(crate) fn none() -> Calm
+        ensures { result.lasts ≡ 0 }
+    {
+        Calm { from: 0, lasts: 0 }
+    }
+
+    /// As long as can be said, from this moment on.
+    pub(crate) fn after(now: u32) -> Calm
+        ensures from { result.from ≡ now }
+        ensures lasts { result.lasts ≡ 4294967295 }
+    {
+        Calm {
+            from: now,
+            lasts: u32::MAX,
+        }
+    }
+
+    /// Whether a moment is within it.
+    pub(crate) fn covers(self, now: u32) -> bool
+        ensures { IsTrue result → IsWithin self now }
+    {
+        elapsed(now, self.from) < self.lasts
+    }
+
+    /// What is left of it from the moment `now` on, but at most so many milliseconds.
+    pub(crate) fn cut(self, now: u32, most: u32) -> Calm
+        ensures { (later : ℕ) → later < 2 ^ 32 → IsWithin result later → IsWithin self later × (elapsed_time later now < most) }
+    {
+        let left = self.lasts.saturating_sub(elapsed(now, self.from));
+        Calm {
+            from: now,
+            lasts: left.min(most),
+        }
+    }
+}
