@@ -462,10 +462,14 @@ impl Outgoing {
         ensures place { IsTrue result → deque_len self.new.queued + more ≤ deque_capacity self.new.queued }
         ensures sent_place { IsTrue result → deque_len self.new.sent + (deque_len self.new.queued + more) ≤ deque_capacity self.new.sent }
     {
-        if !pending.reserve(more) || self.queued.reserve(more).is_err() {
+        if !pending.reserve(more) {
             return false;
         }
-        self.sent.reserve(self.queued.len() + more).is_ok()
+        let queued = self.queued.len() + more;
+        if self.queued.capacity() < queued && self.queued.reserve(more).is_err() {
+            return false;
+        }
+        queued <= self.sent.capacity() - self.sent.len() || self.sent.reserve(queued).is_ok()
     }
 
     /// A sender of `channel` to which nothing was submitted. It takes no memory, so it never answers E1.
