@@ -196,8 +196,29 @@ fn head_at(bytes: &[u8]) -> Head
     }
 }
 
-// The command of this number, the low four bits of the first byte, whose head was read, and the bytes behind it.
-fn after_head(kind: u8, head: Head, bytes: &[u8]) -> Option<(Command<'_>, &[u8])>
+// ACKNOWLEDGE, whose head was read, and the bytes behind it.
+fn acknowledge_after(head: Head, bytes: &[u8]) -> Option<(Command<'_>, &[u8])>
+    ensures { Gives result (command_at 1 head bytes.now) }
+{
+    if bytes.len() < 4 {
+        return None;
+    }
+    Some((acknowledge(head, bytes), &bytes[4..]))
+}
+
+// SEND_RELIABLE, whose head was read, and the bytes behind it.
+fn reliable_after(head: Head, bytes: &[u8]) -> Option<(Command<'_>, &[u8])>
+    ensures { Gives result (command_at 6 head bytes.now) }
+{
+    if bytes.len() < 2 {
+        return None;
+    }
+    let (payload, rest) = bytes[2..].split_at_checked(usize::from(u16_at(bytes, 0)))?;
+    Some((Command::SendReliable { head, payload }, rest))
+}
+
+// The command of this number, by the table, whose head was read, and the bytes behind it.
+fn any_after(kind: u8, head: Head, bytes: &[u8]) -> Option<(Command<'_>, &[u8])>
     ensures { Gives result (command_at kind head bytes.now) }
 {
     let row = row_of(kind)?;
@@ -206,6 +227,17 @@ fn after_head(kind: u8, head: Head, bytes: &[u8]) -> Option<(Command<'_>, &[u8])
     }
     let (payload, rest) = bytes[row.fields..].split_at_checked(row.payload_len(bytes))?;
     Some((command(kind, head, bytes, payload), rest))
+}
+
+// The command of this number, the low four bits of the first byte, whose head was read, and the bytes behind it.
+fn after_head(kind: u8, head: Head, bytes: &[u8]) -> Option<(Command<'_>, &[u8])>
+    ensures { Gives result (command_at kind head bytes.now) }
+{
+    match kind {
+        1 => acknowledge_after(head, bytes),
+        6 => reliable_after(head, bytes),
+        _ => any_after(kind, head, bytes),
+    }
 }
 
 // The command at the front, and the bytes behind it.

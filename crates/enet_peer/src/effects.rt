@@ -94,10 +94,29 @@ impl Peer {
     ) -> Result<(), Stop>
         ensures { Obeys result (wants_memory self.old.peer now sent (view command.now)) (obeyed self.old.peer now sent (view command.now)) self.old.peer self.new.peer }
     {
+        if let Command::Acknowledge {
+            head,
+            received_number,
+            received_time,
+        } = *command
+        {
+            if !head.acknowledge && is_allowed(self.state, command) {
+                self.on_acknowledge(now, head.channel, received_number, received_time);
+                return Ok(());
+            }
+        }
+        self.carry_out(now, sent, command)
+    }
+
+    /// The same of any command, step by step.
+    fn carry_out(&mut self, now: u32, sent: Option<u16>, command: &Command<'_>) -> Result<(), Stop>
+        ensures { Obeys result (wants_memory self.old.peer now sent (view command.now)) (obeyed self.old.peer now sent (view command.now)) self.old.peer self.new.peer }
+    {
         let foreseen = self.foresee(command)?;
-        self.make_room(sent, command, foreseen.acknowledged)?;
+        let head = head_of(command);
+        self.make_room(sent, head, command, foreseen.acknowledged)?;
         self.act(now, sent.is_some(), command, foreseen)?;
-        self.answer(sent, command, foreseen.acknowledged)
+        self.answer(sent, head, command, foreseen.acknowledged)
     }
 
     /// Why a command stops its datagram before it has an effect, or what becomes of it.
@@ -140,14 +159,21 @@ impl Peer {
 
     /// Makes room for the acknowledgement of a command that asks for one and may have it, where it may need a place of its
     /// own. S11 where memory is refused, with nothing changed.
-    fn make_room(&mut self, sent: Option<u16>, command: &Command<'_>, may: bool) -> Result<(), Stop>
+    fn make_room(
+        &mut self,
+        sent: Option<u16>,
+        head: Head,
+        command: &Command<'_>,
+        may: bool,
+    ) -> Result<(), Stop>
+        requires { head ≡ (view command.now).head }
         ensures peer { self.new.peer ≡ self.old.peer }
         ensures room { OnOk result (IsTrue (may_be_answered sent (view command.now) may && wants_place self.old.peer (view command.now).body) → 1 ≤ self.new.acknowledgement_room) }
         ensures grows { self.old.acknowledgement_room ≤ self.new.acknowledgement_room }
         ensures memory { IfErr result (λ why. why ≡ Stop.Memory) }
         ensures wanted { IfErr result (λ _. IsTrue (may_be_answered sent (view command.now) may && wants_place self.old.peer (view command.now).body)) }
     {
-        let may_be_answered = head_of(command).acknowledge && sent.is_some() && may;
+        let may_be_answered = head.acknowledge && sent.is_some() && may;
         if may_be_answered
             && self.wants_place(command)
             && self.outbox.reserve_acknowledgement().is_err()
@@ -233,11 +259,17 @@ impl Peer {
 
     /// Queues the acknowledgement of a command that took effect, where it asks for one and may have it. S12 where the
     /// datagram tells no sent time.
-    fn answer(&mut self, sent: Option<u16>, command: &Command<'_>, may: bool) -> Result<(), Stop>
+    fn answer(
+        &mut self,
+        sent: Option<u16>,
+        head: Head,
+        command: &Command<'_>,
+        may: bool,
+    ) -> Result<(), Stop>
+        requires head { head ≡ (view command.now).head }
         requires room { IsTrue (may_be_answered sent (view command.now) may && is_answered_in self.old.peer.state (view command.now).body) → 1 ≤ self.old.acknowledgement_room }
         ensures { Replies result (answered self.old.peer (view command.now) sent may) self.new.peer }
     {
-        let head = head_of(command);
         if !(head.acknowledge && may && is_answered_in(self.state, command)) {
             return Ok(());
         }

@@ -12,7 +12,7 @@ use Rattle.enet_sender.specs.Sender.{is_in_span, may_go}
 use Rattle.enet_sender.specs.Invariant.{reliable_in}
 use Rattle.enet_sender.proofs.Counting.{counted-less, counted-same}
 use Rattle.enet_sender.specs.Pending.{vacant, named, times, held, Passes}
-use Rattle.enet_sender.specs.Rings.{Rings, KeepsSent, Keeps, GoesOn, at_place, is_due, keys_of, commands_at, command_of}
+use Rattle.enet_sender.specs.Rings.{Rings, KeepsSent, Keeps, GoesOn, at_place, is_due, NoneDue, keys_of, commands_at, command_of}
 use Rattle.enet_sender.proofs.Named.{times-cons, times-append, times-here, times-other, times-some, held-some, held-none, some-held, named-other, named-append, named-cons}
 
 -- what is known of the head of the queue, whose command p has just changed
@@ -59,9 +59,9 @@ same_place {at} {later} {r} {key} {rest} {p} h i inside =
     let e = ap (λ k. times k r.sent) same in
     omega arith)
 
--- the rings once a reliable head is sent
-abbrev pub passed_on : Rings → ℕ → List ℕ → ℕ → Rings
-passed_on r key rest number = record { number = r.number; unreliable = r.unreliable; passed = number; reliable = r.reliable - 1; due_from = r.due_from; queued = rest; sent = r.sent ++ key ∷ [] }
+-- the rings once a reliable head is sent, and the place before which nothing is due
+abbrev pub passed_on : Rings → ℕ → List ℕ → ℕ → ℕ → Rings
+passed_on r key rest number due = record { number = r.number; unreliable = r.unreliable; passed = number; reliable = r.reliable - 1; due_from = due; queued = rest; sent = r.sent ++ key ∷ [] }
 
 -- and once an unreliable one is
 abbrev pub left_out : Rings → List ℕ → Rings
@@ -89,8 +89,8 @@ goes-on {at} {later} {r} {key} {rest} {p} h = subst (λ (cs : List DataCommand).
 
 -- a reliable head is sent: the number of its place
 begin-kept : {at later : ℕ → Option Sent} {r : Rings} {key : ℕ} {rest : List ℕ} {p : Sent} → (q : Sent) → Heads at later r key rest p → later key ≡ Some q → q.command ≡ p.command → q.transmission.due ≡ false
-    → p.command.reliable ≡ true → length r.sent < 8192 → KeepsSent later p.command.number r.due_from (r.sent ++ key ∷ [])
-begin-kept {at} {later} {r} {key} {rest} {p} q h now same fresh reliable few =
+    → p.command.reliable ≡ true → length r.sent < 8192 → NoneDue at r.sent 0 (length r.sent) → (due : ℕ) → KeepsSent later p.command.number due (r.sent ++ key ∷ [])
+begin-kept {at} {later} {r} {key} {rest} {p} q h now same fresh reliable few none due =
     let n = next-number p.command (commands_at at rest) r.passed r.number reliable (goes-on h) in
     let len : length (r.sent ++ key ∷ []) ≡ length r.sent + 1 = length_push r.sent key in
     let at_end : get_or (r.sent ++ key ∷ []) (length r.sent) vacant ≡ key = get_or_at r.sent key [] vacant (length r.sent) refl in record {
@@ -113,7 +113,7 @@ begin-kept {at} {later} {r} {key} {rest} {p} q h now same fresh reliable few =
         ]
       ];
       not_due = λ i from low. elim (cases_lt i (length r.sent)) [
-        | inl inside ↦ ap is_due (ap later (get_or_append_left r.sent (key ∷ []) vacant i inside) ∙ same_place h i inside) ∙ h.keeps.sent.not_due i from low
+        | inl inside ↦ ap is_due (ap later (get_or_append_left r.sent (key ∷ []) vacant i inside) ∙ same_place h i inside) ∙ none i from inside
         | inr past ↦ elim (cases_eq i (length r.sent)) [
           | inl last ↦ ap is_due (ap later (ap (λ j. get_or (r.sent ++ key ∷ []) j vacant) last ∙ at_end) ∙ now) ∙ fresh
           | inr beyond ↦ ap is_due (ap later (get_or_past (r.sent ++ key ∷ []) i vacant (omega arith)) ∙ nothing-later h)
@@ -129,7 +129,7 @@ begin-held {at} {later} {r} {key} {rest} {p} q h now k =
       | inr other ↦ ap (λ (o : Option Sent). held (λ j. o) k) (h.others k other)
     ]
 
-begin-times : (r : Rings) (key : ℕ) (rest : List ℕ) (number k : ℕ) → r.queued ≡ key ∷ rest → times k (keys_of (passed_on r key rest number)) ≡ times k (keys_of r)
+begin-times : (r : Rings) (key : ℕ) (rest : List ℕ) (number k : ℕ) → r.queued ≡ key ∷ rest → times k (keys_of (passed_on r key rest number 0)) ≡ times k (keys_of r)
 begin-times r key rest number k is =
     let was = times-append k r.queued r.sent in
     let queued = ap (times k) is ∙ times-cons k key rest in
@@ -139,8 +139,8 @@ begin-times r key rest number k is =
     omega arith
 
 pub begin-keeps : {at later : ℕ → Option Sent} {r : Rings} {key : ℕ} {rest : List ℕ} {p : Sent} → (q : Sent) → Heads at later r key rest p → later key ≡ Some q → q.command ≡ p.command → q.transmission.due ≡ false
-    → p.command.reliable ≡ true → length r.sent < 8192 → Keeps later (passed_on r key rest p.command.number)
-begin-keeps {at} {later} {r} {key} {rest} {p} q h now same fresh reliable few =
+    → p.command.reliable ≡ true → length r.sent < 8192 → NoneDue at r.sent 0 (length r.sent) → (due : ℕ) → Keeps later (passed_on r key rest p.command.number due)
+begin-keeps {at} {later} {r} {key} {rest} {p} q h now same fresh reliable few none due =
     let names = head-named h in
     let n = next-number p.command (commands_at at rest) r.passed r.number reliable (goes-on h) in
     let low = head-low h in record {
@@ -153,7 +153,7 @@ begin-keeps {at} {later} {r} {key} {rest} {p} q h now same fresh reliable few =
       ];
       names = λ k less. let was = h.keeps.names k less in let one = begin-held q h now k in let times = begin-times r key rest p.command.number k h.queued in omega arith;
       keys = All-tail (λ (k : ℕ). k < vacant) key rest (subst (λ (ks : List ℕ). All (λ (k : ℕ). k < vacant) ks) h.queued h.keeps.keys);
-      sent = begin-kept q h now same fresh reliable few;
+      sent = begin-kept q h now same fresh reliable few none due;
       first = λ k e. first-of r.sent k e low h.keeps.first;
       passed = let low_number = after-low r.passed in let is = n.0 in omega arith;
       goes_on = subst (λ (cs : List DataCommand). GoesOn p.command.number cs r.number) (sym names.1) n.1;
@@ -165,7 +165,7 @@ begin-keeps {at} {later} {r} {key} {rest} {p} q h now same fresh reliable few =
     first-of (j ∷ sent) k e low first = first k e
 
 pub begin-passes : {at later : ℕ → Option Sent} {r : Rings} {key : ℕ} {rest : List ℕ} {p : Sent} → (q : Sent) → Heads at later r key rest p → later key ≡ Some q
-    → Passes at later (keys_of r) (keys_of (passed_on r key rest p.command.number))
+    → Passes at later (keys_of r) (keys_of (passed_on r key rest p.command.number 0))
 begin-passes {at} {later} {r} {key} {rest} {p} q h now = record {
   others = λ k x low none e. h.others k (λ same. head-named_there h k same none) ∙ e;
   balanced = λ k low. let one = begin-held q h now k in let times = begin-times r key rest p.command.number k h.queued in omega arith;

@@ -210,7 +210,7 @@ impl Outgoing {
         !command.reliable || (self.sent.len() < SPAN && after <= u64::from(most))
     }
 
-    /// Writes the head of the queue, where it may go and fits.
+    /// Writes the head of the queue, where it may go and fits; nothing that is sent may be due to go again.
     fn send_first(
         &mut self,
         pending: &mut Pending,
@@ -223,6 +223,7 @@ impl Outgoing {
     ) -> Due
         requires kept { KeepsIn pending.old self.old }
         requires room { HasRoom self.old }
+        requires none { NoneDue (get pending.old.slab) self.old.sent.items 0 (length self.old.sent.items) }
         ensures did { Did (next_queued wire now timeout transit most (sender_in pending.old self.old) (sender_in pending.old self.old).queued) result
             (end_in pending.old self.old) (end_in pending.new self.new) buf.old at buf.new }
         ensures kept { KeepsIn pending.new self.new }
@@ -388,6 +389,7 @@ impl Outgoing {
         requires head { self.old.queued.items ≡ key ∷ drop 1 self.old.queued.items }
         requires reliable { IfSome (get pending.old.slab key) (λ p. (p.command.reliable ≡ true) × (p.command.number ≡ number)) }
         requires few { length self.old.sent.items < 8192 }
+        requires none { NoneDue (get pending.old.slab) self.old.sent.items 0 (length self.old.sent.items) }
         ensures sends { (p : Sent) (rest : List DataCommand) → get pending.old.slab key ≡ Some p → commands_at (get pending.old.slab) self.old.queued.items ≡ p.command ∷ rest
             → end_in pending.new self.new ≡ record (end_in pending.old self.old) { sender = (first_sent now timeout (sender_in pending.old self.old) p.command rest).sender } }
         ensures kept { KeepsIn pending.new self.new }
@@ -397,6 +399,7 @@ impl Outgoing {
         let _ = self.queued.pop_front();
         pending.begin(key, now, timeout);
         self.sent.push_back_reserved(key);
+        self.due_from = self.sent.len();
         self.passed = number;
         self.reliable_queued -= 1;
     }
@@ -462,10 +465,14 @@ impl Outgoing {
         ensures place { IsTrue result → deque_len self.new.queued + more ≤ deque_capacity self.new.queued }
         ensures sent_place { IsTrue result → deque_len self.new.sent + (deque_len self.new.queued + more) ≤ deque_capacity self.new.sent }
     {
-        if !pending.reserve(more) || self.queued.reserve(more).is_err() {
+        if !pending.reserve(more) {
             return false;
         }
-        self.sent.reserve(self.queued.len() + more).is_ok()
+        let queued = self.queued.len() + more;
+        if self.queued.capacity() < queued && self.queued.reserve(more).is_err() {
+            return false;
+        }
+        queued <= self.sent.capacity() - self.sent.len() || self.sent.reserve(queued).is_ok()
     }
 
     /// A sender of `channel` to which nothing was submitted. It takes no memory, so it never answers E1.

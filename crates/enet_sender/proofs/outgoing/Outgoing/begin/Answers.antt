@@ -53,9 +53,9 @@ returns-clause-kept c =
     let p = found.0 in
     let is = head-is b p found.1 in
     let q = begun c.args.now c.args.timeout p.command in
-    let keeps : Keeps later (passed_on (rings_of c.args.self.now) c.args.key rest c.args.number) =
-    subst (λ (n : ℕ). Keeps later (passed_on (rings_of c.args.self.now) c.args.key rest n)) is.1
-    (begin-keeps q (heads b p found.1) (c.begin.ensures p found.1).changed refl refl is.0 c.requires.few) in
+    let keeps : Keeps later (passed_on (rings_of c.args.self.now) c.args.key rest c.args.number c.len-self.result) =
+    subst (λ (n : ℕ). Keeps later (passed_on (rings_of c.args.self.now) c.args.key rest n c.len-self.result)) is.1
+    (begin-keeps q (heads b p found.1) (c.begin.ensures p found.1).changed refl refl is.0 c.requires.few c.requires.none c.len-self.result) in
     rw (c.pop_front.ensures.rest, c.push_back_reserved.ensures.items) keeps
 
 pub returns-clause-passes : goal.returns-clause-passes
@@ -67,6 +67,6 @@ returns-clause-passes c =
     let b = (goal.at.returns-clause-passes c).After-begin in
     let p = found.0 in
     let q = begun c.args.now c.args.timeout p.command in
-    let passes : Passes at later (keys_of (rings_of c.args.self.now)) (keys_of (passed_on (rings_of c.args.self.now) c.args.key rest p.command.number)) =
+    let passes : Passes at later (keys_of (rings_of c.args.self.now)) (keys_of (passed_on (rings_of c.args.self.now) c.args.key rest p.command.number 0)) =
     begin-passes q (heads b p found.1) (c.begin.ensures p found.1).changed in
     rw (c.pop_front.ensures.rest, c.push_back_reserved.ensures.items) passes

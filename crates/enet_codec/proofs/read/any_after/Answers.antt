@@ -1,6 +1,6 @@
 use Rattle.std.proofs.lemmas.List.{take_rest}
 use Rattle.enet_codec.proofs.Arms.{reads}
-use Rattle.enet_codec.proofs.read.after_head.Goals as goal
+use Rattle.enet_codec.proofs.read.any_after.Goals as goal
 
 pub returns : goal.returns
 returns c =
