@@ -17,11 +17,9 @@ use Rattle.enet_codec.specs.declared.event.Event.TheVariants.{Connect, Receive, 
 use Rattle.enet_submit.specs.declared.order.Order.{Order}
 use Rattle.enet_submit.specs.declared.order.Submission.{Submission}
 use Rattle.enet_submit.specs.declared.queue.SubmitQueue.{SubmitQueue}
-use Rattle.enet_submit.specs.declared.token.Drain.{Drain}
 use Rattle.enet_submit.specs.Words.{taken}
 use Rattle.enet_events.specs.declared.numbered.Numbered.{Numbered}
-use Rattle.enet_events.specs.Words.{PosterState, QueueId}
-use Rattle.enet_host.specs.Host.{Host}
+use Rattle.enet_events.specs.Words.{QueueId}
 use Rattle.enet_bridge.specs.Ends.{orders}
 use Rattle.enet_bridge.specs.Holding.{asked, received}
 use Rattle.enet_serve.specs.Serving.{EndsRun}
@@ -31,7 +29,7 @@ use Rattle.enet_service.specs.Queues.{given, accepted}
 use Rattle.enet_service.specs.Run.{all_gave, all_puts}
 use Rattle.enet_chat.specs.Relaying.{events}
 use Rattle.enet_service.specs.declared.run_length.RunLength.TheVariants.{Turns}
-use Rattle.enet_service.specs.ServiceRuns.{HasTurned}
+use Rattle.enet_service.specs.ServiceRuns.{Standing, HasTurned}
 use Rattle.enet_serve.specs.declared.client.Guest.{Guest}
 use Rattle.enet_serve.specs.declared.demonstration.Demonstration.{Demonstration}
 use Rattle.enet_serve.specs.declared.orders.Plan.{Plan}
@@ -75,18 +73,18 @@ plays_on p q x has took plan sender stage asking counted =
     }
 
 -- ---- both threads
-visited : (queue : SubmitQueue) (id : QueueId) (plan : Plan) (turns : ℕ) (old new : Host × Option Event) (from to : Drain) (before after : PosterState)
+visited : (queue : SubmitQueue) (id : QueueId) (plan : Plan) (turns : ℕ) (old new : Standing)
     (report : Report) (played : Played) (visit : Visit)
-    → taken from ≡ [] → before.posted ≡ [] → HasTurned (Turns turns) old from before new to after report → HasVisited queue id plan played
-    → IsSettled played to after visit → Visits old plan turns visit
-visited queue id plan turns old new from to before after report played visit none_taken none_posted t v s =
+    → taken old.drain ≡ [] → old.poster.posted ≡ [] → HasTurned (Turns turns) old new report → HasVisited queue id plan played
+    → IsSettled played new.drain new.poster visit → Visits old.service plan turns visit
+visited queue id plan turns old new report played visit none_taken none_posted t v s =
     let all : events played.taker.taken ≡ accepted (all_puts t.rounds) =
     ap events s.all_taken ∙ (t.spell.put.grown ∙ ap (λ (ns : List Numbered). events ns ++ accepted (all_puts t.rounds)) none_posted) in
-    let gave : taken to ≡ given (all_gave t.rounds) =
+    let gave : taken new.drain ≡ given (all_gave t.rounds) =
     t.spell.gave ∙ ap (λ (xs : List Submission). xs ++ given (all_gave t.rounds)) none_taken in
     record {
       rounds = t.rounds;
-      new = new;
+      new = new.service;
       lasts = t.lasts;
       turns_are = t.spell.turns;
       sound = t.spell.sound;
@@ -98,13 +96,13 @@ visited queue id plan turns old new from to before after report played visit non
       told = subst (λ (es : List Event). IsToldBy es visit) all (subst (IsToldBy (events played.taker.taken)) (sym s.visit_is) v.tells);
     }
 
-pub visited_or_fault : (queue : SubmitQueue) (id : QueueId) (plan : Plan) (turns : ℕ) (old new : Host × Option Event) (from to : Drain) (before after : PosterState)
+pub visited_or_fault : (queue : SubmitQueue) (id : QueueId) (plan : Plan) (turns : ℕ) (old new : Standing)
     (report : Report) (played : Played) (result : Result Visit Refusal)
-    → taken from ≡ [] → before.posted ≡ [] → HasTurned (Turns turns) old from before new to after report → HasVisited queue id plan played
-    → IfOk result (IsSettled played to after) → IfOk result (Visits old plan turns)
-visited_or_fault queue id plan turns old new from to before after report played result none_taken none_posted t v s =
-    IfOk-weaker result (IsSettled played to after) (Visits old plan turns)
-    (λ visit settled. visited queue id plan turns old new from to before after report played visit none_taken none_posted t v settled) s
+    → taken old.drain ≡ [] → old.poster.posted ≡ [] → HasTurned (Turns turns) old new report → HasVisited queue id plan played
+    → IfOk result (IsSettled played new.drain new.poster) → IfOk result (Visits old.service plan turns)
+visited_or_fault queue id plan turns old new report played result none_taken none_posted t v s =
+    IfOk-weaker result (IsSettled played new.drain new.poster) (Visits old.service plan turns)
+    (λ visit settled. visited queue id plan turns old new report played visit none_taken none_posted t v settled) s
 
 -- ---- all clients
 guests_more : (shown : Demonstration) (n : ℕ) (guests : List Guest) (guest : Guest) → length guests ≡ n → ((k : ℕ) (d : Guest) → k < n → IsGuest (plan_of shown k) shown.turns (slice_index_or guests k d))

@@ -13,7 +13,8 @@ use Rattle.enet_host.specs.Opening.{opened}
 use Rattle.enet_bridge.specs.Ends.{orders}
 use Rattle.enet_service.specs.declared.report.Report.{Report}
 use Rattle.enet_service.specs.Queues.{given, accepted}
-use Rattle.enet_service.specs.Run.{Round, IsSound, all_gave, all_puts, total}
+use Rattle.enet_service.specs.Turn.{Round}
+use Rattle.enet_service.specs.Run.{IsSound, all_gave, all_puts, total}
 use Rattle.enet_chat.specs.Relaying.{noted_all, relayed_all, SameForEach, AreBehind}
 use Rattle.enet_service.specs.declared.run_length.RunLength.{RunLength}
 use Rattle.enet_service.specs.ServiceRuns.{Lasts, TakesTurns, IsCapacity}
@@ -65,7 +66,7 @@ pub record Serves (old : ChatServer) (run_length : RunLength) (new : ChatServer)
   pub expanded : List Event
   pub asked_for : List Order
   pub lasts : Lasts run_length rounds
-  pub turns : TakesTurns (host_of old, waiting_of old) rounds (host_of new, waiting_of new)
+  pub turns : TakesTurns old.bound.service rounds new.bound.service
   pub sound : All IsSound rounds
   pub queue_capacity : queue_capacity_of new ≡ queue_capacity_of old
   pub totals : report ≡ total rounds

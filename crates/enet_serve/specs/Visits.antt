@@ -11,9 +11,11 @@ use Rattle.enet_codec.specs.Config.{standard_config}
 use Rattle.enet_host.specs.Host.{Host}
 use Rattle.enet_submit.specs.declared.order.Order.{Order}
 use Rattle.enet_bridge.specs.Ends.{orders}
+use Rattle.enet_service.specs.declared.service.Service.{Service}
 use Rattle.enet_service.specs.Counts.{stopped}
 use Rattle.enet_service.specs.Queues.{given, accepted}
-use Rattle.enet_service.specs.Run.{Round, IsSound, all_gave, all_puts}
+use Rattle.enet_service.specs.Turn.{Round}
+use Rattle.enet_service.specs.Run.{IsSound, all_gave, all_puts}
 use Rattle.enet_service.specs.ServiceRuns.{TakesTurns}
 use Rattle.enet_service.specs.ServiceRuns as runs
 use Rattle.enet_serve.specs.Serving.{EndsRun}
@@ -62,14 +64,14 @@ server_of shown = or_own shown.server
 abbrev pub plan_of : Demonstration → ℕ → Plan
 plan_of shown number = record { number = number; server = server_of shown }
 
-abbrev pub beginning : Host × Option Event
+abbrev pub beginning : Service Host
 beginning = runs.beginning (standard_config 1 2)
 
 -- A client's service took so many turns, in none of which the wire failed. The client's connection is the first that they told; they
 -- were given a front of what it asked for; and the visit tells what they told
-pub record Visits (old : Host × Option Event) (plan : Plan) (turns : ℕ) (visit : Visit) : Type 0 where
+pub record Visits (old : Service Host) (plan : Plan) (turns : ℕ) (visit : Visit) : Type 0 where
   pub rounds : List Round
-  pub new : Host × Option Event
+  pub new : Service Host
   pub lasts : length rounds ≡ turns
   pub turns_are : TakesTurns old rounds new
   pub sound : All IsSound rounds

@@ -1,6 +1,6 @@
 //! A client: its service's thread, and its game thread.
 ghost use Rattle.std.specs.Prelude.{◌≡◌, ◌<◌, OnOk, IfOk, IfErr};
-ghost use Rattle.enet_service.specs.ServiceRuns.{AreNew, CanSettle, IsNotSettled, state_of};
+ghost use Rattle.enet_service.specs.ServiceRuns.{AreNew, CanSettle, IsNotSettled};
 ghost use Rattle.enet_serve.specs.Serving.{EndsRun};
 ghost use Rattle.enet_serve.specs.Visits.{Visits, beginning};
 ghost use Rattle.enet_serve.specs.Private.Playing.{HasPlayed, IsFresh, IsGuest, IsSame, IsSettled, returned};
@@ -97,7 +97,7 @@ fn run_client<R: Threads + Wait + Clock + Sync>(
 ) -> Result<Visit, Refusal>
     requires new { AreNew shared.queue.now shared.events.now ends }
     requires digit { part.plan.number < 10 }
-    ensures visits { IfOk result (Visits (state_of bound.old) part.plan part.turns) }
+    ensures visits { IfOk result (Visits bound.old.service part.plan part.turns) }
     ensures refused { IfErr result EndsRun }
 {
     let Shared {

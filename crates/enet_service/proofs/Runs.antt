@@ -9,7 +9,8 @@ use Rattle.enet_bridge.specs.declared.told.Told.TheVariants.{Waited}
 use Rattle.enet_bridge.specs.Wires.{also, unless_spent}
 use Rattle.enet_service.specs.declared.report.Report.{Report}
 use Rattle.enet_service.specs.Counts.{stopped}
-use Rattle.enet_service.specs.Run.{Round, total, all_told}
+use Rattle.enet_service.specs.Turn.{Round}
+use Rattle.enet_service.specs.Run.{total, all_told}
 use Rattle.enet_service.proofs.Reporting.{same_report}
 use Rattle.enet_service.proofs.Tellings.{told_on}
 
@@ -33,10 +34,10 @@ total_more t d u rounds r et ed eu =
     (sum_more (λ r. r.report.events) rounds r _ _ (ap (λ (t : Report). t.events) et) (ap (λ (d : Report). d.events) ed))
 
 -- what the wire told goes on by a wait and a turn
-pub told_more : (o o_1 o_2 o_3 : Option (List Told)) (f f_1 f_2 : ℕ) (rounds : List Round) (r : Round)
-    → o_1 ≡ also o (unless_spent f (all_told rounds)) → f_1 ≡ f → o_2 ≡ also o_1 (unless_spent f_1 (Waited r.ms ∷ []))
+pub told_more : (o o_1 o_2 o_3 : Option (List Told)) (f f_1 f_2 ms : ℕ) (rounds : List Round) (r : Round)
+    → o_1 ≡ also o (unless_spent f (all_told rounds)) → f_1 ≡ f → o_2 ≡ also o_1 (unless_spent f_1 (Waited ms ∷ [])) → r.ms ≡ ms
     → f_2 ≡ f → o_3 ≡ also o_2 (unless_spent f_2 r.told) → o_3 ≡ also o (unless_spent f (all_told (rounds ++ r ∷ [])))
-told_more o o_1 o_2 o_3 f f_1 f_2 rounds r before same wait same_2 turn =
-    let waited = told_on o o_1 o_2 f f_1 (all_told rounds) (Waited r.ms ∷ []) before same wait in
+told_more o o_1 o_2 o_3 f f_1 f_2 ms rounds r before same wait is same_2 turn =
+    let waited = told_on o o_1 o_2 f f_1 (all_told rounds) (Waited r.ms ∷ []) before same (wait ∙ ap (λ (n : ℕ). also o_1 (unless_spent f_1 (Waited n ∷ []))) (sym is)) in
     told_on o o_2 o_3 f f_2 (all_told rounds ++ Waited r.ms ∷ []) r.told waited same_2 turn
     ∙ ap (λ (xs : List Told). also o (unless_spent f xs)) (append_assoc (all_told rounds) (Waited r.ms ∷ []) r.told ∙ sym (all_more (λ r. Waited r.ms ∷ r.told) rounds r))

@@ -8,20 +8,18 @@ use Rattle.std.proofs.lemmas.List.Sums.{sum_by-append}
 use Rattle.std.proofs.lemmas.Grind.{flat_map-append}
 use Rattle.enet_codec.specs.declared.event.Event.{Event}
 use Rattle.enet_submit.specs.declared.order.Submission.{Submission}
-use Rattle.enet_submit.specs.declared.token.Drain.{Drain}
 use Rattle.enet_submit.specs.Words.{taken}
 use Rattle.enet_events.specs.declared.numbered.Numbered.{Numbered}
-use Rattle.enet_events.specs.Words.{PosterState}
-use Rattle.enet_host.specs.Host.{Host}
 use Rattle.enet_codec.specs.declared.refusal.Refusal.TheVariants.{WireFault}
 use Rattle.enet_service.specs.declared.report.Fault.{Fault}
 use Rattle.enet_service.specs.declared.report.Report.{Report}
 use Rattle.enet_service.specs.Counts.{stopped}
 use Rattle.enet_service.specs.Queues.{given, accepted}
-use Rattle.enet_service.specs.Run.{Round, IsSound, EndsInTurn, EndsInWait, all_gave, all_puts, total}
+use Rattle.enet_service.specs.Turn.{Round}
+use Rattle.enet_service.specs.Run.{IsSound, EndsInTurn, EndsInWait, all_gave, all_puts, total}
 use Rattle.enet_service.proofs.PhaseSteps.{chain_more}
 use Rattle.enet_service.proofs.Reporting.{same_report}
-use Rattle.enet_service.specs.ServiceRuns.{Spell}
+use Rattle.enet_service.specs.ServiceRuns.{Standing, Spell}
 
 -- events without their numbers
 abbrev events : List Numbered → List Event
@@ -55,26 +53,25 @@ accepted_both xs ys =
     ∙ ap (map (λ (x : Event × Bool). x.0)) (filter-append (λ (x : Event × Bool). x.1) (all_puts xs) (all_puts ys))
     ∙ map-append (λ (x : Event × Bool). x.0) _ _
 
-pub no_turn : (s : Host × Option Event) (d : Drain) (p : PosterState) (r : Report) → r ≡ total [] → Spell s d p [] s d p r
-no_turn s d p r e = record {
+pub no_turn : (s : Standing) (r : Report) → r ≡ total [] → Spell s [] s r
+no_turn s r e = record {
   turns = refl;
   sound = All-nil IsSound;
   totals = e;
-  gave = sym (append-nil (taken d));
+  gave = sym (append-nil (taken s.drain));
   put = record { same = refl; grown = sym (append-nil _) };
 }
 
-pub further : (a b c : Host × Option Event) (d e f : Drain) (p q r : PosterState) (xs ys : List Round) (t u w : Report)
-    → Spell a d p xs b e q t → Spell b e q ys c f r u
+pub further : (a b c : Standing) (xs ys : List Round) (t u w : Report) → Spell a xs b t → Spell b ys c u
     → w ≡ record { orders = stopped (t.orders + u.orders); received = stopped (t.received + u.received); sent = stopped (t.sent + u.sent); lost = stopped (t.lost + u.lost); events = stopped (t.events + u.events) }
-    → Spell a d p (xs ++ ys) c f r w
-further a b c d e f p q r xs ys t u w one two sum = record {
-  turns = chain_more _ a xs b ys c one.turns two.turns;
+    → Spell a (xs ++ ys) c w
+further a b c xs ys t u w one two sum = record {
+  turns = chain_more _ a.service xs b.service ys c.service one.turns two.turns;
   sound = All-append IsSound xs ys one.sound two.sound;
   totals = total_of_both t u w xs ys one.totals two.totals sum;
-  gave = two.gave ∙ (ap (λ (zs : List Submission). zs ++ given (all_gave ys)) one.gave ∙ (append_assoc (taken d) (given (all_gave xs)) (given (all_gave ys)) ∙ ap (λ (zs : List Submission). taken d ++ zs) (sym (given_both xs ys))));
+  gave = two.gave ∙ (ap (λ (zs : List Submission). zs ++ given (all_gave ys)) one.gave ∙ (append_assoc (taken a.drain) (given (all_gave xs)) (given (all_gave ys)) ∙ ap (λ (zs : List Submission). taken a.drain ++ zs) (sym (given_both xs ys))));
   put = record {
     same = two.put.same ∙ one.put.same;
-    grown = two.put.grown ∙ (ap (λ (zs : List Event). zs ++ accepted (all_puts ys)) one.put.grown ∙ (append_assoc (events p.posted) (accepted (all_puts xs)) (accepted (all_puts ys)) ∙ ap (λ (zs : List Event). events p.posted ++ zs) (sym (accepted_both xs ys))));
+    grown = two.put.grown ∙ (ap (λ (zs : List Event). zs ++ accepted (all_puts ys)) one.put.grown ∙ (append_assoc (events a.poster.posted) (accepted (all_puts xs)) (accepted (all_puts ys)) ∙ ap (λ (zs : List Event). events a.poster.posted ++ zs) (sym (accepted_both xs ys))));
   };
 }

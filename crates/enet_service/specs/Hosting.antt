@@ -18,7 +18,7 @@ use Rattle.enet_host.specs.Serving.{Serves}
 use Rattle.enet_host.specs.Ticking.{ticked}
 use Rattle.enet_slot.specs.Calls.{Does, DoesWithMemory, submission, leaving}
 use Rattle.enet_host.specs.Calls.{Takes, on_named}
-use Rattle.enet_service.specs.Phases.{why_of}
+use Rattle.enet_service.specs.Calls.{Calls, why_of}
 
 -- the clock goes on
 abbrev pub Ticks : Host → ℕ → Host → Type 0
@@ -49,6 +49,10 @@ Gives old given new = (sent : Option (PeerRef × Addr × ℕ)) × (buf : List �
 -- the host tells its next event
 abbrev pub Tells : Host → Option Event → Host → Type 0
 Tells old event new = Takes event old new
+
+-- the calls of our host
+abbrev pub host_calls : Calls Host
+host_calls = record { ticks = Ticks; obeys = Obeys; hears = Hears; gives = Gives; tells = Tells }
 
 -- how many events a host has that it hasn't told: Connects, packets and ends
 abbrev pub greetings : Option ℕ → ℕ

@@ -1,4 +1,5 @@
 pub mod ServiceRuns
+pub mod Calls
 pub mod Counts
 pub mod Hosting
 pub mod Phases

@@ -1,35 +1,22 @@
 -- A run of a service: turns one after another.
 use Rattle.std.specs.Prelude.{◌≡◌, ◌⊎◌, ℕ, ◌<◌, Bool, true, false, List, [], ◌∷◌, ◌++◌, length, Option, Result, Ok, Err}
 use Rattle.std.specs.List.{All, flat_map, sum_by}
-use Rattle.enet_codec.specs.declared.address.Addr.{Addr}
 use Rattle.enet_codec.specs.declared.event.Event.{Event}
-use Rattle.enet_codec.specs.declared.refusal.Refusal.{Refusal}
 use Rattle.enet_codec.specs.declared.refusal.Refusal.TheVariants.{WireFault}
-use Rattle.enet_submit.specs.declared.order.Order.{Order}
 use Rattle.enet_submit.specs.declared.order.Submission.{Submission}
 use Rattle.enet_bridge.specs.declared.told.Told.{Told}
 use Rattle.enet_bridge.specs.declared.told.Told.TheVariants.{Waited}
 use Rattle.enet_service.specs.declared.report.Report.{Report}
 use Rattle.enet_service.specs.declared.report.Fault.{Fault}
+use Rattle.enet_service.specs.declared.service.Service.{Service}
+use Rattle.enet_service.specs.Calls.{Calls}
 use Rattle.enet_service.specs.Phases.{Chain}
 use Rattle.enet_service.specs.Counts.{stopped}
-use Rattle.enet_service.specs.Turn.{Turn}
+use Rattle.enet_service.specs.Turn.{Round, Turn}
 
--- one turn of a run: the milliseconds of the wait before it, what the source answered, what the wire did, the events that were
--- offered, whether the wire failed, and the report
-pub record Round : Type 0 where
-  pub ms : ℕ
-  pub gave : List (Option Submission)
-  pub told : List Told
-  pub puts : List (Event × Bool)
-  pub failed : Bool
-  pub report : Report
-
--- turns, each on the host and the waiting event that the one before it left
-abbrev pub Rounds : {H : Type 0} → (H → ℕ → H → Type 0) → (H → Order → Option Refusal → H → Type 0) → (H → Addr × List ℕ → H → Type 0)
-    → (H → Option (Addr × List ℕ) → H → Type 0) → (H → Option Event → H → Type 0) → H × Option Event → List Round → H × Option Event → Type 0
-Rounds ticks obeys hears gives tells old rounds new =
-    Chain (λ s r t. Turn ticks obeys hears gives tells r.ms s.0 s.1 r.gave r.told r.puts r.failed t.0 t.1 r.report) old rounds new
+-- turns, each on the service that the one before it left
+abbrev pub Rounds : {H : Type 0} → Calls H → Service H → List Round → Service H → Type 0
+Rounds calls old rounds new = Chain (Turn calls) old rounds new
 
 -- what the source answered in all of them, what the wire did, and the events that were offered
 abbrev pub all_gave : List Round → List (Option Submission)

@@ -1,25 +1,28 @@
 -- What a service's thread does in a run.
-use Rattle.std.specs.Prelude.{◌≡◌, ◌⊎◌, ℕ, ◌≤◌, List, [], ◌++◌, length, Option, None}
+use Rattle.std.specs.Prelude.{◌≡◌, ◌⊎◌, ℕ, ◌≤◌, List, [], ◌++◌, length, None}
 use Rattle.std.specs.List.{All}
 use Rattle.enet_codec.specs.declared.config.Config.{Config}
-use Rattle.enet_codec.specs.declared.event.Event.{Event}
 use Rattle.enet_codec.specs.declared.refusal.Refusal.{Refusal}
 use Rattle.enet_codec.specs.declared.refusal.Refusal.TheVariants.{Memory, BadConfig, StillHeld}
 use Rattle.enet_submit.specs.declared.token.Drain.{Drain}
 use Rattle.enet_submit.specs.declared.queue.SubmitQueue.{SubmitQueue}
 use Rattle.enet_submit.specs.Words.{IsSeatOf, IsDrainOf, IsFinishedOf, seats_of, sent, taken}
 use Rattle.enet_events.specs.Words.{Queue, PosterState}
+use Rattle.enet_bridge.specs.declared.source.QueueSource.{QueueSource}
+use Rattle.enet_bridge.specs.declared.sink.QueueSink.{QueueSink}
+use Rattle.enet_bridge.specs.Serving.{drain_of, poster_of}
 use Rattle.enet_host.specs.Host.{Host}
 use Rattle.enet_host.specs.Opening.{opened}
 use Rattle.enet_service.specs.declared.report.Report.{Report}
-use Rattle.enet_service.specs.Hosting.{Ticks, Obeys, Hears, Gives, Tells}
+use Rattle.enet_service.specs.Hosting.{host_calls}
 use Rattle.enet_service.specs.Queues.{given, accepted, PostsOn}
-use Rattle.enet_service.specs.Run.{Round, Rounds, IsSound, all_gave, all_puts, total}
+use Rattle.enet_service.specs.Turn.{Round}
+use Rattle.enet_service.specs.Run.{Rounds, IsSound, all_gave, all_puts, total}
 use Rattle.enet_service.specs.declared.queues.Ends.{Ends}
 use Rattle.enet_service.specs.declared.settling.Returned.{Returned}
 use Rattle.enet_service.specs.declared.run_length.RunLength.{RunLength}
 use Rattle.enet_service.specs.declared.run_length.RunLength.TheVariants.{Turns, Time}
-use Rattle.enet_service.specs.declared.bound_service.BoundService.{BoundService}
+use Rattle.enet_service.specs.declared.service.Service.{Service}
 
 -- how many places a queue may have
 abbrev pub IsCapacity : ℕ → Type 0
@@ -42,37 +45,40 @@ pub record AreNew (queue : SubmitQueue) (events : Queue) (ends : Ends) : Type 0 
   pub taker : (ends.taker.queue ≡ events.id) × (ends.taker.taken ≡ [])
   pub one_taker : events.id.takers ≡ 1
 
--- the host of a bound service, and the event that waits for room in the queue, if there is one
-abbrev pub state_of : BoundService → Host × Option Event
-state_of bound = (bound.service.host, bound.service.waiting)
-
-abbrev pub beginning : Config → Host × Option Event
-beginning config = (opened config, None)
+abbrev pub beginning : Config → Service Host
+beginning config = record { host = opened config; waiting = None }
 
 -- how many turns a run has: as many as it was told; where it was told a time, at least one
 abbrev pub Lasts : RunLength → List Round → Type 0
 Lasts (Turns n) rounds = length rounds ≡ n
 Lasts (Time length_of_time) rounds = 1 ≤ length rounds
 
--- turns of a service over our host, one after another, each with the host and the event that waits
-abbrev pub TakesTurns : Host × Option Event → List Round → Host × Option Event → Type 0
-TakesTurns old rounds new = Rounds Ticks Obeys Hears Gives Tells old rounds new
+-- turns of a service over our host, one after another
+abbrev pub TakesTurns : Service Host → List Round → Service Host → Type 0
+TakesTurns old rounds new = Rounds host_calls old rounds new
+
+-- a service, and its ends of the two queues
+pub record Standing : Type 0 where
+  pub service : Service Host
+  pub drain : Drain
+  pub poster : PosterState
+
+abbrev pub standing : Service Host → QueueSource → QueueSink → Standing
+standing service source sink = record { service = service; drain = drain_of source; poster = poster_of sink }
 
 -- turns in which the wire did not fail, on what the drain took; what they put is what the poster posted
-pub record Spell (old : Host × Option Event) (from : Drain) (before : PosterState) (rounds : List Round)
-    (new : Host × Option Event) (to : Drain) (after : PosterState) (report : Report) : Type 0 where
-  pub turns : TakesTurns old rounds new
+pub record Spell (old : Standing) (rounds : List Round) (new : Standing) (report : Report) : Type 0 where
+  pub turns : TakesTurns old.service rounds new.service
   pub sound : All IsSound rounds
   pub totals : report ≡ total rounds
-  pub gave : taken to ≡ taken from ++ given (all_gave rounds)
-  pub put : PostsOn before (accepted (all_puts rounds)) after
+  pub gave : taken new.drain ≡ taken old.drain ++ given (all_gave rounds)
+  pub put : PostsOn old.poster (accepted (all_puts rounds)) new.poster
 
 -- the turns of a run
-pub record HasTurned (run_length : RunLength) (old : Host × Option Event) (from : Drain) (before : PosterState)
-    (new : Host × Option Event) (to : Drain) (after : PosterState) (report : Report) : Type 0 where
+pub record HasTurned (run_length : RunLength) (old new : Standing) (report : Report) : Type 0 where
   pub rounds : List Round
   pub lasts : Lasts run_length rounds
-  pub spell : Spell old from before rounds new to after report
+  pub spell : Spell old rounds new report
 
 -- what the threads handed back belongs to the queues, which have one seat and one taker
 pub record CanSettle (queue : SubmitQueue) (events : Queue) (back : Returned) : Type 0 where

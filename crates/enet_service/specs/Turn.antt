@@ -1,57 +1,62 @@
 -- A turn of a service.
 use Rattle.std.specs.Prelude.{◌≡◌, ℕ, ◌+◌, ◌&&◌, not, Bool, true, false, List, [], ◌++◌, Option, Result, Ok, Err}
-use Rattle.enet_codec.specs.declared.address.Addr.{Addr}
 use Rattle.enet_codec.specs.declared.event.Event.{Event}
-use Rattle.enet_codec.specs.declared.refusal.Refusal.{Refusal}
 use Rattle.enet_codec.specs.declared.refusal.Refusal.TheVariants.{WireFault}
-use Rattle.enet_submit.specs.declared.order.Order.{Order}
 use Rattle.enet_submit.specs.declared.order.Submission.{Submission}
 use Rattle.enet_bridge.specs.declared.told.Told.{Told}
 use Rattle.enet_service.specs.declared.report.Report.{Report}
 use Rattle.enet_service.specs.declared.report.Fault.{Fault}
-use Rattle.enet_service.specs.Phases.{Offers, Orders, HearsAll, SendsAll, TellsAll}
+use Rattle.enet_service.specs.declared.service.Service.{Service}
+use Rattle.enet_service.specs.Calls.{Calls}
+use Rattle.enet_service.specs.Phases.{Ordered, Wired, Offers, Orders, HearsAll, SendsAll, TellsAll}
 use Rattle.enet_service.specs.Counts.{given_in, came_in, went_in, blocked_in, taken_in, count_of, stopped}
 
--- events come last; a wire that failed while datagrams were sent ends the turn before them
-abbrev pub AfterSending : {H : Type 0} → (H → Option Event → H → Type 0) → Bool → H → Option Event → List (Event × Bool) → H → Option Event → Type 0
-AfterSending tells false sent waiting puts new after = TellsAll tells sent waiting puts new after
-AfterSending tells true sent waiting puts new after = (puts ≡ []) × (new ≡ sent) × (after ≡ waiting)
+-- what passes in a turn: the milliseconds of the wait before it, what the source answered, what the wire did, the events that were
+-- offered, whether the wire failed, and the report
+pub record Round : Type 0 where
+  pub ms : ℕ
+  pub gave : List (Option Submission)
+  pub told : List Told
+  pub puts : List (Event × Bool)
+  pub failed : Bool
+  pub report : Report
 
 -- a wire that failed while datagrams came ends the turn before any is sent
-abbrev pub AfterHearing : {H : Type 0} → (H → Option (Addr × List ℕ) → H → Type 0) → (H → Option Event → H → Type 0) → Bool → H → Option Event → List Told → List (Event × Bool) → Bool → H → Option Event → Type 0
-AfterHearing {H} gives tells false heard waiting told puts failed new after =
-    (sent : H) × SendsAll gives 256 heard told failed sent × AfterSending tells failed sent waiting puts new after
-AfterHearing gives tells true heard waiting told puts failed new after = (told ≡ []) × (puts ≡ []) × (failed ≡ true) × (new ≡ heard) × (after ≡ waiting)
+pub record AfterHearing {H : Type 0} (calls : Calls H) (heard : Wired H) (told : List Told) (sent : Wired H) : Type 0 where
+  pub sound : heard.failed ≡ false → SendsAll calls 256 heard.host told sent
+  pub failed : heard.failed ≡ true → (told ≡ []) × (sent ≡ heard)
 
--- In order: the tick; the event that waits; orders; datagrams in; datagrams out; events. `gave` is what the source answered,
--- `told` what the wire did, `puts` the events that were offered, and `failed` says that the wire failed
-pub record Turn {H : Type 0} (ticks : H → ℕ → H → Type 0) (obeys : H → Order → Option Refusal → H → Type 0) (hears : H → Addr × List ℕ → H → Type 0)
-    (gives : H → Option (Addr × List ℕ) → H → Type 0) (tells : H → Option Event → H → Type 0) (ms : ℕ) (old : H) (waiting : Option Event)
-    (gave : List (Option Submission)) (told : List Told) (puts : List (Event × Bool)) (failed : Bool) (new : H) (after : Option Event) (report : Report) : Type 0 where
+-- events come last; a wire that failed before ends the turn without them
+pub record AfterSending {H : Type 0} (calls : Calls H) (sent : Wired H) (waiting : Option Event) (puts : List (Event × Bool)) (new : Service H) : Type 0 where
+  pub sound : sent.failed ≡ false → TellsAll calls (record { host = sent.host; waiting = waiting }) puts new
+  pub failed : sent.failed ≡ true → (puts ≡ []) × (new ≡ record { host = sent.host; waiting = waiting })
+
+-- in order: the tick; the event that waits; orders; datagrams in; datagrams out; events
+pub record Turn {H : Type 0} (calls : Calls H) (old : Service H) (round : Round) (new : Service H) : Type 0 where
   pub ticked : H
-  pub tick : ticks old ms ticked
+  pub tick : calls.ticks old.host round.ms ticked
   pub again : List (Event × Bool)
-  pub waits_first : Option Event
-  pub offered : Offers waiting again waits_first
-  pub of_orders : List (Event × Bool)
-  pub ordered : H
   pub waits : Option Event
-  pub orders : Orders obeys 256 ticked waits_first gave of_orders ordered waits
+  pub offered : Offers old.waiting again waits
+  pub ordered : Ordered H
+  pub orders : Orders calls 256 (record { host = ticked; waiting = waits }) round.gave ordered
   pub came : List Told
-  pub hearing_failed : Bool
-  pub heard : H
-  pub hearing : HearsAll hears 256 ordered came hearing_failed heard
+  pub heard : Wired H
+  pub hearing : HearsAll calls 256 ordered.service.host came heard
   pub went : List Told
+  pub sent : Wired H
+  pub sending : AfterHearing calls heard went sent
   pub of_events : List (Event × Bool)
-  pub rest : AfterHearing gives tells hearing_failed heard waits went of_events failed new after
-  pub all_told : told ≡ came ++ went
-  pub all_put : puts ≡ again ++ (of_orders ++ of_events)
-  pub counts : report ≡ record {
-    orders = given_in gave;
+  pub telling : AfterSending calls sent ordered.service.waiting of_events new
+  pub told : round.told ≡ came ++ went
+  pub put : round.puts ≡ again ++ (ordered.puts ++ of_events)
+  pub failed : round.failed ≡ sent.failed
+  pub counts : round.report ≡ record {
+    orders = given_in round.gave;
     received = came_in came;
     sent = went_in went;
-    lost = blocked_in went + count_of (failed && not hearing_failed);
-    events = stopped (taken_in puts);
+    lost = blocked_in went + count_of (sent.failed && not heard.failed);
+    events = stopped (taken_in round.puts);
   }
 
 -- a turn answers its report, with E14 where the wire failed

@@ -1,7 +1,8 @@
 //! Turns between the two queues.
 ghost use Rattle.std.specs.Prelude.{◌≡◌, ◌+◌, List, is_err};
 ghost use Rattle.enet_bridge.specs.Wires.{also, unless_spent};
-ghost use Rattle.enet_service.specs.Run.{Round, Rounds, Ends, all_gave, all_told, all_puts};
+ghost use Rattle.enet_service.specs.Turn.{Round};
+ghost use Rattle.enet_service.specs.Run.{Rounds, Ends, all_gave, all_told, all_puts};
 ghost use Rattle.enet_service.specs.Queues.{given, accepted, DrainsOn, PostsOn};
 ghost use Rattle.enet_bridge.specs.Serving.{queue_of, drain_of, poster_of};
 ghost use Rattle.enet_service.specs.Counts.{count_of};
@@ -26,7 +27,7 @@ pub fn run_between_queues<H: Core, W: Wire, R: Wait + Clock>(
     turns: u64,
 ) -> Result<Report, Fault>
     ensures run { (rounds : List Round)
-        × Rounds H.ticks H.obeys H.hears H.gives H.tells (service.old.host, service.old.waiting) rounds (service.new.host, service.new.waiting)
+        × Rounds H.calls service.old rounds service.new
         × (queue_of source.new ≡ queue_of source.old)
         × DrainsOn (queue_of source.old) (drain_of source.old) (given (all_gave rounds)) (drain_of source.new)
         × PostsOn (poster_of sink.old) (accepted (all_puts rounds)) (poster_of sink.new)

@@ -14,7 +14,7 @@ pub struct BoundService {
 impl BoundService {
     ghost use Rattle.std.specs.Prelude.{◌≡◌, true, false, IfOk, IfErr, Err};
     ghost use Rattle.enet_codec.specs.Config.{is_in_range};
-    ghost use Rattle.enet_service.specs.ServiceRuns.{state_of, beginning};
+    ghost use Rattle.enet_service.specs.ServiceRuns.{beginning};
 
     /// A host of this configuration, which did nothing yet, at this socket.
     ///
@@ -22,7 +22,7 @@ impl BoundService {
     pub fn open(alloc: Global, wire: MioWire, config: Config) -> Result<BoundService, Refusal>
         ensures out_of_range { is_in_range config ≡ false → result ≡ Err Refusal.BadConfig }
         ensures in_range { is_in_range config ≡ true → IfErr result (λ why. why ≡ Refusal.Memory) }
-        ensures begins { IfOk result (λ bound. state_of bound ≡ beginning config) }
+        ensures begins { IfOk result (λ bound. bound.service ≡ beginning config) }
     {
         let host = WatchedHost::open(alloc, config)?;
         Ok(BoundService {

@@ -18,7 +18,7 @@ pub(crate) struct Heard {
 /// Receives until the wire gives none or fails, at most 256 datagrams.
 pub(crate) fn hear_all<H: Core, W: Wire>(host: &mut H, wire: &mut W) -> Heard
     ensures { (told : List Call) × (W.told wire.new ≡ also (W.told wire.old) (unless_spent (W.faults wire.old) told))
-        × HearsAll H.hears 256 host.old told result.failed host.new × (result.received ≡ came_in told)
+        × HearsAll H.calls 256 host.old told (record { host = host.new; failed = result.failed }) × (result.received ≡ came_in told)
         × (W.faults wire.new ≡ W.faults wire.old + count_of result.failed) }
 {
     let mut buf = [0u8; 4096];

@@ -1,5 +1,5 @@
 //! What a turn does with a host.
-ghost use Rattle.std.specs.Prelude.{ℕ, ◌<◌, ◌≤◌, List, Option, IfSome, take};
+ghost use Rattle.std.specs.Prelude.{ℕ, ◌<◌, ◌≤◌, IfSome, take};
 ghost use Rattle.std.specs.Option.{option_map};
 
 use enet_codec::{Addr, Event, Refusal};
@@ -7,49 +7,33 @@ use enet_submit::Order;
 
 /// The calls of a host that a turn makes. Each says by a relation what it may do.
 pub trait Core {
-    ghost use Rattle.enet_codec.specs.declared.address.Addr.{Addr as Address};
-    ghost use Rattle.enet_codec.specs.declared.event.Event.{Event as Telling};
-    ghost use Rattle.enet_codec.specs.declared.refusal.Refusal.{Refusal as Why};
-    ghost use Rattle.enet_submit.specs.declared.order.Order.{Order as Asked};
-    ghost use Rattle.enet_service.specs.Phases.{why_of};
+    ghost use Rattle.enet_service.specs.Calls.{Calls, why_of};
 
-    /// The clock goes on by so many milliseconds.
-    ghost ticks: { Self → ℕ → Self → Type 0 };
-
-    /// An order is carried out, or refused.
-    ghost obeys: { Self → Asked → Option Why → Self → Type 0 };
-
-    /// A datagram comes: who sent it, and its bytes.
-    ghost hears: { Self → Address × List ℕ → Self → Type 0 };
-
-    /// The next datagram is given: where it goes, and its bytes.
-    ghost gives: { Self → Option (Address × List ℕ) → Self → Type 0 };
-
-    /// The next event is told.
-    ghost tells: { Self → Option Telling → Self → Type 0 };
+    /// What each call may do.
+    ghost calls: { Calls Self };
 
     /// How many events it has that it hasn't told.
     ghost untold: { Self → ℕ };
 
     /// The clock goes on by so many milliseconds.
     fn tick(&mut self, ms: u32)
-        ensures { ticks self.old ms self.new };
+        ensures { calls.ticks self.old ms self.new };
 
     /// Carries an order out, or refuses it.
     fn apply_order(&mut self, order: Order) -> Result<(), Refusal>
-        ensures { obeys self.old order (why_of result) self.new };
+        ensures { calls.obeys self.old order (why_of result) self.new };
 
     /// A datagram comes from an address.
     fn receive(&mut self, from: Addr, bytes: &[u8])
-        ensures { hears self.old (from, bytes.now) self.new };
+        ensures { calls.hears self.old (from, bytes.now) self.new };
 
     /// Where the next datagram goes, and how many bytes of the buffer it is; None where the host has none.
     fn emit(&mut self, buf: &mut [u8; 4096]) -> Option<(Addr, usize)>
-        ensures given { gives self.old (option_map (λ d. (d.0, take d.1 buf.new)) result) self.new }
+        ensures given { calls.gives self.old (option_map (λ d. (d.0, take d.1 buf.new)) result) self.new }
         ensures len { IfSome result (λ d. d.1 ≤ 4096) };
 
     /// The next event, which the host has told then; None where it has none.
     fn next_event(&mut self) -> Option<Event>
-        ensures told { tells self.old result self.new }
+        ensures told { calls.tells self.old result self.new }
         ensures fewer { IfSome result (λ event. untold self.new < untold self.old) };
 }

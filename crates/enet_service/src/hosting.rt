@@ -6,17 +6,9 @@ use enet_host::HostCore;
 use enet_submit::Order;
 
 impl Core for HostCore {
-    ghost use Rattle.enet_service.specs.Hosting.{Ticks, Obeys, Hears, Gives, Tells, untold};
+    ghost use Rattle.enet_service.specs.Hosting.{host_calls, untold};
 
-    ghost ticks = { Ticks };
-
-    ghost obeys = { Obeys };
-
-    ghost hears = { Hears };
-
-    ghost gives = { Gives };
-
-    ghost tells = { Tells };
+    ghost calls = { host_calls };
 
     ghost untold = { untold };
 

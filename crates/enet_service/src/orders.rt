@@ -22,7 +22,8 @@ fn carry_out<H: Core, K: Sink, R: Wait>(
 ) -> u32
     requires { waiting.old ≡ None }
     ensures { (puts : List (Told × Bool)) × Chain (λ s x t. K.puts s x.0 x.1 t) sink.old puts sink.new
-        × CarriesOut H.obeys host.old submission puts host.new waiting.new × (result ≡ taken_in puts) × (result ≤ 1) }
+        × CarriesOut H.calls (record { host = host.old; waiting = waiting.old }) submission puts (record { host = host.new; waiting = waiting.new })
+        × (result ≡ taken_in puts) × (result ≤ 1) }
 {
     let Submission {
         seat,
@@ -45,7 +46,8 @@ pub(crate) fn take_orders<H: Core, S: Source, K: Sink, R: Wait>(
 ) -> (u32, u32)
     ensures { (gave : List (Option Item)) × Chain S.gives source.old gave source.new
         × (puts : List (Told × Bool)) × Chain (λ s x t. K.puts s x.0 x.1 t) sink.old puts sink.new
-        × Orders H.obeys 256 host.old waiting.old gave puts host.new waiting.new
+        × Orders H.calls 256 (record { host = host.old; waiting = waiting.old }) gave
+        (record { service = record { host = host.new; waiting = waiting.new }; puts = puts })
         × (result.0 ≡ given_in gave) × (result.1 ≡ taken_in puts) }
 {
     let mut orders = 0u32;

@@ -1,8 +1,8 @@
 //! How long a service takes turns.
 ghost use Rattle.std.specs.Prelude.{◌≡◌, ◌≤◌, List, length, IfOk, IfErr};
-ghost use Rattle.enet_service.specs.Run.{Round as OneTurn};
-ghost use Rattle.enet_bridge.specs.Serving.{queue_of, drain_of, poster_of};
-ghost use Rattle.enet_service.specs.ServiceRuns.{Lasts, Spell};
+ghost use Rattle.enet_service.specs.Turn.{Round as OneTurn};
+ghost use Rattle.enet_bridge.specs.Serving.{queue_of, poster_of};
+ghost use Rattle.enet_service.specs.ServiceRuns.{Lasts, Spell, standing};
 
 use crate::turning::Signals;
 use crate::watch::Watch;
@@ -44,8 +44,7 @@ pub(crate) fn take_turns<R: Wait + Clock, W: Watch>(
     ensures queue { queue_of source.new ≡ queue_of source.old }
     ensures poster { (poster_of sink.new).queue ≡ (poster_of sink.old).queue }
     ensures turns { IfOk result (λ report. (rounds : List OneTurn) × Lasts run_length rounds
-        × Spell (service.old.host, service.old.waiting) (drain_of source.old) (poster_of sink.old) rounds
-        (service.new.host, service.new.waiting) (drain_of source.new) (poster_of sink.new) report) }
+        × Spell (standing service.old source.old sink.old) rounds (standing service.new source.new sink.new) report) }
     ensures fault { IfErr result (λ why. why ≡ Refusal.WireFault) }
 {
     match run_length {
@@ -67,8 +66,7 @@ fn turns_of<R: Wait + Clock, W: Watch>(
     ensures queue { queue_of source.new ≡ queue_of source.old }
     ensures poster { (poster_of sink.new).queue ≡ (poster_of sink.old).queue }
     ensures turns { IfOk result (λ report. (rounds : List OneTurn) × (length rounds ≡ turns)
-        × Spell (service.old.host, service.old.waiting) (drain_of source.old) (poster_of sink.old) rounds
-        (service.new.host, service.new.waiting) (drain_of source.new) (poster_of sink.new) report) }
+        × Spell (standing service.old source.old sink.old) rounds (standing service.new source.new sink.new) report) }
     ensures fault { IfErr result (λ why. why ≡ Refusal.WireFault) }
 {
     match run_between_queues(rt, service, wire, source, sink, turns) {
@@ -105,8 +103,7 @@ fn turns_for<R: Wait + Clock, W: Watch>(
     ensures queue { queue_of source.new ≡ queue_of source.old }
     ensures poster { (poster_of sink.new).queue ≡ (poster_of sink.old).queue }
     ensures turns { IfOk result (λ report. (rounds : List OneTurn) × (1 ≤ length rounds)
-        × Spell (service.old.host, service.old.waiting) (drain_of source.old) (poster_of sink.old) rounds
-        (service.new.host, service.new.waiting) (drain_of source.new) (poster_of sink.new) report) }
+        × Spell (standing service.old source.old sink.old) rounds (standing service.new source.new sink.new) report) }
     ensures fault { IfErr result (λ why. why ≡ Refusal.WireFault) }
 {
     let start = Instant::now(rt);

@@ -2,7 +2,8 @@
 ghost use Rattle.std.specs.Prelude.{◌≡◌, ◌+◌, List, is_err};
 ghost use Rattle.enet_bridge.specs.Wires.{also, unless_spent};
 ghost use Rattle.enet_service.specs.Phases.{Chain};
-ghost use Rattle.enet_service.specs.Run.{Round, Rounds, Ends, all_gave, all_told, all_puts};
+ghost use Rattle.enet_service.specs.Turn.{Round};
+ghost use Rattle.enet_service.specs.Run.{Rounds, Ends, all_gave, all_told, all_puts};
 ghost use Rattle.enet_service.specs.Counts.{count_of};
 
 use crate::host::Core;
@@ -26,7 +27,7 @@ pub fn run<H: Core, W: Wire, S: Source, K: Sink, R: Wait + Clock>(
     turns: u64,
 ) -> Result<Report, Fault>
     ensures run { (rounds : List Round)
-        × Rounds H.ticks H.obeys H.hears H.gives H.tells (service.old.host, service.old.waiting) rounds (service.new.host, service.new.waiting)
+        × Rounds H.calls service.old rounds service.new
         × Chain S.gives source.old (all_gave rounds) source.new
         × Chain (λ s x t. K.puts s x.0 x.1 t) sink.old (all_puts rounds) sink.new
         × (W.told wire.new ≡ also (W.told wire.old) (unless_spent (W.faults wire.old) (all_told rounds)))

@@ -19,7 +19,7 @@ pub(crate) struct Sent {
 /// Sends until the host has no datagram, a send would block or the wire fails, at most 256 datagrams.
 pub(crate) fn send_all<H: Core, W: Wire>(host: &mut H, wire: &mut W) -> Sent
     ensures { (told : List Call) × (W.told wire.new ≡ also (W.told wire.old) (unless_spent (W.faults wire.old) told))
-        × SendsAll H.gives 256 host.old told result.failed host.new × (result.sent ≡ went_in told)
+        × SendsAll H.calls 256 host.old told (record { host = host.new; failed = result.failed }) × (result.sent ≡ went_in told)
         × (result.lost ≡ blocked_in told + count_of result.failed)
         × (W.faults wire.new ≡ W.faults wire.old + count_of result.failed) }
 {

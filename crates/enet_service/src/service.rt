@@ -1,12 +1,8 @@
 //! The service and its turns.
-ghost use Rattle.std.specs.Prelude.{◌≡◌, ◌+◌, List, Bool, Option, None, is_err};
-ghost use Rattle.enet_codec.specs.declared.event.Event.{Event as Telling};
-ghost use Rattle.enet_submit.specs.declared.order.Submission.{Submission as Item};
-ghost use Rattle.enet_bridge.specs.declared.told.Told.{Told as Call};
+ghost use Rattle.std.specs.Prelude.{◌≡◌, ◌+◌, None, is_err};
 ghost use Rattle.enet_bridge.specs.Wires.{also, unless_spent};
-ghost use Rattle.enet_service.specs.declared.report.Report.{Report as Done};
 ghost use Rattle.enet_service.specs.Phases.{Chain};
-ghost use Rattle.enet_service.specs.Turn.{Turn, Reports};
+ghost use Rattle.enet_service.specs.Turn.{Round, Turn, Reports};
 ghost use Rattle.enet_service.specs.Counts.{count_of};
 
 use crate::hearing::hear_all;
@@ -49,11 +45,11 @@ impl<H: Core> Service<H> {
         sink: &mut K,
         ms: u32,
     ) -> Result<Report, Fault>
-        ensures turn { (gave : List (Option Item)) × Chain S.gives source.old gave source.new
-            × (told : List Call) × (W.told wire.new ≡ also (W.told wire.old) (unless_spent (W.faults wire.old) told))
-            × (puts : List (Telling × Bool)) × Chain (λ s x t. K.puts s x.0 x.1 t) sink.old puts sink.new
-            × (report : Done) × Turn H.ticks H.obeys H.hears H.gives H.tells ms self.old.host self.old.waiting gave told puts (is_err result) self.new.host self.new.waiting report
-            × Reports result report }
+        ensures turn { (round : Round) × (round.ms ≡ ms) × (round.failed ≡ is_err result)
+            × Chain S.gives source.old round.gave source.new
+            × (W.told wire.new ≡ also (W.told wire.old) (unless_spent (W.faults wire.old) round.told))
+            × Chain (λ s x t. K.puts s x.0 x.1 t) sink.old round.puts sink.new
+            × Turn H.calls self.old round self.new × Reports result round.report }
         ensures faults { W.faults wire.new ≡ W.faults wire.old + count_of (is_err result) }
     {
         self.host.tick(ms);

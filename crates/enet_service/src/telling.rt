@@ -52,7 +52,9 @@ pub(crate) fn tell_all<H: Core, K: Sink, R: Wait>(
     waiting: &mut Option<Event>,
     sink: &mut K,
 ) -> u32
-    ensures { (puts : List (Told × Bool)) × Chain (λ s x t. K.puts s x.0 x.1 t) sink.old puts sink.new × TellsAll H.tells host.old waiting.old puts host.new waiting.new × (result ≡ stopped (taken_in puts)) }
+    ensures { (puts : List (Told × Bool)) × Chain (λ s x t. K.puts s x.0 x.1 t) sink.old puts sink.new
+        × TellsAll H.calls (record { host = host.old; waiting = waiting.old }) puts (record { host = host.new; waiting = waiting.new })
+        × (result ≡ stopped (taken_in puts)) }
 {
     let mut events = 0u32;
     while waiting.is_none() {

@@ -1,7 +1,7 @@
 //! The service's thread of a run.
 ghost use Rattle.std.specs.Prelude.{◌≡◌, IfOk, IfErr};
-ghost use Rattle.enet_bridge.specs.Serving.{queue_of, drain_of, poster_of};
-ghost use Rattle.enet_service.specs.ServiceRuns.{HasTurned, state_of};
+ghost use Rattle.enet_bridge.specs.Serving.{queue_of, poster_of};
+ghost use Rattle.enet_service.specs.ServiceRuns.{HasTurned, standing};
 
 use crate::bound_service::BoundService;
 use crate::run_length::{RunLength, take_turns};
@@ -78,7 +78,7 @@ fn serve_turns<R: Wait + Clock, W: Watch>(
 ) -> Result<Report, Refusal>
     ensures queue { queue_of source.new ≡ queue_of source.old }
     ensures poster { (poster_of sink.new).queue ≡ (poster_of sink.old).queue }
-    ensures turned { IfOk result (HasTurned run_length (state_of bound.old) (drain_of source.old) (poster_of sink.old) (state_of bound.new) (drain_of source.new) (poster_of sink.new)) }
+    ensures turned { IfOk result (HasTurned run_length (standing bound.old.service source.old sink.old) (standing bound.new.service source.new sink.new)) }
     ensures fault { IfErr result (λ why. why ≡ Refusal.WireFault) }
 {
     let report = take_turns(
@@ -119,7 +119,7 @@ where
     ensures other { F.step other.old result.0 other.new }
     ensures queue { queue_of source.new ≡ queue_of source.old }
     ensures poster { (poster_of sink.new).queue ≡ (poster_of sink.old).queue }
-    ensures turned { IfOk result.1 (HasTurned run_length (state_of bound.old) (drain_of source.old) (poster_of sink.old) (state_of bound.new) (drain_of source.new) (poster_of sink.new)) }
+    ensures turned { IfOk result.1 (HasTurned run_length (standing bound.old.service source.old sink.old) (standing bound.new.service source.new sink.new)) }
     ensures fault { IfErr result.1 (λ why. why ≡ Refusal.WireFault) }
 {
     join_mut(
@@ -128,7 +128,7 @@ where
         &mut || -> Result<Report, Refusal>
             ensures queue { queue_of source.exit.now ≡ queue_of source.entry.now }
             ensures poster { (poster_of sink.exit.now).queue ≡ (poster_of sink.entry.now).queue }
-            ensures turned { IfOk result (HasTurned run_length (state_of bound.entry.now) (drain_of source.entry.now) (poster_of sink.entry.now) (state_of bound.exit.now) (drain_of source.exit.now) (poster_of sink.exit.now)) }
+            ensures turned { IfOk result (HasTurned run_length (standing bound.entry.now.service source.entry.now sink.entry.now) (standing bound.exit.now.service source.exit.now sink.exit.now)) }
             ensures fault { IfErr result (λ why. why ≡ Refusal.WireFault) }
         { serve_turns(rt, bound, source, sink, run_length, signals, watch) },
     )

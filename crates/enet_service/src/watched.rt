@@ -1,6 +1,6 @@
 //! A host whose operator is told who came and went, whom it asked for a connection, and which orders were refused.
 
-ghost use Rattle.enet_service.specs.Phases.{why_of};
+ghost use Rattle.enet_service.specs.Calls.{why_of};
 ghost use Rattle.enet_service.specs.Hosting.{Obeys};
 ghost use Rattle.enet_submit.specs.declared.order.Order.TheVariants as orders;
 
@@ -199,17 +199,9 @@ impl WatchedHost {
 }
 
 impl Core for WatchedHost {
-    ghost use Rattle.enet_service.specs.Hosting.{Ticks, Obeys, Hears, Gives, Tells, untold};
+    ghost use Rattle.enet_service.specs.Hosting.{host_calls, untold};
 
-    ghost ticks = { Ticks };
-
-    ghost obeys = { Obeys };
-
-    ghost hears = { Hears };
-
-    ghost gives = { Gives };
-
-    ghost tells = { Tells };
+    ghost calls = { host_calls };
 
     ghost untold = { untold };
 

@@ -19,7 +19,7 @@ returns-in-Ok-None g c =
     let faults : g.W.Wire.faults c.recv.new.self ≡ g.W.Wire.faults c.args.wire.now = c.in-Ok-None.ensures.faults ∙ inv.2 in (
       told ++ NothingCame ∷ [],
       told_on _ _ _ _ _ told (NothingCame ∷ []) inv.1 inv.2 now,
-      inv.5 (NothingCame ∷ []) false c.loop-turn.host (omega arith, refl, refl, refl),
+      inv.5 (NothingCame ∷ []) (record { host = c.loop-turn.host; failed = false }) (omega arith, refl, refl, refl),
       omega (arith, came_more told (NothingCame ∷ []), inv.3),
       omega (arith, faults),
     )
@@ -31,8 +31,8 @@ returns-in-Err g c =
     let faults : g.W.Wire.faults c.recv.new.self ≡ g.W.Wire.faults c.args.wire.now + 1 = c.in-Err.ensures.faults ∙ ap (λ (n : ℕ). n + 1) inv.2 in (
       told,
       told_no_more _ _ _ _ _ told inv.1 inv.2 c.in-Err.ensures.told,
-      subst (λ (xs : List Told). HearsAll g.H.Core.hears 256 c.args.host.now xs true c.loop-turn.host) (append-nil told)
-          (inv.5 [] true c.loop-turn.host (inr (omega arith, refl), refl)),
+      subst (λ (xs : List Told). HearsAll g.H.Core.calls 256 c.args.host.now xs (record { host = c.loop-turn.host; failed = true })) (append-nil told)
+          (inv.5 [] (record { host = c.loop-turn.host; failed = true }) (inr (omega arith, refl), refl)),
       inv.3,
       faults,
     )
@@ -50,7 +50,7 @@ loop-turn-preserved g c =
       c.in-Ok-Some.ensures.faults ∙ inv.2,
       omega (arith, came_more told (x ∷ []), inv.3),
       omega (arith, inv.4),
-      hears_on g.H.Core.hears c.loop-turn._turn _ _ _ told _ _ (omega arith) inv.5 c.receive.ensures,
+      hears_on g.H.Core.calls c.loop-turn._turn _ _ _ told _ _ (omega arith) inv.5 c.receive.ensures,
     )
 
 pub returns : goal.returns
@@ -60,8 +60,8 @@ returns g c =
     let faults : g.W.Wire.faults c.loop-turn.wire ≡ g.W.Wire.faults c.args.wire.now = inv.2 in (
       told,
       inv.1,
-      subst (λ (xs : List Told). HearsAll g.H.Core.hears 256 c.args.host.now xs false c.loop-turn.host) (append-nil told)
-          (inv.5 [] false c.loop-turn.host (inl (omega arith, refl), refl)),
+      subst (λ (xs : List Told). HearsAll g.H.Core.calls 256 c.args.host.now xs (record { host = c.loop-turn.host; failed = false })) (append-nil told)
+          (inv.5 [] (record { host = c.loop-turn.host; failed = false }) (inl (omega arith, refl), refl)),
       inv.3,
       omega (arith, faults),
     )

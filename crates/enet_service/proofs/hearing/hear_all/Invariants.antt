@@ -11,4 +11,4 @@ invariant-loop-turn g l =
     × (g.W.Wire.told l.wire ≡ also (g.W.Wire.told l.initial.wire) (unless_spent (g.W.Wire.faults l.initial.wire) told))
     × (g.W.Wire.faults l.wire ≡ g.W.Wire.faults l.initial.wire)
     × (l.received ≡ came_in told) × (l.received ≡ l._turn)
-    × HearsOn g.H.Core.hears l._turn l.initial.host told l.host
+    × HearsOn g.H.Core.calls l._turn l.initial.host told l.host

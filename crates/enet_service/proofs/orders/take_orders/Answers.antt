@@ -8,18 +8,18 @@ use Rattle.enet_service.proofs.Tellings.{taken_more, given_more}
 use Rattle.enet_service.proofs.orders.take_orders.Goals as goal
 
 pub loop-turn-init : goal.loop-turn-init
-loop-turn-init g c = ([], refl, [], refl, refl, refl, refl, omega arith, λ more others new after rest. rest)
+loop-turn-init g c = ([], refl, [], refl, refl, refl, refl, omega arith, λ more others new rest. rest)
 
 pub returns-then-is_some : goal.returns-then-is_some
 returns-then-is_some g c =
     let inv = c.loop-turn.invariant in
     let waits = some_is c.loop-turn.waiting (sym c.is_some.ensures ∙ c.if-is_some.true) in
-    (inv.0, inv.1, inv.2, inv.3, orders_end _ _ _ _ _ _ inv.0 inv.2 inv.8 (inl waits), inv.4, inv.5)
+    (inv.0, inv.1, inv.2, inv.3, orders_end _ _ _ _ inv.0 inv.2 inv.8 (inl waits), inv.4, inv.5)
 
 pub returns : goal.returns
 returns g c =
     let inv = c.loop-turn.invariant in
-    (inv.0, inv.1, inv.2, inv.3, orders_end _ _ _ _ _ _ inv.0 inv.2 inv.8 (inr (omega arith)), inv.4, inv.5)
+    (inv.0, inv.1, inv.2, inv.3, orders_end _ _ _ _ inv.0 inv.2 inv.8 (inr (omega arith)), inv.4, inv.5)
 
 pub returns-in-None : goal.returns-in-None
 returns-in-None g c =
@@ -31,7 +31,7 @@ returns-in-None g c =
       chain_step _ _ _ _ _ _ inv.1 c.in-None.ensures,
       puts,
       inv.3,
-      orders_none _ _ _ _ _ _ gave puts (omega arith) none inv.8,
+      orders_none _ _ _ _ gave puts (omega arith) none inv.8,
       omega (arith, given_more gave (None ∷ []), inv.4),
       inv.5,
     )
@@ -53,5 +53,5 @@ loop-turn-preserved g c =
       omega (arith, taken_more puts mine, inv.5, counted),
       omega (arith, inv.6),
       omega (arith, inv.7, few),
-      orders_on g.H.Core.obeys c.loop-turn._turn _ _ _ _ _ _ gave puts mine _ (omega arith) none inv.8 c.carry_out-events.ensures.2,
+      orders_on g.H.Core.calls c.loop-turn._turn _ _ _ gave puts mine _ (omega arith) none inv.8 c.carry_out-events.ensures.2,
     )

@@ -11,4 +11,5 @@ invariant-loop-turn g l =
     (gave : List (Option Submission)) × Chain g.S.Source.gives l.initial.source gave l.source
     × (puts : List (Event × Bool)) × Chain (λ s x t. g.K.Sink.puts s x.0 x.1 t) l.initial.sink puts l.sink
     × (l.orders ≡ given_in gave) × (l.events ≡ taken_in puts) × (l.orders ≡ l._turn) × (l.events ≤ l._turn)
-    × OrdersOn g.H.Core.obeys l._turn l.initial.host l.initial.waiting gave puts l.host l.waiting
+    × OrdersOn g.H.Core.calls l._turn (record { host = l.initial.host; waiting = l.initial.waiting }) gave
+    (record { service = record { host = l.host; waiting = l.waiting }; puts = puts })

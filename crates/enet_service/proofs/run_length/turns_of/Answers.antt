@@ -1,6 +1,6 @@
 use Rattle.std.proofs.Common.{List, sym, subst}
 use Rattle.enet_host.specs.Host.{Host}
-use Rattle.enet_service.specs.Run.{Round}
+use Rattle.enet_service.specs.Turn.{Round}
 use Rattle.enet_service.specs.ServiceRuns.{TakesTurns}
 use Rattle.enet_service.proofs.Spells.{fault_of_wire}
 use Rattle.enet_service.proofs.run_length.turns_of.Goals as goal
@@ -10,8 +10,8 @@ returns-in-Ok-clause-turns g c =
     let ran = c.in-Ok.ensures.run in
     let ends = ran.6 in
     let rounds : List Round = ran.0 in
-    let turns : TakesTurns (c.args.service.now.host, c.args.service.now.waiting) rounds (c.show.new.host, c.run_between_queues.new.service.waiting) =
-    subst (λ (host : Host). TakesTurns (c.args.service.now.host, c.args.service.now.waiting) rounds (host, c.run_between_queues.new.service.waiting)) (sym c.show.ensures) ran.1 in
+    let turns : TakesTurns c.args.service.now rounds (record { host = c.show.new.host; waiting = c.run_between_queues.new.service.waiting }) =
+    subst (λ (host : Host). TakesTurns c.args.service.now rounds (record { host = host; waiting = c.run_between_queues.new.service.waiting })) (sym c.show.ensures) ran.1 in
     (rounds, ends.1, record { turns = turns; sound = ends.0; totals = ends.2; gave = ran.3.grown; put = ran.4 })
 
 pub returns-in-Err-clause-fault : goal.returns-in-Err-clause-fault

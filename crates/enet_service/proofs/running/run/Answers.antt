@@ -1,12 +1,12 @@
-use Rattle.std.proofs.Common.{◌≡◌, ◌+◌, List, [], ◌∷◌, ◌++◌, Bool, Option, true, false, refl, subst, sym, ◌∙◌, inl, arith, rules}
+use Rattle.std.proofs.Common.{◌≡◌, ◌+◌, List, [], ◌∷◌, ◌++◌, Bool, Option, refl, subst, sym, ◌∙◌, inl, arith, rules}
 use Rattle.std.proofs.lemmas.List.{length-append}
 use Rattle.std.proofs.lemmas.List.Elements.{All-nil, All-push}
 use Rattle.std.proofs.lemmas.Result.{err_from_is_err_and}
 use Rattle.enet_codec.specs.declared.event.Event.{Event}
 use Rattle.enet_submit.specs.declared.order.Submission.{Submission}
-use Rattle.enet_bridge.specs.declared.told.Told.{Told}
 use Rattle.enet_service.specs.Phases.{Chain}
-use Rattle.enet_service.specs.Run.{Round, IsSound}
+use Rattle.enet_service.specs.Turn.{Round}
+use Rattle.enet_service.specs.Run.{IsSound}
 use Rattle.enet_service.proofs.PhaseSteps.{chain_more, chain_step}
 use Rattle.enet_service.proofs.Tellings.{also_nothing}
 use Rattle.enet_service.proofs.Runs.{all_more, told_more, total_more}
@@ -20,21 +20,18 @@ loop-turn-preserved g c =
     let inv = c.loop-turn.invariant in
     let rounds : List Round = inv.0 in
     let turn = c.in_ok-report.ensures.turn in
-    let gave : List (Option Submission) = turn.0 in
-    let told : List Told = turn.2 in
-    let puts : List (Event × Bool) = turn.4 in
-    let r : Round = record { ms = c.in-Ok.ms; gave = gave; told = told; puts = puts; failed = false; report = turn.6 } in
+    let r : Round = turn.0 in
     let waited : g.W.Wire.faults c.wait.new.self ≡ g.W.Wire.faults c.args.wire.now = c.in-Ok.ensures.faults ∙ inv.5 in
     let turned : g.W.Wire.faults c.turn.new.wire ≡ g.W.Wire.faults c.wait.new.self + 0 = c.in_ok-report.ensures.faults in (
       rounds ++ r ∷ [],
-      chain_step _ _ rounds _ r _ inv.1 turn.7,
-      subst (λ (xs : List (Option Submission)). Chain g.S.Source.gives c.args.source.now xs c.turn.new.source) (sym (all_more (λ r. r.gave) rounds r)) (chain_more _ _ _ _ _ _ inv.2 turn.1),
+      chain_step _ _ rounds _ r _ inv.1 turn.6,
+      subst (λ (xs : List (Option Submission)). Chain g.S.Source.gives c.args.source.now xs c.turn.new.source) (sym (all_more (λ r. r.gave) rounds r)) (chain_more _ _ _ _ _ _ inv.2 turn.3),
       subst (λ (xs : List (Event × Bool)). Chain (λ s x t. g.K.Sink.puts s x.0 x.1 t) c.args.sink.now xs c.turn.new.sink) (sym (all_more (λ r. r.puts) rounds r)) (chain_more _ _ _ _ _ _ inv.3 turn.5),
-      told_more _ _ _ _ _ _ _ rounds r inv.4 inv.5 c.in-Ok.ensures.told waited turn.3,
+      told_more _ _ _ _ _ _ _ _ rounds r inv.4 inv.5 c.in-Ok.ensures.told turn.1 waited turn.4,
       omega (arith, turned, waited),
-      All-push IsSound rounds r inv.6 refl,
+      All-push IsSound rounds r inv.6 turn.2,
       omega (arith, length-append rounds (r ∷ []), inv.7),
-      total_more _ _ _ rounds r inv.8 turn.8 c.and-total.ensures,
+      total_more _ _ _ rounds r inv.8 turn.7 c.and-total.ensures,
     )
 
 pub returns-in_err-report-clause-run : goal.returns-in_err-report-clause-run
@@ -42,18 +39,15 @@ returns-in_err-report-clause-run g c =
     let inv = c.loop-turn.invariant in
     let rounds : List Round = inv.0 in
     let turn = c.in_err-report.ensures.turn in
-    let gave : List (Option Submission) = turn.0 in
-    let told : List Told = turn.2 in
-    let puts : List (Event × Bool) = turn.4 in
-    let r : Round = record { ms = c.in-Ok.ms; gave = gave; told = told; puts = puts; failed = true; report = turn.6 } in
+    let r : Round = turn.0 in
     let waited : g.W.Wire.faults c.wait.new.self ≡ g.W.Wire.faults c.args.wire.now = c.in-Ok.ensures.faults ∙ inv.5 in
     let out = err_from_is_err_and c.from_residual.result c.from_residual.ensures.1 in (
       rounds ++ r ∷ [],
-      chain_step _ _ rounds _ r _ inv.1 turn.7,
-      subst (λ (xs : List (Option Submission)). Chain g.S.Source.gives c.args.source.now xs c.turn.new.source) (sym (all_more (λ r. r.gave) rounds r)) (chain_more _ _ _ _ _ _ inv.2 turn.1),
+      chain_step _ _ rounds _ r _ inv.1 turn.6,
+      subst (λ (xs : List (Option Submission)). Chain g.S.Source.gives c.args.source.now xs c.turn.new.source) (sym (all_more (λ r. r.gave) rounds r)) (chain_more _ _ _ _ _ _ inv.2 turn.3),
       subst (λ (xs : List (Event × Bool)). Chain (λ s x t. g.K.Sink.puts s x.0 x.1 t) c.args.sink.now xs c.turn.new.sink) (sym (all_more (λ r. r.puts) rounds r)) (chain_more _ _ _ _ _ _ inv.3 turn.5),
-      told_more _ _ _ _ _ _ _ rounds r inv.4 inv.5 c.in-Ok.ensures.told waited turn.3,
-      rw (out.1, out.2) (inl (record { before = rounds; last = r; in_order = refl; sound = inv.6; within = omega (arith, inv.7); failed = refl; told = turn.8 })),
+      told_more _ _ _ _ _ _ _ _ rounds r inv.4 inv.5 c.in-Ok.ensures.told turn.1 waited turn.4,
+      rw (out.1, out.2) (inl (record { before = rounds; last = r; in_order = refl; sound = inv.6; within = omega (arith, inv.7); failed = turn.2; told = turn.7 })),
     )
 
 pub returns-clause-run : goal.returns-clause-run

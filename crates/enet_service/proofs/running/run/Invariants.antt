@@ -3,13 +3,14 @@ use Rattle.std.specs.Prelude.{length}
 use Rattle.std.specs.List.{All}
 use Rattle.enet_bridge.specs.Wires.{also, unless_spent}
 use Rattle.enet_service.specs.Phases.{Chain}
-use Rattle.enet_service.specs.Run.{Round, Rounds, IsSound, all_gave, all_told, all_puts, total}
+use Rattle.enet_service.specs.Turn.{Round}
+use Rattle.enet_service.specs.Run.{Rounds, IsSound, all_gave, all_told, all_puts, total}
 use Rattle.enet_service.proofs.running.run.Given as goal
 
 abbrev pub invariant-loop-turn : goal.invariant-loop-turn
 invariant-loop-turn g l =
     (rounds : List Round)
-    × Rounds g.H.Core.ticks g.H.Core.obeys g.H.Core.hears g.H.Core.gives g.H.Core.tells (l.initial.service.host, l.initial.service.waiting) rounds (l.service.host, l.service.waiting)
+    × Rounds g.H.Core.calls l.initial.service rounds l.service
     × Chain g.S.Source.gives l.initial.source (all_gave rounds) l.source
     × Chain (λ s x t. g.K.Sink.puts s x.0 x.1 t) l.initial.sink (all_puts rounds) l.sink
     × (g.W.Wire.told l.wire ≡ also (g.W.Wire.told l.initial.wire) (unless_spent (g.W.Wire.faults l.initial.wire) (all_told rounds)))

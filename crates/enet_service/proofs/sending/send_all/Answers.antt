@@ -1,9 +1,9 @@
-use Rattle.std.proofs.Common.{◌≡◌, ◌+◌, ℕ, List, [], ◌∷◌, ◌++◌, take, Bool, true, false, Ok, refl, ap, subst, ◌∙◌, inl, inr, arith}
+use Rattle.std.proofs.Common.{◌≡◌, ◌+◌, ℕ, List, [], ◌∷◌, ◌++◌, take, Bool, true, false, Ok, refl, ap, subst, ◌∙◌, arith}
 use Rattle.std.proofs.lemmas.List.{append-nil}
 use Rattle.enet_bridge.specs.declared.told.Told.{Told}
 use Rattle.enet_bridge.specs.declared.told.Told.TheVariants.{Went, Blocked}
 use Rattle.enet_bridge.specs.Wires.{also, unless_spent, went}
-use Rattle.enet_service.specs.Phases.{SendsAll}
+use Rattle.enet_service.specs.Phases.{SendsAll, at_limit, has_none, fails}
 use Rattle.enet_service.proofs.PhaseSteps.{sends_on}
 use Rattle.enet_service.proofs.Tellings.{told_on, told_no_more, went_more, blocked_more}
 use Rattle.enet_service.proofs.sending.send_all.Goals as goal
@@ -18,7 +18,7 @@ returns-in-Ok-false g c =
     let faults : g.W.Wire.faults c.send.new.self ≡ g.W.Wire.faults c.args.wire.now = c.in-Ok-false.ensures.faults ∙ inv.2 in (
       told ++ Blocked c.in-Some.to bytes ∷ [],
       told_on _ _ _ _ _ told (Blocked c.in-Some.to bytes ∷ []) inv.1 inv.2 now,
-      inv.6 (Blocked c.in-Some.to bytes ∷ []) false c.emit.new.self (omega arith, c.in-Some.ensures.given, refl, refl),
+      inv.6 (Blocked c.in-Some.to bytes ∷ []) (record { host = c.emit.new.self; failed = false }) (omega arith, c.in-Some.ensures.given, refl, refl),
       omega (arith, went_more told (Blocked c.in-Some.to bytes ∷ []), inv.3),
       omega (arith, blocked_more told (Blocked c.in-Some.to bytes ∷ []), inv.4),
       omega (arith, faults),
@@ -32,8 +32,8 @@ returns-in-Err g c =
     let faults : g.W.Wire.faults c.send.new.self ≡ g.W.Wire.faults c.args.wire.now + 1 = c.in-Err.ensures.faults ∙ ap (λ (n : ℕ). n + 1) inv.2 in (
       told,
       told_no_more _ _ _ _ _ told inv.1 inv.2 c.in-Err.ensures.told,
-      subst (λ (xs : List Told). SendsAll g.H.Core.gives 256 c.args.host.now xs true c.emit.new.self) (append-nil told)
-          (inv.6 [] true c.emit.new.self (omega arith, c.in-Some.to, bytes, c.in-Some.ensures.given)),
+      subst (λ (xs : List Told). SendsAll g.H.Core.calls 256 c.args.host.now xs (record { host = c.emit.new.self; failed = true })) (append-nil told)
+          (inv.6 [] (record { host = c.emit.new.self; failed = true }) (fails (omega arith) refl c.in-Some.to bytes c.in-Some.ensures.given)),
       inv.3,
       omega (arith, inv.4),
       faults,
@@ -46,8 +46,8 @@ returns-in-None g c =
     let faults : g.W.Wire.faults c.loop-turn.wire ≡ g.W.Wire.faults c.args.wire.now = inv.2 in (
       told,
       inv.1,
-      subst (λ (xs : List Told). SendsAll g.H.Core.gives 256 c.args.host.now xs false c.emit.new.self) (append-nil told)
-          (inv.6 [] false c.emit.new.self (inr (omega arith, c.in-None.ensures.given))),
+      subst (λ (xs : List Told). SendsAll g.H.Core.calls 256 c.args.host.now xs (record { host = c.emit.new.self; failed = false })) (append-nil told)
+          (inv.6 [] (record { host = c.emit.new.self; failed = false }) (has_none (omega arith) refl c.in-None.ensures.given)),
       inv.3,
       omega (arith, inv.4),
       omega (arith, faults),
@@ -67,7 +67,7 @@ loop-turn-preserved g c =
       omega (arith, went_more told (x ∷ []), inv.3),
       omega (arith, blocked_more told (x ∷ []), inv.4),
       omega (arith, inv.5),
-      sends_on g.H.Core.gives c.loop-turn._turn _ _ _ told _ _ (omega arith) inv.6 c.in-Some.ensures.given,
+      sends_on g.H.Core.calls c.loop-turn._turn _ _ _ told _ _ (omega arith) inv.6 c.in-Some.ensures.given,
     )
 
 pub returns : goal.returns
@@ -77,8 +77,8 @@ returns g c =
     let faults : g.W.Wire.faults c.loop-turn.wire ≡ g.W.Wire.faults c.args.wire.now = inv.2 in (
       told,
       inv.1,
-      subst (λ (xs : List Told). SendsAll g.H.Core.gives 256 c.args.host.now xs false c.loop-turn.host) (append-nil told)
-          (inv.6 [] false c.loop-turn.host (inl (omega arith, refl))),
+      subst (λ (xs : List Told). SendsAll g.H.Core.calls 256 c.args.host.now xs (record { host = c.loop-turn.host; failed = false })) (append-nil told)
+          (inv.6 [] (record { host = c.loop-turn.host; failed = false }) (at_limit (omega arith) refl refl)),
       inv.3,
       omega (arith, inv.4),
       omega (arith, faults),

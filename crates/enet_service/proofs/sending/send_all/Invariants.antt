@@ -11,4 +11,4 @@ invariant-loop-turn g l =
     × (g.W.Wire.told l.wire ≡ also (g.W.Wire.told l.initial.wire) (unless_spent (g.W.Wire.faults l.initial.wire) told))
     × (g.W.Wire.faults l.wire ≡ g.W.Wire.faults l.initial.wire)
     × (l.sent ≡ went_in told) × (blocked_in told ≡ 0) × (l.sent ≡ l._turn)
-    × SendsOn g.H.Core.gives l._turn l.initial.host told l.host
+    × SendsOn g.H.Core.calls l._turn l.initial.host told l.host

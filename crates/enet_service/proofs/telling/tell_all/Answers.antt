@@ -11,13 +11,18 @@ pub returns : goal.returns
 returns g c =
     let inv = c.loop-host.invariant in
     let waits : IsSome c.loop-host.waiting = search (rules, some_is) in
-    (inv.0, inv.1, tells_end g.H.Core.tells c.args.host.now c.loop-host.host c.args.waiting.now c.loop-host.waiting inv.0 inv.3 waits, inv.2)
+    (inv.0, inv.1, tells_end g.H.Core.calls _ (record { host = c.loop-host.host; waiting = c.loop-host.waiting }) inv.0 inv.3 waits, inv.2)
 
 pub returns-in-None : goal.returns-in-None
 returns-in-None g c =
     let inv = c.loop-host.invariant in
-    let none : c.loop-host.waiting ≡ None = search (rules, none_is) in
-    (inv.0, inv.1, tells_none g.H.Core.tells c.args.host.now c.loop-host.host c.next_event.new.self c.args.waiting.now c.loop-host.waiting inv.0 none inv.3 c.in-None.ensures.told, inv.2)
+    let none : c.loop-host.waiting ≡ None = search (rules, none_is) in (
+      inv.0,
+      inv.1,
+      tells_none g.H.Core.calls _ (record { host = c.loop-host.host; waiting = c.loop-host.waiting })
+          (record { host = c.next_event.new.self; waiting = c.loop-host.waiting }) inv.0 none none inv.3 c.in-None.ensures.told,
+      inv.2,
+    )
 
 pub loop-host-preserved : goal.loop-host-preserved
 loop-host-preserved g c =
@@ -29,5 +34,5 @@ loop-host-preserved g c =
       puts ++ (c.in-Some.event, taken) ∷ [],
       chain_step _ _ _ _ _ _ inv.1 c.offer-taken.ensures.1,
       omega (arith, taken_more puts ((c.in-Some.event, taken) ∷ []), inv.2, counted),
-      tells_on g.H.Core.tells _ _ _ _ _ _ puts c.in-Some.event taken none c.offer-taken.ensures.2 inv.3 c.in-Some.ensures.told,
+      tells_on g.H.Core.calls _ (record { host = c.loop-host.host; waiting = c.loop-host.waiting }) _ _ puts c.in-Some.event taken none c.offer-taken.ensures.2 inv.3 c.in-Some.ensures.told,
     )

@@ -5,7 +5,7 @@ use Rattle.enet_submit.specs.declared.order.Submission.{Submission}
 use Rattle.enet_bridge.specs.declared.told.Told.{Told}
 use Rattle.enet_service.specs.Phases.{HearsAll, SendsAll}
 use Rattle.enet_service.specs.Counts.{count_of, stopped, taken_in, blocked_in}
-use Rattle.enet_service.proofs.PhaseSteps.{chain_more}
+use Rattle.enet_service.proofs.PhaseSteps.{chain_more, sends_then, sends_nothing, tells_then, tells_nothing}
 use Rattle.enet_service.proofs.Tellings.{told_on}
 use Rattle.enet_service.proofs.Reporting.{same_report, all_taken, some_taken}
 use Rattle.enet_service.proofs.service.Service.turn.Goals as goal
@@ -19,34 +19,33 @@ returns-then-heard-clause-turn g c =
     let of_orders : List (Event × Bool) = taken.2 in
     let gave : List (Option Submission) = taken.0 in
     let came : List Told = heard.0 in
-    let hearing : HearsAll g.H.Core.hears 256 c.take_orders-orders.new.host came true c.hear_all-heard.new.host =
-    subst (λ (b : Bool). HearsAll g.H.Core.hears 256 c.take_orders-orders.new.host came b c.hear_all-heard.new.host) c.if-heard.true heard.2 in (
-      gave,
+    let hearing : HearsAll g.H.Core.calls 256 c.take_orders-orders.new.host came (record { host = c.hear_all-heard.new.host; failed = true }) =
+    subst (λ (b : Bool). HearsAll g.H.Core.calls 256 c.take_orders-orders.new.host came (record { host = c.hear_all-heard.new.host; failed = b })) c.if-heard.true heard.2 in (
+      record { ms = c.args.ms; gave = gave; told = came; puts = again ++ (of_orders ++ []); failed = true; report = c.report_of.result },
+      refl,
+      refl,
       taken.1,
-      came,
       heard.1,
-      again ++ (of_orders ++ []),
       chain_more _ _ _ _ _ _ offered.1 (chain_more _ _ _ _ [] _ taken.3 refl),
-      c.report_of.result,
       record {
         ticked = c.tick.new.self;
         tick = c.tick.ensures;
         again = again;
-        waits_first = c.offer_again-again.new.waiting;
+        waits = c.offer_again-again.new.waiting;
         offered = offered.2;
-        of_orders = of_orders;
-        ordered = c.take_orders-orders.new.host;
-        waits = c.take_orders-orders.new.waiting;
+        ordered = record { service = record { host = c.take_orders-orders.new.host; waiting = c.take_orders-orders.new.waiting }; puts = of_orders };
         orders = taken.4;
         came = came;
-        hearing_failed = true;
-        heard = c.hear_all-heard.new.host;
+        heard = record { host = c.hear_all-heard.new.host; failed = true };
         hearing = hearing;
         went = [];
+        sent = record { host = c.hear_all-heard.new.host; failed = true };
+        sending = sends_nothing _ _;
         of_events = [];
-        rest = (refl, refl, refl, refl, refl);
-        all_told = sym (append-nil came);
-        all_put = refl;
+        telling = tells_nothing _ _ _;
+        told = sym (append-nil came);
+        put = refl;
+        failed = refl;
         counts = same_report _ _ _ _ _ _ _ _ _ _ _ c.report_of.ensures taken.5 heard.3 refl refl
             (c.saturating_add-before.ensures ∙ (some_taken again of_orders _ _ offered.3 taken.6 ∙ ap (λ (xs : List (Event × Bool)). stopped (taken_in (again ++ xs))) (sym (append-nil of_orders))));
       },
@@ -64,40 +63,39 @@ returns-then-sent-clause-turn g c =
     let gave : List (Option Submission) = taken.0 in
     let came : List Told = heard.0 in
     let went : List Told = sent.0 in
-    let hearing : HearsAll g.H.Core.hears 256 c.take_orders-orders.new.host came false c.hear_all-heard.new.host =
-    subst (λ (b : Bool). HearsAll g.H.Core.hears 256 c.take_orders-orders.new.host came b c.hear_all-heard.new.host) c.if-heard.false heard.2 in
-    let sending : SendsAll g.H.Core.gives 256 c.hear_all-heard.new.host went true c.send_all-sent.new.host =
-    subst (λ (b : Bool). SendsAll g.H.Core.gives 256 c.hear_all-heard.new.host went b c.send_all-sent.new.host) c.if-sent.true sent.2 in
+    let hearing : HearsAll g.H.Core.calls 256 c.take_orders-orders.new.host came (record { host = c.hear_all-heard.new.host; failed = false }) =
+    subst (λ (b : Bool). HearsAll g.H.Core.calls 256 c.take_orders-orders.new.host came (record { host = c.hear_all-heard.new.host; failed = b })) c.if-heard.false heard.2 in
+    let sending : SendsAll g.H.Core.calls 256 c.hear_all-heard.new.host went (record { host = c.send_all-sent.new.host; failed = true }) =
+    subst (λ (b : Bool). SendsAll g.H.Core.calls 256 c.hear_all-heard.new.host went (record { host = c.send_all-sent.new.host; failed = b })) c.if-sent.true sent.2 in
     let none_yet : g.W.Wire.faults c.hear_all-heard.new.wire ≡ g.W.Wire.faults c.args.wire.now + 0 =
     heard.4 ∙ ap (λ (b : Bool). g.W.Wire.faults c.args.wire.now + count_of b) c.if-heard.false in
     let sound : g.W.Wire.faults c.hear_all-heard.new.wire ≡ g.W.Wire.faults c.args.wire.now = omega (arith, none_yet) in
     let lost : c.send_all-sent.result.lost ≡ blocked_in went + 1 = sent.4 ∙ ap (λ (b : Bool). blocked_in went + count_of b) c.if-sent.true in (
-      gave,
+      record { ms = c.args.ms; gave = gave; told = came ++ went; puts = again ++ (of_orders ++ []); failed = true; report = c.report_of-report.result },
+      refl,
+      refl,
       taken.1,
-      came ++ went,
       told_on _ _ _ _ _ came went heard.1 sound sent.1,
-      again ++ (of_orders ++ []),
       chain_more _ _ _ _ _ _ offered.1 (chain_more _ _ _ _ [] _ taken.3 refl),
-      c.report_of-report.result,
       record {
         ticked = c.tick.new.self;
         tick = c.tick.ensures;
         again = again;
-        waits_first = c.offer_again-again.new.waiting;
+        waits = c.offer_again-again.new.waiting;
         offered = offered.2;
-        of_orders = of_orders;
-        ordered = c.take_orders-orders.new.host;
-        waits = c.take_orders-orders.new.waiting;
+        ordered = record { service = record { host = c.take_orders-orders.new.host; waiting = c.take_orders-orders.new.waiting }; puts = of_orders };
         orders = taken.4;
         came = came;
-        hearing_failed = false;
-        heard = c.hear_all-heard.new.host;
+        heard = record { host = c.hear_all-heard.new.host; failed = false };
         hearing = hearing;
         went = went;
+        sent = record { host = c.send_all-sent.new.host; failed = true };
+        sending = sends_then _ _ _ _ sending;
         of_events = [];
-        rest = (c.send_all-sent.new.host, sending, (refl, refl, refl));
-        all_told = refl;
-        all_put = refl;
+        telling = tells_nothing _ _ _;
+        told = refl;
+        put = refl;
+        failed = refl;
         counts = same_report _ _ _ _ _ _ _ _ _ _ _ c.report_of-report.ensures taken.5 heard.3 sent.3 lost
             (c.saturating_add-before.ensures ∙ (some_taken again of_orders _ _ offered.3 taken.6 ∙ ap (λ (xs : List (Event × Bool)). stopped (taken_in (again ++ xs))) (sym (append-nil of_orders))));
       },
@@ -117,40 +115,39 @@ returns-clause-turn g c =
     let gave : List (Option Submission) = taken.0 in
     let came : List Told = heard.0 in
     let went : List Told = sent.0 in
-    let hearing : HearsAll g.H.Core.hears 256 c.take_orders-orders.new.host came false c.hear_all-heard.new.host =
-    subst (λ (b : Bool). HearsAll g.H.Core.hears 256 c.take_orders-orders.new.host came b c.hear_all-heard.new.host) c.if-heard.false heard.2 in
-    let sending : SendsAll g.H.Core.gives 256 c.hear_all-heard.new.host went false c.send_all-sent.new.host =
-    subst (λ (b : Bool). SendsAll g.H.Core.gives 256 c.hear_all-heard.new.host went b c.send_all-sent.new.host) c.if-sent.false sent.2 in
+    let hearing : HearsAll g.H.Core.calls 256 c.take_orders-orders.new.host came (record { host = c.hear_all-heard.new.host; failed = false }) =
+    subst (λ (b : Bool). HearsAll g.H.Core.calls 256 c.take_orders-orders.new.host came (record { host = c.hear_all-heard.new.host; failed = b })) c.if-heard.false heard.2 in
+    let sending : SendsAll g.H.Core.calls 256 c.hear_all-heard.new.host went (record { host = c.send_all-sent.new.host; failed = false }) =
+    subst (λ (b : Bool). SendsAll g.H.Core.calls 256 c.hear_all-heard.new.host went (record { host = c.send_all-sent.new.host; failed = b })) c.if-sent.false sent.2 in
     let none_yet : g.W.Wire.faults c.hear_all-heard.new.wire ≡ g.W.Wire.faults c.args.wire.now + 0 =
     heard.4 ∙ ap (λ (b : Bool). g.W.Wire.faults c.args.wire.now + count_of b) c.if-heard.false in
     let sound : g.W.Wire.faults c.hear_all-heard.new.wire ≡ g.W.Wire.faults c.args.wire.now = omega (arith, none_yet) in
     let lost : c.send_all-sent.result.lost ≡ blocked_in went + 0 = sent.4 ∙ ap (λ (b : Bool). blocked_in went + count_of b) c.if-sent.false in (
-      gave,
+      record { ms = c.args.ms; gave = gave; told = came ++ went; puts = again ++ (of_orders ++ of_events); failed = false; report = c.report_of-2.result },
+      refl,
+      refl,
       taken.1,
-      came ++ went,
       told_on _ _ _ _ _ came went heard.1 sound sent.1,
-      again ++ (of_orders ++ of_events),
       chain_more _ _ _ _ _ _ offered.1 (chain_more _ _ _ _ _ _ taken.3 told.1),
-      c.report_of-2.result,
       record {
         ticked = c.tick.new.self;
         tick = c.tick.ensures;
         again = again;
-        waits_first = c.offer_again-again.new.waiting;
+        waits = c.offer_again-again.new.waiting;
         offered = offered.2;
-        of_orders = of_orders;
-        ordered = c.take_orders-orders.new.host;
-        waits = c.take_orders-orders.new.waiting;
+        ordered = record { service = record { host = c.take_orders-orders.new.host; waiting = c.take_orders-orders.new.waiting }; puts = of_orders };
         orders = taken.4;
         came = came;
-        hearing_failed = false;
-        heard = c.hear_all-heard.new.host;
+        heard = record { host = c.hear_all-heard.new.host; failed = false };
         hearing = hearing;
         went = went;
+        sent = record { host = c.send_all-sent.new.host; failed = false };
+        sending = sends_then _ _ _ _ sending;
         of_events = of_events;
-        rest = (c.send_all-sent.new.host, sending, told.2);
-        all_told = refl;
-        all_put = refl;
+        telling = tells_then _ _ _ _ _ told.2;
+        told = refl;
+        put = refl;
+        failed = refl;
         counts = same_report _ _ _ _ _ _ _ _ _ _ _ c.report_of-2.ensures taken.5 heard.3 sent.3 lost
             (c.saturating_add-events.ensures ∙ (ap (λ (n : ℕ). stopped (n + c.tell_all-after.result)) c.saturating_add-before.ensures
             ∙ all_taken again of_orders of_events _ _ _ offered.3 taken.6 told.3));
