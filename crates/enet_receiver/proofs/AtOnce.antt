@@ -18,7 +18,7 @@ use Rattle.enet_receiver.specs.declared.took.Took.TheVariants.{Held, Again, Wait
 use Rattle.enet_receiver.specs.Receiver.{Receiver}
 use Rattle.enet_receiver.specs.DataOutcome.{outcome, outcome_of, place_read, came_at, came_before, is_piece, is_behind, received_with, added_at, dispatch_count}
 use Rattle.enet_receiver.specs.Private.Admitted.{Admitted}
-use Rattle.enet_receiver.specs.Private.InPlace.{IsInPlace, GoesAtOnce}
+use Rattle.enet_receiver.specs.Private.InPlace.{ComesAlone, GoesAtOnce}
 use Rattle.enet_receiver.specs.Private.Next.{only_packet}
 use Rattle.enet_receiver.proofs.LineLemmas.{Line}
 use Rattle.enet_receiver.proofs.Admission.{came_before-read, outcome-read, admitted, read_back}
@@ -56,7 +56,7 @@ read_is r c single wired small inside =
       | false ↦ λ i. cond (inside i) (Some (back i)) None
     ]
 
-nothing_came_of : (r : Receiver) (c : DataCommand) (place : ℕ) → IsInPlace r c place → came_at r c place ≡ None
+nothing_came_of : (r : Receiver) (c : DataCommand) (place : ℕ) → ComesAlone r c place → came_at r c place ≡ None
 nothing_came_of r c place there =
     let held : get r.held place ≡ None = nothing_held r.held place (omega (arith, there.nothing_held)) in
     let absent : get r.waiting place ≡ None = nothing_held r.waiting place (omega (arith, there.nothing_waits)) in
@@ -77,7 +77,7 @@ held_at_once most r c full at begins read =
     ∙ (λ i. cond (at.not_behind i || false) Again (cond (begins i && true) Waiting Held))
 
 -- and is all that it dispatches
-one_dispatched : (most : ℕ) (r : Receiver) (c : DataCommand) (full : Bool) → IsInPlace r c c.number → outcome wire most r c full ≡ Held → place_read wire r c ≡ Some c.number → 1 ≡ dispatch_count wire most r c full
+one_dispatched : (most : ℕ) (r : Receiver) (c : DataCommand) (full : Bool) → ComesAlone r c c.number → outcome wire most r c full ≡ Held → place_read wire r c ≡ Some c.number → 1 ≡ dispatch_count wire most r c full
 one_dispatched most r c full there held read =
     let a : Admitted most r c c.number = admitted most r c full c.number held read in
     let all : (r.dispatched ++ handed_out (only_packet c) ∷ []) ≡ (received_with (outcome wire most r c full) wire r c).dispatched =

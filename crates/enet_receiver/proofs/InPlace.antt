@@ -27,7 +27,7 @@ use Rattle.enet_receiver.specs.Private.ReceiverParts.{with_stored, with_kept}
 use Rattle.enet_receiver.specs.Foresight.{ReceivingEnd}
 use Rattle.enet_receiver.specs.Private.Admitted.{Admitted, IsInside}
 use Rattle.enet_receiver.specs.Private.Next.{only_packet}
-use Rattle.enet_receiver.specs.Private.InPlace.{IsInPlace, with_handed_out}
+use Rattle.enet_receiver.specs.Private.InPlace.{ComesAlone, with_handed_out}
 use Rattle.enet_receiver.proofs.LineLemmas.{Line, line_at-same}
 use Rattle.enet_receiver.proofs.Admission.{piece_sound, Keeps-stored}
 use Rattle.enet_receiver.proofs.Keeping.{Keeps-all_released}
@@ -91,7 +91,7 @@ past_last r c place at unreliable not_behind =
     let above : leb c.unreliable r.unreliable ≡ false = sym is ∙ not_behind in
     grind (arith, nat_tests)
 
-unreliable_out : (most : ℕ) (r : Receiver) (c : DataCommand) (place : ℕ) → Admitted most r c place → IsInPlace r c place → c.reliable ≡ false → place ≡ r.front
+unreliable_out : (most : ℕ) (r : Receiver) (c : DataCommand) (place : ℕ) → Admitted most r c place → ComesAlone r c place → c.reliable ≡ false → place ≡ r.front
     → receiver_of r.front c.unreliable r.held r.waiting (r.dispatched ++ handed_out (only_packet c) ∷ []) ≡ all_released wire (with_stored r c place)
 unreliable_out most r c place a there unreliable at =
     let absent : get r.waiting r.front ≡ None = nothing_held r.waiting r.front (omega (arith, there.nothing_waits)) in
@@ -133,7 +133,7 @@ passed_alone r c single nothing_held nothing_waits =
     }) (only_count c single)
     ∙ (λ i. receiver_of (after r.front 1) 0 (without_one r.held (after r.front 1) nothing_held i) (without_one r.waiting r.front nothing_waits i) (r.dispatched ++ handed_out (only_packet c) ∷ []))
 
-reliable_out : (most : ℕ) (r : Receiver) (c : DataCommand) (place : ℕ) → Admitted most r c place → IsInPlace r c place → c.reliable ≡ true → place ≡ after r.front 1
+reliable_out : (most : ℕ) (r : Receiver) (c : DataCommand) (place : ℕ) → Admitted most r c place → ComesAlone r c place → c.reliable ≡ true → place ≡ after r.front 1
     → receiver_of (after r.front 1) 0 r.held r.waiting (r.dispatched ++ handed_out (only_packet c) ∷ []) ≡ all_released wire (with_stored r c place)
 reliable_out most r c place a there reliable at =
     let out : Receiver = receiver_of (after r.front 1) 0 r.held r.waiting (r.dispatched ++ handed_out (only_packet c) ∷ []) in
@@ -148,7 +148,7 @@ reliable_out most r c place a there reliable at =
       ∙ flushed_nothing 1 out there.nothing_waits
     )
 
-pub handed_out_is : (most : ℕ) (r : Receiver) (c : DataCommand) (place : ℕ) → Admitted most r c place → IsInPlace r c place
+pub handed_out_is : (most : ℕ) (r : Receiver) (c : DataCommand) (place : ℕ) → Admitted most r c place → ComesAlone r c place
     → receiver_of place (cond c.reliable 0 c.unreliable) r.held r.waiting (r.dispatched ++ handed_out (only_packet c) ∷ []) ≡ all_released wire (with_stored r c place)
 handed_out_is most r c place a there =
     elim c.reliable as (λ b. c.reliable ≡ b → place ≡ cond b (after r.front 1) r.front
@@ -158,11 +158,11 @@ handed_out_is most r c place a there =
     ] refl there.at
 
 -- what is dispatched at once is what would be kept
-pub in_place_kept : (e : ReceivingEnd) (c : DataCommand) (place : ℕ) → Admitted e.max_packet e.receiver c place → IsInPlace e.receiver c place → with_handed_out e c place ≡ with_kept e c place
+pub in_place_kept : (e : ReceivingEnd) (c : DataCommand) (place : ℕ) → Admitted e.max_packet e.receiver c place → ComesAlone e.receiver c place → with_handed_out e c place ≡ with_kept e c place
 in_place_kept e c place a there = ap (λ (r : Receiver). record e { receiver = r }) (handed_out_is e.max_packet e.receiver c place a there)
 
 -- and keeps what a receiver keeps
-pub in_place_keeps : (most : ℕ) (r : Receiver) (c : DataCommand) (place : ℕ) → Keeps most r → IsInside r.front place → c.unreliable < 65536 → Admitted most r c place → IsInPlace r c place
+pub in_place_keeps : (most : ℕ) (r : Receiver) (c : DataCommand) (place : ℕ) → Keeps most r → IsInside r.front place → c.unreliable < 65536 → Admitted most r c place → ComesAlone r c place
     → Keeps most (receiver_of place (cond c.reliable 0 c.unreliable) r.held r.waiting (r.dispatched ++ handed_out (only_packet c) ∷ []))
 in_place_keeps most r c place k inside count a there =
     subst (Keeps most) (sym (handed_out_is most r c place a there)) (Keeps-all_released most (with_stored r c place) (Keeps-stored most r c place k inside count a))

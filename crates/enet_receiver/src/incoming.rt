@@ -13,7 +13,7 @@ ghost use Rattle.enet_receiver.specs.Private.Admitted.{Admitted, IsInside};
 ghost use Rattle.enet_receiver.specs.ReceiverParts.{with_first};
 ghost use Rattle.enet_receiver.specs.Private.ReceiverParts.{with_kept, grown_at, answered_with};
 ghost use Rattle.enet_receiver.specs.Private.Next.{IsNext};
-ghost use Rattle.enet_receiver.specs.Private.InPlace.{IsInPlace, GoesAtOnce, with_handed_out};
+ghost use Rattle.enet_receiver.specs.Private.InPlace.{ComesAlone, GoesAtOnce, with_handed_out};
 ghost use Rattle.enet_receiver.specs.Private.Walk.{Completes};
 ghost use Rattle.enet_receiver.specs.Receiver.{held_bytes, cleared};
 ghost use Rattle.enet_receiver.specs.DataOutcome.{outcome, outcome_of, place_read, came_at, came_before, is_behind, is_handled, dispatch_count};
@@ -341,7 +341,7 @@ impl Incoming {
     /// Whether a command is a whole packet that is dispatched as it comes, while nothing is held and nothing waits: the next
     /// reliable one in order, or an unreliable one that goes with the front.
     fn is_in_place(&self, arriving: ArrivingData<'_>, place: u16) -> bool
-        ensures { IsTrue result → IsInPlace self.now.receiver (data_command arriving.entry) place }
+        ensures { IsTrue result → ComesAlone self.now.receiver (data_command arriving.entry) place }
     {
         arriving.fragment.is_none()
             && place == self.place_in_order(arriving.reliable)
@@ -374,7 +374,7 @@ impl Incoming {
     fn dispatch_in_place(&mut self, arriving: ArrivingData<'_>, place: u16) -> bool
         requires admitted { Admitted self.old.max_packet self.old.receiver (data_command arriving) place }
         requires inside { IsInside self.old.receiver.front place }
-        requires in_place { IsInPlace self.old.receiver (data_command arriving) place }
+        requires in_place { ComesAlone self.old.receiver (data_command arriving) place }
         ensures dispatched { IsTrue result → self.new ≡ with_handed_out self.old (data_command arriving.entry) place }
         ensures unchanged { result ≡ false → self.new ≡ self.old }
     {

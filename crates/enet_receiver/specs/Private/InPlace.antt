@@ -11,7 +11,7 @@ use Rattle.enet_receiver.specs.Private.Next.{only_packet}
 
 -- a command that is its whole packet, where nothing is held and nothing waits: the next reliable one in order, or an unreliable
 -- one that goes with the front
-pub record IsInPlace (r : Receiver) (c : DataCommand) (place : ℕ) : Type 0 where
+pub record ComesAlone (r : Receiver) (c : DataCommand) (place : ℕ) : Type 0 where
   pub single : c.fragment ≡ None
   pub at : place ≡ (if c.reliable then after r.front 1 else r.front)
   pub nothing_held : len r.held ≡ 0
@@ -19,7 +19,7 @@ pub record IsInPlace (r : Receiver) (c : DataCommand) (place : ℕ) : Type 0 whe
 
 -- such a command that is short enough and hasn't fallen behind
 pub record GoesAtOnce (most : ℕ) (r : Receiver) (c : DataCommand) : Type 0 where
-  pub in_place : IsInPlace r c c.number
+  pub in_place : ComesAlone r c c.number
   pub short : length c.body ≤ most
   pub not_behind : is_behind r c c.number ≡ false
   pub front : r.front < 65536

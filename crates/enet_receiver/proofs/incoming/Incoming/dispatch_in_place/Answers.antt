@@ -5,7 +5,7 @@ use Rattle.enet_receiver.specs.ArrivingData.{data_command}
 use Rattle.enet_receiver.specs.Foresight.{ReceivingEnd}
 use Rattle.enet_receiver.specs.Invariant.{Keeps}
 use Rattle.enet_receiver.specs.Private.Admitted.{Admitted, IsInside}
-use Rattle.enet_receiver.specs.Private.InPlace.{IsInPlace}
+use Rattle.enet_receiver.specs.Private.InPlace.{ComesAlone}
 use Rattle.enet_receiver.specs.Private.Next.{only_packet}
 use Rattle.enet_receiver.specs.ReceiverParts.{receiver_of}
 use Rattle.enet_receiver.proofs.InPlace.{in_place_keeps, out_is}
@@ -21,7 +21,7 @@ invariant_of-self-2 c =
     (subst (λ (e : ReceivingEnd). IsInside e.receiver.front c.args.place) (sym c.self.view_is) c.requires.inside)
     (omega arith)
     (subst (λ (e : ReceivingEnd). Admitted e.max_packet e.receiver (data_command c.args.arriving) c.args.place) (sym c.self.view_is) c.requires.admitted)
-    (subst (λ (e : ReceivingEnd). IsInPlace e.receiver (data_command c.args.arriving) c.args.place) (sym c.self.view_is) c.requires.in_place))
+    (subst (λ (e : ReceivingEnd). ComesAlone e.receiver (data_command c.args.arriving) c.args.place) (sym c.self.view_is) c.requires.in_place))
 
 pub returns-clause-dispatched : goal.returns-clause-dispatched
 returns-clause-dispatched c = λ _.
