@@ -217,6 +217,17 @@ fn reliable_after(head: Head, bytes: &[u8]) -> Option<(Command<'_>, &[u8])>
     Some((Command::SendReliable { head, payload }, rest))
 }
 
+// SEND_UNRELIABLE, whose head was read, and the bytes behind it.
+fn unreliable_after(head: Head, bytes: &[u8]) -> Option<(Command<'_>, &[u8])>
+    ensures { Gives result (command_at 7 head bytes.now) }
+{
+    if bytes.len() < 4 {
+        return None;
+    }
+    let (payload, rest) = bytes[4..].split_at_checked(usize::from(u16_at(bytes, 2)))?;
+    Some((send_unreliable(head, bytes, payload), rest))
+}
+
 // The command of this number, by the table, whose head was read, and the bytes behind it.
 fn any_after(kind: u8, head: Head, bytes: &[u8]) -> Option<(Command<'_>, &[u8])>
     ensures { Gives result (command_at kind head bytes.now) }
@@ -236,6 +247,7 @@ fn after_head(kind: u8, head: Head, bytes: &[u8]) -> Option<(Command<'_>, &[u8])
     match kind {
         1 => acknowledge_after(head, bytes),
         6 => reliable_after(head, bytes),
+        7 => unreliable_after(head, bytes),
         _ => any_after(kind, head, bytes),
     }
 }

@@ -3,7 +3,7 @@
 ghost use Rattle.std.specs.Prelude.{◌≡◌, ℕ, ◌≤◌, ◌+◌, ◌*◌, ◌<◌, ◌^◌, ◌↔◌, length, IfSome, IfNone, IsSome, IsTrue, false, ◌∷◌, []};
 ghost use Rattle.std.specs.List.{AllByRecursion};
 ghost use Rattle.std.specs.Int.{w8, w16, w32, to_be_bytes};
-ghost use Rattle.enet_codec.specs.Message.{Message, Spells, acknowledge, send_reliable, IsMessage, Fits, connect, verify_connect, fields_of, fragment_fields, kind_of, text, view, canonical, payload_of, bit};
+ghost use Rattle.enet_codec.specs.Message.{Message, Spells, acknowledge, send_reliable, send_unreliable, IsMessage, Fits, connect, verify_connect, fields_of, fragment_fields, kind_of, text, view, canonical, payload_of, bit};
 ghost use Rattle.enet_codec.specs.Writing.{overwrite, Puts};
 
 use crate::command::{ACKNOWLEDGE, Command, Fragment, Head, Offer, UNSEQUENCED, Verify};
@@ -291,6 +291,28 @@ fn write_reliable(buf: &mut [u8], at: usize, head: Head, payload: &[u8]) -> Opti
     Some(put(buf, at, payload))
 }
 
+// Writes SEND_UNRELIABLE, where it fits.
+fn write_unreliable(
+    buf: &mut [u8],
+    at: usize,
+    head: Head,
+    unreliable: u16,
+    payload: &[u8],
+) -> Option<usize>
+    requires { length payload.now < 2 ^ 16 }
+    ensures written { IfSome result (λ end. Puts buf.old at (canonical (record { head = head; body = send_unreliable unreliable payload.now })) buf.new end) }
+    ensures message { IfSome result (λ end. IsMessage (record { head = head; body = send_unreliable unreliable payload.now })) }
+    ensures unchanged { IfNone result (buf.new ≡ buf.old) }
+    ensures full { IfNone result (length buf.old < at + length (canonical (record { head = head; body = send_unreliable unreliable payload.now }))) }
+{
+    if !has_room(buf, at, 8 + payload.len()) {
+        return None;
+    }
+    let at = put_head(buf, at, 7, head);
+    let at = put_two_u16(buf, at, unreliable, payload.len() as u16);
+    Some(put(buf, at, payload))
+}
+
 // Writes a command, where it fits.
 fn write_any(buf: &mut [u8], at: usize, command: &Command<'_>) -> Option<usize>
     requires { length (payload_of (view command.now).body) < 2 ^ 16 }
@@ -322,6 +344,11 @@ pub fn write_command(buf: &mut [u8], at: usize, command: &Command<'_>) -> Option
             received_time,
         } => write_acknowledge(buf, at, *head, *received_number, *received_time),
         Command::SendReliable { head, payload } => write_reliable(buf, at, *head, payload),
+        Command::SendUnreliable {
+            head,
+            unreliable,
+            payload,
+        } => write_unreliable(buf, at, *head, *unreliable, payload),
         _ => write_any(buf, at, command),
     }
 }
