@@ -4,12 +4,13 @@
 //!
 //! Proved: reading a command is exact (`read_command`: `found`, `only`, `none`): it gives the command that a prefix of the
 //! bytes spells and that prefix's length, and None exactly where no prefix spells one. Writing puts the canonical spelling and
-//! changes no other byte, and answers None with nothing changed exactly where it doesn't fit (`write_command`: `written`,
-//! `fits`, `unchanged`, `spells`). No spelling begins another's, so what was written is read again, whatever follows
-//! (`one_spelling`). The same of headers (`read_header`, `write_header`, `one_header`), of lists of commands and of whole
-//! datagrams (`what_is_written_is_spelled`, `one_datagram`). What 'spells' means is specs/Message and specs/Header, a line a
-//! command. Numbers and names of refusals and stops (`label`, `number`); `Config::standard` gives exactly the stated numbers,
-//! and `Config::is_in_range` is exactly the test that opening answers E8 by; `Packet::is_same` compares channel and bytes.
+//! changes no other byte, and answers None with nothing changed exactly where it doesn't fit (`write_command`, and for the two
+//! that go most often `write_acknowledge` and `write_reliable`: `written`, `fits`, `unchanged`, `spells`). No spelling begins
+//! another's, so what was written is read again, whatever follows (`one_spelling`). The same of headers (`read_header`,
+//! `write_header`, `one_header`), of lists of commands and of whole datagrams (`what_is_written_is_spelled`, `one_datagram`).
+//! What 'spells' means is specs/Message and specs/Header, a line a command. Numbers and names of refusals and stops (`label`,
+//! `number`); `Config::standard` gives exactly the stated numbers, and `Config::is_in_range` is exactly the test that opening
+//! answers E8 by; `Packet::is_same` compares channel and bytes.
 //! Only tested, by `check_peer`: that these definitions are ENet 1.3's, on 446 captured datagrams of the reference
 //! library; in `check_numbers`: worked settings, packets and names. Neither: the text of the derived `Display`.
 #![tactic(auto)]
@@ -43,4 +44,4 @@ pub use read::{one_spelling, read_command};
 pub use refusal::Refusal;
 pub use spelling::{one_datagram, what_is_written_is_spelled};
 pub use stop::Stop;
-pub use write::write_command;
+pub use write::{write_acknowledge, write_command, write_reliable};

@@ -3,7 +3,7 @@
 ghost use Rattle.std.specs.Prelude.{◌≡◌, ℕ, ◌≤◌, ◌+◌, ◌*◌, ◌<◌, ◌^◌, ◌↔◌, length, IfSome, IfNone, IsSome, IsTrue, false, ◌∷◌, []};
 ghost use Rattle.std.specs.List.{AllByRecursion};
 ghost use Rattle.std.specs.Int.{w8, w16, w32, to_be_bytes};
-ghost use Rattle.enet_codec.specs.Message.{Message, Spells, acknowledge, send_reliable, send_unreliable, IsMessage, Fits, connect, verify_connect, fields_of, fragment_fields, kind_of, text, view, canonical, payload_of, bit};
+ghost use Rattle.enet_codec.specs.Message.{Message, Spells, acknowledge, send_reliable, IsMessage, Fits, connect, verify_connect, fields_of, fragment_fields, kind_of, text, view, canonical, payload_of, bit};
 ghost use Rattle.enet_codec.specs.Writing.{overwrite, Puts};
 
 use crate::command::{ACKNOWLEDGE, Command, Fragment, Head, Offer, UNSEQUENCED, Verify};
@@ -261,27 +261,34 @@ fn has_room(buf: &[u8], at: usize, len: usize) -> bool
     at <= buf.len() && len <= buf.len() - at
 }
 
-// Writes ACKNOWLEDGE, where it fits.
-fn write_acknowledge(buf: &mut [u8], at: usize, head: Head, number: u16, time: u16) -> Option<usize>
-    ensures written { IfSome result (λ end. Puts buf.old at (canonical (record { head = head; body = acknowledge number time })) buf.new end) }
-    ensures message { IfSome result (λ end. IsMessage (record { head = head; body = acknowledge number time })) }
+/// Writes ACKNOWLEDGE, of which no `Command` need be made, as [`write_command`] does. Takes no memory.
+pub fn write_acknowledge(
+    buf: &mut [u8],
+    at: usize,
+    head: Head,
+    received_number: u16,
+    received_time: u16,
+) -> Option<usize>
+    ensures written { IfSome result (λ end. Puts buf.old at (canonical (record { head = head; body = acknowledge received_number received_time })) buf.new end) }
+    ensures fits { IsSome result ↔ (at + length (canonical (record { head = head; body = acknowledge received_number received_time })) ≤ length buf.old) }
     ensures unchanged { IfNone result (buf.new ≡ buf.old) }
-    ensures full { IfNone result (length buf.old < at + length (canonical (record { head = head; body = acknowledge number time }))) }
+    ensures spells { IfSome result (λ end. Spells (canonical (record { head = head; body = acknowledge received_number received_time })) (record { head = head; body = acknowledge received_number received_time })) }
 {
     if !has_room(buf, at, 8) {
         return None;
     }
     let at = put_head(buf, at, 1, head);
-    Some(put_two_u16(buf, at, number, time))
+    Some(put_two_u16(buf, at, received_number, received_time))
 }
 
-// Writes SEND_RELIABLE, where it fits.
-fn write_reliable(buf: &mut [u8], at: usize, head: Head, payload: &[u8]) -> Option<usize>
+/// Writes SEND_RELIABLE, of which no `Command` need be made, as [`write_command`] does. A payload has at most 65,535 bytes:
+/// that is the caller's to see to. Takes no memory.
+pub fn write_reliable(buf: &mut [u8], at: usize, head: Head, payload: &[u8]) -> Option<usize>
     requires { length payload.now < 2 ^ 16 }
     ensures written { IfSome result (λ end. Puts buf.old at (canonical (record { head = head; body = send_reliable payload.now })) buf.new end) }
-    ensures message { IfSome result (λ end. IsMessage (record { head = head; body = send_reliable payload.now })) }
+    ensures fits { IsSome result ↔ (at + length (canonical (record { head = head; body = send_reliable payload.now })) ≤ length buf.old) }
     ensures unchanged { IfNone result (buf.new ≡ buf.old) }
-    ensures full { IfNone result (length buf.old < at + length (canonical (record { head = head; body = send_reliable payload.now }))) }
+    ensures spells { IfSome result (λ end. Spells (canonical (record { head = head; body = send_reliable payload.now })) (record { head = head; body = send_reliable payload.now })) }
 {
     if !has_room(buf, at, 6 + payload.len()) {
         return None;
@@ -289,42 +296,6 @@ fn write_reliable(buf: &mut [u8], at: usize, head: Head, payload: &[u8]) -> Opti
     let at = put_head(buf, at, 6, head);
     let at = put_u16(buf, at, payload.len() as u16);
     Some(put(buf, at, payload))
-}
-
-// Writes SEND_UNRELIABLE, where it fits.
-fn write_unreliable(
-    buf: &mut [u8],
-    at: usize,
-    head: Head,
-    unreliable: u16,
-    payload: &[u8],
-) -> Option<usize>
-    requires { length payload.now < 2 ^ 16 }
-    ensures written { IfSome result (λ end. Puts buf.old at (canonical (record { head = head; body = send_unreliable unreliable payload.now })) buf.new end) }
-    ensures message { IfSome result (λ end. IsMessage (record { head = head; body = send_unreliable unreliable payload.now })) }
-    ensures unchanged { IfNone result (buf.new ≡ buf.old) }
-    ensures full { IfNone result (length buf.old < at + length (canonical (record { head = head; body = send_unreliable unreliable payload.now }))) }
-{
-    if !has_room(buf, at, 8 + payload.len()) {
-        return None;
-    }
-    let at = put_head(buf, at, 7, head);
-    let at = put_two_u16(buf, at, unreliable, payload.len() as u16);
-    Some(put(buf, at, payload))
-}
-
-// Writes a command, where it fits.
-fn write_any(buf: &mut [u8], at: usize, command: &Command<'_>) -> Option<usize>
-    requires { length (payload_of (view command.now).body) < 2 ^ 16 }
-    ensures written { IfSome result (λ end. Puts buf.old at (canonical (view command.now)) buf.new end) }
-    ensures message { IfSome result (λ end. IsMessage (view command.now)) }
-    ensures unchanged { IfNone result (buf.new ≡ buf.old) }
-    ensures full { IfNone result (length buf.old < at + length (canonical (view command.now))) }
-{
-    if !has_room(buf, at, len_of(command)) {
-        return None;
-    }
-    Some(put_command(buf, at, command))
 }
 
 /// Writes the command at a place of the buffer and gives the place after it; no other byte changes. A payload has at most
@@ -337,18 +308,8 @@ pub fn write_command(buf: &mut [u8], at: usize, command: &Command<'_>) -> Option
     ensures unchanged { IfNone result (buf.new ≡ buf.old) }
     ensures spells { IfSome result (λ end. Spells (canonical (view command.now)) (view command.now)) }
 {
-    match command {
-        Command::Acknowledge {
-            head,
-            received_number,
-            received_time,
-        } => write_acknowledge(buf, at, *head, *received_number, *received_time),
-        Command::SendReliable { head, payload } => write_reliable(buf, at, *head, payload),
-        Command::SendUnreliable {
-            head,
-            unreliable,
-            payload,
-        } => write_unreliable(buf, at, *head, *unreliable, payload),
-        _ => write_any(buf, at, command),
+    if !has_room(buf, at, len_of(command)) {
+        return None;
     }
+    Some(put_command(buf, at, command))
 }

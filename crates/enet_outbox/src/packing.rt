@@ -13,7 +13,7 @@ ghost use Rattle.enet_outbox.specs.Invariant.{HasNothing};
 ghost use Rattle.enet_outbox.specs.Private.Packing.{header_asking, Leads, taken_in, place_in, asked_for, refuses, TakesIn, PacksAcknowledgements, PacksControls, PacksUnsequenced, PacksChannel, PacksChannels};
 
 use crate::{Acknowledgement, Destination, Outbox, Pace, Unsequenced, lists};
-use enet_codec::{Command, Head, Header, NO_PEER, write_command, write_header};
+use enet_codec::{Command, Head, Header, NO_PEER, write_acknowledge, write_command, write_header};
 use enet_sender::{Due, Kind};
 use enet_senders::{ControlChannel, Senders, Written};
 use enet_throttle::Throttle;
@@ -76,6 +76,23 @@ impl Progress {
         Some(self.with(buf, past))
     }
 
+    /// Writes an acknowledgement (ENet 1.3) where the datagram takes it; None where it does not, with nothing changed.
+    fn put_acknowledgement(self, buf: &mut [u8], what: Acknowledgement) -> Option<Progress>
+        ensures { TakesIn (acknowledgement_of what) self result buf.old buf.new }
+    {
+        if self.commands == 0 {
+            return None;
+        }
+        let head = Head {
+            acknowledge: false,
+            unsequenced: false,
+            channel: what.channel,
+            number: what.number,
+        };
+        let past = write_acknowledge(buf, self.at, head, what.number, what.time)?;
+        Some(self.with(buf, past))
+    }
+
     /// The datagram with the command that was written up to `past`. The first bit of a command asks for an acknowledgement.
     fn with(self, buf: &[u8], past: usize) -> Progress
         requires within { self.at < length buf.now }
@@ -87,25 +104,6 @@ impl Progress {
             commands: self.commands - 1,
             closed: false,
             asks: self.asks || buf[self.at] >= 0x80,
-        }
-    }
-}
-
-impl Acknowledgement {
-    /// The command on the wire (ENet 1.3).
-    fn command(self) -> Command<'static>
-        ensures { view result ≡ acknowledgement_of self }
-    {
-        let head = Head {
-            acknowledge: false,
-            unsequenced: false,
-            channel: self.channel,
-            number: self.number,
-        };
-        Command::Acknowledge {
-            head,
-            received_number: self.number,
-            received_time: self.time,
         }
     }
 }
@@ -146,7 +144,7 @@ pub(crate) fn pack_acknowledgements(
 {
     let mut progress = from;
     'acknowledgements: while let Some(acknowledgement) = first(acknowledgements) {
-        let Some(next) = progress.put(buf, &acknowledgement.command()) else {
+        let Some(next) = progress.put_acknowledgement(buf, acknowledgement) else {
             return progress.shut();
         };
         progress = next;

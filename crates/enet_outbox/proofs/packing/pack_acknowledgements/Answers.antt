@@ -1,7 +1,6 @@
 use Rattle.std.proofs.Common.{◌≡◌, List, Option, arith, Some, None, ap, ◌∙◌, sym, refl, subst}
 use Rattle.enet_outbox.specs.declared.parts.Acknowledgement.{Acknowledgement}
 use Rattle.enet_outbox.specs.declared.packing.Progress.{Progress}
-use Rattle.enet_codec.specs.Message.{Message, view}
 use Rattle.enet_outbox.specs.Outbox.{Outbox}
 use Rattle.enet_outbox.specs.Emission.{acknowledgement_of, with_command}
 use Rattle.enet_outbox.specs.Private.Packing.{TakesIn}
@@ -28,22 +27,20 @@ acknowledgements-preserved c = record {
       let m = acknowledgement_of a in
       let ys = c.pop_front.new.self.items in
       let is = sym c.first.ensures ∙ c.in-Some.is in
-      let P : Message → Type 0 = λ m. TakesIn m c.acknowledgements.progress (Some c.in-Some-put.next) c.acknowledgements.buf c.put.new.buf in
-      let t : P m = subst P c.command.ensures (subst (λ (r : Option Progress). TakesIn (view c.command.result) c.acknowledgements.progress r c.acknowledgements.buf c.put.new.buf) c.in-Some-put.is c.put.ensures) in
+      let t = subst (λ (r : Option Progress). TakesIn m c.acknowledgements.progress r c.acknowledgements.buf c.put_acknowledgement.new.buf) c.in-Some-put_acknowledgement.is c.put_acknowledgement.ensures in
       let u = t g i.1 in
       let o : Outbox = record g.outbox { acknowledgements = ys } in
       (with_command g m o, u.1 o, refl, ap (λ (o : Outbox). record o { acknowledgements = ys }) i.3, i.4 ∙ acknowledgements-go _ ys a g i.2 (waits i.3) is c.pop_front.ensures.rest u.0);
 }
 
-pub returns-in_default-put-clause-packs : goal.returns-in_default-put-clause-packs
-returns-in_default-put-clause-packs c = λ f h opened e.
+pub returns-in_default-put_acknowledgement-clause-packs : goal.returns-in_default-put_acknowledgement-clause-packs
+returns-in_default-put_acknowledgement-clause-packs c = λ f h opened e.
     let i = c.acknowledgements.invariant.stage f h opened e in
     let g = i.0 in
     let a = c.in-Some.acknowledgement in
     let m = acknowledgement_of a in
     let is = sym c.first.ensures ∙ c.in-Some.is in
-    let P : Message → Type 0 = λ m. TakesIn m c.acknowledgements.progress None c.acknowledgements.buf c.put.new.buf in
-    let t : P m = subst P c.command.ensures (subst (λ (r : Option Progress). TakesIn (view c.command.result) c.acknowledgements.progress r c.acknowledgements.buf c.put.new.buf) c.in_default-put.is c.put.ensures) in
+    let t = subst (λ (r : Option Progress). TakesIn m c.acknowledgements.progress r c.acknowledgements.buf c.put_acknowledgement.new.buf) c.in_default-put_acknowledgement.is c.put_acknowledgement.ensures in
     let u = t.1 g i.1 in
     rw (c.shut.ensures, t.0) (leads-by (i.4 ∙ acknowledgements-stop _ a g i.2 (waits i.3) is u) (holds-shut i.1) i.3)
 
