@@ -20,7 +20,7 @@ use Rattle.enet_receiver.specs.Private.ReceiverParts.{with_stored, with_kept}
 use Rattle.enet_receiver.specs.Foresight.{ReceivingEnd}
 use Rattle.enet_receiver.specs.Private.Admitted.{Admitted}
 use Rattle.enet_receiver.specs.Private.Next.{only_packet}
-use Rattle.enet_receiver.specs.Private.InPlace.{IsInPlace, with_handed_out}
+use Rattle.enet_receiver.specs.Private.InPlace.{GoesWithFront, with_handed_out}
 use Rattle.enet_receiver.proofs.LineLemmas.{Line, line_at-same}
 use Rattle.enet_receiver.proofs.Admission.{piece_sound}
 use Rattle.enet_receiver.proofs.Released.{nothing_held, all_released-none}
@@ -65,7 +65,7 @@ flushed_alone r k p absent whole above =
     (sym (ap (λ (line : Line). with_line (with_line r.waiting r.front (insert empty k p)) r.front (still_ahead line k)) at ∙ none_left r.waiting r.front k p absent))
 
 -- such a packet, once it is stored
-stored_alone : (most : ℕ) (r : Receiver) (c : DataCommand) (place : ℕ) → Admitted most r c place → IsInPlace r c place → get r.waiting r.front ≡ None
+stored_alone : (most : ℕ) (r : Receiver) (c : DataCommand) (place : ℕ) → Admitted most r c place → GoesWithFront r c place → get r.waiting r.front ≡ None
     → record r { waiting = with_line r.waiting r.front (insert empty c.unreliable (only_packet c)) } ≡ with_stored r c place
 stored_alone most r c place a there absent =
     let none : came_at r c place ≡ None = nothing_came (came_at r c place) c there.single a.missing in
@@ -83,7 +83,7 @@ past_last r c place at unreliable not_behind =
     let above : leb c.unreliable r.unreliable ≡ false = sym is ∙ not_behind in
     grind (arith, nat_tests)
 
-handed_out_is : (most : ℕ) (r : Receiver) (c : DataCommand) (place : ℕ) → Admitted most r c place → IsInPlace r c place
+handed_out_is : (most : ℕ) (r : Receiver) (c : DataCommand) (place : ℕ) → Admitted most r c place → GoesWithFront r c place
     → receiver_of r.front c.unreliable r.held r.waiting (r.dispatched ++ handed_out (only_packet c) ∷ []) ≡ all_released wire (with_stored r c place)
 handed_out_is most r c place a there =
     let absent : get r.waiting r.front ≡ None = nothing_held r.waiting r.front (omega arith) in
@@ -94,5 +94,5 @@ handed_out_is most r c place a there =
     ∙ ap (all_released wire) (stored_alone most r c place a there absent)
 
 -- what is dispatched at once is what would be kept
-pub in_place_kept : (e : ReceivingEnd) (c : DataCommand) (place : ℕ) → Admitted e.max_packet e.receiver c place → IsInPlace e.receiver c place → with_handed_out e c ≡ with_kept e c place
+pub in_place_kept : (e : ReceivingEnd) (c : DataCommand) (place : ℕ) → Admitted e.max_packet e.receiver c place → GoesWithFront e.receiver c place → with_handed_out e c ≡ with_kept e c place
 in_place_kept e c place a there = ap (λ (r : Receiver). record e { receiver = r }) (handed_out_is e.max_packet e.receiver c place a there)

@@ -12,7 +12,7 @@ ghost use Rattle.enet_receiver.specs.Private.Admitted.{Admitted, IsInside};
 ghost use Rattle.enet_receiver.specs.ReceiverParts.{with_first};
 ghost use Rattle.enet_receiver.specs.Private.ReceiverParts.{with_kept, grown_at, answered_with};
 ghost use Rattle.enet_receiver.specs.Private.Next.{IsNext};
-ghost use Rattle.enet_receiver.specs.Private.InPlace.{IsInPlace, with_handed_out};
+ghost use Rattle.enet_receiver.specs.Private.InPlace.{GoesWithFront, with_handed_out};
 ghost use Rattle.enet_receiver.specs.Private.Walk.{Completes};
 ghost use Rattle.enet_receiver.specs.Receiver.{held_bytes, cleared};
 ghost use Rattle.enet_receiver.specs.DataOutcome.{outcome, outcome_of, place_read, came_at, came_before, is_behind, is_handled, dispatch_count};
@@ -331,7 +331,7 @@ impl Incoming {
 
     /// Whether a command is a whole unreliable packet that goes with the front, while nothing is held and nothing waits.
     fn is_in_place(&self, arriving: ArrivingData<'_>, place: u16) -> bool
-        ensures { IsTrue result → IsInPlace self.now.receiver (data_command arriving.entry) place }
+        ensures { IsTrue result → GoesWithFront self.now.receiver (data_command arriving.entry) place }
     {
         !arriving.reliable
             && arriving.fragment.is_none()

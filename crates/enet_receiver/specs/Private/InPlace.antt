@@ -8,7 +8,7 @@ use Rattle.enet_receiver.specs.Foresight.{ReceivingEnd}
 use Rattle.enet_receiver.specs.Private.Next.{only_packet}
 
 -- an unreliable command that is its whole packet and goes with the front, where nothing is held and nothing waits
-pub record IsInPlace (r : Receiver) (c : DataCommand) (place : ℕ) : Type 0 where
+pub record GoesWithFront (r : Receiver) (c : DataCommand) (place : ℕ) : Type 0 where
   pub unreliable : c.reliable ≡ false
   pub single : c.fragment ≡ None
   pub at : place ≡ r.front
