@@ -12,7 +12,7 @@ ghost use Rattle.enet_outbox.specs.Outbox.{after_acknowledgement, after_lateness
 
 use crate::{Acknowledgement, Matched, Unsequenced, lists};
 use bytes::Bytes;
-use enet_codec::{CONTROL_CHANNEL, Refusal};
+use enet_codec::{CONTROL_CHANNEL, RELIABLE, Refusal, UNSEQUENCED};
 use enet_fragment::FRAGMENT_OVERHEAD;
 use enet_rtt::{Expiry, Patience};
 use enet_senders::{Control, ControlChannel, Senders};
@@ -378,8 +378,8 @@ fn is_unsequenced(flags: u8, len: usize, mtu: u32) -> bool
     requires { 576 ≤ mtu }
     ensures { result ≡ (flags / 2 % 2 == 1 && not (flags % 2 == 1) && not (nat_lt (piece_length mtu) len)) }
 {
-    let asks_for_unsequenced = flags / 2 % 2 == 1;
-    let asks_for_reliable = flags % 2 == 1;
+    let asks_for_unsequenced = flags & UNSEQUENCED != 0;
+    let asks_for_reliable = flags & RELIABLE != 0;
     let is_long = len > (mtu - FRAGMENT_OVERHEAD) as usize;
     asks_for_unsequenced && !asks_for_reliable && !is_long
 }

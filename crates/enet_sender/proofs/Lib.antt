@@ -13,3 +13,4 @@ pub mod Submitting
 pub mod Piecing
 pub mod Skipping
 pub mod Rounds
+pub mod Flags

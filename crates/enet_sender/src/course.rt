@@ -7,7 +7,7 @@ ghost use Rattle.enet_sender.specs.Sender.{piece_of_body};
 ghost use Rattle.enet_sender.specs.Course.{IsCourse, packet_course, start_of, fragment_of, command_of};
 
 use bytes::Bytes;
-use enet_codec::Fragment;
+use enet_codec::{Fragment, RELIABLE, UNRELIABLE_FRAGMENT};
 use enet_fragment::{DataCommand, FRAGMENT_OVERHEAD, piece, plan};
 use enet_seq::after;
 
@@ -32,8 +32,8 @@ pub struct Course {
 pub fn goes_reliable(flags: u8, unreliable: u16, is_long: bool) -> bool
     ensures { result ≡ (flags % 2 == 1 || unreliable == 65535 || (is_long && not (flags / 8 % 2 == 1))) }
 {
-    let asks_for_reliable = flags % 2 == 1;
-    let asks_for_unreliable_fragments = flags / 8 % 2 == 1;
+    let asks_for_reliable = flags & RELIABLE != 0;
+    let asks_for_unreliable_fragments = flags & UNRELIABLE_FRAGMENT != 0;
     asks_for_reliable || unreliable == u16::MAX || (is_long && !asks_for_unreliable_fragments)
 }
 
