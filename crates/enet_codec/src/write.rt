@@ -3,7 +3,7 @@
 ghost use Rattle.std.specs.Prelude.{◌≡◌, ℕ, ◌≤◌, ◌+◌, ◌*◌, ◌<◌, ◌^◌, ◌↔◌, length, IfSome, IfNone, IsSome, IsTrue, false, ◌∷◌, []};
 ghost use Rattle.std.specs.List.{AllByRecursion};
 ghost use Rattle.std.specs.Int.{w8, w16, w32, to_be_bytes};
-ghost use Rattle.enet_codec.specs.Message.{Message, Spells, acknowledge, send_reliable, IsMessage, Fits, connect, verify_connect, fields_of, fragment_fields, kind_of, text, view, canonical, payload_of, bit};
+ghost use Rattle.enet_codec.specs.Message.{Message, Spells, acknowledge, send_reliable, send_unreliable, IsMessage, Fits, connect, verify_connect, fields_of, fragment_fields, kind_of, text, view, canonical, payload_of, bit};
 ghost use Rattle.enet_codec.specs.Writing.{overwrite, Puts};
 
 use crate::command::{ACKNOWLEDGE, Command, Fragment, Head, Offer, UNSEQUENCED, Verify};
@@ -295,6 +295,29 @@ pub fn write_reliable(buf: &mut [u8], at: usize, head: Head, payload: &[u8]) -> 
     }
     let at = put_head(buf, at, 6, head);
     let at = put_u16(buf, at, payload.len() as u16);
+    Some(put(buf, at, payload))
+}
+
+/// Writes SEND_UNRELIABLE, of which no `Command` need be made, as [`write_command`] does. A payload has at most 65,535 bytes:
+/// that is the caller's to see to. Takes no memory.
+pub fn write_unreliable(
+    buf: &mut [u8],
+    at: usize,
+    head: Head,
+    unreliable: u16,
+    payload: &[u8],
+) -> Option<usize>
+    requires { length payload.now < 2 ^ 16 }
+    ensures written { IfSome result (λ end. Puts buf.old at (canonical (record { head = head; body = send_unreliable unreliable payload.now })) buf.new end) }
+    ensures fits { IsSome result ↔ (at + length (canonical (record { head = head; body = send_unreliable unreliable payload.now })) ≤ length buf.old) }
+    ensures unchanged { IfNone result (buf.new ≡ buf.old) }
+    ensures spells { IfSome result (λ end. Spells (canonical (record { head = head; body = send_unreliable unreliable payload.now })) (record { head = head; body = send_unreliable unreliable payload.now })) }
+{
+    if !has_room(buf, at, 8 + payload.len()) {
+        return None;
+    }
+    let at = put_head(buf, at, 7, head);
+    let at = put_two_u16(buf, at, unreliable, payload.len() as u16);
     Some(put(buf, at, payload))
 }
 

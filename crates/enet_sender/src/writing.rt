@@ -9,7 +9,7 @@ ghost use Rattle.enet_sender.specs.Due.{due_kind};
 ghost use Rattle.enet_sender.specs.Private.Invariant.{IsShort};
 
 use crate::Kind;
-use enet_codec::{Head, write_command, write_reliable};
+use enet_codec::{Head, write_command, write_reliable, write_unreliable};
 use enet_fragment::DataCommand;
 
 /// Whether a command is a further one of an unreliable packet.
@@ -47,7 +47,7 @@ pub(crate) fn bytes_of(command: &DataCommand) -> u32
     }
 }
 
-/// Writes a command at a place, where it fits: a reliable one that is a whole packet, as most are, at once.
+/// Writes a command at a place, where it fits: one that is a whole packet, as most are, at once.
 pub(crate) fn put(buf: &mut [u8], at: usize, channel: u8, command: &DataCommand) -> Option<usize>
     requires { IsShort command.now }
     ensures some { IfSome result (λ past. Puts buf.old at (canonical (message_of channel command.now)) buf.new past) }
@@ -55,14 +55,19 @@ pub(crate) fn put(buf: &mut [u8], at: usize, channel: u8, command: &DataCommand)
     ensures none { IfNone result (buf.new ≡ buf.old) }
     ensures room { IfNone result (length buf.old < at + length (canonical (message_of channel command.now))) }
 {
-    if command.reliable && command.fragment.is_none() {
-        let head = Head {
-            acknowledge: true,
-            unsequenced: false,
-            channel,
-            number: command.number,
-        };
-        return write_reliable(buf, at, head, command.body.as_slice());
+    if command.fragment.is_some() {
+        return write_command(buf, at, &command.command(channel));
     }
-    write_command(buf, at, &command.command(channel))
+    let head = Head {
+        acknowledge: command.reliable,
+        unsequenced: false,
+        channel,
+        number: command.number,
+    };
+    let body = command.body.as_slice();
+    if command.reliable {
+        write_reliable(buf, at, head, body)
+    } else {
+        write_unreliable(buf, at, head, command.unreliable, body)
+    }
 }
