@@ -1,6 +1,7 @@
 -- What submitting a packet comes to.
-use Rattle.std.proofs.Common.{◌≡◌, ℕ, ◌<◌, Bool, true, false, ◌||◌, cond, ltb, List, length, refl, sym, subst, arith, ◌⊎◌, inl, inr, Some, None, Result, Ok, Err, IfErr, IsErrAnd, OnOk}
-use Rattle.std.proofs.lemmas.Bool.{ltb-false}
+use Rattle.std.proofs.Common.{◌≡◌, ℕ, ◌+◌, ◌-◌, ◌/◌, ◌<◌, ◌≤◌, eqb, Bool, true, false, ◌||◌, cond, ltb, List, length, refl, sym, subst, arith, ◌⊎◌, inl, inr, Some, None, Result, Ok, Err, IfErr, IsErrAnd, OnOk}
+use Rattle.std.proofs.lemmas.Bool.{ltb-false, le-ltb}
+use Rattle.std.proofs.Math.Nat.{div-lt_iff_lt-mul}
 use Rattle.enet_codec.specs.declared.refusal.Refusal.{Refusal}
 use Rattle.enet_codec.specs.declared.refusal.Refusal.TheVariants.{NotConnected, NoSuchChannel, TooLarge, Memory}
 use Rattle.enet_fragment.specs.Cutting.{piece_count}
@@ -29,3 +30,14 @@ submits (Ok done) p new channel q none ok refused why other = (none, ok)
 submits (Err e) p new channel q none ok refused (inl large) other = absurd (other large)
 submits (Err e) p new channel q none ok refused (inr memory) other =
     (refused.1, refused.0, subst (λ (w : Refusal). Refuses w (submission_refusal p channel (length q.body))) (sym memory) none)
+
+few_if : (empty : Bool) (n : ℕ) → n < 16384 → cond empty 1 (n + 1) ≤ 16384
+few_if true n few = omega arith
+few_if false n few = omega arith
+
+-- so many bytes are cut into few enough pieces at any mtu
+pub surely_few : (len mtu : ℕ) → len ≤ 8978432 → 576 ≤ mtu → ltb fragment_limit (piece_count len mtu) ≡ false
+unfolding piece_count
+surely_few len mtu short low =
+    let few : (len - 1) / (mtu - 28) < 16384 = (div-lt_iff_lt-mul (omega arith)).1 (omega arith) in
+    le-ltb 16384 _ (few_if (eqb len 0) ((len - 1) / (mtu - 28)) few)

@@ -103,11 +103,14 @@ impl Peer {
     }
 }
 
+/// So many bytes are cut into few enough pieces at any mtu: 16,384 of 548 bytes.
+const SURELY_FEW: usize = 8_978_432;
+
 /// Whether a packet of so many bytes would be cut into more than 16,384 pieces.
 #[tactic(auto, unfolding(enet_fragment::specs::Cutting::planned))]
 fn is_cut_too_often(len: usize, mtu: u32) -> bool
     requires { (576 ≤ mtu) × (mtu ≤ 4096) }
     ensures { result ≡ nat_lt fragment_limit (piece_count len mtu) }
 {
-    plan(len, mtu).is_none()
+    len > SURELY_FEW && plan(len, mtu).is_none()
 }

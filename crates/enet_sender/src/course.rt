@@ -80,6 +80,24 @@ impl Course {
         })
     }
 
+    /// The course of a packet that needs no cutting.
+    pub fn whole(flags: u8, body: &Bytes, mtu: u32, number: u16, unreliable: u16) -> Course
+        requires low { 576 ≤ mtu }
+        requires high { mtu ≤ 4096 }
+        requires short { length body.now ≤ piece_length mtu }
+        ensures course { result ≡ packet_course mtu number unreliable flags body.now }
+        ensures limits { IsCourse result }
+    {
+        Course {
+            reliable: goes_reliable(flags, unreliable, false),
+            number,
+            unreliable,
+            pieces: 1,
+            total: body.len() as u32,
+            mtu,
+        }
+    }
+
     /// Whether the packet goes in fragments.
     pub fn is_long(self) -> bool
         requires { IsCourse self }

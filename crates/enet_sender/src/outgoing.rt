@@ -524,9 +524,7 @@ impl Outgoing {
         ensures passes { PassesIn pending.old self.old pending.new self.new }
         ensures room { HasRoom self.new }
     {
-        let Some(course) = Course::plan(flags, &body, mtu, self.number, self.unreliable) else {
-            return Err((Refusal::TooLarge, body));
-        };
+        let course = Course::whole(flags, &body, mtu, self.number, self.unreliable);
         if !self.make_room(pending, 1) {
             return Err((Refusal::Memory, body));
         }

@@ -32,4 +32,4 @@ returns-clause-queued c =
     let unreliable_is = c.unreliable_number-self.ensures in
     ap (λ (e : SendingEnd). record e { sender = record e.sender { unreliable = unreliable } }) c.queue.ensures.queued
     ∙ (λ i. one_more (channel_is i) (slots_is i) (rings_is i) (command_is i) (unreliable_is i))
-    ∙ ap (λ (x : Sender). record { channel = c.args.self.now.channel; sender = x }) (submitted-short c.args.mtu c.args.flags s c.args.body c.in-Some.course c.in-Some.ensures.course c.requires.low c.requires.short)
+    ∙ ap (λ (x : Sender). record { channel = c.args.self.now.channel; sender = x }) (submitted-short c.args.mtu c.args.flags s c.args.body c.whole-course.result c.whole-course.ensures.course c.requires.low c.requires.short)
