@@ -1,14 +1,15 @@
 -- Slots that sleep are passed over.
-use Rattle.std.proofs.Common.{◌≡◌, ◌≢◌, ℕ, ◌+◌, ◌-◌, ◌<◌, ◌≤◌, ◌⊎◌, inl, inr, min, Some, List, length, replicate, slice_get, slice_set, get_or, refl, sym, ap, subst, ◌∙◌, arith}
+use Rattle.std.proofs.Common.{◌≡◌, ◌≢◌, ℕ, ◌+◌, ◌-◌, ◌<◌, ◌≤◌, ◌⊎◌, inl, inr, min, Some, List, length, replicate, slice_get, slice_set, sym, ap, subst, ◌∙◌, arith}
 use Rattle.std.proofs.lemmas.Bool.{cases_lt, cases_eq}
 use Rattle.std.proofs.lemmas.List.{get_or-set_other, get_or-set_same, get_or-replicate, get_or_past, length-set, length-replicate}
-use Rattle.std.proofs.lemmas.Option.{slice_get_within}
 use Rattle.enet_slot.specs.declared.slot.Slot.{Slot}
 use Rattle.enet_slot.specs.Slot.{SlotState}
+use Rattle.enet_slot.specs.Calls.{tells}
 use Rattle.enet_slot.specs.Sleeping.{Sleeps}
 use Rattle.enet_slot.specs.Slotted.{shown, all_shown}
 use Rattle.enet_slot.proofs.Shown.{set-shown}
-use Rattle.enet_host.specs.Turns.{turn_of}
+use Rattle.enet_slot.proofs.Sleeping.{mute-asleep}
+use Rattle.enet_host.specs.Turns.{turn_of, IsFirst}
 use Rattle.enet_codec.specs.declared.address.Addr.{Addr}
 use Rattle.enet_codec.specs.declared.event.Event.{Event}
 use Rattle.enet_codec.specs.declared.event.PeerRef.{PeerRef}
@@ -51,6 +52,13 @@ skips-gives n now i len name address buf next old new k awake g = subst (KeepsSk
 pub skips-gives-event : (n i : ℕ) (event : Event) (next : List ℕ) (old new : List SlotState) → KeepsSkips n next old → entry next i ≤ i → SlotGivesEvent old i event new
     → KeepsSkips n next new
 skips-gives-event n i event next old new k awake g = subst (KeepsSkips n next) (sym g.after) (skips-set n next old i g.left k awake)
+
+-- a slot that has an event is awake
+pub teller-awake : (n i from : ℕ) (next : List ℕ) (slots : List SlotState) → KeepsSkips n next slots → IsFirst tells slots from i → entry next i ≤ i
+teller-awake n i from next slots k first = elim (cases_lt i (entry next i)) [
+  | inl past ↦ let mute = sym first.here ∙ mute-asleep first.slot (k.asleep i first.slot first.there past) in absurd (cc)
+  | inr awake ↦ awake
+]
 
 -- Slot `number` is woken: those from slot `place` on that were passed over with it end at it by now.
 pub record Waking (old new : List ℕ) (number place : ℕ) : Type 0 where
