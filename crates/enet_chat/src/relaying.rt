@@ -39,9 +39,10 @@ const BETWEEN_SHOWS: u64 = 32;
 
 /// The connected peers, the events that were taken and not yet expanded into orders, and the orders that wait for room.
 ///
-/// An event is expanded once no order waits; with many peers it may be kept until the service has no orders left. So what is kept while the service takes no orders is events, of which a chat packet
-/// is one, whatever the number of its receivers. Chat packets that follow one another are expanded together, up to a bound: their
-/// orders are asked for receiver by receiver, so that the host sends a receiver what is for it in few datagrams.
+/// An event is expanded once no order waits; with many peers it may be kept until the service has no orders left. So what is kept while
+/// the service takes no orders is events, of which a chat packet is one, whatever the number of its receivers. Chat packets that follow
+/// one another are expanded together, up to a bound: their orders are asked for receiver by receiver, so that the host sends a receiver
+/// what is for it in few datagrams.
 #[derive(Drop)]
 pub struct Relay<'a> {
     alloc: Global,

@@ -1,4 +1,4 @@
--- One channel from a sender to a receiver and the acknowledgements back, with unbounded numbers.
+-- What stands in the logs of a channel, with unbounded numbers, and what is late.
 use Rattle.std.specs.Prelude.{ℕ, Bool, ◌+◌, ◌-◌, ◌%◌, nat_lt, if◌then◌else◌}
 use Rattle.std.specs.Option.{option_map}
 use Rattle.enet_codec.specs.declared.command.Fragment.{Fragment}

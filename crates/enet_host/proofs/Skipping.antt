@@ -4,9 +4,11 @@ use Rattle.std.proofs.lemmas.Bool.{cases_lt, cases_eq}
 use Rattle.std.proofs.lemmas.List.{get_or-set_other, get_or-set_same, get_or-replicate, get_or_past, length-set, length-replicate}
 use Rattle.enet_slot.specs.declared.slot.Slot.{Slot}
 use Rattle.enet_slot.specs.Slot.{SlotState}
+use Rattle.enet_slot.specs.Calls.{tells}
 use Rattle.enet_slot.specs.Slotted.{shown, all_shown}
 use Rattle.enet_slot.proofs.Shown.{set-shown}
-use Rattle.enet_host.specs.Turns.{turn_of}
+use Rattle.enet_slot.proofs.Sleeping.{mute-asleep}
+use Rattle.enet_host.specs.Turns.{turn_of, IsFirst}
 use Rattle.enet_codec.specs.declared.address.Addr.{Addr}
 use Rattle.enet_codec.specs.declared.event.Event.{Event}
 use Rattle.enet_codec.specs.declared.event.PeerRef.{PeerRef}
@@ -55,6 +57,13 @@ skips-gives-event n i event skips old new k awake g = subst (KeepsSkips n skips)
 -- a slot rests for a part of the time, too
 pub rests-for-part : (part whole : Calm) (s : SlotState) → IsPartOf part whole → Rests whole s → Rests part s
 rests-for-part part whole s within r = record { sleeps = r.sleeps; still = λ moment fits h. r.still moment fits (within moment fits h) }
+
+-- a slot that has an event is awake
+pub teller-awake : (n i from : ℕ) (skips : Skips) (slots : List SlotState) → KeepsSkips n skips slots → IsFirst tells slots from i → entry skips.next.items i ≤ i
+teller-awake n i from skips slots k first = elim (cases_lt i (entry skips.next.items i)) [
+  | inl past ↦ let mute = sym first.here ∙ mute-asleep first.slot (k.asleep i first.slot first.there past).sleeps in absurd (cc)
+  | inr awake ↦ awake
+]
 
 -- Slot `number` is woken: those from slot `place` on that were passed over with it end at it by now.
 pub record Waking (old new : List ℕ) (number place : ℕ) : Type 0 where

@@ -1,4 +1,4 @@
--- A slot of the code as the contracts of the host's calls see it.
+-- What the fields of a host keep.
 use Rattle.std.specs.Prelude.{◌≡◌, ◌≤◌, ◌<◌, length, ℕ, List}
 use Rattle.enet_slot.specs.declared.slot.Slot.{Slot}
 use Rattle.enet_slot.specs.Slot.{greatest}

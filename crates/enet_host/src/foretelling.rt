@@ -1,8 +1,8 @@
 //! What a host tells of what is to come.
 
-ghost use Rattle.std.specs.Prelude.{◌≡◌, IfSome, IfNone};
+ghost use Rattle.std.specs.Prelude.{◌≡◌, ◌<◌, IfSome, IfNone};
 ghost use Rattle.std.specs.Option.{option_copied};
-ghost use Rattle.enet_host.specs.Turns.{HoldsNowhere};
+ghost use Rattle.enet_host.specs.Turns.{IsFirst, HoldsNowhere};
 ghost use Rattle.enet_slot.specs.Calls.{tells};
 ghost use Rattle.enet_host.specs.Ticking.{IsDueIn};
 ghost use Rattle.enet_host.specs.Foretelling.{next_name, teller_of, packet_of, body_of, Foretells, IsTeller};
@@ -36,20 +36,27 @@ impl HostCore {
         peers.min(SHARING_INTERVAL.saturating_sub(elapsed(clock, self.shared_at)))
     }
 
+    // The slot whose event `next_event` would give.
+    pub(crate) fn next_teller(&self) -> Option<u16>
+        ensures first { IfSome result (λ i. IsFirst tells self.now.slots self.now.event_from i) }
+        ensures none { IfNone result (HoldsNowhere tells self.now.slots) }
+        ensures within { IfSome result (λ i. i < self.now.config.peers) }
+    {
+        first_telling(
+            &self.slots,
+            &self.skips,
+            self.start.config.peers,
+            self.event_from,
+        )
+    }
+
     /// The peer whose event `next_event` would give; None where there is none.
     pub fn next_event_of(&self) -> Option<PeerRef>
         ensures first { IfSome result (λ name. IsTeller self.now name) }
         ensures none { IfNone result (HoldsNowhere tells self.now.slots) }
         ensures foretells { Foretells teller_of self.now result }
     {
-        let Some(slot) = first_telling(
-            &self.slots,
-            &self.skips,
-            self.start.config.peers,
-            self.event_from,
-        ) else {
-            return None;
-        };
+        let slot = self.next_teller()?;
         Some(name_at(&self.slots, slot))
     }
 
@@ -57,12 +64,7 @@ impl HostCore {
     pub fn next_packet(&self) -> Option<&Packet>
         ensures { Foretells packet_of self.now (option_copied result) }
     {
-        let Some(slot) = first_telling(
-            &self.slots,
-            &self.skips,
-            self.start.config.peers,
-            self.event_from,
-        ) else {
+        let Some(slot) = self.next_teller() else {
             return None;
         };
         packet_of(&self.slots, slot)

@@ -13,7 +13,7 @@ ghost use Rattle.enet_host.specs.Ticking.{ticked, clock_after};
 ghost use Rattle.enet_host.specs.Calls.{with_bandwidth, Takes};
 
 use crate::connecting::connect;
-use crate::events::{first_telling, take_from};
+use crate::events::take_from;
 use crate::receiving::receive;
 use crate::service::serve;
 use crate::skips::Skips;
@@ -230,12 +230,7 @@ impl HostCore {
     pub fn next_event(&mut self) -> Option<Event>
         ensures { Takes result self.old self.new }
     {
-        let slot = first_telling(
-            &self.slots,
-            &self.skips,
-            self.start.config.peers,
-            self.event_from,
-        )?;
+        let slot = self.next_teller()?;
         let event = take_from(&mut self.slots, slot)?;
         self.event_from = slot_after(self.start.config.peers, slot);
         Some(event)

@@ -3,20 +3,20 @@
 //! A host has a fixed number of slots (`enet_slot`), each of which is free or holds one peer. Times are in milliseconds,
 //! bandwidths in bytes per second.
 //!
-//! Proved, each call exactly by small definitions over the slots: one that names a peer is that peer's call on the one slot of
-//! that number and generation (`on_named`), with E2 where there is none, and leaves all else as it was (`rest`). `receive` is
-//! `Arrives`: the tests of a datagram in their order, a stranger's offer, which takes the lowest slot that is free and has a
-//! generation left, or the commands of a datagram at the one slot that its header names. `service` asks slot after slot,
-//! beginning after the one served last, up to the first that gives a datagram, and names its peer as it was before
-//! (`GivesInTurn`); `next_event` goes by the first slot in turn that has an event (`IsFirst`), and `next_event_of`,
-//! `next_packet` and `next_body` say of the event that it gives whose it is and what it hands out (`Foretells`). None of them looks
-//! at slots that a list says to sleep, free ones and those of idle connections: no slot that it passes over has anything (`KeepsSkips`). `next_peer`
-//! is the name that an accepted connection gets, `submission_refusal` the refusal of `submit` but E1. `tick` and
-//! `set_bandwidth` are one change on each slot; once a second the outgoing bandwidth is shared out among the connected peers. `due_in`
-//! is in how many milliseconds time brings something: a tick of fewer changes the clock alone (`IsDueIn`).
+//! Proved, each call exactly by small definitions over the slots: one that names a peer is that peer's call on the one slot of that
+//! number and generation (`on_named`), with E2 where there is none, and leaves all else as it was (`rest`). `receive` is `Arrives`: the
+//! tests of a datagram in their order, a stranger's offer, which takes the lowest slot that is free and has a generation left, or the
+//! commands of a datagram at the one slot that its header names. `service` asks slot after slot, beginning after the one served last,
+//! up to the first that gives a datagram, and names its peer as it was before (`GivesInTurn`); `next_event` goes by the first slot in
+//! turn that has an event (`IsFirst`), and `next_event_of`, `next_packet` and `next_body` say of the event that it gives whose it is
+//! and what it hands out (`Foretells`). A slot that a list calls asleep has nothing to put out or to tell (`KeepsSkips`). `next_peer`
+//! is the name that an accepted connection gets, `submission_refusal` the refusal of `submit` but E1. `tick` and `set_bandwidth` are
+//! one change on each slot; once a second the outgoing bandwidth is shared out among the connected peers. `due_in` is in how many
+//! milliseconds time brings something: a tick of fewer changes the clock alone (`IsDueIn`).
 //! No slot of any host holds a peer that is free (`HostCore::keeps`). Want of memory, of which no clause can say when it comes,
 //! changes nothing.
-//! Only tested, by `check_hosts`: that calls succeed with ample memory, worked scripts, captured files, foreign bytes.
+//! Only tested, by `check_hosts`: that calls succeed with ample memory, worked scripts, captured files, foreign bytes. Neither: that
+//! `service` and the calls that tell events don't look at slots that sleep, free ones and those of idle connections.
 #![tactic(auto)]
 
 mod calls;

@@ -1,5 +1,4 @@
--- The steps in which `command` does what `obeyed` of CommandEffect says: what is foreseen of a command, room for its acknowledgement,
--- what it does, and that acknowledgement. The proof that these steps are `obeyed` stands on them, and nothing else.
+-- What is foreseen of a command before it has an effect.
 use Rattle.std.specs.Prelude.{Bool, true, if◌then◌else◌, Result, Ok, Err}
 use Rattle.enet_codec.specs.declared.stop.Stop.{Stop}
 use Rattle.enet_codec.specs.declared.stop.Stop.TheVariants as stop

@@ -1,4 +1,4 @@
--- What the commands of a sender keep.
+-- How many of a sender's commands are reliable.
 use Rattle.std.specs.Prelude.{ℕ, List, count_by}
 use Rattle.enet_fragment.specs.declared.data.DataCommand.{DataCommand}
 

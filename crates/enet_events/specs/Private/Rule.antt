@@ -1,4 +1,4 @@
--- The rule of the queue, and what a step of it does to what a pass knows.
+-- How many takers a pass knows to be made.
 use Rattle.std.specs.Prelude.{ℕ}
 use mathlib.Core.Option.{some}
 use lib.ListN.{get_elem?}

@@ -1,4 +1,4 @@
--- A slot of the code as the contracts of the host's calls see it.
+-- What one slot of a host's list does or tells.
 use Rattle.std.specs.Prelude.{◌≡◌, ℕ, false, Option, Some, List, slice_get, slice_set}
 use Rattle.enet_codec.specs.declared.address.Addr.{Addr}
 use Rattle.enet_codec.specs.declared.event.PeerRef.{PeerRef}

@@ -1,4 +1,4 @@
--- What the commands of a sender keep.
+-- Which commands a datagram has room for.
 use Rattle.std.specs.Prelude.{◌≤◌, length}
 use Rattle.enet_fragment.specs.declared.data.DataCommand.{DataCommand}
 

@@ -1,4 +1,4 @@
--- A slot of the code as the contracts of its calls see it.
+-- The room that a slot's peer has for commands.
 use Rattle.std.specs.Prelude.{◌≤◌, IsTrue}
 use Rattle.enet_slot.specs.Sharing.{is_standing}
 use Rattle.enet_slot.specs.Slotted.{Slotted}

@@ -1,4 +1,4 @@
--- What holds at every moment, whatever the schedule, and what a step tells the token that takes it.
+-- The seats that a token knows to be finished.
 use Rattle.std.specs.Prelude.{List, []}
 use mathlib.Core.Option.{some}
 use lib.ListN.{get_elem?}

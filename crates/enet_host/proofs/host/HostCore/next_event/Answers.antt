@@ -1,20 +1,20 @@
-use Rattle.std.proofs.Common.{ℕ, List, subst, ap, sym, ◌∙◌}
-use Rattle.enet_slot.specs.declared.slot.Slot.{Slot}
+use Rattle.std.proofs.Common.{ℕ, subst, ap, sym, ◌∙◌}
 use Rattle.enet_host.specs.contracts.host.HostCore.{the_view}
+use Rattle.enet_host.specs.Host.{Host}
 use Rattle.enet_host.specs.Turns.{IsFirst, slot_after}
 use Rattle.enet_slot.specs.Calls.{tells}
 use Rattle.enet_slot.specs.Slotted.{all_shown}
 use Rattle.enet_slot.proofs.Shown.{length-shown}
 use Rattle.enet_host.proofs.Telling.{takes-at}
 use Rattle.enet_host.proofs.Holding.{keeps-after, gave-held}
-use Rattle.enet_host.proofs.Skipping.{skips-gives-event}
+use Rattle.enet_host.proofs.Skipping.{skips-gives-event, teller-awake}
 use Rattle.enet_host.proofs.host.HostCore.next_event.Goals as goal
 
 pub returns : goal.returns
 returns c =
     let inside = c.self.inside in
     takes-at (the_view inside) c.args.self.now (all_shown c.take_from.new.slots.items) c.in_ok-slot.slot c.slot_after-self-inside.result c.in_ok-event.event c.self.view_is
-    (subst (λ (xs : List Slot). IsFirst tells (all_shown xs) inside.event_from c.in_ok-slot.slot) c.deref.ensures.value c.in_ok-slot.ensures.first) c.in_ok-event.ensures.gives
+    (subst (λ (h : Host). IsFirst tells h.slots h.event_from c.in_ok-slot.slot) (sym c.self.view_is) c.in_ok-slot.ensures.first) c.in_ok-event.ensures.gives
     (c.slot_after-self-inside.ensures.after ∙ ap (λ (m : ℕ). slot_after m c.in_ok-slot.slot) (sym (length-shown inside.slots.items ∙ c.self.invariant.count)))
 
 pub invariant_of-self-2 : goal.invariant_of-self-2
@@ -24,5 +24,7 @@ invariant_of-self-2 c =
     c.take_from.ensures.count c.self.invariant.service c.slot_after-self-inside.ensures.within (
       gave-held (all_shown c.self.inside.slots.items) (all_shown c.take_from.new.slots.items) c.in_ok-slot.slot c.in_ok-event.event c.self.invariant.held c.in_ok-event.ensures.gives,
       skips-gives-event c.self.inside.start.config.peers c.in_ok-slot.slot c.in_ok-event.event c.self.inside.skips (all_shown c.self.inside.slots.items) (all_shown c.take_from.new.slots.items)
-          c.self.invariant.resting c.in_ok-slot.ensures.awake c.in_ok-event.ensures.gives,
+          c.self.invariant.resting
+          (teller-awake _ _ c.self.inside.event_from _ _ c.self.invariant.resting (subst (λ (h : Host). IsFirst tells h.slots h.event_from c.in_ok-slot.slot) (sym c.self.view_is) c.in_ok-slot.ensures.first))
+          c.in_ok-event.ensures.gives,
     )

@@ -1,5 +1,6 @@
-use Rattle.std.proofs.Common.{Some, List, subst}
+use Rattle.std.proofs.Common.{Some, List, sym, subst}
 use Rattle.enet_slot.specs.declared.slot.Slot.{Slot}
+use Rattle.enet_host.specs.Host.{Host}
 use Rattle.enet_host.specs.Turns.{IsFirst}
 use Rattle.enet_slot.specs.Calls.{tells}
 use Rattle.enet_slot.specs.Slotted.{all_shown}
@@ -13,10 +14,10 @@ use Rattle.enet_host.proofs.host.HostCore.next_event_of.Goals as goal
 told : (c : After-name_at) → IsTeller c.args.self.now c.name_at.result × Foretells teller_of c.args.self.now (Some c.name_at.result)
 told c =
     let inside = c.self.inside in
-    let first = subst (λ (xs : List Slot). IsFirst tells (all_shown xs) inside.event_from c.in-Some.slot) c.deref.ensures.value c.in-Some.ensures.first in
-    let named = subst (λ (xs : List Slot). SlotIsNamed (all_shown xs) c.in-Some.slot c.name_at.result) c.deref-2.ensures.value c.name_at.ensures in (
-      is-teller (the_view inside) c.args.self.now c.in-Some.slot c.name_at.result c.self.view_is first named,
-      foretells-teller (the_view inside) c.args.self.now c.in-Some.slot c.name_at.result c.self.view_is first named,
+    let first = subst (λ (h : Host). IsFirst tells h.slots h.event_from c.in_ok-slot.slot) (sym c.self.view_is) c.in_ok-slot.ensures.first in
+    let named = subst (λ (xs : List Slot). SlotIsNamed (all_shown xs) c.in_ok-slot.slot c.name_at.result) c.deref.ensures.value c.name_at.ensures in (
+      is-teller (the_view inside) c.args.self.now c.in_ok-slot.slot c.name_at.result c.self.view_is first named,
+      foretells-teller (the_view inside) c.args.self.now c.in_ok-slot.slot c.name_at.result c.self.view_is first named,
     )
 
 pub returns-clause-first : goal.returns-clause-first
