@@ -7,8 +7,9 @@
 //! found no event, with all expanded unless orders wait for room.
 //! Only tested: by `check_queues`, that the calls succeed where there is memory; by scripts/check-clients.sh through `enet_relay serve`,
 //! that the thread gets on. Neither: that the bodies of the orders share their bytes, so that no copy is made, that orders
-//! of packets that follow one another are grouped by receiver, that events are kept while the service has orders left, and that a call
-//! with Wait returns.
+//! of packets that follow one another are grouped by receiver, that events are kept while the service has orders left, that the thread
+//! goes on until it is told that the service has ended (one that ends where it first finds no event meets the same contract), and that
+//! a call with Wait returns.
 #![tactic(auto)]
 
 mod batch;

@@ -15,7 +15,7 @@
 //! server listens, what the system says where it can't, that the queues settle (no E16), that the server ends once its relay has, that its
 //! clients are told of its end; that each client of the demonstration gets all packets of the others, that a port that is taken is a
 //! refusal, and that the threads end. Neither: what a network gives, and when; what `gauge` shows and `watch` is told; when a client sees
-//! that the others are there.
+//! that the others are there; that a client hands over what it asks for (one that never does keeps `Visits`, with all of it left).
 #![tactic(auto)]
 
 mod client;
