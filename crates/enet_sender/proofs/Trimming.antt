@@ -1,6 +1,6 @@
 -- A ring loses a vacant place at its front.
-use Rattle.std.proofs.Common.{◌≡◌, ℕ, suc, ◌+◌, ◌-◌, ◌≤◌, List, [], ◌∷◌, length, drop, Option, Some, refl, sym, ap, ◌∙◌, arith}
-use Rattle.std.specs.List.{slice_get}
+use Rattle.std.proofs.Common.{◌≡◌, ℕ, suc, ◌+◌, ◌-◌, ◌<◌, ◌≤◌, List, [], ◌∷◌, length, drop, Option, Some, refl, sym, ap, subst, ◌∙◌, arith}
+use Rattle.std.specs.List.{slice_get, slice_set}
 use Rattle.std.proofs.lemmas.List.Elements.{All-tail}
 use Rattle.enet_seq.specs.Windows.{ahead}
 use Rattle.enet_sender.specs.declared.sent.Sent.{Sent}
@@ -41,3 +41,14 @@ trims-one at [] new due later front rest is = cc
 trims-one at (k ∷ keys) new due later front rest is =
     let same : k ≡ vacant = cc in
     rw (rest, is) (trims-first at k keys due same)
+
+front-set : (keys : List ℕ) → 0 < length keys → (slice_get (slice_set keys 0 vacant) 0 ≡ Some vacant) × (drop 1 (slice_set keys 0 vacant) ≡ drop 1 keys)
+front-set [] some = absurd (omega arith)
+front-set (k ∷ keys) some = (refl, refl)
+
+-- the first place falls vacant, and is taken away
+pub trims-front : (at : ℕ → Option Sent) (old new : List ℕ) (due later place : ℕ) → place ≡ 0 → place < length old → new ≡ drop 1 old → later ≡ due - 1
+    → Trims at (slice_set old place vacant) due new later
+trims-front at old new due later place is inside rest after =
+    let front = front-set old (omega arith) in
+    subst (λ (i : ℕ). Trims at (slice_set old i vacant) due new later) (sym is) (trims-one at (slice_set old 0 vacant) new due later front.0 (rest ∙ sym front.1) after)

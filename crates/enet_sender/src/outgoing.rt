@@ -22,9 +22,9 @@ ghost use Rattle.enet_sender.specs.Rings.{Keeps, KeepsIn, PassesIn, HasRoom, no_
 ghost use Rattle.enet_sender.specs.Private.Rings.{IsFirstDue};
 
 use crate::course::{Course, cut};
-use crate::pending::{Pending, VACANT};
+use crate::pending::Pending;
 use crate::ring::{
-    any_ends, any_late, first, first_due, mark_all, next_late, place_of, take_all, trim,
+    any_ends, any_late, first, first_due, mark_all, next_late, place_of, take_all, vacate,
 };
 use crate::writing::{bytes_of, due_kind, is_more, put};
 use bytes::Bytes;
@@ -103,8 +103,7 @@ impl Outgoing {
         let place = place_of(&self.sent, self.passed, number)?;
         let key = self.sent[place];
         let sent = pending.take(key)?;
-        self.sent[place] = VACANT;
-        trim(&mut self.sent, &mut self.due_from);
+        vacate(&mut self.sent, &mut self.due_from, place);
         Some(sent.command.body.len() as u32)
     }
 

@@ -67,7 +67,7 @@ fn begins_vacant(sent: &VecDeque<u32>) -> bool
 }
 
 /// Takes away the vacant places before the first command.
-pub(crate) fn trim(sent: &mut VecDeque<u32>, due_from: &mut usize)
+fn trim(sent: &mut VecDeque<u32>, due_from: &mut usize)
     ensures trims { (at : ℕ → Option Sent) → Trims at sent.old.items due_from.old sent.new.items due_from.new }
     ensures first { (key : ℕ) → slice_get sent.new.items 0 ≡ Some key → key ≢ vacant }
     ensures len { deque_len sent.new ≤ deque_len sent.old }
@@ -77,6 +77,23 @@ pub(crate) fn trim(sent: &mut VecDeque<u32>, due_from: &mut usize)
         let _ = sent.pop_front();
         *due_from = due_from.saturating_sub(1);
     }
+}
+
+/// A place falls vacant. The first one is taken away, and so are the vacant places before the first command.
+pub(crate) fn vacate(sent: &mut VecDeque<u32>, due_from: &mut usize, place: usize)
+    requires { place < deque_len sent.old }
+    ensures trims { (at : ℕ → Option Sent) → Trims at (slice_set sent.old.items place vacant) due_from.old sent.new.items due_from.new }
+    ensures first { (key : ℕ) → slice_get sent.new.items 0 ≡ Some key → key ≢ vacant }
+    ensures len { deque_len sent.new ≤ deque_len sent.old }
+    ensures capacity { deque_capacity sent.new ≡ deque_capacity sent.old }
+{
+    if place == 0 {
+        let _ = sent.pop_front();
+        *due_from = due_from.saturating_sub(1);
+    } else {
+        sent[place] = VACANT;
+    }
+    trim(sent, due_from);
 }
 
 /// Whether the peer has timed out over a command of a ring.

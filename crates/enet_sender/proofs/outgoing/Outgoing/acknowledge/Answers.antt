@@ -73,14 +73,14 @@ pub returns-clause-removed : goal.returns-clause-removed
 returns-clause-removed c =
     let g = goes c in
     let queued = ap (map command_of) (goes-queued g) in
-    let sent = (c.trim.ensures.trims (get c.take.new.self.slab)).same (vacant-after g) ∙ goes-sent g in
+    let sent = (c.vacate.ensures.trims (get c.take.new.self.slab)).same (vacant-after g) ∙ goes-sent g in
     λ i. record {
       channel = c.args.self.now.channel;
       sender = record { number = c.args.self.now.number; unreliable = c.args.self.now.unreliable; queued = queued i; sent = sent i };
     }
 
 pub returns-clause-kept : goal.returns-clause-kept
-returns-clause-kept c = goes-keeps (goes c) _ _ (c.trim.ensures.trims (get c.take.new.self.slab)) c.trim.ensures.first
+returns-clause-kept c = goes-keeps (goes c) _ _ (c.vacate.ensures.trims (get c.take.new.self.slab)) c.vacate.ensures.first
 
 pub returns-clause-passes : goal.returns-clause-passes
-returns-clause-passes c = goes-passes (goes c) _ _ (c.trim.ensures.trims (get c.take.new.self.slab))
+returns-clause-passes c = goes-passes (goes c) _ _ (c.vacate.ensures.trims (get c.take.new.self.slab))
