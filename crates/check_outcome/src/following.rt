@@ -4,7 +4,7 @@ ghost use Rattle.std.specs.Prelude.{◌≡◌, ◌≤◌, ◌↔◌, IsTrue};
 ghost use Rattle.enet_sender.specs.CommandChoice.{is_long, goes_reliable};
 ghost use Rattle.check_outcome.specs.Following.{submission, goes_in_sequence, came_in_sequence, FollowsFrom};
 
-use enet_codec::{Packet, UNSEQUENCED};
+use enet_codec::{Packet, RELIABLE, UNRELIABLE_FRAGMENT, UNSEQUENCED};
 
 /// What a datagram needs in bytes beside a piece of a packet.
 const OVERHEAD: u32 = 28;
@@ -25,8 +25,8 @@ fn goes_in_sequence(mtu: u32, channel: u8, packet: &Packet) -> bool
     requires { 576 ≤ mtu }
     ensures { result ≡ goes_in_sequence mtu channel packet.now }
 {
-    let asks_for_unsequenced = packet.flags / 2 % 2 == 1;
-    let asks_for_reliable = packet.flags % 2 == 1;
+    let asks_for_unsequenced = packet.flags & UNSEQUENCED != 0;
+    let asks_for_reliable = packet.flags & RELIABLE != 0;
     let is_unsequenced = asks_for_unsequenced && !asks_for_reliable && !is_long(mtu, packet);
     packet.channel == channel && !is_unsequenced
 }
@@ -37,8 +37,8 @@ fn goes_reliable(mtu: u32, unreliable: u32, packet: &Packet) -> bool
     requires { 576 ≤ mtu }
     ensures { result ≡ goes_reliable mtu unreliable (submission packet.now) }
 {
-    let asks_for_reliable = packet.flags % 2 == 1;
-    let asks_for_unreliable_fragments = packet.flags / 8 % 2 == 1;
+    let asks_for_reliable = packet.flags & RELIABLE != 0;
+    let asks_for_unreliable_fragments = packet.flags & UNRELIABLE_FRAGMENT != 0;
     asks_for_reliable
         || unreliable == LAST_UNRELIABLE
         || (is_long(mtu, packet) && !asks_for_unreliable_fragments)

@@ -1,4 +1,4 @@
--- How every world of two hosts comes about.
+-- A world as one of its sides sees it.
 use Rattle.std.specs.Prelude.{ℕ}
 use Rattle.enet_network.specs.declared.event.Side.{Side}
 use Rattle.enet_network.specs.declared.event.Side.TheVariants.{A, B}
