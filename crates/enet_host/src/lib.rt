@@ -10,8 +10,8 @@
 //! beginning after the one served last, up to the first that gives a datagram, and names its peer as it was before
 //! (`GivesInTurn`); `next_event` goes by the first slot in turn that has an event (`IsFirst`), and `next_event_of`,
 //! `next_packet` and `next_body` say of the event that it gives whose it is and what it hands out (`Foretells`). None of them looks
-//! at slots that a list says to sleep, free ones and those of idle connections: no slot that it passes over has anything (`KeepsSkips`). `next_peer`
-//! is the name that an accepted connection gets, `submission_refusal` the refusal of `submit` but E1. `tick` and
+//! at slots that a list says to sleep, free ones and those of idle connections: no slot that it passes over has anything (`KeepsSkips`).
+//! Nor does a tick at a moment that changes nothing of them, by a bound that is kept beside the list (`Rests`). `next_peer` is the name that an accepted connection gets, `submission_refusal` the refusal of `submit` but E1. `tick` and
 //! `set_bandwidth` are one change on each slot; once a second the outgoing bandwidth is shared out among the connected peers. `due_in`
 //! is in how many milliseconds time brings something: a tick of fewer changes the clock alone (`IsDueIn`).
 //! No slot of any host holds a peer that is free (`HostCore::keeps`). Want of memory, of which no clause can say when it comes,
