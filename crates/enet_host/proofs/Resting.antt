@@ -9,7 +9,7 @@ use Rattle.enet_slot.specs.Slot.{SlotState, changed}
 use Rattle.enet_host.specs.declared.calm.Calm.{Calm}
 use Rattle.enet_host.specs.declared.skips.Skips.{Skips}
 use Rattle.enet_host.specs.Skips.{entry, IsWithin, Rests, KeepsSkips}
-use Rattle.enet_host.specs.Private.Skips.{IsPartOf, SlotRests, PassesTurns, AwakeAt}
+use Rattle.enet_host.specs.Private.Skips.{IsPartOf, SlotRests, PassesOver, PassesTurns, AwakeAt}
 use Rattle.enet_host.specs.Private.Ticking.{all_ticked}
 use Rattle.enet_host.proofs.Asking.{some-same}
 use Rattle.enet_host.proofs.Skipping.{rests-for-part}
@@ -119,3 +119,40 @@ later-awake xs ys n number after v later set awake = λ i inside at.
     let turn = turn-from-zero n i in
     let is : entry ys i ≡ entry xs i = ap (λ (zs : List ℕ). entry zs i) set ∙ get_or-set_other xs number i v 0 (λ same. absurd (omega (arith, same, at, turn, later))) in
     omega (arith, is, awake i inside at)
+
+-- one entry passes over slots that are passed over already
+pub joined : (old new : Skips) (slots : List SlotState) (n start last : ℕ) → KeepsSkips n old slots → PassesOver old.next.items start last → start < last → start < n
+    → new.calm ≡ old.calm → new.next.items ≡ slice_set old.next.items start last → KeepsSkips n new slots
+joined old new slots n start last k run some inside is set =
+    let xs = old.next.items in
+    let here : entry new.next.items start ≡ last = ap (λ (ys : List ℕ). entry ys start) set ∙ get_or-set_same xs start last 0 (subst (λ (c : ℕ). start < c) (sym k.marks.count) inside) in
+    let other : (i : ℕ) → i ≢ start → entry new.next.items i ≡ entry xs i = λ i apart. ap (λ (ys : List ℕ). entry ys i) set ∙ get_or-set_other xs start i last 0 apart in
+    let still : (i : ℕ) → i < entry xs i → i < entry new.next.items i = λ i less. elim (cases_eq i start) [
+      | inl at ↦ omega (arith, ap (entry new.next.items) at, here, at, some)
+      | inr apart ↦ subst (λ (e : ℕ). i < e) (sym (other i apart)) less
+    ] in
+    let was : (i : ℕ) → i < entry new.next.items i → i < entry xs i = λ i less. elim (cases_eq i start) [
+      | inl at ↦ run i (omega (arith, at)) (omega (arith, at, some))
+      | inr apart ↦ subst (λ (e : ℕ). i < e) (other i apart) less
+    ] in
+    record {
+      marks = record {
+        count = ap length set ∙ length-set xs start last ∙ k.marks.count;
+        passed = λ i j low over. elim (cases_eq j start) [
+          | inl same ↦ still i (run i (omega (arith, low, same)) (subst (λ (e : ℕ). i < e) (ap (entry new.next.items) same ∙ here) over))
+          | inr apart ↦ still i (k.marks.passed i j low (subst (λ (e : ℕ). i < e) (other j apart) over))
+        ];
+      };
+      asleep = λ i s there less. subst (λ (c : Calm). Rests c s) (sym is) (k.asleep i s there (was i less));
+    }
+
+-- those after slot `number` are passed over once that was marked
+pub passed-after-mark : (xs ys : List ℕ) (n number after v : ℕ) → PassesTurns xs n 0 (number + 1) after → after ≤ n → ys ≡ slice_set xs number v → PassesOver ys (number + 1) after
+passed-after-mark xs ys n number after v passes end set = λ i past less.
+    let is : entry ys i ≡ entry xs i = ap (λ (zs : List ℕ). entry zs i) set ∙ get_or-set_other xs number i v 0 (λ at. absurd (omega (arith, at, past))) in
+    subst (λ (e : ℕ). i < e) (sym is) (passed-slot xs n (number + 1) after i passes (omega (arith, less, end)) past less)
+
+pub still-awake : (xs ys : List ℕ) (n after : ℕ) → ((i : ℕ) → after ≤ i → entry ys i ≡ entry xs i) → AwakeAt xs n 0 after → AwakeAt ys n 0 after
+still-awake xs ys n after others awake = λ i inside at.
+    let turn = turn-from-zero n i in
+    omega (arith, others i (omega (arith, at, turn)), awake i inside at)

@@ -2,7 +2,7 @@
 
 ghost use Rattle.std.specs.Prelude.{◌≡◌, ℕ, ◌-◌, ◌<◌, ◌≤◌, ◌⊎◌, min, nat_lt, IsTrue, IfOk, IfErr, List, length, replicate, get_or, slice_set};
 ghost use Rattle.enet_host.specs.Skips.{entry, Marks, KeepsSkips};
-ghost use Rattle.enet_host.specs.Private.Skips.{IsPartOf, SlotRests, PassesTurns, AwakeAt};
+ghost use Rattle.enet_host.specs.Private.Skips.{IsPartOf, SlotRests, PassesOver, PassesTurns, AwakeAt};
 ghost use Rattle.enet_slot.specs.Slot.{SlotState};
 ghost use Rattle.enet_slot.specs.Slotted.{all_shown};
 
@@ -94,7 +94,19 @@ impl Skips {
             let after = self.next_turn(peers, 0, number + 1);
             let next = awake_from(slots, number, after, now, &mut self.calm);
             self.mark(number, next);
+            self.pass_at_once(number + 1, after);
             number = after;
+        }
+    }
+
+    /// Slots from the first on up to the last, which are passed over, are passed over at once from now on.
+    fn pass_at_once(&mut self, first: u16, last: u16)
+        requires { last ≤ length self.old.next.items }
+        ensures kept { (peers : ℕ) (slots : List SlotState) → KeepsSkips peers self.old slots → PassesOver self.old.next.items first last → KeepsSkips peers self.new slots }
+        ensures others { (i : ℕ) → last ≤ i → entry self.new.next.items i ≡ entry self.old.next.items i }
+    {
+        if first < last {
+            self.mark(first, last);
         }
     }
 

@@ -13,6 +13,10 @@ IsPartOf part whole = (moment : ℕ) → moment < 2 ^ 32 → IsWithin part momen
 abbrev pub SlotRests : Calm → List SlotState → ℕ → Type 0
 SlotRests calm slots i = (s : SlotState) → slice_get slots i ≡ Some s → Rests calm s
 
+-- the slots from this one on up to the last, it excepted, are passed over
+abbrev pub PassesOver : List ℕ → ℕ → ℕ → Type 0
+PassesOver next first last = (i : ℕ) → first ≤ i → i < last → i < entry next i
+
 -- the slots whose turn is one of these, the last excepted, are passed over
 abbrev pub PassesTurns : List ℕ → ℕ → ℕ → ℕ → ℕ → Type 0
 PassesTurns next peers from first last = (i : ℕ) → i < peers → first ≤ turn_of peers from i → turn_of peers from i < last → i < entry next i

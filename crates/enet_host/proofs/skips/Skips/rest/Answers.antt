@@ -1,17 +1,24 @@
 use Rattle.std.proofs.Common.{arith}
 use Rattle.enet_slot.specs.Slotted.{all_shown}
-use Rattle.enet_host.proofs.Resting.{awake-slot, looked-at, later-awake}
+use Rattle.enet_host.proofs.Resting.{awake-slot, looked-at, later-awake, passed-after-mark, still-awake}
 use Rattle.enet_host.proofs.skips.Skips.rest.Goals as goal
 
 pub loop-number-preserved : goal.loop-number-preserved
 loop-number-preserved c =
     let old = c.loop-number.self in
+    let marked = c.mark.new.self in
+    let n = c.args.peers in
+    let slots = all_shown c.args.slots.now in
     let number = c.loop-number.number in
     let inside = c.loop-number-test.true in
     let next = c.awake_from-next.ensures in
+    let last = c.next_turn-after.result in
     let after = c.next_turn-after.ensures in
+    let looked = looked-at old marked c.awake_from-next.new.calm slots n number last c.awake_from-next.result c.loop-number.invariant.rests inside
+    (awake-slot old.next.items n number c.loop-number.invariant.awake inside) after.passed after.within next.next next.part c.mark.ensures.calm c.mark.ensures.entries in
     record {
-      rests = looked-at old c.mark.new.self c.awake_from-next.new.calm (all_shown c.args.slots.now) c.args.peers number c.next_turn-after.result c.awake_from-next.result c.loop-number.invariant.rests inside
-          (awake-slot old.next.items c.args.peers number c.loop-number.invariant.awake inside) after.passed after.within next.next next.part c.mark.ensures.calm c.mark.ensures.entries;
-      awake = later-awake old.next.items c.mark.new.self.next.items c.args.peers number c.next_turn-after.result c.awake_from-next.result (omega (arith, after.later)) c.mark.ensures.entries after.awake;
+      rests = c.pass_at_once.ensures.kept n slots looked
+          (passed-after-mark old.next.items marked.next.items n number last c.awake_from-next.result after.passed after.within c.mark.ensures.entries);
+      awake = still-awake marked.next.items c.pass_at_once.new.self.next.items n last c.pass_at_once.ensures.others
+          (later-awake old.next.items marked.next.items n number last c.awake_from-next.result (omega (arith, after.later)) c.mark.ensures.entries after.awake);
     }
