@@ -8,15 +8,15 @@ use Rattle.enet_codec.specs.declared.command.Fragment.{Fragment}
 use Rattle.enet_seq.specs.Numbering.{wire, number_read, start_read}
 use Rattle.enet_seq.specs.Windows.{ahead, after, in_window}
 use Rattle.enet_seq.proofs.WindowsLemmas.{near_is_inside}
-use Rattle.enet_fragment.specs.Place.{is_sound, is_even, told_piece_len, place_of}
-use Rattle.enet_fragment.specs.DataCommand.{piece_of, piece_or_only, fragment_place}
+use Rattle.enet_fragment.specs.Place.{is_sound, is_even, told_piece_len}
+use Rattle.enet_fragment.specs.DataCommand.{piece_or_only, fragment_place}
 use Rattle.enet_fragment.specs.declared.data.DataCommand.{DataCommand}
 use Rattle.enet_packets.specs.declared.incoming_packet.IncomingPacket.{IncomingPacket}
 use Rattle.enet_packets.specs.Packets.{line_at, handed_out}
 use Rattle.enet_receiver.specs.declared.took.Took.{Took}
 use Rattle.enet_receiver.specs.declared.took.Took.TheVariants.{Held, Again, Waiting}
 use Rattle.enet_receiver.specs.Receiver.{Receiver}
-use Rattle.enet_receiver.specs.DataOutcome.{outcome, outcome_of, place_read, came_at, came_before, is_piece, is_behind, received_with, added_at, dispatch_count}
+use Rattle.enet_receiver.specs.DataOutcome.{outcome, place_read, came_at, came_before, is_piece, received_with, added_at, dispatch_count}
 use Rattle.enet_receiver.specs.Private.Admitted.{Admitted}
 use Rattle.enet_receiver.specs.Private.InPlace.{ComesAlone, GoesAtOnce}
 use Rattle.enet_receiver.specs.Private.Next.{only_packet}
@@ -36,16 +36,16 @@ only_piece_of most c single short wired =
     let own : eqb c.number ((c.number + 0) % 65536) ≡ true = grind (arith, nat_tests) in
     let rest : (not c.reliable || true) ≡ true = elim c.reliable as (λ b. (not b || true) ≡ true) [ true ↦ refl | false ↦ refl ] in
     ap (λ (f : Option Fragment). let p : Fragment = piece_or_only f c.number c.body in
-        is_sound (fragment_place p c.body) && leb p.total most && (not c.reliable || eqb c.number ((p.start + p.number) % 65536))) single
+    is_sound (fragment_place p c.body) && leb p.total most && (not c.reliable || eqb c.number ((p.start + p.number) % 65536))) single
     ∙ (λ i. only_sound (length c.body) i && fits i && (not c.reliable || own i))
     ∙ rest
 
 -- its number is read as itself
 at_is : (r : Receiver) (c : DataCommand) → r.front < 65536 → c.number ≡ cond c.reliable (after r.front 1) r.front → (c.number < 65536 → in_window (r.front % 65536) c.number ≡ true)
 at_is r c wired at = elim c.reliable as (λ b. c.number ≡ cond b (after r.front 1) r.front → c.number < 65536 → in_window (r.front % 65536) c.number ≡ true) [
-      | true ↦ λ e small. near_is_inside (r.front % 65536) c.number (omega arith) small (omega arith)
-      | false ↦ λ e small. near_is_inside (r.front % 65536) c.number (omega arith) small (omega arith)
-    ] at
+  | true ↦ λ e small. near_is_inside (r.front % 65536) c.number (omega arith) small (omega arith)
+  | false ↦ λ e small. near_is_inside (r.front % 65536) c.number (omega arith) small (omega arith)
+] at
 
 read_is : (r : Receiver) (c : DataCommand) → c.fragment ≡ None → r.front < 65536 → c.number < 65536 → in_window (r.front % 65536) c.number ≡ true → place_read wire r c ≡ Some c.number
 read_is r c single wired small inside =
@@ -61,7 +61,7 @@ nothing_came_of r c place there =
     let held : get r.held place ≡ None = nothing_held r.held place (omega (arith, there.nothing_held)) in
     let absent : get r.waiting place ≡ None = nothing_held r.waiting place (omega (arith, there.nothing_waits)) in
     let line : get (line_at r.waiting place) c.unreliable ≡ None =
-        ap (λ (o : Option Line). get (unwrap_or o empty) c.unreliable) absent ∙ get-empty {X = IncomingPacket} nat_cmp c.unreliable in
+    ap (λ (o : Option Line). get (unwrap_or o empty) c.unreliable) absent ∙ get-empty {X = IncomingPacket} nat_cmp c.unreliable in
     elim c.reliable as (λ b. cond b (get r.held place) (get (line_at r.waiting place) c.unreliable) ≡ None) [ true ↦ held | false ↦ line ]
 
 -- it is taken in
@@ -81,8 +81,8 @@ one_dispatched : (most : ℕ) (r : Receiver) (c : DataCommand) (full : Bool) →
 one_dispatched most r c full there held read =
     let a : Admitted most r c c.number = admitted most r c full c.number held read in
     let all : (r.dispatched ++ handed_out (only_packet c) ∷ []) ≡ (received_with (outcome wire most r c full) wire r c).dispatched =
-        ap (λ (s : Receiver). s.dispatched) (handed_out_is most r c c.number a there)
-        ∙ sym (ap (λ (t : Took). (received_with t wire r c).dispatched) held ∙ ap (λ (o : Option ℕ). (added_at wire r c o).dispatched) read) in
+    ap (λ (s : Receiver). s.dispatched) (handed_out_is most r c c.number a there)
+    ∙ sym (ap (λ (t : Took). (received_with t wire r c).dispatched) held ∙ ap (λ (o : Option ℕ). (added_at wire r c o).dispatched) read) in
     let long : length (r.dispatched ++ handed_out (only_packet c) ∷ []) ≡ length r.dispatched + 1 = length-append r.dispatched (handed_out (only_packet c) ∷ []) in
     let same : length (received_with (outcome wire most r c full) wire r c).dispatched ≡ length r.dispatched + 1 = sym (ap length all) ∙ long in
     omega arith

@@ -110,10 +110,10 @@ flushed_nothing first r nothing =
     let last : last_fresh r.unreliable (entries (line_at r.waiting r.front)) ≡ r.unreliable = ap (last_fresh r.unreliable) none in
     let out : r.dispatched ++ fresh first (entries (line_at r.waiting r.front)) ≡ r.dispatched = ap (λ es. r.dispatched ++ fresh first es) none ∙ append-nil r.dispatched in
     let lines : with_line r.waiting r.front (still_ahead (line_at r.waiting r.front) (last_fresh r.unreliable (entries (line_at r.waiting r.front)))) ≡ r.waiting =
-        ap (λ (l : Line). with_line r.waiting r.front (still_ahead l (last_fresh r.unreliable (entries (line_at r.waiting r.front))))) line
-        ∙ ap (λ (l : Line). with_line r.waiting r.front l) (retained-empty (nat_lt (last_fresh r.unreliable (entries (line_at r.waiting r.front)))))
-        ∙ with_line-none r.waiting r.front empty len_nothing
-        ∙ remove-absent r.waiting r.front absent in
+    ap (λ (l : Line). with_line r.waiting r.front (still_ahead l (last_fresh r.unreliable (entries (line_at r.waiting r.front))))) line
+    ∙ ap (λ (l : Line). with_line r.waiting r.front l) (retained-empty (nat_lt (last_fresh r.unreliable (entries (line_at r.waiting r.front)))))
+    ∙ with_line-none r.waiting r.front empty len_nothing
+    ∙ remove-absent r.waiting r.front absent in
     λ i. receiver_of r.front (last i) r.held (lines i) (out i)
 
 without_one : {X : Type 0} (m : FinMap nat_cmp X) (k : ℕ) → len m ≡ 0 → without wire m k 1 ≡ m
@@ -140,12 +140,12 @@ reliable_out most r c place a there reliable at =
     let pieces : HavePieces r = λ q x e. absurd (let none : get r.held q ≡ None = nothing_held r.held q (omega (arith, there.nothing_held)) in cc) in
     let due : next_whole (get r.held (after (after r.front 1) 1)) ≡ None = ap next_whole (nothing_held r.held (after (after r.front 1) 1) (omega (arith, there.nothing_held))) in
     sym (
-      ap (all_released wire) (sym (next_stored most r c place a (record { reliable = reliable; single = there.single; at = at })))
-      ∙ sym (released_at_once r c there.single (piece_sound most c a.piece).0 pieces)
-      ∙ ap (λ (s : Receiver). all_released wire (flushed_from 0 s)) (passed_alone r c there.single there.nothing_held there.nothing_waits)
-      ∙ ap (all_released wire) (flushed_nothing 0 out there.nothing_waits)
-      ∙ all_released-none wire out due
-      ∙ flushed_nothing 1 out there.nothing_waits
+    ap (all_released wire) (sym (next_stored most r c place a (record { reliable = reliable; single = there.single; at = at })))
+    ∙ sym (released_at_once r c there.single (piece_sound most c a.piece).0 pieces)
+    ∙ ap (λ (s : Receiver). all_released wire (flushed_from 0 s)) (passed_alone r c there.single there.nothing_held there.nothing_waits)
+    ∙ ap (all_released wire) (flushed_nothing 0 out there.nothing_waits)
+    ∙ all_released-none wire out due
+    ∙ flushed_nothing 1 out there.nothing_waits
     )
 
 pub handed_out_is : (most : ℕ) (r : Receiver) (c : DataCommand) (place : ℕ) → Admitted most r c place → ComesAlone r c place
@@ -171,8 +171,8 @@ in_place_keeps most r c place k inside count a there =
 pub only_body : (c : DataCommand) → c.fragment ≡ None → handed_out (only_packet c) ≡ record { flags = flags_of c; body = c.body }
 only_body c single =
     let alone : (only_packet c).making ≡ single_of c.body =
-        ap (λ (f : Option Fragment). let p : Fragment = piece_or_only f c.number c.body in with_piece (nothing_yet p.count p.total) (fragment_place p c.body) c.body) single
-        ∙ single-made c.body in
+    ap (λ (f : Option Fragment). let p : Fragment = piece_or_only f c.number c.body in with_piece (nothing_yet p.count p.total) (fragment_place p c.body) c.body) single
+    ∙ single-made c.body in
     λ i. record { flags = flags_of c; body = (ap (λ (m : PartialPacket). joined m.pieces) alone ∙ joined-whole_of c.body 1 (Some 0) (omega arith)) i }
 
 pub out_is : (before room after : List Dispatched) (c : DataCommand) (flags : ℕ) (body : List ℕ) → room ≡ before → after ≡ room ++ record { flags = flags; body = body } ∷ []

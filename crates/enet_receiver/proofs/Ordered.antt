@@ -1,7 +1,6 @@
 -- A whole packet that comes just past the front is dispatched as if it had been held.
-use Rattle.std.proofs.Common.{◌≡◌, ℕ, ◌≤◌, ◌<◌, Bool, true, false, cond, List, inl, inr, refl, sym, ap, subst, ◌∙◌, arith, eqb, Option, Some, None}
-use Rattle.std.specs.Ordering.{nat_cmp}
-use Rattle.std.specs.FinMap.{FinMap, get, insert}
+use Rattle.std.proofs.Common.{◌≡◌, ℕ, ◌≤◌, true, false, cond, inl, inr, refl, sym, ap, subst, ◌∙◌, arith, eqb, Option, Some, None}
+use Rattle.std.specs.FinMap.{get, insert}
 use Rattle.enet_seq.specs.Numbering.{wire}
 use Rattle.enet_seq.specs.Windows.{after}
 use Rattle.enet_codec.specs.declared.command.Fragment.{Fragment}
@@ -12,19 +11,14 @@ use Rattle.enet_fragment.specs.declared.data.DataCommand.{DataCommand}
 use Rattle.enet_fragment.specs.DataCommand.{piece_of, piece_or_only, place_in_packet}
 use Rattle.enet_fragment.proofs.Laws.{count_of-with_piece, count_of-nothing_yet}
 use Rattle.enet_packets.specs.declared.incoming_packet.IncomingPacket.{IncomingPacket}
-use Rattle.enet_packets.specs.declared.incoming_packet.Dispatched.{Dispatched}
-use Rattle.enet_packets.specs.Packets.{Lines, line_at, with_line}
+use Rattle.enet_packets.specs.Packets.{line_at, with_line}
 use Rattle.enet_receiver.specs.Receiver.{Receiver, next_whole, with_dispatched, all_released}
 use Rattle.enet_receiver.specs.Laws.{HavePieces}
-use Rattle.enet_receiver.specs.Private.Admitted.{Admitted, IsInside}
-use Rattle.enet_receiver.specs.Invariant.{Keeps}
+use Rattle.enet_receiver.specs.Private.Admitted.{Admitted}
 use Rattle.enet_receiver.specs.Private.Next.{only_packet, IsNext}
 use Rattle.enet_receiver.specs.DataOutcome.{came_at, came, earlier_or_new, with_more, with_added}
-use Rattle.enet_receiver.specs.ReceiverParts.{receiver_of}
 use Rattle.enet_receiver.specs.Private.ReceiverParts.{with_stored}
 use Rattle.enet_receiver.proofs.Maps.{get_inserted, get-insert_same}
-use Rattle.enet_receiver.proofs.Admission.{Keeps-stored}
-use Rattle.enet_receiver.proofs.Keeping.{Keeps-all_released}
 use Rattle.enet_receiver.proofs.Foreseen.{whole_first}
 use Rattle.enet_receiver.proofs.Released.{all_released-some, wire_begins}
 use Rattle.enet_receiver.proofs.Turns.{added_first}
@@ -69,25 +63,3 @@ next_stored most r c place a next =
     sym (ap (λ (o : Option IncomingPacket). with_added r c place (with_more (earlier_or_new o c) c)) none
     ∙ ap (λ b. record r { held = cond b (insert r.held place (only_packet c)) r.held; waiting = cond b r.waiting (with_line r.waiting place (insert (line_at r.waiting place) c.unreliable (only_packet c))) }) next.reliable
     ∙ ap (λ n. record r { held = insert r.held n (only_packet c) }) next.at)
-
--- what is kept, and what comes of it, where room was made for what is dispatched
-pub passed_is : (most front unreliable : ℕ) (held : FinMap nat_cmp IncomingPacket) (waiting : Lines) (out room : List Dispatched) (c : DataCommand) (place : ℕ) (new : Receiver)
-    → Admitted most (receiver_of front unreliable held waiting out) c place → IsNext front c place → room ≡ out
-    → new ≡ all_released wire (receiver_of front unreliable (insert held (after front 1) (only_packet c)) waiting room)
-    → new ≡ all_released wire (with_stored (receiver_of front unreliable held waiting out) c place)
-passed_is most front unreliable held waiting out room c place new a next same is =
-    is ∙ ap (λ items. all_released wire (receiver_of front unreliable (insert held (after front 1) (only_packet c)) waiting items)) same
-    ∙ ap (all_released wire) (next_stored most (receiver_of front unreliable held waiting out) c place a next)
-
-pub kept_on : (taken : Bool) (most front unreliable : ℕ) (held : FinMap nat_cmp IncomingPacket) (waiting : Lines) (out room : List Dispatched) (c : DataCommand) (place : ℕ) (new : Receiver)
-    → Keeps most (receiver_of front unreliable held waiting out) → Admitted most (receiver_of front unreliable held waiting out) c place → IsInside front place → c.unreliable < 65536
-    → IsNext front c place → room ≡ out
-    → (taken ≡ true → new ≡ all_released wire (receiver_of front unreliable (insert held (after front 1) (only_packet c)) waiting room))
-    → (taken ≡ false → new ≡ receiver_of front unreliable held waiting room)
-    → Keeps most new
-kept_on true most front unreliable held waiting out room c place new k a inside count next same is not =
-    let r : Receiver = receiver_of front unreliable held waiting out in
-    subst (Keeps most) (sym (passed_is most front unreliable held waiting out room c place new a next same (is refl)))
-    (Keeps-all_released most (with_stored r c place) (Keeps-stored most r c place k inside count a))
-kept_on false most front unreliable held waiting out room c place new k a inside count next same is not =
-    subst (Keeps most) (sym (not refl ∙ ap (receiver_of front unreliable held waiting) same)) k

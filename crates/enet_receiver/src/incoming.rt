@@ -12,7 +12,6 @@ ghost use Rattle.enet_receiver.specs.ArrivingData.{data_command};
 ghost use Rattle.enet_receiver.specs.Private.Admitted.{Admitted, IsInside};
 ghost use Rattle.enet_receiver.specs.ReceiverParts.{with_first};
 ghost use Rattle.enet_receiver.specs.Private.ReceiverParts.{with_kept, grown_at, answered_with};
-ghost use Rattle.enet_receiver.specs.Private.Next.{IsNext};
 ghost use Rattle.enet_receiver.specs.Private.InPlace.{ComesAlone, GoesAtOnce, with_handed_out};
 ghost use Rattle.enet_receiver.specs.Private.Walk.{Completes};
 ghost use Rattle.enet_receiver.specs.Receiver.{held_bytes, cleared};
@@ -22,7 +21,7 @@ ghost use Rattle.enet_receiver.specs.Foresight.{new_end, data_if, is_reliable, i
 use crate::arriving_data::ArrivingData;
 use crate::foreseeing::{Completed, dispatches};
 use crate::held::Held;
-use crate::releasing::{pass_on, release};
+use crate::releasing::release;
 use crate::storing::{make_room, store};
 use crate::{Foresight, Took};
 use bytes::Bytes;
@@ -82,13 +81,6 @@ fn is_handled(took: Took) -> bool
         Took::Held | Took::Again | Took::Outside => true,
         Took::Bad | Took::Waiting | Took::Memory => false,
     }
-}
-
-/// Whether a command is a whole reliable packet, and the next one in order.
-fn is_next(front: u16, arriving: ArrivingData<'_>, place: u16) -> bool
-    ensures { IsTrue result → IsNext front (data_command arriving.entry) place }
-{
-    arriving.reliable && arriving.fragment.is_none() && place == after(front, 1)
 }
 
 impl Incoming {
@@ -292,9 +284,9 @@ impl Incoming {
         }
     }
 
-    /// Keeps a command that is taken in, and dispatches what that completes; the next packet in order is dispatched without
-    /// being held, and so is an unreliable one of the front, where nothing is held and nothing waits. False, with nothing
-    /// changed, where memory is refused.
+    /// Keeps a command that is taken in, and dispatches what that completes. Where nothing is held and nothing waits, the next
+    /// packet in order is dispatched without being held, and so is an unreliable one of the front. False, with nothing changed,
+    /// where memory is refused.
     fn keep(&mut self, arriving: ArrivingData<'_>, place: u16) -> bool
         requires short { length arriving.payload.now < 2 ^ 32 }
         requires admitted { Admitted self.old.max_packet self.old.receiver (data_command arriving) place }
@@ -307,17 +299,6 @@ impl Incoming {
         }
         if !make_room(&self.held, &self.waiting, &mut self.dispatched) {
             return false;
-        }
-        if is_next(self.front, arriving, place) {
-            return pass_on(
-                self.alloc,
-                &mut self.front,
-                &mut self.unreliable,
-                &mut self.held,
-                &mut self.waiting,
-                &mut self.dispatched,
-                arriving,
-            );
         }
         if !store(
             self.alloc,

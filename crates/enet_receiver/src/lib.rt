@@ -11,9 +11,9 @@
 //! sequence never has the flags 2 of an unsequenced packet (`sequenced_has_other_flags`). Inside, by the invariants of `Held` and
 //! `Block`: a number is marked exactly where a packet is held under it.
 //! Only tested, in `check_numbers` and `check_peer`: that calls succeed with ample memory, and the worked scripts of one
-//! channel. Neither: that a block's marks go with the last number that is held of it, what look-ups the marks save, and that a
-//! whole packet is put into no map where it is dispatched as it comes: the next one in order, and an unreliable one of the front
-//! while nothing is held and nothing waits.
+//! channel. Neither: that a block's marks go with the last number that is held of it, what look-ups the marks save, and that, while
+//! nothing is held and nothing waits, a whole packet is put into no map that is dispatched as it comes: the next one in order, or an
+//! unreliable one of the front.
 #![tactic(auto)]
 
 mod arriving_data;

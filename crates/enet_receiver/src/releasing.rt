@@ -1,26 +1,19 @@
 //! What is dispatched once a piece was taken in.
 
-ghost use Rattle.std.specs.Prelude.{◌≡◌, ◌+◌, ◌≤◌, ◌<◌, ◌^◌, true, false, IsTrue, None, IfSome, IfNone, OnSome, length};
-ghost use Rattle.std.specs.FinMap.{get, insert, remove, len};
+ghost use Rattle.std.specs.Prelude.{◌≡◌, ◌+◌, ◌≤◌, true, IsTrue, IfSome, IfNone, OnSome};
+ghost use Rattle.std.specs.FinMap.{get, remove, len};
 ghost use Rattle.std.specs.VecDeque.{deque_len, deque_capacity};
 ghost use Rattle.enet_seq.specs.Windows.{after};
 ghost use Rattle.enet_seq.specs.Numbering.{wire};
-ghost use Rattle.enet_fragment.specs.DataCommand.{place_in_packet};
-ghost use Rattle.enet_fragment.specs.Place.{is_sound};
 ghost use Rattle.enet_fragment.specs.Whole.{is_whole};
 ghost use Rattle.enet_packets.specs.Packets.{packets_in};
-ghost use Rattle.enet_receiver.specs.ArrivingData.{data_command};
 ghost use Rattle.enet_receiver.specs.Receiver.{without, next_whole, with_dispatched, all_released};
 ghost use Rattle.enet_receiver.specs.Laws.{HavePieces};
 ghost use Rattle.enet_receiver.specs.ReceiverParts.{receiver_of};
-ghost use Rattle.enet_receiver.specs.Private.Next.{only_packet};
 
-use crate::arriving_data::ArrivingData;
 use crate::held::Held;
-use crate::storing::begun;
 use enet_packets::{Dispatched, IncomingPacket, Waiting};
 use enet_seq::after;
-use std::alloc::Global;
 use std::collections::VecDeque;
 
 /// Takes the packet of this number away, if it is whole.
@@ -54,7 +47,7 @@ fn pass(front: u16, held: &mut Held, waiting: &mut Waiting, count: u32) -> u16
     last
 }
 
-/// Dispatches a whole packet that stands just past the front, held or not, with the unreliable ones that waited for it. It makes
+/// Dispatches a whole packet that stood just past the front, with the unreliable ones that waited for it. It makes
 /// room for none of them.
 fn dispatch_next(
     front: &mut u16,
@@ -97,33 +90,4 @@ pub(crate) fn release(
     }
     let first = u32::from(*unreliable) + 1;
     waiting.flush(*front, first, unreliable, dispatched);
-}
-
-/// Dispatches a packet of one command that comes just past the front, without holding it, and what is due then. False, with
-/// nothing changed, where memory is refused.
-pub(crate) fn pass_on(
-    alloc: Global,
-    front: &mut u16,
-    unreliable: &mut u16,
-    held: &mut Held,
-    waiting: &mut Waiting,
-    dispatched: &mut VecDeque<Dispatched>,
-    arriving: ArrivingData<'_>,
-) -> bool
-    requires short { length arriving.payload.now < 2 ^ 32 }
-    requires sound { IsTrue (is_sound (place_in_packet (data_command arriving))) }
-    requires single { arriving.fragment ≡ None }
-    requires room { deque_len dispatched.old + (len held.old + packets_in waiting.old + 1) ≤ deque_capacity dispatched.old }
-    requires pieces { HavePieces (receiver_of front.old unreliable.old held.old waiting.old dispatched.old.items) }
-    ensures passed { IsTrue result → receiver_of front.new unreliable.new held.new waiting.new dispatched.new.items
-        ≡ all_released wire (receiver_of front.old unreliable.old (insert held.old (after front.old 1) (only_packet (data_command arriving.entry))) waiting.old dispatched.old.items) }
-    ensures unchanged { result ≡ false → receiver_of front.new unreliable.new held.new waiting.new dispatched.new.items
-        ≡ receiver_of front.old unreliable.old held.old waiting.old dispatched.old.items }
-{
-    let Ok(coming) = begun(alloc, arriving) else {
-        return false;
-    };
-    dispatch_next(front, unreliable, held, waiting, dispatched, coming);
-    release(front, unreliable, held, waiting, dispatched);
-    true
 }

@@ -1,6 +1,6 @@
-use Rattle.std.proofs.Common.{◌≡◌, ◌<◌, false, List, length, Some, None, is_some, get_or, sym, ap, ◌∙◌, arith}
+use Rattle.std.proofs.Common.{◌<◌, length, None, sym, ◌∙◌, arith}
 use Rattle.std.proofs.lemmas.List.{get_or_read}
-use Rattle.enet_receiver.proofs.Marks.{Blocks, block_made}
+use Rattle.enet_receiver.proofs.Marks.{block_made}
 use Rattle.enet_receiver.proofs.marking.make_block.Goals as goal
 
 pub returns-clause-same : goal.returns-clause-same

@@ -1,4 +1,4 @@
-use Rattle.std.proofs.Common.{◌≡◌, Bool, List, length, eqb, get_or, false, sym, ap, ◌∙◌}
+use Rattle.std.proofs.Common.{Bool, List, get_or, false, sym, ap, ◌∙◌}
 use borrow.Author.Tests.{eqb-true}
 use Rattle.enet_receiver.proofs.Marks.{none_set}
 use Rattle.enet_receiver.proofs.block.Block.is_clear.Goals as goal

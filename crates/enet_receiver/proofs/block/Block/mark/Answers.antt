@@ -1,4 +1,4 @@
-use Rattle.std.proofs.Common.{◌≡◌, ◌-◌, ℕ, Bool, List, get_or, set, true, false, sym, ap, subst, ◌∙◌}
+use Rattle.std.proofs.Common.{◌-◌, ℕ, Bool, List, get_or, set, true, false, sym, ap, subst, ◌∙◌}
 use Rattle.enet_receiver.specs.Blocks.{KeepsBlock}
 use Rattle.enet_receiver.proofs.Marks.{one_missing}
 use Rattle.enet_receiver.proofs.block.Block.mark.Goals as goal

@@ -1,4 +1,4 @@
-use Rattle.std.proofs.Common.{◌≡◌, ◌+◌, ◌≤◌, ℕ, Bool, List, get_or, set, false, sym, ap, subst, ◌∙◌, arith}
+use Rattle.std.proofs.Common.{◌+◌, ◌≤◌, ℕ, Bool, List, get_or, set, false, sym, ap, subst, ◌∙◌, arith}
 use Rattle.enet_receiver.specs.Blocks.{KeepsBlock}
 use Rattle.enet_receiver.proofs.Marks.{one_more_missing}
 use Rattle.enet_receiver.proofs.block.Block.unmark.Goals as goal

@@ -1,4 +1,4 @@
-use Rattle.std.proofs.Common.{◌≡◌, sym, subst}
+use Rattle.std.proofs.Common.{sym, subst}
 use Rattle.enet_receiver.specs.Blocks.{AreMarked}
 use Rattle.enet_receiver.proofs.Marks.{Blocks, AreMarked-new}
 use Rattle.enet_receiver.proofs.held.Held.new.Goals as goal

@@ -1,7 +1,5 @@
-use Rattle.std.proofs.Common.{◌∙◌, ap, Option}
-use Rattle.enet_fragment.specs.declared.data.DataCommand.{DataCommand}
+use Rattle.std.proofs.Common.{◌∙◌}
 use Rattle.enet_receiver.specs.ArrivingData.{data_command}
-use Rattle.enet_receiver.specs.Foresight.{foreseen}
 use Rattle.enet_receiver.proofs.Admission.{admitted}
 use Rattle.enet_receiver.proofs.AtOnce.{dispatched_at_once}
 use Rattle.enet_receiver.proofs.Answered.{foreseen_held, foreseen_other}

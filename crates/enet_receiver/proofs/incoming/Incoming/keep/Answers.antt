@@ -7,7 +7,6 @@ use Rattle.enet_receiver.specs.ReceiverParts.{receiver_of}
 use Rattle.enet_receiver.proofs.Keeping.{pieces_of_kept, Keeps-all_released}
 use Rattle.enet_receiver.proofs.Bounds.{packets_fit}
 use Rattle.enet_receiver.proofs.Taken.{kept_then}
-use Rattle.enet_receiver.proofs.Ordered.{kept_on}
 use Rattle.enet_receiver.proofs.InPlace.{in_place_kept}
 use Rattle.enet_receiver.proofs.incoming.Incoming.keep.Goals as goal
 
@@ -20,20 +19,6 @@ pub make_room-requires : goal.make_room-requires
 make_room-requires c =
     let s = c.self.inside in
     packets_fit s.max_packet (receiver_of s.front s.unreliable s.held s.waiting s.dispatched.items) c.self.invariant
-
-pub pass_on-requires-clause-pieces : goal.pass_on-requires-clause-pieces
-pass_on-requires-clause-pieces c =
-    let s = c.self.inside in
-    pieces_of_kept s.max_packet (receiver_of s.front s.unreliable s.held s.waiting s.dispatched.items) c.self.invariant
-
-pub invariant_of-self-then-is_next : goal.invariant_of-self-then-is_next
-invariant_of-self-then-is_next c =
-    let s = c.self.inside in
-    kept_on c.pass_on.result s.max_packet s.front s.unreliable s.held s.waiting s.dispatched.items c.make_room.new.dispatched.items (data_command c.args.arriving) c.args.place _
-    c.self.invariant
-    (subst (λ (e : ReceivingEnd). Admitted e.max_packet e.receiver (data_command c.args.arriving) c.args.place) (sym c.self.view_is) c.requires.admitted)
-    (subst (λ (e : ReceivingEnd). IsInside e.receiver.front c.args.place) (sym c.self.view_is) c.requires.inside)
-    (omega arith) (c.is_next.ensures c.if-is_next.true) c.make_room.ensures.items c.pass_on.ensures.passed c.pass_on.ensures.unchanged
 
 pub store-requires-clause-agrees : goal.store-requires-clause-agrees
 store-requires-clause-agrees c = (subst (λ (e : ReceivingEnd). Admitted e.max_packet e.receiver (data_command c.args.arriving) c.args.place) (sym c.self.view_is) c.requires.admitted).agrees

@@ -1,8 +1,6 @@
-use Rattle.std.proofs.Common.{◌≡◌, ◌<◌, ◌^◌, Some, Option, ap, subst, ◌∙◌, arith}
-use Rattle.enet_fragment.specs.declared.data.DataCommand.{DataCommand}
-use Rattle.enet_receiver.specs.declared.took.Took.TheVariants.{Held}
+use Rattle.std.proofs.Common.{◌<◌, ◌^◌, subst, ◌∙◌, arith}
 use Rattle.enet_receiver.specs.ArrivingData.{data_command}
-use Rattle.enet_receiver.specs.Foresight.{ReceivingEnd, outcome_for, after_command}
+use Rattle.enet_receiver.specs.Foresight.{ReceivingEnd}
 use Rattle.enet_receiver.proofs.Taken.{IsOwn, own_command, kept_is}
 use Rattle.enet_receiver.proofs.incoming.Incoming.take_in.Goals as goal
 
