@@ -1,8 +1,9 @@
 #!/usr/bin/env bash
 # Proves, builds and runs the program that only measures: `measure.sh 1000000 time` (orders through the submit queue), `measure.sh peer` (what
-# piles up at a peer); the head of measure/enet_bench/src/main.rt.in says more. The gate leaves it alone, since its proofs promise nothing:
-# its files end in .in, which no check reads. Here they become a crate in a copy of the repository, over what earlier checks on this
-# machine kept; where that is nothing, all below it is proved first, some ten minutes. The status is the program's.
+# piles up at a peer), `measure.sh hosts` (a relay's calls on its host); the head of measure/enet_bench/src/main.rt.in says more. The gate
+# leaves it alone, since its proofs promise nothing: its files end in .in, which no check reads. Here they become a crate in a copy of the
+# repository, over what earlier checks on this machine kept; where that is nothing, all below it is proved first, some ten minutes. The
+# status is the program's.
 set -eu
 cd "$(dirname "$0")/.."
 room=$(mktemp -d)

@@ -4,9 +4,9 @@
 //!
 //! Proved: reading a command is exact (`read_command`: `found`, `only`, `none`): it gives the command that a prefix of the
 //! bytes spells and that prefix's length, and None exactly where no prefix spells one. Writing puts the canonical spelling and
-//! changes no other byte, and answers None with nothing changed exactly where it doesn't fit (`write_command`, and for the two
-//! that go most often `write_acknowledge`, `write_reliable` and `write_unreliable`: `written`, `fits`, `unchanged`, `spells`). No spelling begins
-//! another's, so what was written is read again, whatever follows (`one_spelling`). The same of headers (`read_header`,
+//! changes no other byte, and answers None with nothing changed exactly where it doesn't fit (`write_command`, and for the three
+//! that go most often `write_acknowledge`, `write_reliable` and `write_unreliable`: `written`, `fits`, `unchanged`, `spells`). No
+//! spelling begins another's, so what was written is read again, whatever follows (`one_spelling`). The same of headers (`read_header`,
 //! `write_header`, `one_header`), of lists of commands and of whole datagrams (`what_is_written_is_spelled`, `one_datagram`).
 //! What 'spells' means is specs/Message and specs/Header, a line a command. Numbers and names of refusals and stops (`label`,
 //! `number`); `Config::standard` gives exactly the stated numbers, and `Config::is_in_range` is exactly the test that opening

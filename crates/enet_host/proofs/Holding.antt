@@ -145,7 +145,7 @@ pub submits-held : {T : Type 0} (slots new : List SlotState) (name : PeerRef) (q
     → Submits r q (on_named slots name call) slots new → HoldsNoFree new
 submits-held slots new name q call r old d = submits-over HoldsNoFree slots new name q call r old (each-held slots name.slot old) d
 
--- What a host keeps of its slots: none holds a free peer, and those that are passed over sleep. A call keeps that where the slot that
+-- What a host keeps of its slots: none holds a free peer, and those that are passed over rest. A call keeps that where the slot that
 -- it names is awake.
 abbrev pub IsKept : ℕ → Skips → List SlotState → Type 0
 IsKept n skips slots = HoldsNoFree slots × KeepsSkips n skips slots

@@ -1,4 +1,4 @@
--- Which slots are passed over where slots are asked in turn.
+-- Which slots are passed over where slots are asked in turn, or time goes on.
 use Rattle.std.specs.Prelude.{◌≡◌, ℕ, ◌^◌, ◌<◌, ◌≤◌, Some, List, length, get_or, slice_get}
 use Rattle.enet_rtt.specs.Clock.{elapsed_time}
 use Rattle.enet_peer.specs.Calls as peers

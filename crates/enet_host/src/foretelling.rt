@@ -36,7 +36,7 @@ impl HostCore {
         peers.min(SHARING_INTERVAL.saturating_sub(elapsed(clock, self.shared_at)))
     }
 
-    // The slot whose event `next_event` would give.
+    /// The slot whose event `next_event` would give.
     pub(crate) fn next_teller(&self) -> Option<u16>
         ensures first { IfSome result (λ i. IsFirst tells self.now.slots self.now.event_from i) }
         ensures none { IfNone result (HoldsNowhere tells self.now.slots) }

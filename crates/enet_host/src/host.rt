@@ -49,7 +49,7 @@ pub struct HostCore {
     pub(crate) event_from: u16,
     pub(crate) totals: Totals,
     pub(crate) slots: Vec<Slot>,
-    /// Which of the slots need not be asked for a datagram or an event.
+    /// Which of the slots need not be asked for a datagram or an event, and for how long not ticked.
     pub(crate) skips: Skips,
 }
 

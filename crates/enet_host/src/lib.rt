@@ -9,15 +9,16 @@
 //! commands of a datagram at the one slot that its header names. `service` asks slot after slot, beginning after the one served last,
 //! up to the first that gives a datagram, and names its peer as it was before (`GivesInTurn`); `next_event` goes by the first slot in
 //! turn that has an event (`IsFirst`), and `next_event_of`, `next_packet` and `next_body` say of the event that it gives whose it is
-//! and what it hands out (`Foretells`). A slot that a list calls asleep has nothing to put out or to tell, and for a time that stands
-//! beside the list a tick changes nothing of it (`KeepsSkips`, `Rests`). `next_peer` is the name that an accepted connection gets,
-//! `submission_refusal` the refusal of `submit` but E1. `tick` and `set_bandwidth` are one change on each slot; once a second the
+//! and what it hands out (`Foretells`). Inside, by the invariant of `HostCore`: a slot that a list calls asleep has nothing to put out or
+//! to tell, and for a time that stands beside the list a tick changes nothing of it (`KeepsSkips`, `Rests`). `next_peer` is the name
+//! that an accepted connection gets, `submission_refusal` the refusal of `submit` but E1. `tick` and `set_bandwidth` are one change on each slot; once a second the
 //! outgoing bandwidth is shared out among the connected peers. `due_in` is in how many milliseconds time brings something: a tick of
 //! fewer changes the clock alone (`IsDueIn`).
 //! No slot of any host holds a peer that is free (`HostCore::keeps`). Want of memory, of which no clause can say when it comes,
 //! changes nothing.
 //! Only tested, by `check_hosts`: that calls succeed with ample memory, worked scripts, captured files, foreign bytes. Neither: that
-//! `service`, `tick` and the calls that tell events don't look at slots that sleep, free ones and those of idle connections.
+//! a slot which has nothing falls asleep, and that those asleep, free ones and those of idle connections, are looked at by no call of
+//! `service` or of those that tell events, and by `tick` only where bandwidth is shared out or time brings one of them something.
 #![tactic(auto)]
 
 mod calls;

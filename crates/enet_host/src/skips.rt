@@ -1,4 +1,4 @@
-//! Which slots of a host need not be asked.
+//! Which slots of a host need not be asked, and for how long not ticked.
 
 ghost use Rattle.std.specs.Prelude.{◌≡◌, ℕ, ◌-◌, ◌<◌, ◌≤◌, ◌⊎◌, min, nat_lt, IsTrue, IfOk, IfErr, List, length, replicate, get_or, slice_set};
 ghost use Rattle.enet_host.specs.Skips.{entry, Marks, KeepsSkips};
@@ -13,8 +13,8 @@ use enet_slot::Slot;
 use std::alloc::Global;
 
 /// Which slots of a host sleep: they are free, or their peer is connected and has nothing to send and nothing to tell. Where slots
-/// are asked in turn, these are passed over, so that what a turn costs doesn't grow with them. A slot falls asleep as time goes on,
-/// and is woken before anything else comes to it.
+/// are asked in turn, and at a tick within `calm`, these are passed over. A slot falls asleep as time goes on or where bandwidths
+/// are set, and is woken before anything else comes to it.
 #[derive(Drop)]
 pub(crate) struct Skips {
     /// An entry a slot. One past the slot's own number says that it sleeps, as do all between it and the entry: the next slot that

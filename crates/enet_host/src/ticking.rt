@@ -53,8 +53,8 @@ fn tick_awake(slots: &mut Vec<Slot>, skips: &Skips, peers: u16, now: u32)
 }
 
 /// Time has come to the host's clock at each slot. Where a second or more has passed since the bandwidth was last shared out, it is
-/// shared out among the connected peers; when that is from then on. As long as time brings those that sleep nothing, they cost
-/// nothing.
+/// shared out among the connected peers; when that is from then on. Those that sleep cost nothing but at such a moment, and where
+/// time brings one of them something.
 pub(crate) fn pass_time(
     slots: &mut Vec<Slot>,
     skips: &mut Skips,

@@ -108,7 +108,7 @@ impl Peer {
         self.carry_out(now, sent, command)
     }
 
-    /// The same of any command, step by step.
+    /// The same of any command, step by step; an ACKNOWLEDGE that asks for none is done before.
     fn carry_out(&mut self, now: u32, sent: Option<u16>, command: &Command<'_>) -> Result<(), Stop>
         ensures { Obeys result (wants_memory self.old.peer now sent (view command.now)) (obeyed self.old.peer now sent (view command.now)) self.old.peer self.new.peer }
     {

@@ -211,7 +211,7 @@ impl Incoming {
         }
     }
 
-    /// The same of a sequenced data command.
+    /// What `foresee` tells of a sequenced data command, which is taken apart already.
     pub fn foresee_data(&self, arriving: ArrivingData<'_>, full: bool) -> Foresight
         ensures { result ≡ foreseen self.now (Some (data_command arriving.entry)) full }
     {
@@ -285,8 +285,8 @@ impl Incoming {
     }
 
     /// Keeps a command that is taken in, and dispatches what that completes. Where nothing is held and nothing waits, the next
-    /// packet in order is dispatched without being held, and so is an unreliable one of the front. False, with nothing changed,
-    /// where memory is refused.
+    /// packet in order, where it comes whole, is dispatched without being held, and so is an unreliable one of the front. False,
+    /// with nothing changed, where memory is refused.
     fn keep(&mut self, arriving: ArrivingData<'_>, place: u16) -> bool
         requires short { length arriving.payload.now < 2 ^ 32 }
         requires admitted { Admitted self.old.max_packet self.old.receiver (data_command arriving) place }

@@ -4,7 +4,7 @@
 //! Proved, each exactly by the definitions of specs/Receiver and specs/DataOutcome: `Incoming`'s four receptions (`reliable`,
 //! `unreliable`, `fragment`, `unreliable_fragment`: the first outcome that applies, `took`, and the receiver after it,
 //! `held`; every other outcome changes nothing, `unchanged`; Memory comes only where the command would be held, `memory`),
-//! `foresee` (outcome, whether the window lets it be acknowledged, how many packets it dispatches), `take_in` (what was
+//! `foresee`, `foresee_data` (outcome, whether the window lets it be acknowledged, how many packets it dispatches), `take_in` (what was
 //! foreseen to be held is, and is not looked at again), `held`, `pop`, `clear`, `open`; and `ArrivingData::of` (which sequenced
 //! data command a command is). Laws: as many turns as packets are held are enough to dispatch all that is due
 //! (`turns_suffice`), and what was dispatched before makes no difference (`earlier_dispatches_do_not_matter`); what comes in

@@ -80,7 +80,8 @@ impl Course {
         })
     }
 
-    /// The course of a packet that needs no cutting.
+    /// The course of a packet of these flags and this body that needs no cutting, `number` and `unreliable` being the last numbers
+    /// given.
     pub fn whole(flags: u8, body: &Bytes, mtu: u32, number: u16, unreliable: u16) -> Course
         requires low { 576 ≤ mtu }
         requires high { mtu ≤ 4096 }

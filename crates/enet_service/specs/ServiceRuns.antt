@@ -45,6 +45,7 @@ pub record AreNew (queue : SubmitQueue) (events : Queue) (ends : Ends) : Type 0 
   pub taker : (ends.taker.queue ≡ events.id) × (ends.taker.taken ≡ [])
   pub one_taker : events.id.takers ≡ 1
 
+-- a service that did nothing yet: its host as opened, and no event waits
 abbrev pub beginning : Config → Service Host
 beginning config = record { host = opened config; waiting = None }
 

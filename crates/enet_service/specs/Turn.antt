@@ -21,12 +21,12 @@ pub record Round : Type 0 where
   pub failed : Bool
   pub report : Report
 
--- a wire that failed while datagrams came ends the turn before any is sent
+-- datagrams go, unless the wire failed while they came: then none goes
 pub record AfterHearing {H : Type 0} (calls : Calls H) (heard : Wired H) (told : List Told) (sent : Wired H) : Type 0 where
   pub sound : heard.failed ≡ false → SendsAll calls 256 heard.host told sent
   pub failed : heard.failed ≡ true → (told ≡ []) × (sent ≡ heard)
 
--- events come last; a wire that failed before ends the turn without them
+-- events come last, unless the wire failed: then none is told, and the event that waits still waits
 pub record AfterSending {H : Type 0} (calls : Calls H) (sent : Wired H) (waiting : Option Event) (puts : List (Event × Bool)) (new : Service H) : Type 0 where
   pub sound : sent.failed ≡ false → TellsAll calls (record { host = sent.host; waiting = waiting }) puts new
   pub failed : sent.failed ≡ true → (puts ≡ []) × (new ≡ record { host = sent.host; waiting = waiting })

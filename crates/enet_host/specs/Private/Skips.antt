@@ -1,4 +1,4 @@
--- Which slots are passed over where slots are asked in turn.
+-- Runs and turns of slots that are passed over, and parts of a calm time.
 use Rattle.std.specs.Prelude.{◌≡◌, ℕ, ◌^◌, ◌<◌, ◌≤◌, Some, List, slice_get}
 use Rattle.enet_slot.specs.Slot.{SlotState}
 use Rattle.enet_host.specs.declared.calm.Calm.{Calm}

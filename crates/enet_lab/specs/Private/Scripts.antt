@@ -1,4 +1,4 @@
--- What a whole script writes.
+-- What a read gave.
 use Rattle.std.specs.Prelude.{ℕ, List, [], take, Option, Some, None}
 
 -- What a read gave of these bytes.

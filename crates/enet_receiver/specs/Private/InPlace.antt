@@ -17,7 +17,7 @@ pub record ComesAlone (r : Receiver) (c : DataCommand) (place : ℕ) : Type 0 wh
   pub nothing_held : len r.held ≡ 0
   pub nothing_waits : len r.waiting ≡ 0
 
--- such a command that is short enough and hasn't fallen behind
+-- such a command that is short enough and hasn't fallen behind, where front and number have 16 bits
 pub record GoesAtOnce (most : ℕ) (r : Receiver) (c : DataCommand) : Type 0 where
   pub in_place : ComesAlone r c c.number
   pub short : length c.body ≤ most
