@@ -1,9 +1,10 @@
-// load PORT PID CLIENTS SIZE CHANNEL SECONDS: measures the relay at PORT of 127.0.0.1, which is process PID, with that many clients of
-// the reference library and packets of SIZE bytes, on channel 0 reliable ones, on channel 1 unreliable ones (in pieces where they are
-// long). First the trip at light load: one client talks 200 times a second, and each time another one of the others tells how long it
-// took. Then the most that goes through: every client talks, or so many that the packets on their way to the relay fit into the buffer
-// of a socket (`on_the_way`). One client alone has nobody to talk to, so beside it is one that only listens. Prints packets delivered
-// in a second, packets delivered in a second of the relay's processor time, and the trip's median and 99th percentile in microseconds.
+// load PORT PID CLIENTS SIZE CHANNEL SECONDS [TALKERS]: measures the relay at PORT of 127.0.0.1, which is process PID, with that many
+// clients of the reference library and packets of SIZE bytes, on channel 0 reliable ones, on channel 1 unreliable ones (in pieces where
+// they are long). First the trip at light load: one client talks 200 times a second, and each time another one of the others tells how
+// long it took. Then the most that goes through: every client talks, or the first TALKERS of them, and no more than have their packets
+// on the way to the relay in the buffer of a socket (`on_the_way`). One client alone has nobody to talk to, so beside it is one that
+// only listens. Prints packets delivered in a second, packets delivered in a second of the relay's processor time, and the trip's
+// median and 99th percentile in microseconds.
 //
 // Both ends' throttles are told never to go down, so that no unreliable packet is dropped before it is sent.
 #include <dirent.h>
@@ -15,7 +16,7 @@
 
 #include "common.h"
 
-enum { MOST = 33, TRIPS = 1 << 16, THREADS = 2 };
+enum { MOST = 513, TRIPS = 1 << 16, THREADS = 2 };
 
 // The front of every packet.
 typedef struct Message {
@@ -220,7 +221,8 @@ int main(int words, char **word)
     count = (int)number_of(words, word, 3, 1, MOST - 1);
     size = (size_t)number_of(words, word, 4, sizeof(Message), 20000);
     channel = (enet_uint8)number_of(words, word, 5, 0, 1);
-    talkers = count < on_the_way() ? count : on_the_way();
+    talkers = words > 7 ? (int)number_of(words, word, 7, 1, count) : count;
+    talkers = talkers < on_the_way() ? talkers : on_the_way();
     count = count == 1 ? 2 : count;
     double seconds = (double)number_of(words, word, 6, 1, 60), each_second, each_processor_second;
     prctl(PR_SET_TIMERSLACK, 1000);

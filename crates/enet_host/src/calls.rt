@@ -48,7 +48,10 @@ pub(crate) fn submit(
     let Some(place) = position_of(slots, name) else {
         return Err((Refusal::NoSuchPeer, body));
     };
-    slots[place].submit(channel, flags, body)
+    if let Err(refused) = slots[place].submit(channel, flags, body) {
+        return Err(refused);
+    }
+    Ok(())
 }
 
 /// Ends the connection of the peer of this name in this way.

@@ -39,7 +39,10 @@ impl HostCore {
         ensures rest { KeepsRest self.old self.new }
     {
         self.skips.wake(peer.slot);
-        calls::submit(&mut self.slots, peer, channel, flags, body)
+        if let Err(refused) = calls::submit(&mut self.slots, peer, channel, flags, body) {
+            return Err(refused);
+        }
+        Ok(())
     }
 
     /// The first refusal but want of memory that a packet of so many bytes meets on a channel of this peer: E2, E3, E4 or E5;

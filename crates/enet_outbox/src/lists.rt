@@ -46,7 +46,10 @@ pub fn submit_on(
     ensures only { IfErr result (λ e. (e.0 ≡ Refusal.TooLarge) ⊎ (e.0 ≡ Refusal.Memory)) }
     ensures kept { (transit : ℕ) → KeepsOutbox transit senders.old → KeepsOutbox transit senders.new }
 {
-    senders.submit(channel, flags, body, mtu)
+    if let Err(refused) = senders.submit(channel, flags, body, mtu) {
+        return Err(refused);
+    }
+    Ok(())
 }
 
 /// An acknowledgement of a channel's command comes: the command that it matches goes, and its bytes are no longer in

@@ -126,7 +126,10 @@ impl Outbox {
     {
         if !is_unsequenced(flags, body.len(), mtu) {
             self.idle = false;
-            return lists::submit_on(&mut self.senders, channel, flags, body, mtu);
+            if let Err(refused) = lists::submit_on(&mut self.senders, channel, flags, body, mtu) {
+                return Err(refused);
+            }
+            return Ok(());
         }
         self.submit_unsequenced(channel, body)
     }

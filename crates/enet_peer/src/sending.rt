@@ -25,7 +25,10 @@ impl Peer {
         if let Some(why) = self.submission_refusal(channel, body.len()) {
             return Err((why, body));
         }
-        self.outbox.submit(self.terms.mtu, channel, flags, body)
+        if let Err(refused) = self.outbox.submit(self.terms.mtu, channel, flags, body) {
+            return Err(refused);
+        }
+        Ok(())
     }
 
     /// The first refusal but want of memory that a packet of so many bytes meets on a channel, if there is one: E3, E4 or E5.

@@ -586,10 +586,12 @@ impl Outgoing {
         ensures room { HasRoom self.new }
     {
         if body.len() > (mtu - FRAGMENT_OVERHEAD) as usize {
-            self.submit_long(pending, flags, body, mtu)
-        } else {
-            self.submit_short(pending, flags, body, mtu)
+            return self.submit_long(pending, flags, body, mtu);
         }
+        if let Err(refused) = self.submit_short(pending, flags, body, mtu) {
+            return Err(refused);
+        }
+        Ok(())
     }
 
     /// Queues the commands of a packet that is cut into pieces.

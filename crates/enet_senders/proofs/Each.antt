@@ -1,5 +1,5 @@
 -- All channels change, one after another.
-use Rattle.std.proofs.Common.{◌≡◌, ℕ, zero, suc, ◌+◌, ◌<◌, ◌≤◌, Bool, true, ◌&&◌, ◌||◌, List, [], ◌∷◌, ◌++◌, length, map, get_or, set, take, drop, Option, Some, None, Result, Ok, Err, IfErr, refl, sym, ap, ap₂, subst, ◌∙◌, arith}
+use Rattle.std.proofs.Common.{◌≡◌, ℕ, zero, suc, ◌+◌, ◌<◌, ◌≤◌, Bool, true, ◌&&◌, ◌||◌, List, [], ◌∷◌, ◌++◌, length, map, get_or, set, take, drop, Option, Some, None, Result, Ok, Err, OnOk, IfErr, refl, sym, ap, ap₂, subst, ◌∙◌, arith}
 use Rattle.std.specs.List.{slice_get, range_with_len, list_all, list_any}
 use Rattle.std.proofs.lemmas.List.{length-append, length-map, length-take, length-drop, length-set, take_all, drop_all, append-nil, get_or_default, map_push, take-map, take-set-le}
 use Rattle.std.proofs.lemmas.List.Edits.{map_over_more}
@@ -100,6 +100,14 @@ set-there : {X : Type 0} (xs : List X) (i : ℕ) (x : X) → slice_get xs i ≡ 
 set-there [] i x there = refl
 set-there (y ∷ xs) zero x there = let is : y ≡ x = cc in ap (λ z. z ∷ xs) (sym is)
 set-there (y ∷ xs) (suc i) x there = ap (λ ys. y ∷ ys) (set-there xs i x there)
+
+-- what a clause says where a call answers Ok, since it did
+pub when-ok : {T E P : Type 0} (r : Result T E) (x : T) → r ≡ Ok x → OnOk r P → P
+when-ok {P = P} r x e p = subst (λ q. OnOk q P) e p
+
+-- what a clause says of a refusal, since there was this one
+pub when-err : {T E : Type 0} (r : Result T E) (P : E → Type 0) (why : E) → r ≡ Err why → IfErr r P → P why
+when-err r P why e p = subst (λ q. IfErr q P) e p
 
 -- where a packet is refused, all ends are as they were
 pub refused-frame : (s t : Slab Sent) (channels : List Outgoing) (i : ℕ) (old new : Outgoing) {E U : Type 0} (result : Result U (E × List ℕ)) (body : List ℕ) → Framed s t channels i new → i < length channels → get_or channels i old ≡ old

@@ -80,7 +80,10 @@ fn submit_on(
     ensures only { IfErr result (λ e. (e.0 ≡ Refusal.TooLarge) ⊎ (e.0 ≡ Refusal.Memory)) }
     ensures kept { KeepsAllIn pending.new channels.new.items }
 {
-    channels[usize::from(channel)].submit(pending, flags, body, mtu)
+    if let Err(refused) = channels[usize::from(channel)].submit(pending, flags, body, mtu) {
+        return Err(refused);
+    }
+    Ok(())
 }
 
 /// The next command of a channel is written: the other channels stay as they were.
@@ -277,14 +280,11 @@ impl Senders {
         ensures refused { IfErr result (λ e. (self.new ≡ self.old) × (e.1 ≡ body)) }
         ensures only { IfErr result (λ e. (e.0 ≡ Refusal.TooLarge) ⊎ (e.0 ≡ Refusal.Memory)) }
     {
-        submit_on(
-            &mut self.channels,
-            &mut self.pending,
-            channel,
-            flags,
-            body,
-            mtu,
-        )
+        let (channels, pending) = (&mut self.channels, &mut self.pending);
+        if let Err(refused) = submit_on(channels, pending, channel, flags, body, mtu) {
+            return Err(refused);
+        }
+        Ok(())
     }
 
     /// Writes the next command of a channel at `at`, where one may go, and keeps it as sent if it is reliable, as

@@ -31,11 +31,11 @@ impl Slot {
         let Some(peer) = &mut self.peer else {
             return Err((Refusal::NoSuchPeer, body));
         };
-        let submitted = peer.submit(channel, flags, body);
-        if submitted.is_ok() {
-            self.let_go();
+        if let Err(refused) = peer.submit(channel, flags, body) {
+            return Err(refused);
         }
-        submitted
+        self.let_go();
+        Ok(())
     }
 
     /// Ends the connection in this way, with a word for the other end's user. E2; E3 where it ends already: then nothing has

@@ -1,7 +1,7 @@
 use Rattle.std.proofs.Common.{◌≡◌, ◌<◌, ◌/◌, ◌%◌, Bool, ◌&&◌, not, eqb, ltb, length, ap, sym, subst, ◌∙◌, true, false}
-use Rattle.std.proofs.lemmas.Result.{on_ok_weaker}
 use Rattle.enet_fragment.specs.Cutting.{piece_length}
 use Rattle.enet_sender.specs.CommandChoice.{Packet}
+use Rattle.enet_senders.proofs.Each.{when-ok}
 use Rattle.enet_outbox.specs.contracts.outbox.Outbox.{the_view}
 use Rattle.enet_outbox.specs.Outbox.{Outbox, Sending, is_unsequenced, submitted}
 use Rattle.enet_outbox.proofs.Submitting.{there, submitted-on, one_piece, other_refusal}
@@ -14,10 +14,9 @@ returns-then-not-is_unsequenced-clause-submitted c =
     let inside : c.args.channel < length o.senders = subst (λ (v : Sending). c.args.channel < length v.outbox.senders) (sym c.self.view_is) c.requires.channel in
     let found = there o.senders c.args.channel inside in
     let plain : is_unsequenced c.args.mtu q ≡ false = rw (← c.len.ensures.value) (sym c.is_unsequenced.ensures ∙ c.if-not-is_unsequenced.true) in
-    on_ok_weaker c.submit_on.result
-    (λ queued. submitted-on o c.args.mtu c.args.channel q found.0 c.submit_on.new.senders plain found.1 queued
-    ∙ ap (λ (v : Sending). submitted v.outbox c.args.mtu c.args.channel q) c.self.view_is)
-    (c.submit_on.ensures.queued found.0 found.1)
+    submitted-on o c.args.mtu c.args.channel q found.0 c.submit_on.new.senders plain found.1
+    (when-ok c.submit_on.result c.in_default.field-0 c.in_default.is (c.submit_on.ensures.queued found.0 found.1))
+    ∙ ap (λ (v : Sending). submitted v.outbox c.args.mtu c.args.channel q) c.self.view_is
 
 pub returns-clause-too_large : goal.returns-clause-too_large
 returns-clause-too_large c =

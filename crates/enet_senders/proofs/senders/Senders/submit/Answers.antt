@@ -12,3 +12,12 @@ invariant_of-self c =
       quiet = quiet-submitted c.self.inside.quiet c.args.mtu c.args.flags c.args.body (ends_in c.self.inside.pending c.self.inside.channels.items) _ c.args.channel c.submit_on.result inside
           c.submit_on.ensures.queued c.submit_on.ensures.refused c.self.invariant.quiet;
     }
+
+pub invariant_of-self-2 : goal.invariant_of-self-2
+invariant_of-self-2 c =
+    let inside = subst (λ (es : List SendingEnd). c.args.channel < length es) (sym c.self.view_is) c.requires.channel in record {
+      kept = c.submit_on.ensures.kept;
+      fits = c.self.invariant.fits;
+      quiet = quiet-submitted c.self.inside.quiet c.args.mtu c.args.flags c.args.body (ends_in c.self.inside.pending c.self.inside.channels.items) _ c.args.channel c.submit_on.result inside
+          c.submit_on.ensures.queued c.submit_on.ensures.refused c.self.invariant.quiet;
+    }
