@@ -1,6 +1,6 @@
 //! Which slots of a host need not be asked, and for how long not ticked.
 
-ghost use Rattle.std.specs.Prelude.{◌≡◌, ℕ, ◌-◌, ◌<◌, ◌≤◌, ◌⊎◌, min, nat_lt, IsTrue, IfOk, IfErr, List, length, replicate, get_or, slice_set};
+ghost use Rattle.std.specs.Prelude.{◌≡◌, ℕ, ◌-◌, ◌<◌, ◌≤◌, ◌⊎◌, min, nat_lt, IsTrue, IfOk, IfErr, List, length, replicate, slice_set};
 ghost use Rattle.enet_host.specs.Skips.{entry, Marks, KeepsSkips};
 ghost use Rattle.enet_host.specs.Private.Skips.{IsPartOf, SlotRests, PassesOver, PassesTurns, AwakeAt};
 ghost use Rattle.enet_slot.specs.Slot.{SlotState};

@@ -3,9 +3,6 @@
 ghost use Rattle.std.specs.Prelude.{◌≡◌, ◌<◌, ◌≤◌, nat_le, if◌then◌else◌, length, map};
 ghost use Rattle.std.specs.List.{count_by};
 ghost use Rattle.enet_rtt.specs.Clock.{elapsed_time};
-ghost use Rattle.enet_peer.specs.Peering.{Peering};
-ghost use Rattle.enet_peer.specs.Calls as peers;
-ghost use Rattle.enet_slot.specs.Slot.{changed};
 ghost use Rattle.enet_slot.specs.Sharing.{is_standing, shared};
 ghost use Rattle.enet_slot.specs.Slotted.{all_shown};
 ghost use Rattle.enet_host.specs.Skips.{IsWithin, KeepsSkips};

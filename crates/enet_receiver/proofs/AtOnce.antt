@@ -71,9 +71,9 @@ pub record IsDispatchedAtOnce (most : ℕ) (r : Receiver) (c : DataCommand) (ful
 
 held_at_once : (most : ℕ) (r : Receiver) (c : DataCommand) (full : Bool) → GoesAtOnce most r c → full ≡ false → place_read wire r c ≡ Some c.number → outcome wire most r c full ≡ Held
 held_at_once most r c full at begins read =
-    let none : came_at r c c.number ≡ None = nothing_came_of r c c.number at.in_place in
+    let none : came_at r c c.number ≡ None = nothing_came_of r c c.number at.alone in
     let before : None ≡ came_before wire r c = sym (came_before-read wire r c c.number read ∙ none) in
-    outcome-read most r c full c.number None (only_piece_of most c at.in_place.single at.short at.number) before refl read
+    outcome-read most r c full c.number None (only_piece_of most c at.alone.single at.short at.number) before refl read
     ∙ (λ i. cond (at.not_behind i || false) Again (cond (begins i && true) Waiting Held))
 
 -- and is all that it dispatches
@@ -89,6 +89,6 @@ one_dispatched most r c full there held read =
 
 pub dispatched_at_once : (most : ℕ) (r : Receiver) (c : DataCommand) (full : Bool) → GoesAtOnce most r c → full ≡ false → IsDispatchedAtOnce most r c full
 dispatched_at_once most r c full at begins =
-    let read : place_read wire r c ≡ Some c.number = read_is r c at.in_place.single at.front at.number (at_is r c at.front at.in_place.at at.number) in
+    let read : place_read wire r c ≡ Some c.number = read_is r c at.alone.single at.front at.number (at_is r c at.front at.alone.at at.number) in
     let held : outcome wire most r c full ≡ Held = held_at_once most r c full at begins read in
-    record { held = held; one = one_dispatched most r c full at.in_place held read }
+    record { held = held; one = one_dispatched most r c full at.alone held read }

@@ -140,7 +140,7 @@ reliable_out most r c place a there reliable at =
     let pieces : HavePieces r = λ q x e. absurd (let none : get r.held q ≡ None = nothing_held r.held q (omega (arith, there.nothing_held)) in cc) in
     let due : next_whole (get r.held (after (after r.front 1) 1)) ≡ None = ap next_whole (nothing_held r.held (after (after r.front 1) 1) (omega (arith, there.nothing_held))) in
     sym (
-    ap (all_released wire) (sym (next_stored most r c place a (record { reliable = reliable; single = there.single; at = at })))
+    ap (all_released wire) (sym (next_stored most r c place a there reliable))
     ∙ sym (released_at_once r c there.single (piece_sound most c a.piece).0 pieces)
     ∙ ap (λ (s : Receiver). all_released wire (flushed_from 0 s)) (passed_alone r c there.single there.nothing_held there.nothing_waits)
     ∙ ap (all_released wire) (flushed_nothing 0 out there.nothing_waits)

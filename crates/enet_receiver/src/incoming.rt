@@ -5,8 +5,7 @@ ghost use Rattle.std.specs.Option.{option_copied};
 ghost use Rattle.enet_codec.specs.Message.{view};
 ghost use Rattle.enet_seq.specs.Numbering.{wire};
 ghost use Rattle.enet_seq.specs.Windows.{after};
-ghost use Rattle.enet_fragment.specs.DataCommand.{data_of, place_in_packet};
-ghost use Rattle.enet_fragment.specs.Place.{is_sound};
+ghost use Rattle.enet_fragment.specs.DataCommand.{data_of};
 ghost use Rattle.enet_fragment.specs.Whole.{is_whole};
 ghost use Rattle.enet_receiver.specs.ArrivingData.{data_command};
 ghost use Rattle.enet_receiver.specs.Private.Admitted.{Admitted, IsInside};
@@ -294,7 +293,7 @@ impl Incoming {
         ensures kept { IsTrue result → self.new ≡ with_kept self.old (data_command arriving.entry) place }
         ensures unchanged { result ≡ false → self.new ≡ self.old }
     {
-        if self.is_in_place(arriving, place) {
+        if self.comes_alone(arriving, place) {
             return self.dispatch_in_place(arriving, place);
         }
         if !make_room(&self.held, &self.waiting, &mut self.dispatched) {
@@ -321,7 +320,7 @@ impl Incoming {
 
     /// Whether a command is a whole packet that is dispatched as it comes, while nothing is held and nothing waits: the next
     /// reliable one in order, or an unreliable one that goes with the front.
-    fn is_in_place(&self, arriving: ArrivingData<'_>, place: u16) -> bool
+    fn comes_alone(&self, arriving: ArrivingData<'_>, place: u16) -> bool
         ensures { IsTrue result → ComesAlone self.now.receiver (data_command arriving.entry) place }
     {
         arriving.fragment.is_none()
@@ -347,7 +346,7 @@ impl Incoming {
     {
         let place = arriving.head.number;
         arriving.payload.len() <= self.max_packet as usize
-            && self.is_in_place(arriving, place)
+            && self.comes_alone(arriving, place)
             && !self.is_behind(arriving, place)
     }
 
@@ -355,7 +354,7 @@ impl Incoming {
     fn dispatch_in_place(&mut self, arriving: ArrivingData<'_>, place: u16) -> bool
         requires admitted { Admitted self.old.max_packet self.old.receiver (data_command arriving) place }
         requires inside { IsInside self.old.receiver.front place }
-        requires in_place { ComesAlone self.old.receiver (data_command arriving) place }
+        requires alone { ComesAlone self.old.receiver (data_command arriving) place }
         ensures dispatched { IsTrue result → self.new ≡ with_handed_out self.old (data_command arriving.entry) place }
         ensures unchanged { result ≡ false → self.new ≡ self.old }
     {

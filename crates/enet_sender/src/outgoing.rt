@@ -518,7 +518,7 @@ impl Outgoing {
         ensures queued { OnOk result (end_in pending.new self.new ≡ with_submitted mtu (end_in pending.old self.old) flags body) }
         ensures refused { IfErr result (λ e. (end_in pending.new self.new ≡ end_in pending.old self.old) × (e.1 ≡ body)) }
         ensures too_large { IsErrAnd result (λ e. e.0 ≡ Refusal.TooLarge) ↔ (fragment_limit < piece_count (length body) mtu) }
-        ensures only { IfErr result (λ e. (e.0 ≡ Refusal.TooLarge) ⊎ (e.0 ≡ Refusal.Memory)) }
+        ensures only { IfErr result (λ e. e.0 ≡ Refusal.Memory) }
         ensures kept { KeepsIn pending.new self.new }
         ensures passes { PassesIn pending.old self.old pending.new self.new }
         ensures room { HasRoom self.new }

@@ -19,7 +19,7 @@ pub record ComesAlone (r : Receiver) (c : DataCommand) (place : ℕ) : Type 0 wh
 
 -- such a command that is short enough and hasn't fallen behind, where front and number have 16 bits
 pub record GoesAtOnce (most : ℕ) (r : Receiver) (c : DataCommand) : Type 0 where
-  pub in_place : ComesAlone r c c.number
+  pub alone : ComesAlone r c c.number
   pub short : length c.body ≤ most
   pub not_behind : is_behind r c c.number ≡ false
   pub front : r.front < 65536

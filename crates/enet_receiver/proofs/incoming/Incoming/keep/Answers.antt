@@ -10,10 +10,10 @@ use Rattle.enet_receiver.proofs.Taken.{kept_then}
 use Rattle.enet_receiver.proofs.InPlace.{in_place_kept}
 use Rattle.enet_receiver.proofs.incoming.Incoming.keep.Goals as goal
 
-pub returns-then-is_in_place-clause-kept : goal.returns-then-is_in_place-clause-kept
-returns-then-is_in_place-clause-kept c = λ taken.
+pub returns-then-comes_alone-clause-kept : goal.returns-then-comes_alone-clause-kept
+returns-then-comes_alone-clause-kept c = λ taken.
     c.dispatch_in_place.ensures.dispatched taken
-    ∙ in_place_kept c.args.self.now (data_command c.args.arriving) c.args.place c.requires.admitted (c.is_in_place.ensures c.if-is_in_place.true)
+    ∙ in_place_kept c.args.self.now (data_command c.args.arriving) c.args.place c.requires.admitted (c.comes_alone.ensures c.if-comes_alone.true)
 
 pub make_room-requires : goal.make_room-requires
 make_room-requires c =

@@ -6,7 +6,7 @@ use Rattle.enet_sender.proofs.Counting.{counted-some}
 use Rattle.enet_sender.specs.Pending.{named, Passes}
 use Rattle.enet_sender.specs.Rings.{Keeps, rings_of, keys_of, commands_at}
 use Rattle.enet_sender.proofs.Sending.{Heads, head-there, head-named, passed_on, begin-keeps, begin-passes, begin-sent}
-use Rattle.enet_sender.proofs.outgoing.Outgoing.begin.Goals.{After-begin, After-push_back_reserved}
+use Rattle.enet_sender.proofs.outgoing.Outgoing.begin.Goals.{After-begin}
 use Rattle.enet_sender.proofs.outgoing.Outgoing.begin.Goals as goal
 
 heads : (c : After-begin) (p : Sent) → get c.args.pending.now.slab c.args.key ≡ Some p → Heads (get c.args.pending.now.slab) (get c.begin.new.self.slab) (rings_of c.args.self.now) c.args.key (drop 1 c.args.self.now.queued.items) p
