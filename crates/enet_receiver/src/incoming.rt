@@ -211,12 +211,22 @@ impl Incoming {
     }
 
     /// What `foresee` tells of a sequenced data command, which is taken apart already.
+    #[inline]
     pub fn foresee_data(&self, arriving: ArrivingData<'_>, full: bool) -> Foresight
         ensures { result ≡ foreseen self.now (Some (data_command arriving.entry)) full }
     {
         if !full && self.goes_at_once(arriving) {
             return self.answer(Took::Held, arriving.head.number, 1);
         }
+        self.foresee_in_full(arriving, full)
+    }
+
+    /// The same of any such command. It stays a function of its own: where it is part of `foresee_data`, that is too long to
+    /// become part of its caller, which then copies each command for it.
+    #[inline(never)]
+    fn foresee_in_full(&self, arriving: ArrivingData<'_>, full: bool) -> Foresight
+        ensures { result ≡ foreseen self.now (Some (data_command arriving.entry)) full }
+    {
         match self.admit(arriving, full) {
             Ok(place) => {
                 let dispatches = self.dispatches(arriving, place);
