@@ -61,6 +61,10 @@ impl<'a> OrderSender<'a> {
         ensures memory { IfErr result (λ why. why ≡ Refusal.Memory) }
         ensures queue { sender_queue self.new ≡ sender_queue self.old }
     {
+        if self.waiting.is_empty() {
+            self.waiting = orders;
+            return Ok(());
+        }
         let mut orders = orders;
         match self.waiting.append(&mut orders) {
             Ok(()) => Ok(()),

@@ -26,7 +26,7 @@ pub struct SubmitQueue {
 }
 
 impl SubmitQueue {
-    ghost use Rattle.std.specs.Prelude.{◌≡◌, ◌↔◌, ◌⊎◌, [], ◌∷◌, ◌++◌, length, IfOk, OnOk, IfErr, IfSome, OnSome, IfNone, IsOk, IsErrAnd, IsErrOf};
+    ghost use Rattle.std.specs.Prelude.{◌≡◌, ◌<◌, ◌↔◌, ◌⊎◌, [], ◌∷◌, ◌++◌, length, IfOk, OnOk, IfErr, OnErr, IfSome, OnSome, IfNone, IsOk, IsErrAnd, IsErrOf};
     ghost use Rattle.std.specs.List.{All};
     ghost use Rattle.crossbeam_queue.specs.Fifo.{Held};
     ghost use Rattle.enet_submit.specs.History.{of};
@@ -78,6 +78,40 @@ impl SubmitQueue {
         if seat.count == self.per_seat {
             return Err((Refusal::SeatSpent, order));
         }
+        let number = seat.count;
+        let item = Submission {
+            seat: seat.number,
+            number,
+            order,
+        };
+        if let Err(back) = self.ring.try_push_as::<Submits>(&mut seat.pass, item) {
+            return self.submit_again(rt, seat, back.order);
+        }
+        seat.count = number + 1;
+        Ok(Ticket {
+            seat: seat.number,
+            number,
+        })
+    }
+
+    // Hands an order over where the first attempt failed: the queue is full, or another thread is in the way.
+    #[cold]
+    #[inline(never)]
+    fn submit_again<R: Wait>(
+        &self,
+        rt: &R,
+        seat: &mut Seat,
+        order: Order,
+    ) -> Result<Ticket, (Refusal, Order)>
+        requires { IsSeatOf self.now seat.old × (length (sent seat.old) < limit_of self.now) }
+        ensures same { IsSeatOf self.now seat.new × (number_of seat.new ≡ number_of seat.old) }
+
+        ensures next { IfOk result (λ ticket. IsNext seat.old order seat.new ticket) }
+        ensures pushed { OnOk result (StoodLast self.now seat.new (submission (number_of seat.old) (length (sent seat.old)) order)) }
+
+        ensures back { IfErr result (λ e. (e.1 ≡ order) × (sent seat.new ≡ sent seat.old) × (e.0 ≡ Refusal.Full)) }
+        ensures full { OnErr result (Held (capacity_of self.now) (SeatSees self.now seat.old)) }
+    {
         let number = seat.count;
         let item = Submission {
             seat: seat.number,
