@@ -8,13 +8,14 @@ use Rattle.enet_codec.specs.declared.event.Event.{Event}
 use Rattle.enet_codec.specs.declared.event.PeerRef.{PeerRef}
 use Rattle.enet_codec.specs.declared.event.Received.{Received}
 use Rattle.enet_codec.specs.declared.refusal.Refusal.{Refusal}
+use Rattle.enet_slot.specs.declared.giving.Question.{Question}
 use Rattle.enet_slot.specs.Slot.{SlotState}
 use Rattle.enet_slot.specs.Calls.{submission}
 use Rattle.enet_slot.specs.Sharing.{wants_room}
 use Rattle.enet_host.specs.Host.{Host}
 use Rattle.enet_host.specs.Calls.{on_named, with_bandwidth, Takes}
 use Rattle.enet_host.specs.Foretelling.{body_of}
-use Rattle.enet_host.specs.Opening.{Opens, Connects, opened}
+use Rattle.enet_host.specs.Opening.{host_basis, Opens, Connects, opened}
 use Rattle.enet_host.specs.Receiving.{Receives}
 use Rattle.enet_host.specs.Serving.{Serves}
 use Rattle.enet_c.specs.Numbers.{answered_by}
@@ -81,14 +82,14 @@ ReadsPeer name old new held number after = IsReading (reading_named held.host.sl
 abbrev pub Stages : List ℕ → Held → ℕ → Held → Type 0
 Stages body held number after = ((number ≡ 0) × (after ≡ record held { staged = Some body })) ⊎ ((number ≡ 1) × (after ≡ held))
 
--- the staged body is submitted, if there is one
-abbrev pub SubmitsBody : PeerRef → ℕ → ℕ → Option (List ℕ) → Held → ℕ → Held → Type 0
-SubmitsBody name channel flags None held number after = (number ≡ unstaged) × (after ≡ held)
-SubmitsBody name channel flags (Some body) held number after =
-    SettlesWithMemory (λ slots. on_named slots name (submission channel (record { flags = flags; body = body }))) held number after
+-- the staged body is submitted by this call on slots, if there is one
+abbrev pub SubmitsBody : (List ℕ → List SlotState → Result (List SlotState) Refusal) → Option (List ℕ) → Held → ℕ → Held → Type 0
+SubmitsBody call None held number after = (number ≡ unstaged) × (after ≡ held)
+SubmitsBody call (Some body) held number after = SettlesWithMemory (call body) held number after
 
 abbrev pub SubmitsStaged : PeerRef → ℕ → ℕ → Held → ℕ → Held → Type 0
-SubmitsStaged name channel flags held number after = SubmitsBody name channel flags held.staged held number after
+SubmitsStaged name channel flags held number after =
+    SubmitsBody (λ body slots. on_named slots name (submission channel (record { flags = flags; body = body }))) held.staged held number after
 
 -- new bandwidths, or 1 where a peer that must be told wants memory for it
 abbrev pub SetsBandwidth : ℕ → ℕ → Held → ℕ → Held → Type 0
@@ -119,9 +120,9 @@ abbrev pub named_by : Result PeerRef Refusal → CorePeer → CorePeer
 named_by (Ok name) old = name_shown name
 named_by (Err why) old = old
 
-pub record Asks (to : Addr) (channels info word : ℕ) (old new : CorePeer) (held : Held) (number : ℕ) (after : Held) : Type 0 where
+pub record Asks (question : Question) (old new : CorePeer) (held : Held) (number : ℕ) (after : Held) : Type 0 where
   pub answer : Result PeerRef Refusal
-  pub connects : Connects held.host.config held.host.clock held.host.slots to channels info word answer after.host.slots
+  pub connects : Connects (host_basis held.host) held.host.slots question answer after.host.slots
   pub told : number ≡ answered_by answer
   pub named : new ≡ named_by answer old
   pub rest : after ≡ record held { host = record held.host { slots = after.host.slots } }

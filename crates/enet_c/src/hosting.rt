@@ -23,7 +23,7 @@ impl Held {
         word: u32,
         peer: &mut CorePeer,
     ) -> u32
-        ensures { Asks to channels info word peer.old peer.new self.old result self.new }
+        ensures { Asks (record { address = to; channels = channels; info = info; word = word }) peer.old peer.new self.old result self.new }
     {
         match self.host.connect(to, channels, info, word) {
             Ok(name) => {

@@ -26,7 +26,7 @@ pub extern "C" fn gofnjerta_core_connect(
     word: u32,
     peer: &mut CorePeer,
 ) -> u32
-    ensures asks { Crosses (Asks (address_meant to.now) channels info word peer.old peer.new) handle.old.own.value result handle.new.own.value }
+    ensures asks { Crosses (Asks (record { address = address_meant to.now; channels = channels; info = info; word = word }) peer.old peer.new) handle.old.own.value result handle.new.own.value }
     ensures closed { IfNone handle.old.own.value (peer.new ≡ peer.old) }
 {
     let Some(mut held) = handle.take(alloc) else {

@@ -4,7 +4,6 @@ use Rattle.std.proofs.lemmas.Bool.{cases_lt}
 use Rattle.std.proofs.lemmas.Bool.Decides.{nat_tests}
 use Rattle.std.proofs.lemmas.List.{get_or-set_other, get_or-set_same, length-set}
 use Rattle.std.proofs.lemmas.Option.{slice_get_within, slice_get_read, slice_get-get_or, get_or_from_slice_get}
-use Rattle.enet_codec.specs.declared.address.Addr.{Addr}
 use Rattle.enet_codec.specs.declared.event.PeerRef.{PeerRef}
 use Rattle.enet_slot.specs.Slot.{SlotState, name_of}
 use Rattle.enet_host.specs.Turns.{turn_of, IsFirst, HoldsNowhere}
@@ -14,7 +13,7 @@ use Rattle.enet_slot.proofs.Sleeping.{passes-asleep, mute-asleep}
 use Rattle.enet_host.specs.declared.skips.Skips.{Skips}
 use Rattle.enet_host.specs.Skips.{KeepsSkips}
 use Rattle.enet_host.specs.Private.Skips.{PassesTurns}
-use Rattle.enet_host.specs.Serving.{InTurn, GivesInTurn, AllPass}
+use Rattle.enet_host.specs.Serving.{Served, InTurn, GivesInTurn, AllPass}
 use Rattle.enet_host.specs.Private.Shown.{SlotGives, SlotPasses}
 use Rattle.enet_host.proofs.Turning.{turn-below, same-turn}
 
@@ -104,47 +103,48 @@ all-pass now n from k old new f count same past asked = record {
   count = same;
 }
 
-in-turn : (now n from k i number len : ℕ) (buf : List ℕ) (old new after : List SlotState) (s t slot left : SlotState) → from < n → length old ≡ n → number < n
-    → turn_of n from number ≡ k → AllAsked now n from k old new → slice_get new number ≡ Some slot → Gives now len buf slot left → number < length new
+in-turn : (now n from k i number : ℕ) (gave : Served) (old new after : List SlotState) (s t slot left : SlotState) → from < n → length old ≡ n → number < n
+    → turn_of n from number ≡ k → AllAsked now n from k old new → slice_get new number ≡ Some slot → Gives now gave.len gave.buf slot left → gave.name.slot ≡ number → number < length new
     → after ≡ slice_set new number left → slice_get old i ≡ Some s → slice_get after i ≡ Some t → (b : Bool) → nat_eq i number ≡ b
-    → InTurn now from n number len buf i s t
-in-turn now n from k i number len buf old new after s t slot left f count inside place asked there gives within is a b true e =
+    → InTurn now (turn_of n from) gave i s t
+in-turn now n from k i number gave old new after s t slot left f count inside place asked there gives slot_is within is a b true e =
     let same : i ≡ number = grind (arith, nat_tests, e) in
     let turn : turn_of n from i ≡ turn_of n from number = ap (λ (j : ℕ). turn_of n from j) same in
+    let given : turn_of n from gave.name.slot ≡ turn_of n from number = ap (λ (j : ℕ). turn_of n from j) slot_is in
     let there_too : slice_get new i ≡ Some slot = subst (λ (j : ℕ). slice_get new j ≡ Some slot) (sym same) there in
     let was : slot ≡ s = (asked i s slot a there_too).after (omega (arith, turn, place)) in
     let here : slice_get (slice_set new number left) i ≡ Some t = subst (λ (ss : List SlotState). slice_get ss i ≡ Some t) is b in
     let put : slice_get (slice_set new number left) i ≡ Some left = subst (λ (j : ℕ). slice_get (slice_set new number left) j ≡ Some left) (sym same) (get-set-same new number left within) in
     let now_is : left ≡ t = some-same (slice_get (slice_set new number left) i) left t put here in
     record {
-      before = λ less. absurd (omega (arith, less, turn));
-      here = λ at. subst (λ (u : SlotState). Gives now len buf u t) was (subst (λ (u : SlotState). Gives now len buf slot u) now_is gives);
-      after = λ past. absurd (omega (arith, past, turn));
+      before = λ less. absurd (omega (arith, less, turn, given));
+      here = λ at. subst (λ (u : SlotState). Gives now gave.len gave.buf u t) was (subst (λ (u : SlotState). Gives now gave.len gave.buf slot u) now_is gives);
+      after = λ past. absurd (omega (arith, past, turn, given));
     }
-in-turn now n from k i number len buf old new after s t slot left f count inside place asked there gives within is a b false e =
+in-turn now n from k i number gave old new after s t slot left f count inside place asked there gives slot_is within is a b false e =
     let other : i ≢ number = λ same. absurd (grind (arith, nat_tests, e, same)) in
+    let given : turn_of n from gave.name.slot ≡ turn_of n from number = ap (λ (j : ℕ). turn_of n from j) slot_is in
     let b_before : slice_get new i ≡ Some t = get-set-other new number i left t other (subst (λ (ss : List SlotState). slice_get ss i ≡ Some t) is b) in
     let before = asked i s t a b_before in
     record {
-      before = λ less. before.before (omega (arith, less, place));
-      here = λ at. absurd (other at);
-      after = λ past. before.after (omega (arith, past, place));
+      before = λ less. before.before (omega (arith, less, place, given));
+      here = λ at. absurd (other (at ∙ slot_is));
+      after = λ past. before.after (omega (arith, past, place, given));
     }
 
 -- slot `number` gave a datagram after k turns
-pub gives-in-turn : (now n from k number len : ℕ) (name : PeerRef) (address : Addr) (buf : List ℕ) (old new after : List SlotState) → from < n → length old ≡ n
-    → number < n → turn_of n from number ≡ k → AllAsked now n from k old new → length after ≡ length old → SlotGives now new number name address len buf after
-    → slice_get old number ≡ slice_get new number → name.slot ≡ number → GivesInTurn now from old name address len buf after
-gives-in-turn now n from k number len name address buf old new after f count inside place asked same g unchanged slot_is = record {
+pub gives-in-turn : (now n from k number : ℕ) (gave : Served) (old new after : List SlotState) → from < n → length old ≡ n → number < n → turn_of n from number ≡ k
+    → AllAsked now n from k old new → length after ≡ length old → SlotGives now new number gave after → slice_get old number ≡ slice_get new number → gave.name.slot ≡ number
+    → GivesInTurn now from old gave after
+gives-in-turn now n from k number gave old new after f count inside place asked same g unchanged slot_is = record {
   slot = g.slot;
   there = subst (λ (j : ℕ). slice_get old j ≡ Some g.slot) (sym slot_is) (unchanged ∙ g.there);
   named = g.named ∙ ap (λ (j : ℕ). record { slot = j; generation = g.slot.generation }) (sym slot_is);
   addressed = g.addressed;
   slots = λ i s t a b.
-      subst (λ (m : ℕ). InTurn now from m name.slot len buf i s t) (sym count)
-      (subst (λ (j : ℕ). InTurn now from n j len buf i s t) (sym slot_is)
-      (in-turn now n from k i number len buf old new after s t g.slot g.left f count inside place asked g.there g.gives (slice_get_within new number g.slot g.there) g.after a b
-      (nat_eq i number) refl));
+      subst (λ (m : ℕ). InTurn now (turn_of m from) gave i s t) (sym count)
+      (in-turn now n from k i number gave old new after s t g.slot g.left f count inside place asked g.there g.gives slot_is (slice_get_within new number g.slot g.there) g.after a b
+      (nat_eq i number) refl);
   count = same;
 }
 

@@ -27,14 +27,15 @@ use Rattle.enet_host.specs.declared.skips.Skips.{Skips}
 use Rattle.enet_host.specs.Skips.{entry, KeepsSkips}
 use Rattle.enet_host.proofs.Skipping.{skips-none, skips-set}
 use Rattle.enet_slot.proofs.Shown.{length-shown}
-use Rattle.enet_slot.specs.Giving.{limits_of, unused_slot, joined_terms, joined_slots, given, offer_from, server_from, asking, answering}
+use Rattle.enet_slot.specs.Giving.{limits_of, unused_slot, joined_terms, joined_slots, given, offer_from, server_from, Basis, asking, answering}
+use Rattle.enet_slot.specs.declared.giving.Question.{Question}
 use Rattle.enet_slot.specs.Slot.{greatest, SlotState, with_peer, with_peer_in, with_changed, changed}
 use Rattle.enet_host.specs.Host.{Host, HoldsNoFree, with_generation}
 use Rattle.enet_host.specs.Opening.{joined, Connects, no_channel, no_slot, no_memory, asks}
 use Rattle.enet_host.specs.Receiving as receiving
 use Rattle.enet_host.specs.Receiving.{Offers, Arrives}
 use Rattle.enet_slot.specs.Serving.{Gives, passes_by}
-use Rattle.enet_host.specs.Serving.{InTurn, GivesInTurn, AllPass}
+use Rattle.enet_host.specs.Serving.{InTurn, Served, GivesInTurn, AllPass}
 use Rattle.enet_host.specs.Turns.{turn_of}
 use Rattle.enet_slot.specs.Sharing.{is_standing, limit_for, with_limit, shared}
 use Rattle.enet_host.specs.Ticking.{clock_after, with_time, is_due, ticked}
@@ -169,28 +170,29 @@ submits-kept n skips slots new name q call r old awake d = submits-over (IsKept 
 given-held : (s : SlotState) (address : Addr) (q : Peering) → q.state ≢ state.Free → IsHeld (given s address q)
 given-held s address q live = one-held (given s address q) q refl live
 
-pub connects-held : (c : Config) (now : ℕ) (slots new : List SlotState) (address : Addr) (channels info word : ℕ) (r : Result PeerRef Refusal) → HoldsNoFree slots → Connects c now slots address channels info word r new → HoldsNoFree new
-connects-held c now slots new address channels info word r old (no_channel none) = old
-connects-held c now slots new address channels info word r old (no_slot some none) = old
-connects-held c now slots new address channels info word r old (no_memory i some at) = old
-connects-held c now slots new address channels info word r old (asks i s some at there) =
-    set-held slots i (asking c now i s address channels info word) old (given-held s address (peers.connecting now (offer_from c i s channels info word) (limits_of c)) (λ e. absurd (cc)))
+pub connects-held : (basis : Basis) (slots new : List SlotState) (question : Question) (r : Result PeerRef Refusal) → HoldsNoFree slots → Connects basis slots question r new → HoldsNoFree new
+connects-held basis slots new question r old (no_channel none) = old
+connects-held basis slots new question r old (no_slot some none) = old
+connects-held basis slots new question r old (no_memory i some at) = old
+connects-held basis slots new question r old (asks i s some at there) =
+    set-held slots i (asking basis i s question) old
+    (given-held s question.address (peers.connecting basis.clock (offer_from basis.config i s question) (limits_of basis.config)) (λ e. absurd (cc)))
 
-offers-held : (c : Config) (now : ℕ) (slots new : List SlotState) (from : Addr) (o : Offer) (answer : Received) → HoldsNoFree slots → Offers c now slots from o answer new → HoldsNoFree new
-offers-held c now slots new from o answer old (receiving.refused why is) = old
-offers-held c now slots new from o answer old (receiving.repeated is known) = old
-offers-held c now slots new from o answer old (receiving.no_slot is known none) = old
-offers-held c now slots new from o answer old (receiving.no_memory i is known at) = old
-offers-held c now slots new from o answer old (receiving.answers i s is known at there) =
-    set-held slots i (answering c now i s from o) old (given-held s from (peers.answering now o (server_from c i s) (limits_of c)) (λ e. absurd (cc)))
+offers-held : (basis : Basis) (slots new : List SlotState) (from : Addr) (o : Offer) (answer : Received) → HoldsNoFree slots → Offers basis slots from o answer new → HoldsNoFree new
+offers-held basis slots new from o answer old (receiving.refused why is) = old
+offers-held basis slots new from o answer old (receiving.repeated is known) = old
+offers-held basis slots new from o answer old (receiving.no_slot is known none) = old
+offers-held basis slots new from o answer old (receiving.no_memory i is known at) = old
+offers-held basis slots new from o answer old (receiving.answers i s is known at there) =
+    set-held slots i (answering basis i s from o) old (given-held s from (peers.answering basis.clock o (server_from basis.config i s) (limits_of basis.config)) (λ e. absurd (cc)))
 
 -- a datagram comes
-pub arrives-held : (c : Config) (now : ℕ) (slots new : List SlotState) (from : Addr) (bytes : List ℕ) (answer : Received) → HoldsNoFree slots → Arrives c now slots from bytes answer new → HoldsNoFree new
-arrives-held c now slots new from bytes answer old (receiving.unreadable why is) = old
-arrives-held c now slots new from bytes answer old (receiving.no_offer header commands read stranger none) = old
-arrives-held c now slots new from bytes answer old (receiving.offered header commands o a after read stranger offer offers) = offers-held c now slots new from o answer old offers
-arrives-held c now slots new from bytes answer old (receiving.turned_away header commands why read known refused) = old
-arrives-held c now slots new from bytes answer old (receiving.heard header commands s t a read known taken there hears) =
+pub arrives-held : (basis : Basis) (slots new : List SlotState) (from : Addr) (bytes : List ℕ) (answer : Received) → HoldsNoFree slots → Arrives basis slots from bytes answer new → HoldsNoFree new
+arrives-held basis slots new from bytes answer old (receiving.unreadable why is) = old
+arrives-held basis slots new from bytes answer old (receiving.no_offer header commands read stranger none) = old
+arrives-held basis slots new from bytes answer old (receiving.offered header commands o a after read stranger offer offers) = offers-held basis slots new from o answer old offers
+arrives-held basis slots new from bytes answer old (receiving.turned_away header commands why read known refused) = old
+arrives-held basis slots new from bytes answer old (receiving.heard header commands s t a read known taken there hears) =
     set-held slots header.peer t old (subst IsHeld (sym hears.left) (peer-held s hears.after))
 
 -- slots are asked for a datagram
@@ -205,24 +207,24 @@ passes-held now s t (Some p) old n = subst IsHeld (sym n.left) (peer-held s n.af
 pub turns-apart : (n from i j : ℕ) → i < n → j < n → turn_of n from i ≡ turn_of n from j → i ≡ j
 turns-apart n from i j a b e = grind (arith, nat_tests)
 
-turned-held : (now from count gave len : ℕ) (buf : List ℕ) (i : ℕ) (s t : SlotState) → i < count → gave < count → IsHeld s → InTurn now from count gave len buf i s t → IsHeld t
-turned-held now from count gave len buf i s t within given old x = by (nat_lt (turn i) (turn gave)) (nat_lt (turn gave) (turn i)) refl refl
+turned-held : (now from count : ℕ) (gave : Served) (i : ℕ) (s t : SlotState) → i < count → gave.name.slot < count → IsHeld s → InTurn now (turn_of count from) gave i s t → IsHeld t
+turned-held now from count gave i s t within given old x = by (nat_lt (turn i) (turn gave.name.slot)) (nat_lt (turn gave.name.slot) (turn i)) refl refl
   where
     turn : ℕ → ℕ
     turn j = turn_of count from j
 
-    by : (a b : Bool) → nat_lt (turn i) (turn gave) ≡ a → nat_lt (turn gave) (turn i) ≡ b → IsHeld t
+    by : (a b : Bool) → nat_lt (turn i) (turn gave.name.slot) ≡ a → nat_lt (turn gave.name.slot) (turn i) ≡ b → IsHeld t
     by true b e f = passes-held now s t s.peer old (x.before (grind (arith, nat_tests)))
     by false true e f = subst IsHeld (sym (x.after (grind (arith, nat_tests)))) old
-    by false false e f = gives-held now len buf s t (x.here (turns-apart count from i gave within given (grind (arith, nat_tests))))
+    by false false e f = gives-held now gave.len gave.buf s t (x.here (turns-apart count from i gave.name.slot within given (grind (arith, nat_tests))))
 
-pub served-held : (now from : ℕ) (old new : List SlotState) (name : PeerRef) (address : Addr) (len : ℕ) (buf : List ℕ) → HoldsNoFree old → GivesInTurn now from old name address len buf new → HoldsNoFree new
-served-held now from old new name address len buf held x i t p there =
+pub served-held : (now from : ℕ) (old new : List SlotState) (gave : Served) → HoldsNoFree old → GivesInTurn now from old gave new → HoldsNoFree new
+served-held now from old new gave held x i t p there =
     let within : i < length new = slice_get_within new i t there in
     let same : length new ≡ length old = x.count in
     let low : i < length old = omega arith in
     let was : slice_get old i ≡ Some (get_or old i t) = slice_get-get_or old i t low in
-    turned-held now from (length old) name.slot len buf i (get_or old i t) t low (slice_get_within old name.slot x.slot x.there) (λ q e. held i (get_or old i t) q was e) (x.slots i (get_or old i t) t was there) p
+    turned-held now from (length old) gave i (get_or old i t) t low (slice_get_within old gave.name.slot x.slot x.there) (λ q e. held i (get_or old i t) q was e) (x.slots i (get_or old i t) t was there) p
 
 pub passed-held : (now : ℕ) (old new : List SlotState) → HoldsNoFree old → AllPass now old new → HoldsNoFree new
 passed-held now old new held x i t p there =

@@ -8,9 +8,10 @@ use Rattle.enet_codec.specs.declared.event.Received.{Received}
 use Rattle.enet_codec.specs.declared.refusal.Refusal.{Refusal}
 use Rattle.enet_codec.specs.declared.refusal.Refusal.TheVariants.{Memory}
 use Rattle.enet_codec.specs.declared.stop.Stop.TheVariants as stop
+use Rattle.enet_slot.specs.declared.giving.Question.{Question}
 use Rattle.enet_slot.specs.declared.slot.Slot.{Slot}
 use Rattle.enet_slot.specs.Slot.{SlotState, name_of}
-use Rattle.enet_slot.specs.Giving.{asking, answering}
+use Rattle.enet_slot.specs.Giving.{Basis, asking, answering}
 use Rattle.enet_host.specs.Opening.{available, Connects, no_memory, asks}
 use Rattle.enet_slot.specs.Hearing.{stopped}
 use Rattle.enet_host.specs.Receiving.{Offers, offer_refused, is_known, handled_one}
@@ -25,33 +26,33 @@ found-in c xs ys r a e same is = sym (subst (λ (zs : List Slot). r ≡ availabl
 given-at : (xs : List Slot) (i : ℕ) (y : Slot) (t : SlotState) → shown y ≡ t → slice_set (all_shown xs) i t ≡ all_shown (slice_set xs i y)
 given-at xs i y t given = ap (λ (s : SlotState). slice_set (all_shown xs) i s) (sym given) ∙ sym (set-shown xs i y)
 
-pub connects-at : (c : Config) (now : ℕ) (xs : List Slot) (address : Addr) (channels info word i : ℕ) (x y : Slot) (result : Result PeerRef Refusal)
-    → channels ≢ 0 → available c (all_shown xs) ≡ Some i → i < length xs → x ≡ get_or xs i x
-    → OnOk result (shown y ≡ asking c now i (shown x) address channels info word) → IfOk result (λ name. name ≡ name_of i (shown x))
+pub connects-at : (basis : Basis) (xs : List Slot) (question : Question) (i : ℕ) (x y : Slot) (result : Result PeerRef Refusal)
+    → question.channels ≢ 0 → available basis.config (all_shown xs) ≡ Some i → i < length xs → x ≡ get_or xs i x
+    → OnOk result (shown y ≡ asking basis i (shown x) question) → IfOk result (λ name. name ≡ name_of i (shown x))
     → OnErr result (shown y ≡ shown x) → IfErr result (λ why. why ≡ Memory)
-    → Connects c now (all_shown xs) address channels info word result (all_shown (slice_set xs i y))
-connects-at c now xs address channels info word i x y (Ok name) some found inside read asked named same why =
-    subst (λ (ss : List SlotState). Connects c now (all_shown xs) address channels info word (Ok name) ss)
-    (given-at xs i y (asking c now i (shown x) address channels info word) asked)
-    (subst (λ (n : PeerRef). Connects c now (all_shown xs) address channels info word (Ok n) (slice_set (all_shown xs) i (asking c now i (shown x) address channels info word)))
+    → Connects basis (all_shown xs) question result (all_shown (slice_set xs i y))
+connects-at basis xs question i x y (Ok name) some found inside read asked named same why =
+    subst (λ (ss : List SlotState). Connects basis (all_shown xs) question (Ok name) ss)
+    (given-at xs i y (asking basis i (shown x) question) asked)
+    (subst (λ (n : PeerRef). Connects basis (all_shown xs) question (Ok n) (slice_set (all_shown xs) i (asking basis i (shown x) question)))
     (sym named) (asks i (shown x) some found (get-shown xs i x inside read)))
-connects-at c now xs address channels info word i x y (Err e) some found inside read asked named same why =
-    subst (λ (ss : List SlotState). Connects c now (all_shown xs) address channels info word (Err e) ss) (sym (same-shown xs i x y read same))
-    (subst (λ (f : Refusal). Connects c now (all_shown xs) address channels info word (Err f) (all_shown xs)) (sym why) (no_memory i some found))
+connects-at basis xs question i x y (Err e) some found inside read asked named same why =
+    subst (λ (ss : List SlotState). Connects basis (all_shown xs) question (Err e) ss) (sym (same-shown xs i x y read same))
+    (subst (λ (f : Refusal). Connects basis (all_shown xs) question (Err f) (all_shown xs)) (sym why) (no_memory i some found))
 
-pub answers-at : (c : Config) (now : ℕ) (xs : List Slot) (from : Addr) (o : Offer) (i : ℕ) (x y : Slot)
-    → offer_refused o ≡ None → is_known (all_shown xs) from o ≡ false → available c (all_shown xs) ≡ Some i → i < length xs → x ≡ get_or xs i x
-    → shown y ≡ answering c now i (shown x) from o → Offers c now (all_shown xs) from o handled_one (all_shown (slice_set xs i y))
-answers-at c now xs from o i x y fine unknown found inside read answered =
-    subst (λ (ss : List SlotState). Offers c now (all_shown xs) from o handled_one ss) (given-at xs i y (answering c now i (shown x) from o) answered)
+pub answers-at : (basis : Basis) (xs : List Slot) (from : Addr) (o : Offer) (i : ℕ) (x y : Slot)
+    → offer_refused o ≡ None → is_known (all_shown xs) from o ≡ false → available basis.config (all_shown xs) ≡ Some i → i < length xs → x ≡ get_or xs i x
+    → shown y ≡ answering basis i (shown x) from o → Offers basis (all_shown xs) from o handled_one (all_shown (slice_set xs i y))
+answers-at basis xs from o i x y fine unknown found inside read answered =
+    subst (λ (ss : List SlotState). Offers basis (all_shown xs) from o handled_one ss) (given-at xs i y (answering basis i (shown x) from o) answered)
     (receiving.answers i (shown x) fine unknown found (get-shown xs i x inside read))
 
-pub no-memory-at : (c : Config) (now : ℕ) (xs : List Slot) (from : Addr) (o : Offer) (i : ℕ) (x y : Slot) (answer : Received)
-    → offer_refused o ≡ None → is_known (all_shown xs) from o ≡ false → available c (all_shown xs) ≡ Some i → x ≡ get_or xs i x
-    → shown y ≡ shown x → answer ≡ stopped stop.Memory → Offers c now (all_shown xs) from o answer (all_shown (slice_set xs i y))
-no-memory-at c now xs from o i x y answer fine unknown found read same is =
-    subst (λ (ss : List SlotState). Offers c now (all_shown xs) from o answer ss) (sym (same-shown xs i x y read same))
-    (subst (λ (a : Received). Offers c now (all_shown xs) from o a (all_shown xs)) (sym is) (receiving.no_memory i fine unknown found))
+pub no-memory-at : (basis : Basis) (xs : List Slot) (from : Addr) (o : Offer) (i : ℕ) (x y : Slot) (answer : Received)
+    → offer_refused o ≡ None → is_known (all_shown xs) from o ≡ false → available basis.config (all_shown xs) ≡ Some i → x ≡ get_or xs i x
+    → shown y ≡ shown x → answer ≡ stopped stop.Memory → Offers basis (all_shown xs) from o answer (all_shown (slice_set xs i y))
+no-memory-at basis xs from o i x y answer fine unknown found read same is =
+    subst (λ (ss : List SlotState). Offers basis (all_shown xs) from o answer ss) (sym (same-shown xs i x y read same))
+    (subst (λ (a : Received). Offers basis (all_shown xs) from o a (all_shown xs)) (sym is) (receiving.no_memory i fine unknown found))
 
 pub known-in : (xs ys : List Slot) (from : Addr) (o : Offer) (r b : Bool) → r ≡ is_known (all_shown ys) from o → ys ≡ xs → r ≡ b → is_known (all_shown xs) from o ≡ b
 known-in xs ys from o r b e same is = sym (subst (λ (zs : List Slot). r ≡ is_known (all_shown zs) from o) same e) ∙ is

@@ -1,12 +1,12 @@
 -- One slot is asked for a datagram, or gives an event.
 use Rattle.std.proofs.Common.{◌≡◌, ℕ, ◌<◌, false, Option, Some, None, IfSome, IfNone, List, length, slice_get, slice_set, get_or, ap, subst, ◌∙◌}
-use Rattle.enet_codec.specs.declared.address.Addr.{Addr}
 use Rattle.enet_codec.specs.declared.event.Event.{Event}
 use Rattle.enet_codec.specs.declared.packet.Packet.{Packet}
 use Rattle.enet_slot.specs.declared.slot.Slot.{Slot}
 use Rattle.enet_slot.specs.Serving.{Gives, Passes}
 use Rattle.enet_slot.specs.Calls.{tells, peer_packet, GivesEvent}
 use Rattle.enet_slot.specs.Slotted.{shown, all_shown}
+use Rattle.enet_host.specs.Serving.{Served}
 use Rattle.enet_host.specs.Private.Shown.{SlotGives, SlotPasses, SlotGivesEvent, SlotIsMute, SlotIsNamed, SlotShows}
 use Rattle.enet_slot.proofs.Shown.{get-shown, set-shown}
 
@@ -27,14 +27,14 @@ slot-passes now xs n number x y e inside read passes = record {
   after = set-number xs n number y e;
 }
 
-pub slot-gives : (now len g : ℕ) (address : Addr) (buf : List ℕ) (xs : List Slot) (n number : ℕ) (x y : Slot) → n ≡ number → n < length xs → x ≡ get_or xs n x
-    → g ≡ (shown x).generation → address ≡ (shown x).address → Gives now len buf (shown x) (shown y)
-    → SlotGives now (all_shown xs) number (record { slot = number; generation = g }) address len buf (all_shown (slice_set xs n y))
-slot-gives now len g address buf xs n number x y e inside read named addressed gives = record {
+pub slot-gives : (now g : ℕ) (gave : Served) (xs : List Slot) (n number : ℕ) (x y : Slot) → n ≡ number → n < length xs → x ≡ get_or xs n x
+    → gave.name ≡ record { slot = number; generation = g } → g ≡ (shown x).generation → gave.address ≡ (shown x).address → Gives now gave.len gave.buf (shown x) (shown y)
+    → SlotGives now (all_shown xs) number gave (all_shown (slice_set xs n y))
+slot-gives now g gave xs n number x y e inside read is named addressed gives = record {
   slot = shown x;
   left = shown y;
   there = at-number xs n number x e inside read;
-  named = ap (λ (m : ℕ). record { slot = number; generation = m }) named;
+  named = is ∙ ap (λ (m : ℕ). record { slot = number; generation = m }) named;
   addressed = addressed;
   gives = gives;
   after = set-number xs n number y e;

@@ -9,9 +9,8 @@ use Rattle.enet_slot.specs.Slotted.{shown, all_shown}
 use Rattle.enet_slot.proofs.Shown.{set-shown}
 use Rattle.enet_slot.proofs.Sleeping.{mute-asleep}
 use Rattle.enet_host.specs.Turns.{turn_of, IsFirst}
-use Rattle.enet_codec.specs.declared.address.Addr.{Addr}
 use Rattle.enet_codec.specs.declared.event.Event.{Event}
-use Rattle.enet_codec.specs.declared.event.PeerRef.{PeerRef}
+use Rattle.enet_host.specs.Serving.{Served}
 use Rattle.enet_host.specs.Private.Shown.{SlotGives, SlotPasses, SlotGivesEvent}
 use Rattle.enet_host.specs.declared.calm.Calm.{Calm}
 use Rattle.enet_host.specs.declared.skips.Skips.{Skips}
@@ -46,9 +45,9 @@ skips-at n skips xs i y k awake = subst (KeepsSkips n skips) (sym (set-shown xs 
 pub skips-passes : (n now i : ℕ) (skips : Skips) (old new : List SlotState) → KeepsSkips n skips old → entry skips.next.items i ≤ i → SlotPasses now old i new → KeepsSkips n skips new
 skips-passes n now i skips old new k awake p = subst (KeepsSkips n skips) (sym p.after) (skips-set n skips old i p.left k awake)
 
-pub skips-gives : (n now i len : ℕ) (name : PeerRef) (address : Addr) (buf : List ℕ) (skips : Skips) (old new : List SlotState) → KeepsSkips n skips old → entry skips.next.items i ≤ i
-    → SlotGives now old i name address len buf new → KeepsSkips n skips new
-skips-gives n now i len name address buf skips old new k awake g = subst (KeepsSkips n skips) (sym g.after) (skips-set n skips old i g.left k awake)
+pub skips-gives : (n now i : ℕ) (gave : Served) (skips : Skips) (old new : List SlotState) → KeepsSkips n skips old → entry skips.next.items i ≤ i
+    → SlotGives now old i gave new → KeepsSkips n skips new
+skips-gives n now i gave skips old new k awake g = subst (KeepsSkips n skips) (sym g.after) (skips-set n skips old i g.left k awake)
 
 pub skips-gives-event : (n i : ℕ) (event : Event) (skips : Skips) (old new : List SlotState) → KeepsSkips n skips old → entry skips.next.items i ≤ i → SlotGivesEvent old i event new
     → KeepsSkips n skips new

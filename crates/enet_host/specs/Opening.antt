@@ -7,8 +7,9 @@ use Rattle.enet_codec.specs.declared.event.PeerRef.{PeerRef}
 use Rattle.enet_codec.specs.declared.refusal.Refusal.{Refusal}
 use Rattle.enet_codec.specs.declared.refusal.Refusal.TheVariants.{Memory, NoSlot, BadConfig}
 use Rattle.enet_codec.specs.Config.{is_in_range}
+use Rattle.enet_slot.specs.declared.giving.Question.{Question}
 use Rattle.enet_slot.specs.Slot.{SlotState, name_of}
-use Rattle.enet_slot.specs.Giving.{unused_slot, joined_slots, is_available, asking}
+use Rattle.enet_slot.specs.Giving.{unused_slot, joined_slots, is_available, Basis, asking}
 use Rattle.enet_host.specs.declared.totals.Totals.{Totals}
 use Rattle.enet_host.specs.Host.{Host}
 
@@ -31,6 +32,9 @@ opened c = record {
 abbrev pub joined : Config → Addr → Host
 joined c address = record (opened c) { slots = joined_slots c address }
 
+abbrev pub host_basis : Host → Basis
+host_basis h = record { config = h.config; clock = h.clock }
+
 -- what a call that makes a host answers: E8 exactly where a number is out of its range, and else the host, or E1
 abbrev pub Opens : Config → Result Host Refusal → Host → Type 0
 Opens c (Ok h) fresh = (is_in_range c ≡ true) × (h ≡ fresh)
@@ -42,9 +46,9 @@ available c slots = position (is_available c.generations) slots
 
 -- what a call of connect answers and leaves of the slots: the lowest available slot asks, or the first refusal that applies.
 -- Memory may be refused where nothing else is
-pub data Connects (c : Config) (now : ℕ) (slots : List SlotState) (address : Addr) (channels info word : ℕ) : Result PeerRef Refusal → List SlotState → Type 0 where
-  no_channel : channels ≡ 0 → Connects c now slots address channels info word (Err BadConfig) slots
-  no_slot : channels ≢ 0 → available c slots ≡ None → Connects c now slots address channels info word (Err NoSlot) slots
-  no_memory : (i : ℕ) → channels ≢ 0 → available c slots ≡ Some i → Connects c now slots address channels info word (Err Memory) slots
-  asks : (i : ℕ) (s : SlotState) → channels ≢ 0 → available c slots ≡ Some i → slice_get slots i ≡ Some s
-      → Connects c now slots address channels info word (Ok (name_of i s)) (slice_set slots i (asking c now i s address channels info word))
+pub data Connects (basis : Basis) (slots : List SlotState) (question : Question) : Result PeerRef Refusal → List SlotState → Type 0 where
+  no_channel : question.channels ≡ 0 → Connects basis slots question (Err BadConfig) slots
+  no_slot : question.channels ≢ 0 → available basis.config slots ≡ None → Connects basis slots question (Err NoSlot) slots
+  no_memory : (i : ℕ) → question.channels ≢ 0 → available basis.config slots ≡ Some i → Connects basis slots question (Err Memory) slots
+  asks : (i : ℕ) (s : SlotState) → question.channels ≢ 0 → available basis.config slots ≡ Some i → slice_get slots i ≡ Some s
+      → Connects basis slots question (Ok (name_of i s)) (slice_set slots i (asking basis i s question))

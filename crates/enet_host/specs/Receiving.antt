@@ -2,7 +2,6 @@
 use Rattle.std.specs.Prelude.{◌≡◌, ◌≢◌, ℕ, ◌+◌, not, min, Bool, true, false, nat_le, if◌then◌else◌, Option, Some, None, List, length, slice_get, slice_set}
 use Rattle.std.specs.List.{list_any}
 use Rattle.enet_codec.specs.declared.address.Addr.{Addr}
-use Rattle.enet_codec.specs.declared.config.Config.{Config}
 use Rattle.enet_codec.specs.declared.event.Received.{Received}
 use Rattle.enet_codec.specs.declared.stop.Stop.{Stop}
 use Rattle.enet_codec.specs.declared.stop.Stop.TheVariants as stop
@@ -11,11 +10,11 @@ use Rattle.enet_codec.specs.declared.header.Header.{Header}
 use Rattle.enet_connect.specs.Terms.{is_channel_count}
 use Rattle.enet_peer.specs.Heading.{IsUnreadable, IsRead, IsOffer, IsNoOffer}
 use Rattle.enet_slot.specs.Slot.{SlotState}
-use Rattle.enet_slot.specs.Giving.{answering}
+use Rattle.enet_slot.specs.Giving.{Basis, answering}
 use Rattle.enet_slot.specs.Hearing.{no_peer, refused_by_slot, is_connection, stopped, Hears}
 use Rattle.enet_host.specs.declared.totals.Totals.{Totals}
 use Rattle.enet_host.specs.Host.{Host}
-use Rattle.enet_host.specs.Opening.{available}
+use Rattle.enet_host.specs.Opening.{host_basis, available}
 
 abbrev pub refused_by : List SlotState → Addr → Header → Option Stop
 refused_by slots from header = refused_by_slot from header.session (slice_get slots header.peer)
@@ -36,26 +35,26 @@ handled_one = record { handled = 1; stop = None }
 
 -- what comes of an offer from an address: the answer, and the slots after it. A repeated one has no effect; memory may be
 -- refused where nothing else is
-pub data Offers (c : Config) (now : ℕ) (slots : List SlotState) (from : Addr) (o : Offer) : Received → List SlotState → Type 0 where
-  refused : (why : Stop) → offer_refused o ≡ Some why → Offers c now slots from o (stopped why) slots
-  repeated : offer_refused o ≡ None → is_known slots from o ≡ true → Offers c now slots from o handled_one slots
-  no_slot : offer_refused o ≡ None → is_known slots from o ≡ false → available c slots ≡ None → Offers c now slots from o (stopped stop.NoSlot) slots
-  no_memory : (i : ℕ) → offer_refused o ≡ None → is_known slots from o ≡ false → available c slots ≡ Some i → Offers c now slots from o (stopped stop.Memory) slots
-  answers : (i : ℕ) (s : SlotState) → offer_refused o ≡ None → is_known slots from o ≡ false → available c slots ≡ Some i → slice_get slots i ≡ Some s
-      → Offers c now slots from o handled_one (slice_set slots i (answering c now i s from o))
+pub data Offers (basis : Basis) (slots : List SlotState) (from : Addr) (o : Offer) : Received → List SlotState → Type 0 where
+  refused : (why : Stop) → offer_refused o ≡ Some why → Offers basis slots from o (stopped why) slots
+  repeated : offer_refused o ≡ None → is_known slots from o ≡ true → Offers basis slots from o handled_one slots
+  no_slot : offer_refused o ≡ None → is_known slots from o ≡ false → available basis.config slots ≡ None → Offers basis slots from o (stopped stop.NoSlot) slots
+  no_memory : (i : ℕ) → offer_refused o ≡ None → is_known slots from o ≡ false → available basis.config slots ≡ Some i → Offers basis slots from o (stopped stop.Memory) slots
+  answers : (i : ℕ) (s : SlotState) → offer_refused o ≡ None → is_known slots from o ≡ false → available basis.config slots ≡ Some i → slice_get slots i ≡ Some s
+      → Offers basis slots from o handled_one (slice_set slots i (answering basis i s from o))
 
 -- what comes of a datagram from an address: the answer, and the slots after it
-pub data Arrives (c : Config) (now : ℕ) (slots : List SlotState) (from : Addr) (bytes : List ℕ) : Received → List SlotState → Type 0 where
-  unreadable : (why : Stop) → IsUnreadable bytes why → Arrives c now slots from bytes (stopped why) slots
+pub data Arrives (basis : Basis) (slots : List SlotState) (from : Addr) (bytes : List ℕ) : Received → List SlotState → Type 0 where
+  unreadable : (why : Stop) → IsUnreadable bytes why → Arrives basis slots from bytes (stopped why) slots
   no_offer : (header : Header) (commands : List ℕ) → IsRead bytes header commands → header.peer ≡ no_peer → IsNoOffer commands
-      → Arrives c now slots from bytes (stopped stop.UnknownPeer) slots
+      → Arrives basis slots from bytes (stopped stop.UnknownPeer) slots
   offered : (header : Header) (commands : List ℕ) (o : Offer) (answer : Received) (after : List SlotState) → IsRead bytes header commands
-      → header.peer ≡ no_peer → IsOffer commands o → Offers c now slots from o answer after → Arrives c now slots from bytes answer after
+      → header.peer ≡ no_peer → IsOffer commands o → Offers basis slots from o answer after → Arrives basis slots from bytes answer after
   turned_away : (header : Header) (commands : List ℕ) (why : Stop) → IsRead bytes header commands → header.peer ≢ no_peer
-      → refused_by slots from header ≡ Some why → Arrives c now slots from bytes (stopped why) slots
+      → refused_by slots from header ≡ Some why → Arrives basis slots from bytes (stopped why) slots
   heard : (header : Header) (commands : List ℕ) (s t : SlotState) (answer : Received) → IsRead bytes header commands → header.peer ≢ no_peer
-      → refused_by slots from header ≡ None → slice_get slots header.peer ≡ Some s → Hears now header.sent commands s answer t
-      → Arrives c now slots from bytes answer (slice_set slots header.peer t)
+      → refused_by slots from header ≡ None → slice_get slots header.peer ≡ Some s → Hears basis.clock header.sent commands s answer t
+      → Arrives basis slots from bytes answer (slice_set slots header.peer t)
 
 -- the greatest number of 64 bits, where totals stop
 abbrev pub greatest_total : ℕ
@@ -69,5 +68,5 @@ with_datagram_in t len = record t { datagrams_in = added t.datagrams_in 1; bytes
 
 -- a call of receive: each datagram counts in the totals
 pub record Receives (old : Host) (from : Addr) (bytes : List ℕ) (answer : Received) (new : Host) : Type 0 where
-  pub arrives : Arrives old.config old.clock old.slots from bytes answer new.slots
+  pub arrives : Arrives (host_basis old) old.slots from bytes answer new.slots
   pub rest : new ≡ record old { slots = new.slots; totals = with_datagram_in old.totals (length bytes) }

@@ -9,20 +9,30 @@ use Rattle.enet_host.specs.Host.{Host}
 use Rattle.enet_host.specs.Turns.{turn_of, slot_after}
 use Rattle.enet_host.specs.Receiving.{added}
 
--- what became of slot i, where slot `gave` gave a datagram of this length: those before it in turn were asked in vain, those
--- after it are as they were
-pub record InTurn (now from count gave len : ℕ) (buf : List ℕ) (i : ℕ) (s t : SlotState) : Type 0 where
-  pub before : turn_of count from i < turn_of count from gave → Passes now s t
-  pub here : i ≡ gave → Gives now len buf s t
-  pub after : turn_of count from gave < turn_of count from i → t ≡ s
+-- a datagram that was put out: whose it is, where it goes, its length, and the buffer that it begins
+pub record Served : Type 0 where
+  pub name : PeerRef
+  pub address : Addr
+  pub len : ℕ
+  pub buf : List ℕ
+
+abbrev pub served_of : PeerRef × Addr × ℕ → List ℕ → Served
+served_of gave buf = record { name = gave.0; address = gave.1; len = gave.2; buf = buf }
+
+-- what became of slot i, where this datagram was put out and `turn` says how many slots come before one: those before the slot that
+-- gave it were asked in vain, those after it are as they were
+pub record InTurn (now : ℕ) (turn : ℕ → ℕ) (gave : Served) (i : ℕ) (s t : SlotState) : Type 0 where
+  pub before : turn i < turn gave.name.slot → Passes now s t
+  pub here : i ≡ gave.name.slot → Gives now gave.len gave.buf s t
+  pub after : turn gave.name.slot < turn i → t ≡ s
 
 -- the first slot in turn that has something to put out gave a datagram, and is named as it was before
-pub record GivesInTurn (now from : ℕ) (old : List SlotState) (name : PeerRef) (address : Addr) (len : ℕ) (buf : List ℕ) (new : List SlotState) : Type 0 where
+pub record GivesInTurn (now from : ℕ) (old : List SlotState) (gave : Served) (new : List SlotState) : Type 0 where
   pub slot : SlotState
-  pub there : slice_get old name.slot ≡ Some slot
-  pub named : name ≡ name_of name.slot slot
-  pub addressed : address ≡ slot.address
-  pub slots : (i : ℕ) (s t : SlotState) → slice_get old i ≡ Some s → slice_get new i ≡ Some t → InTurn now from (length old) name.slot len buf i s t
+  pub there : slice_get old gave.name.slot ≡ Some slot
+  pub named : gave.name ≡ name_of gave.name.slot slot
+  pub addressed : gave.address ≡ slot.address
+  pub slots : (i : ℕ) (s t : SlotState) → slice_get old i ≡ Some s → slice_get new i ≡ Some t → InTurn now (turn_of (length old) from) gave i s t
   pub count : length new ≡ length old
 
 -- each slot was asked in vain
@@ -37,5 +47,5 @@ with_datagram_out t len = record t { datagrams_out = added t.datagrams_out 1; by
 abbrev pub Serves : Host → Option (PeerRef × Addr × ℕ) → List ℕ → Host → Type 0
 Serves old None buf new = AllPass old.clock old.slots new.slots × (new ≡ record old { slots = new.slots })
 Serves old (Some gave) buf new =
-    GivesInTurn old.clock old.service_from old.slots gave.0 gave.1 gave.2 buf new.slots
+    GivesInTurn old.clock old.service_from old.slots (served_of gave buf) new.slots
     × (new ≡ record old { slots = new.slots; service_from = slot_after (length old.slots) gave.0.slot; totals = with_datagram_out old.totals gave.2 })

@@ -3,6 +3,7 @@
 ghost use Rattle.std.specs.Prelude.{◌≡◌, ◌≤◌, length};
 ghost use Rattle.enet_host.specs.Opening.{Connects};
 ghost use Rattle.enet_host.specs.Skips.{KeepsSkips};
+ghost use Rattle.enet_slot.specs.Giving.{basis_of};
 ghost use Rattle.enet_slot.specs.Slotted.{all_shown};
 
 use crate::skips::Skips;
@@ -21,7 +22,7 @@ pub(crate) fn connect(
     requires skips { KeepsSkips start.now.config.peers skips.old (all_shown slots.old.items) }
     ensures count { length slots.new.items ≡ length slots.old.items }
     ensures skips { KeepsSkips start.now.config.peers skips.new (all_shown slots.new.items) }
-    ensures connects { Connects start.now.config start.now.clock (all_shown slots.old.items) question.address question.channels question.info question.word result (all_shown slots.new.items) }
+    ensures connects { Connects (basis_of start.now) (all_shown slots.old.items) question result (all_shown slots.new.items) }
 {
     if question.channels == 0 {
         return Err(Refusal::BadConfig);

@@ -3,7 +3,7 @@
 ghost use Rattle.std.specs.Prelude.{◌≡◌, ◌≤◌, true, IfSome, IfErr, OnOk, OnErr};
 ghost use Rattle.std.specs.List.{list_any};
 ghost use Rattle.enet_host.specs.Host.{Keeps, KeepsRest};
-ghost use Rattle.enet_host.specs.Opening.{opened, joined, Opens, Connects};
+ghost use Rattle.enet_host.specs.Opening.{opened, joined, Opens, host_basis, Connects};
 ghost use Rattle.enet_host.specs.Receiving.{Receives};
 ghost use Rattle.enet_host.specs.Shown.{KeepsHost};
 ghost use Rattle.enet_slot.specs.Sharing.{wants_room};
@@ -142,7 +142,7 @@ impl HostCore {
         info: u32,
         word: u32,
     ) -> Result<PeerRef, Refusal>
-        ensures connects { Connects self.old.config self.old.clock self.old.slots address channels info word result self.new.slots }
+        ensures connects { Connects (host_basis self.old) self.old.slots (record { address = address; channels = channels; info = info; word = word }) result self.new.slots }
         ensures rest { KeepsRest self.old self.new }
     {
         let question = Question {

@@ -1,6 +1,7 @@
 //! A datagram comes to a host.
 
 ghost use Rattle.std.specs.Prelude.{◌≡◌, ◌<◌, ◌≤◌, length, IfNone};
+ghost use Rattle.enet_slot.specs.Giving.{basis_of};
 ghost use Rattle.enet_slot.specs.Hearing.{stopped};
 ghost use Rattle.enet_host.specs.Receiving.{refused_by, offer_refused, Offers, Arrives};
 ghost use Rattle.enet_host.specs.Skips.{KeepsSkips};
@@ -65,7 +66,7 @@ fn take_offer(
     requires skips { KeepsSkips start.now.config.peers skips.old (all_shown slots.old.items) }
     ensures count { length slots.new.items ≡ length slots.old.items }
     ensures skips { KeepsSkips start.now.config.peers skips.new (all_shown slots.new.items) }
-    ensures offers { Offers start.now.config start.now.clock (all_shown slots.old.items) from offer result (all_shown slots.new.items) }
+    ensures offers { Offers (basis_of start.now) (all_shown slots.old.items) from offer result (all_shown slots.new.items) }
 {
     if let Some(why) = offer_refused(&offer) {
         return stopped(why);
@@ -96,7 +97,7 @@ pub(crate) fn receive(
     requires skips { KeepsSkips start.now.config.peers skips.old (all_shown slots.old.items) }
     ensures count { length slots.new.items ≡ length slots.old.items }
     ensures skips { KeepsSkips start.now.config.peers skips.new (all_shown slots.new.items) }
-    ensures arrives { Arrives start.now.config start.now.clock (all_shown slots.old.items) from bytes.now result (all_shown slots.new.items) }
+    ensures arrives { Arrives (basis_of start.now) (all_shown slots.old.items) from bytes.now result (all_shown slots.new.items) }
 {
     let (header, commands) = match read_heading(bytes) {
         Ok(found) => found,

@@ -1,7 +1,7 @@
 //! A host puts out a datagram.
 
 ghost use Rattle.std.specs.Prelude.{◌≡◌, ◌<◌, ◌≤◌, length, IfSome, IfNone};
-ghost use Rattle.enet_host.specs.Serving.{GivesInTurn, AllPass};
+ghost use Rattle.enet_host.specs.Serving.{served_of, GivesInTurn, AllPass};
 ghost use Rattle.enet_host.specs.Skips.{KeepsSkips};
 ghost use Rattle.enet_slot.specs.Slotted.{all_shown};
 ghost use Rattle.enet_host.specs.Private.Shown.{SlotGives, SlotPasses};
@@ -19,7 +19,7 @@ fn serve_slot(
     buf: &mut [u8; 4096],
 ) -> Option<(PeerRef, Addr, usize)>
     requires { number < length slots.old.items }
-    ensures gives { IfSome result (λ gave. SlotGives now (all_shown slots.old.items) number gave.0 gave.1 gave.2 buf.new (all_shown slots.new.items)) }
+    ensures gives { IfSome result (λ gave. SlotGives now (all_shown slots.old.items) number (served_of gave buf.new) (all_shown slots.new.items)) }
     ensures passes { IfNone result (SlotPasses now (all_shown slots.old.items) number (all_shown slots.new.items)) }
     ensures fits { IfSome result (λ gave. gave.2 ≤ 4096) }
     ensures count { length slots.new.items ≡ length slots.old.items }
@@ -48,7 +48,7 @@ pub(crate) fn serve(
     requires within { from < peers }
     requires all { length slots.old.items ≡ peers }
     requires skips { KeepsSkips peers skips.now (all_shown slots.old.items) }
-    ensures gives { IfSome result (λ gave. GivesInTurn now from (all_shown slots.old.items) gave.0 gave.1 gave.2 buf.new (all_shown slots.new.items)) }
+    ensures gives { IfSome result (λ gave. GivesInTurn now from (all_shown slots.old.items) (served_of gave buf.new) (all_shown slots.new.items)) }
     ensures passes { IfNone result (AllPass now (all_shown slots.old.items) (all_shown slots.new.items)) }
     ensures within { IfSome result (λ gave. gave.0.slot < peers) }
     ensures fits { IfSome result (λ gave. gave.2 ≤ 4096) }

@@ -93,12 +93,14 @@ pub begins-same : (c : Call) (g h : Common) (i : ℕ) (s u : SlotState) → Agre
 begins-same c g h i s u e (asks address channels info word is some at) =
     let k : AgreeOnNext i g h = subst (λ (x : Call). AgreeOnFree x i g h) is e in
     subst (λ (x : SlotState). Begins c h i s x)
-    (sym (ap (λ (x : Config). asking x g.clock i s address channels info word) k.0 ∙ ap (λ (now : ℕ). asking h.config now i s address channels info word) k.1))
+    (sym (ap (λ (x : Config). asking (record { config = x; clock = g.clock }) i s (record { address = address; channels = channels; info = info; word = word })) k.0
+    ∙ ap (λ (now : ℕ). asking (record { config = h.config; clock = now }) i s (record { address = address; channels = channels; info = info; word = word })) k.1))
     (asks address channels info word is some (next-same g.available h.available i k.2 at))
 begins-same c g h i s u e (answers from bytes commands header o is read stranger offer taken new at) =
     let k : AgreeOnNext i g h × (g.knows from o.connect_id ≡ h.knows from o.connect_id) = subst (λ (x : Call). AgreeOnFree x i g h) is e header commands o read stranger offer in
     subst (λ (x : SlotState). Begins c h i s x)
-    (sym (ap (λ (x : Config). answering x g.clock i s from o) k.0.0 ∙ ap (λ (now : ℕ). answering h.config now i s from o) k.0.1))
+    (sym (ap (λ (x : Config). answering (record { config = x; clock = g.clock }) i s from o) k.0.0
+    ∙ ap (λ (now : ℕ). answering (record { config = h.config; clock = now }) i s from o) k.0.1))
     (answers from bytes commands header o is read stranger offer taken (sym k.1 ∙ new) (next-same g.available h.available i k.0.2 at))
 
 pub free-back : (c : Call) (g h : Common) (i : ℕ) → AgreeOnFree c i g h → AgreeOnFree c i h g

@@ -33,7 +33,7 @@ use Rattle.enet_connection.specs.Steps as setting
 use Rattle.enet_connection.specs.Steps.{Way, Setting}
 use Rattle.enet_network.specs.Calls.{Call, Done}
 use Rattle.enet_network.specs.Calls as call
-use Rattle.enet_network.specs.Common.{Common, common_of}
+use Rattle.enet_network.specs.Common.{Common, common_of, common_basis}
 use Rattle.enet_network.specs.Deeds.{Deed, Sets, Alone, AllAlone, Come, put_out}
 use Rattle.enet_network.specs.Deeds as deed
 use Rattle.enet_network.specs.Falling.{Falls, nothing_left, no_command, stops, Reaches, unreadable, elsewhere, turned_away, here, Fell, Begins, asks, answers, counted}
@@ -359,28 +359,28 @@ fell-once (call.NextEvent answer) h i s p ds es low a b = a ∙ sym b
 begins-once : (c : Call) (h : Common) (i : ℕ) (s t u : SlotState) → Begins c h i s t → Begins c h i s u → t ≡ u
 begins-once c h i s t u (asks address channels info word is some at) (asks address' channels' info' word' is' some' at') = same (sym is ∙ is')
   where
-    same : call.Connect address channels info word (Ok (name_of i s)) ≡ call.Connect address' channels' info' word' (Ok (name_of i s)) → asking h.config h.clock i s address channels info word ≡ asking h.config h.clock i s address' channels' info' word'
+    same : call.Connect address channels info word (Ok (name_of i s)) ≡ call.Connect address' channels' info' word' (Ok (name_of i s)) → asking (common_basis h) i s (record { address = address; channels = channels; info = info; word = word }) ≡ asking (common_basis h) i s (record { address = address'; channels = channels'; info = info'; word = word' })
     same e =
         let a : address ≡ address' = cc in
         let n : channels ≡ channels' = cc in
         let f : info ≡ info' = cc in
         let w : word ≡ word' = cc in
-        ap (λ (x : Addr). asking h.config h.clock i s x channels info word) a ∙ ap (λ (x : ℕ). asking h.config h.clock i s address' x info word) n
-        ∙ ap (λ (x : ℕ). asking h.config h.clock i s address' channels' x word) f
-        ∙ ap (λ (x : ℕ). asking h.config h.clock i s address' channels' info' x) w
+        ap (λ (x : Addr). asking (common_basis h) i s (record { address = x; channels = channels; info = info; word = word })) a ∙ ap (λ (x : ℕ). asking (common_basis h) i s (record { address = address'; channels = x; info = info; word = word })) n
+        ∙ ap (λ (x : ℕ). asking (common_basis h) i s (record { address = address'; channels = channels'; info = x; word = word })) f
+        ∙ ap (λ (x : ℕ). asking (common_basis h) i s (record { address = address'; channels = channels'; info = info'; word = x })) w
 begins-once c h i s t u (asks address channels info word is some at) (answers from bytes commands header o is' read stranger offer taken new at') =
     absurd (let e : call.Connect address channels info word (Ok (name_of i s)) ≡ call.Receive from bytes handled_one = sym is ∙ is' in cc)
 begins-once c h i s t u (answers from bytes commands header o is read stranger offer taken new at) (asks address channels info word is' some at') =
     absurd (let e : call.Connect address channels info word (Ok (name_of i s)) ≡ call.Receive from bytes handled_one = sym is' ∙ is in cc)
 begins-once c h i s t u (answers from bytes commands header o is read stranger offer taken new at) (answers from' bytes' commands' header' o' is' read' stranger' offer' taken' new' at') = same (sym is ∙ is')
   where
-    same : call.Receive from bytes handled_one ≡ call.Receive from' bytes' handled_one → answering h.config h.clock i s from o ≡ answering h.config h.clock i s from' o'
+    same : call.Receive from bytes handled_one ≡ call.Receive from' bytes' handled_one → answering (common_basis h) i s from o ≡ answering (common_basis h) i s from' o'
     same e =
         let f : from ≡ from' = cc in
         let b : bytes ≡ bytes' = cc in
         let c : commands ≡ commands' = (read-once bytes' commands commands' header header' (subst (λ (x : List ℕ). IsRead x header commands) b read) read').1 in
         let k : o ≡ o' = offer-once commands' o o' (subst (λ (x : List ℕ). IsOffer x o) c offer) offer' in
-        ap (λ (x : Addr). answering h.config h.clock i s x o) f ∙ ap (λ (x : Offer). answering h.config h.clock i s from' x) k
+        ap (λ (x : Addr). answering (common_basis h) i s x o) f ∙ ap (λ (x : Offer). answering (common_basis h) i s from' x) k
 
 -- a slot fares in one way
 

@@ -27,7 +27,7 @@ use Rattle.enet_connection.proofs.Runs.{reached-none}
 use Rattle.enet_slot.specs.Giving.{limits_of, unused_slot, is_available, offer_from, server_from, asking, answering}
 use Rattle.enet_slot.specs.Slot.{SlotState, name_of}
 use Rattle.enet_host.specs.Host.{Host}
-use Rattle.enet_host.specs.Opening.{available, Connects, no_channel, no_slot, no_memory, asks}
+use Rattle.enet_host.specs.Opening.{host_basis, available, Connects, no_channel, no_slot, no_memory, asks}
 use Rattle.enet_slot.specs.Hearing.{no_peer}
 use Rattle.enet_host.specs.Receiving.{offer_refused, Offers, Arrives}
 use Rattle.enet_host.specs.Receiving as receiving
@@ -82,17 +82,17 @@ pub record Asks (h : Host) (slots : List SlotState) (word : ℕ) (name : PeerRef
   pub says : offer.connect_id ≡ word
   pub there : IsThere slots name (connecting h.clock offer (limits_of h.config))
 
-pub asked-in : (h : Host) (address : Addr) (channels info word : ℕ) (name : PeerRef) (answer : Result PeerRef Refusal) (slots after : List SlotState) → Connects h.config h.clock slots address channels info word answer after → answer ≡ Ok name
+pub asked-in : (h : Host) (address : Addr) (channels info word : ℕ) (name : PeerRef) (answer : Result PeerRef Refusal) (slots after : List SlotState) → Connects (host_basis h) slots (record { address = address; channels = channels; info = info; word = word }) answer after → answer ≡ Ok name
     → Asks h after word name
 asked-in h address channels info word name answer slots after (no_channel z) e = absurd (cc)
 asked-in h address channels info word name answer slots after (no_slot some none) e = absurd (cc)
 asked-in h address channels info word name answer slots after (no_memory i some free) e = absurd (cc)
 asked-in h address channels info word name answer slots after (asks i s some free there) e =
     let same : name_of i s ≡ name = ok-name (name_of i s) name e in
-    subst (λ (n : PeerRef). Asks h (slice_set slots i (asking h.config h.clock i s address channels info word)) word n) same (record {
-      offer = offer_from h.config i s channels info word;
+    subst (λ (n : PeerRef). Asks h (slice_set slots i (asking (host_basis h) i s (record { address = address; channels = channels; info = info; word = word }))) word n) same (record {
+      offer = offer_from h.config i s (record { address = address; channels = channels; info = info; word = word });
       says = refl;
-      there = record { slot = asking h.config h.clock i s address channels info word; there = get-set slots i s (asking h.config h.clock i s address channels info word) there; same = refl; peer = refl };
+      there = record { slot = asking (host_basis h) i s (record { address = address; channels = channels; info = info; word = word }); there = get-set slots i s (asking (host_basis h) i s (record { address = address; channels = channels; info = info; word = word })) there; same = refl; peer = refl };
     })
 
 pub asked : Asked
@@ -139,7 +139,7 @@ free-there c slots i free = get-within slots i (let p = position-Some (is_availa
 -- an end that answers
 begins : (from : Site) (k : ℕ) (d : Logged) (old new : Site) (f : HostEnd) (far : End) (commands : List ℕ) (header : Header) (o : Offer) (j : ℕ) (s : SlotState) → slice_get from.log k ≡ Some d → ShowsFar from d.connection far
     → HasNothingOf d.connection new → IsRead d.text header commands → IsOffer commands o → offer_refused o ≡ None → slice_get old.host.slots j ≡ Some s
-    → new.host.slots ≡ slice_set old.host.slots j (answering old.host.config old.host.clock j s from.address o) → Has (begun_in d.connection (Some j) new.host) f → Begins far new f
+    → new.host.slots ≡ slice_set old.host.slots j (answering (host_basis old.host) j s from.address o) → Has (begun_in d.connection (Some j) new.host) f → Begins far new f
 begins from k d old new f far commands header o j s sent shown none read offer fits there set h = record {
   event = Answer put.0 o old.host.clock server (limits_of old.host.config);
   own = with_peer no_end p;
@@ -154,7 +154,7 @@ begins from k d old new f far commands header o j s sent shown none read offer f
     p = answering_peer old.host.clock o server (limits_of old.host.config)
 
     t : SlotState
-    t = answering old.host.config old.host.clock j s from.address o
+    t = answering (host_basis old.host) j s from.address o
 
     there' : slice_get new.host.slots j ≡ Some t
     there' = ap (λ (xs : List SlotState). slice_get xs j) set ∙ get-set old.host.slots j s t there
@@ -173,7 +173,7 @@ begins from k d old new f far commands header o j s sent shown none read offer f
         one-of (inr e) = absurd e
 
 brought : (from : Site) (k : ℕ) (d : Logged) (answer : Received) (old new : Site) (f : HostEnd) (far : End) → slice_get from.log k ≡ Some d → ShowsFar from d.connection far → HasNothingOf d.connection new
-    → (slots after : List SlotState) → slots ≡ old.host.slots → after ≡ new.host.slots → Arrives old.host.config old.host.clock slots from.address d.text answer after
+    → (slots after : List SlotState) → slots ≡ old.host.slots → after ≡ new.host.slots → Arrives (host_basis old.host) slots from.address d.text answer after
     → (i : ℕ) → available old.host.config old.host.slots ≡ Some i → Has (begun_in d.connection (Some i) new.host) f → Begins far new f
 brought from k d answer old new f far sent shown none slots after was is arrives i free h = by answer after is arrives
   where
@@ -187,7 +187,7 @@ brought from k d answer old new f far sent shown none slots after was is arrives
     unchanged xs now same = absurd (none-in d.connection i new.host there.0 f (ap (λ (ys : List SlotState). slice_get ys i) (sym now) ∙ same ∙ there.1) vacant h)
 
     offered : (reply : Received) (header : Header) (commands : List ℕ) (o : Offer) (xs : List SlotState) → IsRead d.text header commands → IsOffer commands o → xs ≡ new.host.slots
-        → Offers old.host.config old.host.clock slots from.address o reply xs → Begins far new f
+        → Offers (host_basis old.host) slots from.address o reply xs → Begins far new f
     offered reply header commands o xs read offer now (receiving.refused why r) = unchanged xs now (ap (λ (ys : List SlotState). slice_get ys i) was)
     offered reply header commands o xs read offer now (receiving.repeated r known) = unchanged xs now (ap (λ (ys : List SlotState). slice_get ys i) was)
     offered reply header commands o xs read offer now (receiving.no_slot r known full) = unchanged xs now (ap (λ (ys : List SlotState). slice_get ys i) was)
@@ -195,10 +195,10 @@ brought from k d answer old new f far sent shown none slots after was is arrives
     offered reply header commands o xs read offer now (receiving.answers j s r known open' at) =
         let same : i ≡ j = same-some i j (sym free ∙ ap (available old.host.config) (sym was) ∙ open') in
         begins from k d old new f far commands header o j s sent shown none read offer r (ap (λ (ys : List SlotState). slice_get ys j) (sym was) ∙ at)
-        (sym now ∙ ap (λ (ys : List SlotState). slice_set ys j (answering old.host.config old.host.clock j s from.address o)) was)
+        (sym now ∙ ap (λ (ys : List SlotState). slice_set ys j (answering (host_basis old.host) j s from.address o)) was)
         (subst (λ (n : ℕ). Has (begun_in d.connection (Some n) new.host) f) same h)
 
-    by : (reply : Received) (xs : List SlotState) → xs ≡ new.host.slots → Arrives old.host.config old.host.clock slots from.address d.text reply xs → Begins far new f
+    by : (reply : Received) (xs : List SlotState) → xs ≡ new.host.slots → Arrives (host_basis old.host) slots from.address d.text reply xs → Begins far new f
     by reply xs now (receiving.unreadable why u) = unchanged xs now (ap (λ (ys : List SlotState). slice_get ys i) was)
     by reply xs now (receiving.no_offer header commands read nobody offer) = unchanged xs now (ap (λ (ys : List SlotState). slice_get ys i) was)
     by reply xs now (receiving.offered header commands o said left read nobody offer comes) = offered said header commands o left read offer now comes

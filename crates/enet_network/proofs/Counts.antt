@@ -16,7 +16,7 @@ use Rattle.enet_slot.specs.Giving.{asking, answering}
 use Rattle.enet_slot.specs.Sharing.{is_standing, shared}
 use Rattle.enet_host.specs.Host.{Host}
 use Rattle.enet_host.specs.Calls.{on_named}
-use Rattle.enet_host.specs.Opening.{Connects, no_channel, no_slot, no_memory, asks}
+use Rattle.enet_host.specs.Opening.{host_basis, Connects, no_channel, no_slot, no_memory, asks}
 use Rattle.enet_host.specs.Receiving.{Offers, Arrives}
 use Rattle.enet_host.specs.Receiving as receiving
 use Rattle.enet_host.specs.Ticking.{clock_after, with_time, is_due, ticked}
@@ -28,20 +28,20 @@ use Rattle.enet_network.proofs.Lists.{get-within}
 use Rattle.enet_network.proofs.Single.{does-named}
 use Rattle.enet_network.proofs.OneCall.{one-call}
 
-count-connects : (h : Host) (address : Addr) (channels info word : ℕ) (answer : Result PeerRef Refusal) (slots after : List SlotState) → Connects h.config h.clock slots address channels info word answer after → length after ≡ length slots
+count-connects : (h : Host) (address : Addr) (channels info word : ℕ) (answer : Result PeerRef Refusal) (slots after : List SlotState) → Connects (host_basis h) slots (record { address = address; channels = channels; info = info; word = word }) answer after → length after ≡ length slots
 count-connects h address channels info word answer slots after (no_channel z) = refl
 count-connects h address channels info word answer slots after (no_slot some none) = refl
 count-connects h address channels info word answer slots after (no_memory i some free) = refl
-count-connects h address channels info word answer slots after (asks i s some free there) = length-set slots i (asking h.config h.clock i s address channels info word)
+count-connects h address channels info word answer slots after (asks i s some free there) = length-set slots i (asking (host_basis h) i s (record { address = address; channels = channels; info = info; word = word }))
 
-count-offers : (h : Host) (from : Addr) (o : Offer) (reply : Received) (slots after : List SlotState) → Offers h.config h.clock slots from o reply after → length after ≡ length slots
+count-offers : (h : Host) (from : Addr) (o : Offer) (reply : Received) (slots after : List SlotState) → Offers (host_basis h) slots from o reply after → length after ≡ length slots
 count-offers h from o reply slots after (receiving.refused why r) = refl
 count-offers h from o reply slots after (receiving.repeated r known) = refl
 count-offers h from o reply slots after (receiving.no_slot r known full) = refl
 count-offers h from o reply slots after (receiving.no_memory j r known open') = refl
-count-offers h from o reply slots after (receiving.answers j s r known open' at) = length-set slots j (answering h.config h.clock j s from o)
+count-offers h from o reply slots after (receiving.answers j s r known open' at) = length-set slots j (answering (host_basis h) j s from o)
 
-count-arrives : (h : Host) (from : Addr) (bytes : List ℕ) (reply : Received) (slots after : List SlotState) → Arrives h.config h.clock slots from bytes reply after → length after ≡ length slots
+count-arrives : (h : Host) (from : Addr) (bytes : List ℕ) (reply : Received) (slots after : List SlotState) → Arrives (host_basis h) slots from bytes reply after → length after ≡ length slots
 count-arrives h from bytes reply slots after (receiving.unreadable why u) = refl
 count-arrives h from bytes reply slots after (receiving.no_offer header commands read nobody offer) = refl
 count-arrives h from bytes reply slots after (receiving.offered header commands o said left read nobody offer comes) = count-offers h from o said slots left comes

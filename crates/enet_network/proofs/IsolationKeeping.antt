@@ -7,6 +7,8 @@ use Rattle.enet_peer.specs.Peering.{Peering}
 use Rattle.enet_peer.specs.Calls as peers
 use Rattle.enet_slot.specs.Slot.{greatest}
 use Rattle.enet_host.specs.Host.{Host, HoldsNoFree}
+use Rattle.enet_host.specs.Opening.{host_basis}
+use Rattle.enet_host.specs.Serving.{served_of}
 use Rattle.enet_slot.specs.Calls.{submission, leaving, throttling, pinging, waiting}
 use Rattle.enet_host.proofs.Holding.{unused-held, joined-held, connects-held, submits-held, arrives-held, served-held, passed-held, ticked-held, does-held, does-with-memory-held, changed-held, event-held}
 use Rattle.enet_network.specs.Calls.{Call, Acts}
@@ -15,11 +17,11 @@ use Rattle.enet_network.specs.IsolationLaw.{EachKeeps}
 use Rattle.enet_network.proofs.Names.{same-generations}
 
 held-call : (c : Call) (old new : Host) → Acts c old new → HoldsNoFree old.slots → HoldsNoFree new.slots
-held-call (call.Connect address channels info word answer) old new acts h = connects-held old.config old.clock old.slots new.slots address channels info word answer h acts.0
+held-call (call.Connect address channels info word answer) old new acts h = connects-held (host_basis old) old.slots new.slots (record { address = address; channels = channels; info = info; word = word }) answer h acts.0
 held-call (call.Submit name channel q answer) old new acts h = submits-held old.slots new.slots name q (submission channel q) answer h acts.0
-held-call (call.Receive from bytes answer) old new acts h = arrives-held old.config old.clock old.slots new.slots from bytes answer h acts.arrives
+held-call (call.Receive from bytes answer) old new acts h = arrives-held (host_basis old) old.slots new.slots from bytes answer h acts.arrives
 held-call (call.Service None buf) old new acts h = passed-held old.clock old.slots new.slots h acts.0
-held-call (call.Service (Some gave) buf) old new acts h = served-held old.clock old.service_from old.slots new.slots gave.0 gave.1 gave.2 buf h acts.0
+held-call (call.Service (Some gave) buf) old new acts h = served-held old.clock old.service_from old.slots new.slots (served_of gave buf) h acts.0
 held-call (call.Tick ms) old new acts h = subst (λ (x : Host). HoldsNoFree x.slots) (sym acts) (ticked-held old ms h)
 held-call (call.Disconnect m name info answer) old new acts h = does-held old.slots new.slots name (leaving m info) answer h acts.0
 held-call (call.SetBandwidth incoming outgoing (Ok done)) old new acts h = subst (λ (x : Host). HoldsNoFree x.slots) (sym acts) (changed-held (λ (p : Peering). peers.with_bandwidth p incoming outgoing) old.slots h)

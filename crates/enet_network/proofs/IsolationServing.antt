@@ -17,7 +17,7 @@ use Rattle.enet_slot.specs.Slot.{SlotState, with_peer, name_of, greatest}
 use Rattle.enet_host.specs.Host.{Host}
 use Rattle.enet_host.specs.Turns.{turn_of, IsFirst, HoldsNowhere}
 use Rattle.enet_slot.specs.Serving.{Gives, passes_by, Passes}
-use Rattle.enet_host.specs.Serving.{InTurn, GivesInTurn, AllPass}
+use Rattle.enet_host.specs.Serving.{served_of, InTurn, GivesInTurn, AllPass}
 use Rattle.enet_slot.specs.Calls.{peer_tells, tells, event_of, GivesEvent}
 use Rattle.enet_network.specs.Calls.{Call}
 use Rattle.enet_network.specs.Calls as call
@@ -62,7 +62,7 @@ each-passed h buf after x i s e =
 turns-apart : (n from i j : ℕ) → i < n → j < n → turn_of n from i ≡ turn_of n from j → i ≡ j
 turns-apart n from i j a b e = grind (arith, nat_tests)
 
-pub each-given : (h : Host) (name : PeerRef) (address : Addr) (len : ℕ) (buf : List ℕ) (after : List SlotState) → GivesInTurn h.clock h.service_from h.slots name address len buf after
+pub each-given : (h : Host) (name : PeerRef) (address : Addr) (len : ℕ) (buf : List ℕ) (after : List SlotState) → GivesInTurn h.clock h.service_from h.slots (served_of (name, address, len) buf) after
     → Each (call.Service (Some (name, address, len)) buf) h after
 each-given h name address len buf after x i s e = (there.0, there.1, by (order (turn i) (turn name.slot)))
   where
@@ -78,7 +78,7 @@ each-given h name address len buf after x i s e = (there.0, there.1, by (order (
     there : (t : SlotState) × (slice_get after i ≡ Some t)
     there = get-within after i (let small : i < length h.slots = low in let same : length after ≡ length h.slots = x.count in omega arith)
 
-    turned : InTurn h.clock h.service_from (length h.slots) name.slot len buf i s there.0
+    turned : InTurn h.clock (turn_of (length h.slots) h.service_from) (served_of (name, address, len) buf) i s there.0
     turned = x.slots i s there.0 e there.1
 
     order : (a b : ℕ) → (a < b) ⊎ ((a ≡ b) ⊎ (b < a))

@@ -27,7 +27,7 @@ use Rattle.enet_peer.specs.CommandEffect.{obeyed}
 use Rattle.enet_peer.specs.Calls.{Taken, submission_refusal, submitted, pace_of, destination_of, gone_on, next_event}
 use Rattle.enet_slot.specs.Slot.{SlotState, greatest}
 use Rattle.enet_slot.specs.Calls.{event_of, submitted_unless, kept}
-use Rattle.enet_slot.specs.Giving.{unused_slot, limits_of, offer_from, server_from}
+use Rattle.enet_slot.specs.Giving.{no_address, unused_slot, limits_of, offer_from, server_from}
 use Rattle.enet_slot.specs.Hearing.{refused_by_slot, no_peer, stopped, Hears}
 use Rattle.enet_slot.specs.Serving.{with_emitted, Gives}
 use Rattle.enet_host.specs.declared.totals.Totals.{Totals}
@@ -35,7 +35,8 @@ use Rattle.enet_host.specs.Host.{Host}
 use Rattle.enet_host.specs.Calls.{put_back}
 use Rattle.enet_host.specs.Opening.{no_totals, asks}
 use Rattle.enet_host.specs.Receiving.{Arrives, unreadable, heard, offered, answers, offer_refused, handled_one, with_datagram_in}
-use Rattle.enet_host.specs.Serving.{InTurn, with_datagram_out}
+use Rattle.enet_host.specs.Turns.{turn_of}
+use Rattle.enet_host.specs.Serving.{served_of, InTurn, with_datagram_out}
 use Rattle.enet_network.specs.Calls as call
 use Rattle.enet_network.proofs.Slots.{held}
 use Rattle.enet_network.specs.declared.event.Answer.TheVariants as answer
@@ -229,7 +230,7 @@ puts-out w from side far x m host numbers k = (
       left = sym (held (with_emitted old (length text)) (put_out x.peer) k.live);
     }
 
-    in-turn : (i : ℕ) (s u : SlotState) → slice_get (old ∷ []) i ≡ Some s → slice_get (new ∷ []) i ≡ Some u → InTurn 0 0 1 0 (length text) text i s u
+    in-turn : (i : ℕ) (s u : SlotState) → slice_get (old ∷ []) i ≡ Some s → slice_get (new ∷ []) i ≡ Some u → InTurn 0 (turn_of 1 0) (served_of (first_name, address_of (other side), length text) text) i s u
     in-turn zero s u a b = record {
       before = λ less. absurd (omega arith);
       here = λ e. subst (λ (z : SlotState). Gives 0 (length text) text z u) (same-some old s a) (subst (λ (z : SlotState). Gives 0 (length text) text old z) (same-some new u b) gives);
@@ -309,8 +310,8 @@ hears next side from x k session sent d m q b o =
     hears-it : Hears 0 sent s.commands old handled_one new
     hears-it = record { peer = x.peer; after = q; held = refl; handled = handles; left = sym (held old q o.live) }
 
-    arrives : Arrives example_config 0 (old ∷ []) from.address d.text handled_one (new ∷ [])
-    arrives = subst (λ (a : Addr). Arrives example_config 0 (old ∷ []) a d.text handled_one (new ∷ [])) (sym b.at)
+    arrives : Arrives (record { config = example_config; clock = 0 }) (old ∷ []) from.address d.text handled_one (new ∷ [])
+    arrives = subst (λ (a : Addr). Arrives (record { config = example_config; clock = 0 }) (old ∷ []) a d.text handled_one (new ∷ [])) (sym b.at)
         (heard (record { peer = 0; session = session; compressed = false; sent = sent }) s.commands old new handled_one (read-of from (site side x) side k 0 session sent d m b) (λ e. omega arith) o.let_in refl hears-it)
 
 -- a stranger's datagram without a byte
@@ -327,7 +328,7 @@ beginning t p = record { totals = t; emitted = 0; peer = p; log = []; mtu = 0; n
 
 -- the offer with this word for the other's user and this connect id
 abbrev pub offer_with : (info word : ℕ) → Offer
-offer_with info word = offer_from example_config 0 unused_slot 1 info word
+offer_with info word = offer_from example_config 0 unused_slot (record { address = no_address; channels = 1; info = info; word = word })
 
 abbrev pub asking_peer : Offer → Peering
 asking_peer o = peers.connecting 0 o (limits_of example_config)
@@ -358,8 +359,8 @@ answers-first side from k session sent d head o fits b =
     offer : IsOffer s.commands o
     offer = (head, subst (λ (l : List ℕ). Spells l (record { head = head; body = connect o })) (sym alone) s.messages.3)
 
-    arrives : Arrives example_config 0 (unused_slot ∷ []) from.address d.text handled_one (slot_of side new ∷ [])
-    arrives = subst (λ (a : Addr). Arrives example_config 0 (unused_slot ∷ []) a d.text handled_one (slot_of side new ∷ [])) (sym b.at)
+    arrives : Arrives (record { config = example_config; clock = 0 }) (unused_slot ∷ []) from.address d.text handled_one (slot_of side new ∷ [])
+    arrives = subst (λ (a : Addr). Arrives (record { config = example_config; clock = 0 }) (unused_slot ∷ []) a d.text handled_one (slot_of side new ∷ [])) (sym b.at)
         (offered (record { peer = no_peer; session = session; compressed = false; sent = sent }) s.commands o handled_one (slot_of side new ∷ [])
         (read-of from (free_site side) side k no_peer session sent d (record { head = head; body = connect o }) b) refl offer (answers 0 unused_slot fits refl refl refl))
 

@@ -23,7 +23,7 @@ use Rattle.enet_peer.specs.Heading.{IsUnreadable, IsRead, IsOffer}
 use Rattle.enet_slot.specs.Slot.{SlotState, name_of}
 use Rattle.enet_host.specs.Host.{Host}
 use Rattle.enet_slot.specs.Giving.{is_vacant, is_available, asking, answering}
-use Rattle.enet_host.specs.Opening.{available, Connects}
+use Rattle.enet_host.specs.Opening.{host_basis, available, Connects}
 use Rattle.enet_host.specs.Opening as opening
 use Rattle.enet_slot.specs.Hearing.{no_peer, refused_by_slot, stopped}
 use Rattle.enet_host.specs.Receiving.{refused_by, is_known, Offers, Arrives, handled_one}
@@ -73,7 +73,7 @@ refused-begins : (h : Host) (address : Addr) (channels info word : ℕ) (why : R
 refused-begins h address channels info word why i s u (asks a2 c2 i2 w2 is some at) = absurd (cc)
 refused-begins h address channels info word why i s u (answers from bytes commands header o is read stranger offer taken new at) = absurd (cc)
 
-pub each-connects : (h : Host) (address : Addr) (channels info word : ℕ) (answer : Result PeerRef Refusal) (slots after : List SlotState) → slots ≡ h.slots → Connects h.config h.clock slots address channels info word answer after
+pub each-connects : (h : Host) (address : Addr) (channels info word : ℕ) (answer : Result PeerRef Refusal) (slots after : List SlotState) → slots ≡ h.slots → Connects (host_basis h) slots (record { address = address; channels = channels; info = info; word = word }) answer after
     → Each (call.Connect address channels info word answer) h after
 each-connects h address channels info word answer slots after same (opening.no_channel zero-channels) = each-none _ h slots (λ i s. refl) same (λ i s p there held. idle _ (common_of h) i s p refl) (refused-begins h address channels info word refusal.BadConfig)
 each-connects h address channels info word answer slots after same (opening.no_slot some free) = each-none _ h slots (λ i s. refl) same (λ i s p there held. idle _ (common_of h) i s p refl) (refused-begins h address channels info word refusal.NoSlot)
@@ -81,8 +81,8 @@ each-connects h address channels info word answer slots after same (opening.no_m
 each-connects h address channels info word answer slots after same (opening.asks j s some free there) =
     let open' : (s.peer ≡ None) × (s.generation < h.config.generations) = is_open h.config slots j s free there in
     let at : available h.config h.slots ≡ Some j = ap (λ (xs : List SlotState). available h.config xs) (sym same) ∙ free in
-    subst (λ (xs : List SlotState). Each (call.Connect address channels info word (Ok (name_of j s))) h (slice_set xs j (asking h.config h.clock j s address channels info word))) (sym same)
-    (each-set (call.Connect address channels info word (Ok (name_of j s))) h j s (asking h.config h.clock j s address channels info word) (ap (λ (xs : List SlotState). slice_get xs j) (sym same) ∙ there)
+    subst (λ (xs : List SlotState). Each (call.Connect address channels info word (Ok (name_of j s))) h (slice_set xs j (asking (host_basis h) j s (record { address = address; channels = channels; info = info; word = word })))) (sym same)
+    (each-set (call.Connect address channels info word (Ok (name_of j s))) h j s (asking (host_basis h) j s (record { address = address; channels = channels; info = info; word = word })) (ap (λ (xs : List SlotState). slice_get xs j) (sym same) ∙ there)
     (begins open'.0 open'.1 (asks address channels info word refl some at)) (λ i x. refl) (λ i other x p there held. idle _ (common_of h) i x p refl) (apart-begins (call.Connect address channels info word (Ok (name_of j s))) h j at))
 
 -- a datagram is read in one way
@@ -141,7 +141,7 @@ each-stopped : (h : Host) (from : Addr) (bytes : List ℕ) (why : Stop) (slots :
 each-stopped h from bytes why slots same stays = each-none (call.Receive from bytes (stopped why)) h slots (λ i s. refl) same stays (stopped-begins h from bytes why)
 
 each-offered : (h : Host) (from : Addr) (bytes commands : List ℕ) (header : Header) (o : Offer) (answer : Received) (slots after : List SlotState) → slots ≡ h.slots → IsRead bytes header commands → header.peer ≡ no_peer → IsOffer commands o
-    → Offers h.config h.clock slots from o answer after → Each (call.Receive from bytes answer) h after
+    → Offers (host_basis h) slots from o answer after → Each (call.Receive from bytes answer) h after
 each-offered h from bytes commands header o answer slots after same read e offer (receiving.refused why r) = each-stopped h from bytes why slots same (λ i. away h from bytes (stopped why) header commands i read (inl e))
 each-offered h from bytes commands header o answer slots after same read e offer (receiving.repeated r k) =
     each-none (call.Receive from bytes handled_one) h slots (λ i s. refl) same (λ i. away h from bytes handled_one header commands i read (inl e))
@@ -152,8 +152,8 @@ each-offered h from bytes commands header o answer slots after same read e offer
     let open' : (s.peer ≡ None) × (s.generation < h.config.generations) = is_open h.config slots j s free there in
     let at : available h.config h.slots ≡ Some j = ap (λ (xs : List SlotState). available h.config xs) (sym same) ∙ free in
     let new : is_known h.slots from o ≡ false = ap (λ (xs : List SlotState). is_known xs from o) (sym same) ∙ k in
-    subst (λ (xs : List SlotState). Each (call.Receive from bytes handled_one) h (slice_set xs j (answering h.config h.clock j s from o))) (sym same)
-    (each-set (call.Receive from bytes handled_one) h j s (answering h.config h.clock j s from o) (ap (λ (xs : List SlotState). slice_get xs j) (sym same) ∙ there)
+    subst (λ (xs : List SlotState). Each (call.Receive from bytes handled_one) h (slice_set xs j (answering (host_basis h) j s from o))) (sym same)
+    (each-set (call.Receive from bytes handled_one) h j s (answering (host_basis h) j s from o) (ap (λ (xs : List SlotState). slice_get xs j) (sym same) ∙ there)
     (begins open'.0 open'.1 (answers from bytes commands header o refl read e offer r new at)) (λ i x. refl) (λ i other. away h from bytes handled_one header commands i read (inl e))
     (apart-begins (call.Receive from bytes handled_one) h j at))
 
@@ -165,7 +165,7 @@ turned h from bytes commands header why read known refused i s p there held = id
     by (inl e) = turned_away header commands why read known e (ap (λ (o : Option SlotState). refused_by_slot from header.session o) (sym (ap (λ (k : ℕ). slice_get h.slots k) e ∙ there)) ∙ refused) refl
     by (inr n) = elsewhere header commands read (inr n)
 
-pub each-arrives : (h : Host) (from : Addr) (bytes : List ℕ) (answer : Received) (slots after : List SlotState) → slots ≡ h.slots → Arrives h.config h.clock slots from bytes answer after → Each (call.Receive from bytes answer) h after
+pub each-arrives : (h : Host) (from : Addr) (bytes : List ℕ) (answer : Received) (slots after : List SlotState) → slots ≡ h.slots → Arrives (host_basis h) slots from bytes answer after → Each (call.Receive from bytes answer) h after
 each-arrives h from bytes answer slots after same (receiving.unreadable why u) = each-stopped h from bytes why slots same (unread h from bytes (stopped why) why u)
 each-arrives h from bytes answer slots after same (receiving.no_offer header commands read e none) = each-stopped h from bytes stop.UnknownPeer slots same (λ i. away h from bytes (stopped stop.UnknownPeer) header commands i read (inl e))
 each-arrives h from bytes answer slots after same (receiving.offered header commands o reply left read e offer comes) = each-offered h from bytes commands header o reply slots left same read e offer comes

@@ -7,7 +7,7 @@ use Rattle.enet_connection.specs.LinkSteps.{Has}
 use Rattle.enet_connection.proofs.Lists.{Has-push_cases}
 use Rattle.enet_slot.specs.Serving.{Gives}
 use Rattle.enet_slot.specs.Slot.{SlotState}
-use Rattle.enet_host.specs.Serving.{GivesInTurn}
+use Rattle.enet_host.specs.Serving.{served_of, GivesInTurn}
 use Rattle.enet_network.specs.Calls.{Acts}
 use Rattle.enet_network.specs.Calls as call
 use Rattle.enet_network.proofs.Names.{IsThere}
@@ -35,7 +35,7 @@ served place far gave buf old new logs acts at k d h = elim (Has-push_cases old.
     one : Logged
     one = record { connection = logs.own.connection; to = gave.1; peer = logs.header.peer; text = take gave.2 buf; marks = logs.marks }
 
-    given : GivesInTurn old.host.clock old.host.service_from old.host.slots gave.0 gave.1 gave.2 buf new.host.slots
+    given : GivesInTurn old.host.clock old.host.service_from old.host.slots (served_of gave buf) new.host.slots
     given = acts.0
 
     t : (t : SlotState) × (slice_get new.host.slots gave.0.slot ≡ Some t)

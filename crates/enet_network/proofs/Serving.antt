@@ -30,7 +30,7 @@ use Rattle.enet_slot.specs.Slot.{SlotState, with_peer, greatest}
 use Rattle.enet_host.specs.Turns.{turn_of}
 use Rattle.enet_slot.specs.Serving.{Gives, HasNothing, passes_by, Passes}
 use Rattle.enet_host.specs.Calls.{address_named}
-use Rattle.enet_host.specs.Serving.{InTurn, GivesInTurn, AllPass}
+use Rattle.enet_host.specs.Serving.{served_of, InTurn, GivesInTurn, AllPass}
 use Rattle.enet_network.specs.Calls.{Call, Acts}
 use Rattle.enet_network.specs.Calls as call
 use Rattle.enet_network.proofs.Lists.{get-within}
@@ -307,7 +307,7 @@ order (suc a) (suc b) = by (order a b)
     by (equal h) = equal (ap (λ (n : ℕ). suc n) h)
     by (after h) = after (omega arith)
 
-pub there-now : (gave : PeerRef × Addr × ℕ) (buf : List ℕ) (old new : Site) → GivesInTurn old.host.clock old.host.service_from old.host.slots gave.0 gave.1 gave.2 buf new.host.slots
+pub there-now : (gave : PeerRef × Addr × ℕ) (buf : List ℕ) (old new : Site) → GivesInTurn old.host.clock old.host.service_from old.host.slots (served_of gave buf) new.host.slots
     → (i : ℕ) (s : SlotState) → slice_get old.host.slots i ≡ Some s → (t : SlotState) × (slice_get new.host.slots i ≡ Some t)
 there-now gave buf old new given i s e = get-within new.host.slots i (let few : i < length old.host.slots = slice_get_within old.host.slots i s e in let as' : length new.host.slots ≡ length old.host.slots = given.count in omega arith)
 
@@ -328,7 +328,7 @@ goes-turned gave buf old new e own far f low acts others k served = by (there-or
     c : Call
     c = call.Service (Some gave) buf
 
-    given : GivesInTurn old.host.clock old.host.service_from old.host.slots gave.0 gave.1 gave.2 buf new.host.slots
+    given : GivesInTurn old.host.clock old.host.service_from old.host.slots (served_of gave buf) new.host.slots
     given = acts.0
 
     others-slot : e.name.slot ≢ gave.0.slot → KeepsLog old new e.connection
@@ -353,7 +353,7 @@ goes-turned gave buf old new e own far f low acts others k served = by (there-or
         t : (t : SlotState) × (slice_get new.host.slots e.name.slot ≡ Some t)
         t = there-now gave buf old new given e.name.slot x.slot x.there
 
-        turned : InTurn old.host.clock old.host.service_from (length old.host.slots) gave.0.slot gave.2 buf e.name.slot x.slot t.0
+        turned : InTurn old.host.clock (turn_of (length old.host.slots) old.host.service_from) (served_of gave buf) e.name.slot x.slot t.0
         turned = given.slots e.name.slot x.slot t.0 x.there t.1
 
         at : Order (turn e.name.slot) (turn gave.0.slot) → Went own far new (cond (is_same_name e.name gave.0) f e)
@@ -425,7 +425,7 @@ goes-unserved gave buf old new e own far low acts same away k = subst (Went own 
     same-either true f = refl
     same-either false f = refl
 
-    given : GivesInTurn old.host.clock old.host.service_from old.host.slots gave.0 gave.1 gave.2 buf new.host.slots
+    given : GivesInTurn old.host.clock old.host.service_from old.host.slots (served_of gave buf) new.host.slots
     given = acts.0
 
     served : IsServed gave buf old new e k.peer → Went own far new e

@@ -20,7 +20,7 @@ use Rattle.enet_connection.proofs.Runs.{reached-none}
 use Rattle.enet_connection.proofs.Words.{IsWord, word-happens}
 use Rattle.enet_slot.specs.Slot.{SlotState, name_of, greatest}
 use Rattle.enet_host.specs.Host.{Host}
-use Rattle.enet_host.specs.Opening.{Connects, no_channel, no_slot, no_memory, asks}
+use Rattle.enet_host.specs.Opening.{host_basis, Connects, no_channel, no_slot, no_memory, asks}
 use Rattle.enet_network.specs.Calls.{Call, Acts}
 use Rattle.enet_network.specs.Calls as call
 use Rattle.enet_network.proofs.Lists.{same-or}
@@ -309,7 +309,7 @@ pub record IsFresh (h : Host) (name : PeerRef) : Type 0 where
   pub left : slot.generation < h.config.generations
   pub generation : name.generation ≡ slot.generation
 
-pub fresh-connected : (h : Host) (address : Addr) (channels info word : ℕ) (name : PeerRef) (answer : Result PeerRef Refusal) (slots after : List SlotState) → slots ≡ h.slots → Connects h.config h.clock slots address channels info word answer after
+pub fresh-connected : (h : Host) (address : Addr) (channels info word : ℕ) (name : PeerRef) (answer : Result PeerRef Refusal) (slots after : List SlotState) → slots ≡ h.slots → Connects (host_basis h) slots (record { address = address; channels = channels; info = info; word = word }) answer after
     → answer ≡ Ok name → IsFresh h name
 fresh-connected h address channels info word name answer slots after was (no_channel z) e = absurd (cc)
 fresh-connected h address channels info word name answer slots after was (no_slot some none) e = absurd (cc)

@@ -10,7 +10,7 @@ use Rattle.enet_codec.specs.declared.refusal.Refusal.{Refusal}
 use Rattle.enet_codec.specs.declared.refusal.Refusal.TheVariants as refusal
 use Rattle.enet_sender.specs.CommandChoice.{Packet}
 use Rattle.enet_host.specs.Host.{Host, KeepsRest, named}
-use Rattle.enet_host.specs.Opening.{Connects}
+use Rattle.enet_host.specs.Opening.{host_basis, Connects}
 use Rattle.enet_host.specs.Receiving.{Receives}
 use Rattle.enet_host.specs.Serving.{Serves}
 use Rattle.enet_host.specs.Ticking.{ticked}
@@ -48,7 +48,8 @@ Sets (Err why) after old new = (why ≡ refusal.Memory) × (new ≡ old) × (lis
 
 -- what a call did, by the contract of `HostCore`
 abbrev pub Acts : Call → Host → Host → Type 0
-Acts (Connect address channels info word answer) old new = Connects old.config old.clock old.slots address channels info word answer new.slots × KeepsRest old new
+Acts (Connect address channels info word answer) old new =
+    Connects (host_basis old) old.slots (record { address = address; channels = channels; info = info; word = word }) answer new.slots × KeepsRest old new
 Acts (Submit name channel q answer) old new = Submits answer q (on_named old.slots name (submission channel q)) old.slots new.slots × KeepsRest old new
 Acts (Receive from bytes answer) old new = Receives old from bytes answer new
 Acts (Service answer buf) old new = Serves old answer buf new

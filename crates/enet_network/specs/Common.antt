@@ -4,6 +4,7 @@ use Rattle.std.specs.Prelude.{ℕ, Bool, Option, length}
 use Rattle.std.specs.List.{count_by, list_any}
 use Rattle.enet_codec.specs.declared.address.Addr.{Addr}
 use Rattle.enet_codec.specs.declared.config.Config.{Config}
+use Rattle.enet_slot.specs.Giving.{Basis}
 use Rattle.enet_slot.specs.Hearing.{is_connection}
 use Rattle.enet_slot.specs.Sharing.{is_standing}
 use Rattle.enet_host.specs.Host.{Host}
@@ -32,3 +33,7 @@ common_of h = record {
   is_due = λ now. ticking.is_due (ticking.with_time h now);
   standing = λ now. count_by is_standing (ticking.with_time h now).slots;
 }
+
+-- what a host goes by, of what is shared
+abbrev pub common_basis : Common → Basis
+common_basis h = record { config = h.config; clock = h.clock }

@@ -31,7 +31,7 @@ use Rattle.enet_connection.specs.Steps.{Way, Asking, Now, Later}
 use Rattle.enet_connection.specs.Steps as setting
 use Rattle.enet_network.specs.Calls as call
 use Rattle.enet_network.specs.Calls.{Call, Steps}
-use Rattle.enet_network.specs.Common.{Common, common_of}
+use Rattle.enet_network.specs.Common.{Common, common_of, common_basis}
 use Rattle.enet_network.specs.Deeds.{Deed, Submit, Emit, Come, Tick, Take, Disconnect, Set}
 
 abbrev pub deeds_if : Bool → Deed → List Deed
@@ -131,10 +131,11 @@ counted c h i s = s.emitted
 -- user asks from it, or it answers a CONNECT whose connection isn't there yet
 pub data Begins (c : Call) (h : Common) (i : ℕ) (s : SlotState) : SlotState → Type 0 where
   asks : (address : Addr) (channels info word : ℕ) → c ≡ call.Connect address channels info word (Ok (name_of i s)) → channels ≢ 0
-      → h.available ≡ Some i → Begins c h i s (asking h.config h.clock i s address channels info word)
+      → h.available ≡ Some i
+      → Begins c h i s (asking (common_basis h) i s (record { address = address; channels = channels; info = info; word = word }))
   answers : (from : Addr) (bytes commands : List ℕ) (header : Header) (o : Offer) → c ≡ call.Receive from bytes handled_one
       → IsRead bytes header commands → header.peer ≡ no_peer → IsOffer commands o → offer_refused o ≡ None → h.knows from o.connect_id ≡ false
-      → h.available ≡ Some i → Begins c h i s (answering h.config h.clock i s from o)
+      → h.available ≡ Some i → Begins c h i s (answering (common_basis h) i s from o)
 
 -- the deeds by which a list of calls fell to the peer of this name, one call after another; none once the name is spent
 abbrev pub FellAll : PeerRef → (cs : List Call) (old new : Host) → Steps cs old new → List Deed → Type 0

@@ -12,7 +12,7 @@ use Rattle.enet_peer.specs.declared.parts.PeerState.{PeerState}
 use Rattle.enet_peer.specs.declared.parts.PeerState.TheVariants.{Ended}
 use Rattle.enet_peer.specs.Peering.{Peering}
 use Rattle.enet_host.specs.Host.{Host, KeepsRest}
-use Rattle.enet_host.specs.Opening.{Connects}
+use Rattle.enet_host.specs.Opening.{host_basis, Connects}
 use Rattle.enet_host.specs.Receiving.{Receives}
 use Rattle.enet_host.specs.Serving.{Serves}
 use Rattle.enet_host.specs.Ticking.{ticked}
@@ -27,7 +27,8 @@ Ticks old ms new = new ≡ ticked old ms
 -- an order is the call that it names
 abbrev pub Obeys : Host → Order → Option Refusal → Host → Type 0
 Obeys old (Connect addr channels info word) why new =
-    (answer : Result PeerRef Refusal) × Connects old.config old.clock old.slots addr channels info word answer new.slots × KeepsRest old new × (why ≡ why_of answer)
+    (answer : Result PeerRef Refusal) × Connects (host_basis old) old.slots (record { address = addr; channels = channels; info = info; word = word }) answer new.slots
+    × KeepsRest old new × (why ≡ why_of answer)
 Obeys old (Submit peer channel flags body) why new =
     (answer : Result (Unit {0}) Refusal) × DoesWithMemory answer (on_named old.slots peer (submission channel (record { flags = flags; body = body }))) old.slots new.slots
     × KeepsRest old new × (why ≡ why_of answer)

@@ -9,7 +9,17 @@ use Rattle.enet_connect.specs.declared.terms.Terms.{Terms}
 use Rattle.enet_peer.specs.declared.parts.Limits.{Limits}
 use Rattle.enet_peer.specs.Peering.{Peering}
 use Rattle.enet_peer.specs.Peering as peers
+use Rattle.enet_slot.specs.declared.giving.Question.{Question}
+use Rattle.enet_slot.specs.declared.giving.Start.{Start}
 use Rattle.enet_slot.specs.Slot.{SlotState}
+
+-- what a host goes by where a datagram comes or a peer begins: its settings, and its clock in milliseconds
+pub record Basis : Type 0 where
+  pub config : Config
+  pub clock : ℕ
+
+abbrev pub basis_of : Start → Basis
+basis_of start = record { config = start.config; clock = start.clock }
 
 -- what a host allows its peers
 abbrev pub limits_of : Config → Limits
@@ -55,21 +65,21 @@ abbrev pub is_available : ℕ → SlotState → Bool
 is_available generations s = is_vacant s.peer && nat_lt s.generation generations
 
 -- what a client offers from a slot: its own settings, the sessions that the slot had, and the throttle's standard numbers
-abbrev pub offer_from : Config → ℕ → SlotState → ℕ → ℕ → ℕ → Offer
-offer_from c i s channels info word = record {
+abbrev pub offer_from : Config → ℕ → SlotState → Question → Offer
+offer_from c i s question = record {
   outgoing_peer = i;
   incoming_session = s.incoming_session;
   outgoing_session = s.outgoing_session;
   mtu = c.mtu;
   window = window_size c.outgoing 0;
-  channels = channels;
+  channels = question.channels;
   incoming_bandwidth = c.incoming;
   outgoing_bandwidth = c.outgoing;
   throttle_interval = 5000;
   acceleration = 2;
   deceleration = 2;
-  connect_id = word;
-  info = info;
+  connect_id = question.word;
+  info = question.info;
 }
 
 -- what a server answers an offer by from a slot
@@ -84,11 +94,12 @@ server_from c i s = record {
   outgoing_bandwidth = c.outgoing;
 }
 
--- a client asks from slot i
-abbrev pub asking : Config → ℕ → ℕ → SlotState → Addr → ℕ → ℕ → ℕ → SlotState
-asking c now i s address channels info word =
-    given s address (peers.connecting now (offer_from c i s channels info word) (limits_of c))
+-- slot i once a client has asked this from it
+abbrev pub asking : Basis → ℕ → SlotState → Question → SlotState
+asking basis i s question =
+    given s question.address (peers.connecting basis.clock (offer_from basis.config i s question) (limits_of basis.config))
 
--- a server answers from slot i
-abbrev pub answering : Config → ℕ → ℕ → SlotState → Addr → Offer → SlotState
-answering c now i s address offer = given s address (peers.answering now offer (server_from c i s) (limits_of c))
+-- slot i once a server has answered from it the offer of one at this address
+abbrev pub answering : Basis → ℕ → SlotState → Addr → Offer → SlotState
+answering basis i s from offer =
+    given s from (peers.answering basis.clock offer (server_from basis.config i s) (limits_of basis.config))

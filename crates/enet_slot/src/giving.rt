@@ -4,7 +4,7 @@ ghost use Rattle.std.specs.Prelude.{◌≡◌, ◌≤◌, IsTrue, OnOk, OnErr, I
 ghost use Rattle.enet_connect.specs.Terms.{is_channel_count};
 ghost use Rattle.enet_peer.specs.Peering as peers;
 ghost use Rattle.enet_slot.specs.Slot.{name_of};
-ghost use Rattle.enet_slot.specs.Giving.{limits_of, joined_terms, offer_from, server_from, given, asking, answering};
+ghost use Rattle.enet_slot.specs.Giving.{basis_of, limits_of, joined_terms, offer_from, server_from, given, asking, answering};
 
 use crate::Slot;
 use enet_codec::{Addr, Config, PeerRef, Refusal};
@@ -73,7 +73,7 @@ fn joined_terms(config: &Config) -> Terms
 
 /// What a client offers from the slot of this number.
 fn offer_from(config: &Config, number: u16, slot: &Slot, question: &Question) -> Offer
-    ensures { result ≡ offer_from config.now number slot.now.slot question.now.channels question.now.info question.now.word }
+    ensures { result ≡ offer_from config.now number slot.now.slot question.now }
 {
     Offer {
         outgoing_peer: number,
@@ -142,7 +142,7 @@ impl Slot {
         number: u16,
         question: Question,
     ) -> Result<PeerRef, Refusal>
-        ensures asks { OnOk result (self.new.slot ≡ asking start.now.config start.now.clock number self.old.slot question.address question.channels question.info question.word) }
+        ensures asks { OnOk result (self.new.slot ≡ asking (basis_of start.now) number self.old.slot question) }
         ensures named { IfOk result (λ name. name ≡ name_of number self.old.slot) }
         ensures unchanged { OnErr result (self.new.slot ≡ self.old.slot) }
         ensures memory { IfErr result (λ why. why ≡ Refusal.Memory) }
@@ -167,7 +167,7 @@ impl Slot {
         offer: Offer,
     ) -> Result<(), Refusal>
         requires { IsTrue (is_channel_count offer.channels) }
-        ensures answers { OnOk result (self.new.slot ≡ answering start.now.config start.now.clock number self.old.slot from offer) }
+        ensures answers { OnOk result (self.new.slot ≡ answering (basis_of start.now) number self.old.slot from offer) }
         ensures unchanged { OnErr result (self.new.slot ≡ self.old.slot) }
         ensures memory { IfErr result (λ why. why ≡ Refusal.Memory) }
     {

@@ -1,4 +1,5 @@
 use Rattle.std.proofs.Common.{arith}
+use Rattle.enet_slot.specs.Giving.{basis_of}
 use Rattle.enet_slot.specs.Slotted.{all_shown}
 use Rattle.enet_host.specs.Opening.{no_channel, no_slot}
 use Rattle.enet_host.proofs.Offering.{found-in, connects-at}
@@ -14,7 +15,7 @@ returns-in_default-clause-connects c =
 
 pub returns-clause-connects : goal.returns-clause-connects
 returns-clause-connects c =
-    connects-at c.args.start.now.config c.args.start.now.clock c.args.slots.now.items c.args.question.address c.args.question.channels c.args.question.info c.args.question.word c.in-Some.place
+    connects-at (basis_of c.args.start.now) c.args.slots.now.items c.args.question c.in-Some.place
     c.index_mut-slot.result.now c.ask.new.self c.ask.result c.if-question-eq0.false
     (found-in c.args.start.now.config c.args.slots.now.items c.deref.result.now _ _ c.first_available.ensures.first c.deref.ensures.value c.in-Some.is)
     (let within = c.in-Some.ensures.within in let len = c.deref.ensures.len in grind (arith, within, len)) c.index_mut-slot.ensures.value c.ask.ensures.asks c.ask.ensures.named c.ask.ensures.unchanged c.ask.ensures.memory

@@ -1,6 +1,7 @@
 use Rattle.std.proofs.Common.{ℕ, ◌≤◌, arith, sym, subst}
 use Rattle.enet_codec.specs.declared.event.Received.{Received}
 use Rattle.enet_host.specs.Receiving.{Arrives, unreadable, no_offer, offered, turned_away}
+use Rattle.enet_slot.specs.Giving.{basis_of}
 use Rattle.enet_slot.specs.Slotted.{all_shown}
 use Rattle.enet_host.proofs.Hearing.{refused-in, heard-at}
 use Rattle.enet_host.specs.Skips.{entry}
@@ -9,7 +10,7 @@ use Rattle.enet_host.proofs.receiving.receive.Goals as goal
 
 pub returns-in-Err-clause-arrives : goal.returns-in-Err-clause-arrives
 returns-in-Err-clause-arrives c =
-    subst (λ (a : Received). Arrives c.args.start.now.config c.args.start.now.clock (all_shown c.args.slots.now.items) c.args.from c.args.bytes.now a (all_shown c.args.slots.now.items)) (sym c.stopped.ensures)
+    subst (λ (a : Received). Arrives (basis_of c.args.start.now) (all_shown c.args.slots.now.items) c.args.from c.args.bytes.now a (all_shown c.args.slots.now.items)) (sym c.stopped.ensures)
     (unreadable c.in-Err.why c.in-Err.ensures.refused)
 
 pub returns-in-Some-clause-arrives : goal.returns-in-Some-clause-arrives
@@ -19,18 +20,18 @@ returns-in-Some-clause-arrives c =
 
 pub returns-in-None-clause-arrives : goal.returns-in-None-clause-arrives
 returns-in-None-clause-arrives c =
-    subst (λ (a : Received). Arrives c.args.start.now.config c.args.start.now.clock (all_shown c.args.slots.now.items) c.args.from c.args.bytes.now a (all_shown c.args.slots.now.items)) (sym c.stopped-in-None.ensures)
+    subst (λ (a : Received). Arrives (basis_of c.args.start.now) (all_shown c.args.slots.now.items) c.args.from c.args.bytes.now a (all_shown c.args.slots.now.items)) (sym c.stopped-in-None.ensures)
     (no_offer c.in-Ok.found.0 c.in-Ok.found.1.now c.in-Ok.ensures.read c.if-header-eq-NO_PEER.true c.in-None.ensures.none)
 
 pub returns-in-Some-refused_by-clause-arrives : goal.returns-in-Some-refused_by-clause-arrives
 returns-in-Some-refused_by-clause-arrives c =
-    subst (λ (a : Received). Arrives c.args.start.now.config c.args.start.now.clock (all_shown c.args.slots.now.items) c.args.from c.args.bytes.now a (all_shown c.args.slots.now.items)) (sym c.stopped-in-Some-refused_by.ensures)
+    subst (λ (a : Received). Arrives (basis_of c.args.start.now) (all_shown c.args.slots.now.items) c.args.from c.args.bytes.now a (all_shown c.args.slots.now.items)) (sym c.stopped-in-Some-refused_by.ensures)
     (turned_away c.in-Ok.found.0 c.in-Ok.found.1.now c.in-Some-refused_by.why c.in-Ok.ensures.read c.if-header-eq-NO_PEER.false
     (refused-in c.args.slots.now.items c.deref.result.now c.args.from c.in-Ok.found.0 _ _ c.refused_by.ensures.stop c.deref.ensures.value c.in-Some-refused_by.is))
 
 pub returns-clause-arrives : goal.returns-clause-arrives
 returns-clause-arrives c =
-    heard-at c.args.start.now.config c.args.start.now.clock c.args.slots.now.items c.args.from c.args.bytes.now c.in-Ok.found.0 c.in-Ok.found.1.now c.from.result c.index_mut-slot.result.now c.hear.new.self
+    heard-at (basis_of c.args.start.now) c.args.slots.now.items c.args.from c.args.bytes.now c.in-Ok.found.0 c.in-Ok.found.1.now c.from.result c.index_mut-slot.result.now c.hear.new.self
     c.hear.result c.in-Ok.ensures.read c.if-header-eq-NO_PEER.false
     (refused-in c.args.slots.now.items c.deref.result.now c.args.from c.in-Ok.found.0 _ _ c.refused_by.ensures.stop c.deref.ensures.value c.in_default.is) c.from.ensures
     (let within = c.in_default.ensures.within in let len = c.deref.ensures.len in let e = c.from.ensures in grind (arith, within, len, e)) c.index_mut-slot.ensures.value c.hear.ensures.hears

@@ -1,5 +1,6 @@
 use Rattle.std.proofs.Common.{◌+◌, refl, sym, ◌∙◌, arith}
 use Rattle.enet_slot.specs.Slotted.{all_shown}
+use Rattle.enet_host.specs.Serving.{served_of}
 use Rattle.enet_slot.proofs.Shown.{length-shown}
 use Rattle.enet_host.proofs.Asking.{none-asked, all-asked-more, all-passed, all-pass, gives-in-turn, still-there, name-slot}
 use Rattle.enet_host.proofs.Skipping.{skips-passes, skips-gives}
@@ -42,7 +43,7 @@ returns-in-Some-clause-gives c =
     let place = c.slot_of_turn-number.ensures.place in
     let count = length-shown c.args.slots.now.items ∙ c.requires.all in
     let gives = c.in-Some.ensures.gives in
-    gives-in-turn c.args.now c.args.peers c.args.from c.loop-turn.turn c.slot_of_turn-number.result c.in-Some.sent.2 c.in-Some.sent.0 c.in-Some.sent.1 c.serve_slot.new.buf
+    gives-in-turn c.args.now c.args.peers c.args.from c.loop-turn.turn c.slot_of_turn-number.result (served_of c.in-Some.sent c.serve_slot.new.buf)
     (all_shown c.args.slots.now.items) (all_shown c.loop-turn.slots.items) (all_shown c.serve_slot.new.slots.items) c.requires.within count inside place c.loop-turn.invariant.asked
     (length-shown c.serve_slot.new.slots.items ∙ c.serve_slot.ensures.count ∙ c.loop-turn.invariant.count ∙ sym (length-shown c.args.slots.now.items)) gives
     (still-there c.args.now c.args.peers c.args.from c.loop-turn.turn c.slot_of_turn-number.result (all_shown c.args.slots.now.items) (all_shown c.loop-turn.slots.items) gives.slot count inside place
@@ -50,7 +51,7 @@ returns-in-Some-clause-gives c =
 
 pub returns-in-Some-clause-skips : goal.returns-in-Some-clause-skips
 returns-in-Some-clause-skips c =
-    skips-gives c.args.peers c.args.now c.slot_of_turn-number.result c.in-Some.sent.2 c.in-Some.sent.0 c.in-Some.sent.1 c.serve_slot.new.buf c.args.skips.now
+    skips-gives c.args.peers c.args.now c.slot_of_turn-number.result (served_of c.in-Some.sent c.serve_slot.new.buf) c.args.skips.now
     (all_shown c.loop-turn.slots.items) (all_shown c.serve_slot.new.slots.items) c.loop-turn.invariant.skips
     (c.loop-turn.invariant.awake c.slot_of_turn-number.result c.slot_of_turn-number.ensures.within c.slot_of_turn-number.ensures.place) c.in-Some.ensures.gives
 

@@ -1,4 +1,5 @@
-use Rattle.std.proofs.Common.{arith}
+use Rattle.std.proofs.Common.{arith, refl}
+use Rattle.enet_host.specs.Serving.{served_of}
 use Rattle.enet_host.proofs.Serving.{slot-passes, slot-gives}
 use Rattle.enet_host.proofs.service.serve_slot.Goals as goal
 
@@ -9,5 +10,5 @@ returns-in_default-clause-passes c =
 
 pub returns-clause-gives : goal.returns-clause-gives
 returns-clause-gives c =
-    slot-gives c.args.now c.in-Some.len c.generation.result c.address-address.result c.serve.new.buf c.args.slots.now.items c.from.result c.args.number c.index_mut-slot.result.now c.serve.new.self c.from.ensures
-    (let e = c.from.ensures in let within = c.requires in grind (arith, e, within)) c.index_mut-slot.ensures.value c.generation.ensures c.address-address.ensures c.in-Some.ensures.gives
+    slot-gives c.args.now c.generation.result (served_of (record { slot = c.args.number; generation = c.generation.result }, c.address-address.result, c.in-Some.len) c.serve.new.buf) c.args.slots.now.items c.from.result c.args.number c.index_mut-slot.result.now c.serve.new.self c.from.ensures
+    (let e = c.from.ensures in let within = c.requires in grind (arith, e, within)) c.index_mut-slot.ensures.value refl c.generation.ensures c.address-address.ensures c.in-Some.ensures.gives

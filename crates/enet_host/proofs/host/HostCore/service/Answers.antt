@@ -19,7 +19,7 @@ invariant_of-self-2 c =
     keeps-after c.self.inside.start.config.peers c.self.inside.start.config.generations c.self.inside.service_from c.self.inside.event_from c.slot_after-self-inside.result c.self.inside.event_from c.self.inside.skips c.self.inside.skips
     c.self.inside.slots.items c.serve.new.slots.items c.self.invariant
     c.serve.ensures.count c.slot_after-self-inside.ensures.within c.self.invariant.event
-    (served-held _ _ (all_shown c.self.inside.slots.items) (all_shown c.serve.new.slots.items) _ _ _ _ c.self.invariant.held c.in-Some.ensures.gives, c.serve.ensures.skips)
+    (served-held _ _ (all_shown c.self.inside.slots.items) (all_shown c.serve.new.slots.items) _ c.self.invariant.held c.in-Some.ensures.gives, c.serve.ensures.skips)
 
 pub returns-clause-serves : goal.returns-clause-serves
 returns-clause-serves c =
