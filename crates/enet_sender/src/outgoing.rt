@@ -548,7 +548,8 @@ impl Outgoing {
         requires sent_place { deque_len self.old.sent + (deque_len self.old.queued + course.pieces) ≤ deque_capacity self.old.sent }
         requires number { course.number ≡ self.old.number }
         requires pieces { pieces.items ≡ map (piece_of_body (piece_length course.mtu) _body.now) (range_with_len 0 course.pieces) }
-        ensures queues { Queues course _body.now course.pieces (get pending.old.slab) self.old (get pending.new.slab) self.new }
+        ensures queues { Queues course _body.now course.pieces (record { outgoing = self.old; at = get pending.old.slab })
+            (record { outgoing = self.new; at = get pending.new.slab }) }
         ensures room { HasRoom self.new }
     {
         for i in 0..course.pieces {
