@@ -6,7 +6,7 @@ use Rattle.std.specs.Prelude.{nat_lt}
 use Rattle.enet_seq.specs.Windows.{ahead}
 use Rattle.enet_seq.specs.Numbering.{wire}
 use Rattle.enet_fragment.specs.declared.data.DataCommand.{DataCommand}
-use Rattle.enet_sender.specs.Sender.{Sender, Next, next}
+use Rattle.enet_sender.specs.Sender.{Occasion, Sender, Next, next}
 use Rattle.enet_connection.specs.Greatest.{greatest_after, greatest_over}
 use Rattle.enet_connection.specs.FirstSends.{first_sends, first_sends_of, numbers_sent}
 use Rattle.enet_connection.specs.Link.{PutOut}
@@ -33,8 +33,8 @@ step greatest number = by (nat_lt d 32768) refl
 -- one event
 
 -- a first send takes one command from the queue, and a resend none
-fewer : (now timeout transit most : ℕ) (o : Sender) (n : Next) → next wire now timeout transit most o ≡ Some n → (reliable_count n.sender.queued ≤ reliable_count o.queued) × (reliable_count o.queued ≤ reliable_count n.sender.queued + 1)
-fewer now timeout transit most o n e = elim (next_cases now timeout transit most o n e) [
+fewer : (occasion : Occasion) (o : Sender) (n : Next) → next wire occasion o ≡ Some n → (reliable_count n.sender.queued ≤ reliable_count o.queued) × (reliable_count o.queued ≤ reliable_count n.sender.queued + 1)
+fewer occasion o n e = elim (next_cases occasion o n e) [
   | inl r ↦ (let same : reliable_count n.sender.queued ≡ reliable_count o.queued = ap (λ (x : Next). reliable_count x.sender.queued) r.is in (omega arith, omega arith))
   | inr b ↦ (let c : DataCommand = b.head in
       let after' : reliable_count n.sender.queued ≡ reliable_count b.rest = ap (λ (x : Next). reliable_count x.sender.queued) b.is in
@@ -53,22 +53,22 @@ Grows e v w = (w.greatest ≡ v.greatest + first_sends e v w) × (first_sends e 
 still : (v w : WireLink) → w.greatest ≡ v.greatest → (w.greatest ≡ v.greatest + 0) × (let none : ℕ = 0 in none ≤ 1)
 still v w e = (omega arith, omega arith)
 
-grows-sends : (mtu : ℕ) (v : WireLink) (now timeout transit most : ℕ) (n : Next) → Sound mtu v → Sound mtu (sends v n) → v.is_sending ≡ true → next wire now timeout transit most v.outgoing ≡ Some n
-    → Grows (Send now timeout transit most) v (sends v n)
-grows-sends mtu v now timeout transit most n s t sending due =
+grows-sends : (mtu : ℕ) (v : WireLink) (occasion : Occasion) (n : Next) → Sound mtu v → Sound mtu (sends v n) → v.is_sending ≡ true → next wire occasion v.outgoing ≡ Some n
+    → Grows (Send occasion) v (sends v n)
+grows-sends mtu v occasion n s t sending due =
     let a = counted mtu v s sending in
     let b = counted mtu (sends v n) t sending in
-    let f = fewer now timeout transit most v.outgoing n due in
+    let f = fewer occasion v.outgoing n due in
     let f0 = f.0 in
     let f1 = f.1 in
     (omega arith, omega arith)
 
 grows-happens : (mtu : ℕ) (e : Event) (v w : WireLink) → 28 < mtu → Sound mtu v → Happens mtu e v w → Grows e v w
 grows-happens mtu (Submit packet) v w big s h = still v w (ap (λ (x : WireLink). x.greatest) h.after)
-grows-happens mtu (Send now timeout transit most) v w big s h =
-    let t : Sound mtu w = Sound-happens mtu (Send now timeout transit most) v w big s h in
-    subst (λ x. Grows (Send now timeout transit most) v x) (sym h.after) (grows-sends mtu v now timeout transit most h.due s (subst (Sound mtu) h.after t) h.sending h.is_due)
-grows-happens mtu (Drop now timeout transit most) v w big s h = still v w (ap (λ (x : WireLink). x.greatest) h.after)
+grows-happens mtu (Send occasion) v w big s h =
+    let t : Sound mtu w = Sound-happens mtu (Send occasion) v w big s h in
+    subst (λ x. Grows (Send occasion) v x) (sym h.after) (grows-sends mtu v occasion h.due s (subst (Sound mtu) h.after t) h.sending h.is_due)
+grows-happens mtu (Drop occasion) v w big s h = still v w (ap (λ (x : WireLink). x.greatest) h.after)
 grows-happens mtu (Mark now) v w big s h = still v w (ap (λ (x : WireLink). x.greatest) h.after)
 grows-happens mtu PutsOut v w big s h = still v w (ap (λ (x : WireLink). x.greatest) h)
 grows-happens mtu (Arrive command most full) v w big s h = still v w (ap (λ (x : WireLink). x.greatest) h.after)
@@ -156,12 +156,12 @@ puts-told v t =
 
 told-happens : (mtu : ℕ) (e : Event) (v w : WireLink) → 28 < mtu → Sound mtu v → Happens mtu e v w → Told v → Told w
 told-happens mtu (Submit packet) v w big s h t = subst Told (sym h.after) (same-told v (submits mtu v packet) refl refl refl t)
-told-happens mtu (Send now timeout transit most) v w big s h t =
-    let g = grows-happens mtu (Send now timeout transit most) v w big s h in
+told-happens mtu (Send occasion) v w big s h t =
+    let g = grows-happens mtu (Send occasion) v w big s h in
     let g0 = g.0 in let g1 = g.1 in
     let up : w.greatest ≤ v.greatest + 1 = omega arith in
     subst Told (sym h.after) (sends-told v h.due (subst (λ (x : WireLink). x.greatest ≤ v.greatest + 1) h.after up) t)
-told-happens mtu (Drop now timeout transit most) v w big s h t = subst Told (sym h.after) (same-told v (drops v h.due) refl refl refl t)
+told-happens mtu (Drop occasion) v w big s h t = subst Told (sym h.after) (same-told v (drops v h.due) refl refl refl t)
 told-happens mtu (Mark now) v w big s h t = subst Told (sym h.after) (same-told v (marks v now) refl refl refl t)
 told-happens mtu PutsOut v w big s h t = subst Told (sym h) (puts-told v t)
 told-happens mtu (Arrive command most full) v w big s h t = subst Told (sym h.after) (same-told v (arrives v most command.command full false) refl refl refl t)

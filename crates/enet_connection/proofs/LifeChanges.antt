@@ -9,7 +9,7 @@ use Rattle.enet_senders.specs.declared.control.Numbered.{Numbered}
 use Rattle.enet_senders.specs.declared.control.SentControl.{SentControl}
 use Rattle.enet_senders.specs.Controlling.{Commands, is_reliable, begun}
 use Rattle.enet_senders.specs.Controlling as controlling
-use Rattle.enet_sender.specs.Sender.{Next, next}
+use Rattle.enet_sender.specs.Sender.{Occasion, Next, next}
 use Rattle.enet_sender.specs.Sender as sender
 use Rattle.enet_sender.specs.Due.{SendingEnd}
 use Rattle.enet_outbox.specs.Outbox.{Outbox, cleared_sender, marked_sender, has_ended, with_control}
@@ -131,8 +131,8 @@ still-put o now timeout n due h =
     let r = still-next now timeout o.control.number o.control.queued n h.queued due' in
     record { control = r.0; queued = r.1; senders = h.senders }
 
-still-data : (o : Outbox) (k now timeout transit most : ℕ) (s : SendingEnd) (n : Next) → slice_get o.senders k ≡ Some s → next wire now timeout transit most s.sender ≡ Some n → IsStill o → ⊥
-still-data o k now timeout transit most s n there due h = let none = h.senders s (Has-slice_get o.senders k s there) in idle-next now timeout transit most s.sender n none.0 none.1 due
+still-data : (o : Outbox) (k : ℕ) (occasion : Occasion) (s : SendingEnd) (n : Next) → slice_get o.senders k ≡ Some s → next wire occasion s.sender ≡ Some n → IsStill o → ⊥
+still-data o k occasion s n there due h = let none = h.senders s (Has-slice_get o.senders k s there) in idle-next occasion s.sender n none.0 none.1 due
 
 -- a still outbox lets no patience end
 none-ends : (now : ℕ) (patience : Patience) (ss : List SendingEnd) → ((s : SendingEnd) → Has ss s → (s.sender.queued ≡ []) × (s.sender.sent ≡ [])) → list_any (λ (s : SendingEnd). list_any (sender.ends now patience) s.sender.sent) ss ≡ false
@@ -232,10 +232,10 @@ lives joined es = record {
   takes = λ p j r c on there h. lives-connected joined es p (record p { inbox = handed_over p.inbox j (after_command r (Some c) (is_full p.inbox)) }) refl refl on h;
   takes_unsequenced = λ p j group payload on h. lives-connected joined es p (record p { inbox = unsequenced_taken p.inbox j group payload }) refl refl on h;
   puts_control = λ p now timeout n due h. lives-outbox joined es p (record p.outbox { control = n.commands }) (λ gone still. still-put p.outbox now timeout n due still) h;
-  puts_data = λ p k now timeout transit most s n there due h. lives-outbox joined es p (record p.outbox { senders = slice_set p.outbox.senders k (record s { sender = n.sender }) })
-      (λ gone still. absurd (still-data p.outbox k now timeout transit most s n there due still)) h;
-  drops_data = λ p k now timeout transit most s n there due h. lives-outbox joined es p (record p.outbox { senders = slice_set p.outbox.senders k (record s { sender = sender.with_skipped n.sender }) })
-      (λ gone still. absurd (still-data p.outbox k now timeout transit most s n there due still)) h;
+  puts_data = λ p k occasion s n there due h. lives-outbox joined es p (record p.outbox { senders = slice_set p.outbox.senders k (record s { sender = n.sender }) })
+      (λ gone still. absurd (still-data p.outbox k occasion s n there due still)) h;
+  drops_data = λ p k occasion s n there due h. lives-outbox joined es p (record p.outbox { senders = slice_set p.outbox.senders k (record s { sender = sender.with_skipped n.sender }) })
+      (λ gone still. absurd (still-data p.outbox k occasion s n there due still)) h;
 }
 
 -- the user takes an event

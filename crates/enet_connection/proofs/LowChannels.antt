@@ -64,8 +64,8 @@ lows = record {
     untaken = λ channel far. unsequenced-end channel p.inbox.untaken (record { channel = j; flags = 2; body = payload }) refl ∙ h.untaken channel far;
   };
   puts_control = λ p now timeout n due h. record { channels = h.channels; untaken = h.untaken };
-  puts_data = λ p k now timeout transit most s n there due h. record { channels = h.channels; untaken = h.untaken };
-  drops_data = λ p k now timeout transit most s n there due h. record { channels = h.channels; untaken = h.untaken };
+  puts_data = λ p k occasion s n there due h. record { channels = h.channels; untaken = h.untaken };
+  drops_data = λ p k occasion s n there due h. record { channels = h.channels; untaken = h.untaken };
 }
 
 -- to which nothing came

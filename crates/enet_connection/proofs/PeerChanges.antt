@@ -24,7 +24,7 @@ use Rattle.enet_receiver.specs.declared.took.Took.TheVariants.{Held, Again, Outs
 use Rattle.enet_receiver.specs.Foresight.{ReceivingEnd, outcome_for, after_command}
 use Rattle.enet_inbox.specs.Inbox.{Inbox, is_full}
 use Rattle.enet_inbox.specs.DataEffect.{DataEffect, handled, stopped as refused, unsequenced, unsequenced_taken, handed_over, by_took, passed_on, sequenced_on, passed_over, arrival}
-use Rattle.enet_sender.specs.Sender.{Next, next, with_skipped}
+use Rattle.enet_sender.specs.Sender.{Occasion, Next, next, with_skipped}
 use Rattle.enet_sender.specs.Due.{SendingEnd}
 use Rattle.enet_outbox.specs.declared.parts.Matched.{Matched}
 use Rattle.enet_outbox.specs.declared.parts.Matched.TheVariants as matched
@@ -94,9 +94,9 @@ pub record Changes (P : Peering → Type 0) : Type 0 where
       → P (record p { inbox = handed_over p.inbox channel (after_command r (Some c) (is_full p.inbox)) })
   pub takes_unsequenced : (p : Peering) (channel group : ℕ) (payload : List ℕ) → is_connected p.state ≡ true → P p → P (record p { inbox = unsequenced_taken p.inbox channel group payload })
   pub puts_control : (p : Peering) (now timeout : ℕ) (n : controlling.Next) → controlling.next now timeout p.outbox.control ≡ Some n → P p → P (record p { outbox = record p.outbox { control = n.commands } })
-  pub puts_data : (p : Peering) (k now timeout transit most : ℕ) (s : SendingEnd) (n : Next) → slice_get p.outbox.senders k ≡ Some s → next wire now timeout transit most s.sender ≡ Some n → P p
+  pub puts_data : (p : Peering) (k : ℕ) (occasion : Occasion) (s : SendingEnd) (n : Next) → slice_get p.outbox.senders k ≡ Some s → next wire occasion s.sender ≡ Some n → P p
       → P (record p { outbox = record p.outbox { senders = slice_set p.outbox.senders k (record s { sender = n.sender }) } })
-  pub drops_data : (p : Peering) (k now timeout transit most : ℕ) (s : SendingEnd) (n : Next) → slice_get p.outbox.senders k ≡ Some s → next wire now timeout transit most s.sender ≡ Some n → P p
+  pub drops_data : (p : Peering) (k : ℕ) (occasion : Occasion) (s : SendingEnd) (n : Next) → slice_get p.outbox.senders k ≡ Some s → next wire occasion s.sender ≡ Some n → P p
       → P (record p { outbox = record p.outbox { senders = slice_set p.outbox.senders k (record s { sender = with_skipped n.sender }) } })
 
 if-peer : (P : Peering → Type 0) (b : Bool) (p q : Peering) → (b ≡ true → P p) → P q → P (cond b p q)
@@ -203,10 +203,10 @@ kept-filled P k p pace h =
       drops_unsequenced = λ f u rest t e a. k.quiet (record p { outbox = f.outbox }) (record p { outbox = record f.outbox { throttle = t; unsequenced = rest } }) refl a;
       puts_data = λ f i s n t there due a. (let ss : List SendingEnd = slice_set f.outbox.senders i (record s { sender = n.sender }) in
           k.quiet (record p { outbox = record f.outbox { senders = ss } }) (record p { outbox = record f.outbox { throttle = t; senders = ss; last = Some i } }) refl
-          (k.puts_data (record p { outbox = f.outbox }) i pace.now pace.timeout (transit_of f.outbox) (transit_limit pace f.outbox) s n there due a));
+          (k.puts_data (record p { outbox = f.outbox }) i (record { now = pace.now; timeout = pace.timeout; transit = transit_of f.outbox; most = transit_limit pace f.outbox }) s n there due a));
       drops_data = λ f i s n t there due kind a. (let ss : List SendingEnd = slice_set f.outbox.senders i (record s { sender = with_skipped n.sender }) in
           k.quiet (record p { outbox = record f.outbox { senders = ss } }) (record p { outbox = record f.outbox { throttle = t; senders = ss } }) refl
-          (k.drops_data (record p { outbox = f.outbox }) i pace.now pace.timeout (transit_of f.outbox) (transit_limit pace f.outbox) s n there due a));
+          (k.drops_data (record p { outbox = f.outbox }) i (record { now = pace.now; timeout = pace.timeout; transit = transit_of f.outbox; most = transit_limit pace f.outbox }) s n there due a));
     }) h
 
 kept-gone_on : (P : Peering → Type 0) → Changes P → (p : Peering) (s : PeerState) → p.state ≡ s → P p → P (gone_on_in s p)

@@ -13,7 +13,7 @@ use Rattle.enet_fragment.proofs.Cuts.{piece_count-enough}
 use Rattle.enet_fragment.specs.declared.data.DataCommand.{DataCommand}
 use Rattle.enet_receiver.specs.Receiver.{Receiver}
 use Rattle.enet_sender.specs.CommandChoice.{Packet, ChosenPacket, carried, carried_from, carried_as, goes_reliable}
-use Rattle.enet_sender.specs.Sender.{Sender, Next, commands_of, with_queued, again, begun, is_in_span, may_go, resent, first_sent, next_queued, next_resent, next_of, next, is_more, skipped, with_skipped, marked}
+use Rattle.enet_sender.specs.Sender.{Occasion, Sender, Next, commands_of, with_queued, again, begun, is_in_span, may_go, resent, first_sent, next_queued, next_resent, next_of, next, is_more, skipped, with_skipped, marked}
 use Rattle.enet_sender.specs.declared.sent.Sent.{Sent}
 use Rattle.enet_connection.specs.Follows.{command_count, count_after}
 use Rattle.enet_connection.specs.Link.{wired}
@@ -152,32 +152,32 @@ pub record Resends (o : Sender) (now : ℕ) (n : Next) : Type 0 where
   pub there : slice_get o.sent place ≡ Some which
   pub is : n ≡ resent now o place which
 
-pub record Begins (o : Sender) (now timeout transit most : ℕ) (n : Next) : Type 0 where
+pub record Begins (o : Sender) (occasion : Occasion) (n : Next) : Type 0 where
   pub head : DataCommand
   pub rest : List DataCommand
   pub queued : o.queued ≡ head ∷ rest
-  pub allowed : may_go wire o.sent transit most head ≡ true
-  pub is : n ≡ first_sent now timeout o head rest
+  pub allowed : may_go wire o.sent occasion.transit occasion.most head ≡ true
+  pub is : n ≡ first_sent occasion.now occasion.timeout o head rest
 
 some_same : {X : Type 0} (x y : X) → Some x ≡ Some y → x ≡ y
 some_same x y e = cc
 
-pub next_cases : (now timeout transit most : ℕ) (o : Sender) (n : Next) → next wire now timeout transit most o ≡ Some n → Resends o now n ⊎ Begins o now timeout transit most n
-next_cases now timeout transit most o n e = go (position (λ (p : Sent). p.transmission.due) o.sent) e
+pub next_cases : (occasion : Occasion) (o : Sender) (n : Next) → next wire occasion o ≡ Some n → Resends o occasion.now n ⊎ Begins o occasion n
+next_cases occasion o n e = go (position (λ (p : Sent). p.transmission.due) o.sent) e
   where
-    from_queue : (q : List DataCommand) → o.queued ≡ q → next_queued wire now timeout transit most o q ≡ Some n → Resends o now n ⊎ Begins o now timeout transit most n
+    from_queue : (q : List DataCommand) → o.queued ≡ q → next_queued wire occasion o q ≡ Some n → Resends o occasion.now n ⊎ Begins o occasion n
     from_queue [] t k = absurd (cc)
     from_queue (c ∷ rest) t k =
-        elim (may_go wire o.sent transit most c) as (λ b. may_go wire o.sent transit most c ≡ b → cond b (Some (first_sent now timeout o c rest)) None ≡ Some n → Resends o now n ⊎ Begins o now timeout transit most n) [
+        elim (may_go wire o.sent occasion.transit occasion.most c) as (λ b. may_go wire o.sent occasion.transit occasion.most c ≡ b → cond b (Some (first_sent occasion.now occasion.timeout o c rest)) None ≡ Some n → Resends o occasion.now n ⊎ Begins o occasion n) [
           | true ↦ λ m f. inr (record { head = c; rest = rest; queued = t; allowed = m; is = sym (some_same _ _ f) })
           | false ↦ λ m f. absurd (cc)
         ] refl k
 
-    from_sent : (i : ℕ) (p : Option Sent) → slice_get o.sent i ≡ p → next_resent now o i p ≡ Some n → Resends o now n ⊎ Begins o now timeout transit most n
+    from_sent : (i : ℕ) (p : Option Sent) → slice_get o.sent i ≡ p → next_resent occasion.now o i p ≡ Some n → Resends o occasion.now n ⊎ Begins o occasion n
     from_sent i None t k = absurd (cc)
     from_sent i (Some p) t k = inl (record { place = i; which = p; there = t; is = sym (some_same _ _ k) })
 
-    go : (w : Option ℕ) → next_of wire now timeout transit most o w ≡ Some n → Resends o now n ⊎ Begins o now timeout transit most n
+    go : (w : Option ℕ) → next_of wire occasion o w ≡ Some n → Resends o occasion.now n ⊎ Begins o occasion n
     go None k = from_queue o.queued refl k
     go (Some i) k = from_sent i (slice_get o.sent i) refl k
 
@@ -357,21 +357,21 @@ Sound-resends mtu v now n s sending r =
     }
 
 -- the head of the queue goes for the first time
-Sound-begins_reliable : (mtu : ℕ) (v : WireLink) (now timeout transit most : ℕ) (n : Next) (s : Sound mtu v) → v.is_sending ≡ true → (b : Begins v.outgoing now timeout transit most n) → (k : Heads mtu s.link.carried s.link.sent v.outgoing b.head b.rest) → k.meant.reliable ≡ true → Sound mtu (sends v n)
-Sound-begins_reliable mtu v now timeout transit most n s sending b k kind =
+Sound-begins_reliable : (mtu : ℕ) (v : WireLink) (occasion : Occasion) (n : Next) (s : Sound mtu v) → v.is_sending ≡ true → (b : Begins v.outgoing occasion n) → (k : Heads mtu s.link.carried s.link.sent v.outgoing b.head b.rest) → k.meant.reliable ≡ true → Sound mtu (sends v n)
+Sound-begins_reliable mtu v occasion n s sending b k kind =
     let l = s.link in
     let h = s.shows in
     let c = b.head in
     let head_kind : c.reliable ≡ true = ap (λ (x : DataCommand). x.reliable) k.command ∙ kind in
     let meant_number : k.meant.number ≡ l.sent + 1 = k.number ∙ ap (λ r. cond r (l.sent + 1) l.sent) kind in
     let number : c.number ≡ (l.sent + 1) % 65536 = ap (λ (x : DataCommand). x.number) k.command ∙ ap (λ x. x % 65536) meant_number in
-    let span : is_in_span wire v.outgoing.sent c.number ≡ true = and_left (is_in_span wire v.outgoing.sent c.number) (nat_le (transit + length c.body) most) (or_left c.reliable _ b.allowed head_kind) in
+    let span : is_in_span wire v.outgoing.sent c.number ≡ true = and_left (is_in_span wire v.outgoing.sent c.number) (nat_le (occasion.transit + length c.body) occasion.most) (or_left c.reliable _ b.allowed head_kind) in
     let room = room_from mtu l.carried l.unacked v.outgoing.sent c.number l.sent (h.images sending) h.rising (λ m j. let u = s.numbers.unacked m j in (u.1, u.2)) number span in
     let command : n.command ≡ c = ap (λ (x : Next). x.command) b.is in
     let up : greatest_after v.greatest n.command.number ≡ v.greatest + 1 = ap (λ (x : DataCommand). greatest_after v.greatest x.number) command ∙ grows_for v.greatest c.number (number ∙ ap (λ g. (g + 1) % 65536) (sym h.greatest)) in
-    let out : n.sender ≡ (record v.outgoing { queued = b.rest; sent = v.outgoing.sent ++ begun now timeout c ∷ [] }) =
-    ap (λ (x : Next). x.sender) b.is ∙ ap (λ r. record v.outgoing { queued = b.rest; sent = if r then v.outgoing.sent ++ begun now timeout c ∷ [] else v.outgoing.sent }) head_kind in
-    let image : ImageOf mtu l.carried (l.sent + 1) (begun now timeout c) = record { meant = k.meant; piece = k.piece; reliable = kind; number = meant_number; command = k.command } in
+    let out : n.sender ≡ (record v.outgoing { queued = b.rest; sent = v.outgoing.sent ++ begun occasion.now occasion.timeout c ∷ [] }) =
+    ap (λ (x : Next). x.sender) b.is ∙ ap (λ r. record v.outgoing { queued = b.rest; sent = if r then v.outgoing.sent ++ begun occasion.now occasion.timeout c ∷ [] else v.outgoing.sent }) head_kind in
+    let image : ImageOf mtu l.carried (l.sent + 1) (begun occasion.now occasion.timeout c) = record { meant = k.meant; piece = k.piece; reliable = kind; number = meant_number; command = k.command } in
     record {
       link = send l;
       numbers = Numbers-send l s.numbers room;
@@ -386,9 +386,9 @@ Sound-begins_reliable mtu v now timeout transit most n s sending b k kind =
         answers = h.answers;
         acks = h.acks;
         greatest = up ∙ ap (λ g. g + 1) h.greatest;
-        queues = λ j. subst (λ x. Queues mtu l.carried (l.sent + 1) x) (sym out) (subst (λ r. Queues mtu l.carried (cond r (l.sent + 1) l.sent) (record v.outgoing { queued = b.rest; sent = v.outgoing.sent ++ begun now timeout c ∷ [] })) kind
-            (Queues-sent mtu l.carried l.sent v.outgoing c b.rest (v.outgoing.sent ++ begun now timeout c ∷ []) k));
-        images = λ j. subst (λ (x : Sender). Images mtu l.carried (l.unacked ++ (l.sent + 1) ∷ []) x.sent) (sym out) (Images-push mtu l.carried l.unacked v.outgoing.sent (l.sent + 1) (begun now timeout c) (h.images sending) image);
+        queues = λ j. subst (λ x. Queues mtu l.carried (l.sent + 1) x) (sym out) (subst (λ r. Queues mtu l.carried (cond r (l.sent + 1) l.sent) (record v.outgoing { queued = b.rest; sent = v.outgoing.sent ++ begun occasion.now occasion.timeout c ∷ [] })) kind
+            (Queues-sent mtu l.carried l.sent v.outgoing c b.rest (v.outgoing.sent ++ begun occasion.now occasion.timeout c ∷ []) k));
+        images = λ j. subst (λ (x : Sender). Images mtu l.carried (l.unacked ++ (l.sent + 1) ∷ []) x.sent) (sym out) (Images-push mtu l.carried l.unacked v.outgoing.sent (l.sent + 1) (begun occasion.now occasion.timeout c) (h.images sending) image);
         rising = IsRising-push l.unacked (l.sent + 1) h.rising (λ m j. let u = s.numbers.unacked m j in let u1 = u.1 in omega arith);
         commands = λ e t. let y = h.commands e t in record { meant = y.meant; command = y.command; there = y.there };
         making = λ d t. elim (Has-push_cases v.making n.command d t) [
@@ -410,8 +410,8 @@ Sound-begins_reliable mtu v now timeout transit most n s sending b k kind =
       };
     }
 
-Sound-begins_unreliable : (mtu : ℕ) (v : WireLink) (now timeout transit most : ℕ) (n : Next) (s : Sound mtu v) → v.is_sending ≡ true → (b : Begins v.outgoing now timeout transit most n) → (k : Heads mtu s.link.carried s.link.sent v.outgoing b.head b.rest) → k.meant.reliable ≡ false → Sound mtu (sends v n)
-Sound-begins_unreliable mtu v now timeout transit most n s sending b k kind =
+Sound-begins_unreliable : (mtu : ℕ) (v : WireLink) (occasion : Occasion) (n : Next) (s : Sound mtu v) → v.is_sending ≡ true → (b : Begins v.outgoing occasion n) → (k : Heads mtu s.link.carried s.link.sent v.outgoing b.head b.rest) → k.meant.reliable ≡ false → Sound mtu (sends v n)
+Sound-begins_unreliable mtu v occasion n s sending b k kind =
     let l = s.link in
     let h = s.shows in
     let c = b.head in
@@ -421,7 +421,7 @@ Sound-begins_unreliable mtu v now timeout transit most n s sending b k kind =
     let same : v.greatest ≡ l.sent = h.greatest in
     let stays : greatest_after v.greatest n.command.number ≡ v.greatest = ap (λ (x : DataCommand). greatest_after v.greatest x.number) command ∙ stays_for v.greatest l.sent c.number (ap (λ (x : DataCommand). x.number) k.command ∙ ap (λ x. x % 65536) meant_number) (omega arith) (omega arith) in
     let out : n.sender ≡ (record v.outgoing { queued = b.rest; sent = v.outgoing.sent }) =
-    ap (λ (x : Next). x.sender) b.is ∙ ap (λ r. record v.outgoing { queued = b.rest; sent = if r then v.outgoing.sent ++ begun now timeout c ∷ [] else v.outgoing.sent }) head_kind in
+    ap (λ (x : Next). x.sender) b.is ∙ ap (λ r. record v.outgoing { queued = b.rest; sent = if r then v.outgoing.sent ++ begun occasion.now occasion.timeout c ∷ [] else v.outgoing.sent }) head_kind in
     record {
       link = l;
       numbers = s.numbers;
@@ -454,15 +454,15 @@ Sound-begins_unreliable mtu v now timeout transit most n s sending b k kind =
       };
     }
 
-pub Sound-sends : (mtu : ℕ) (v : WireLink) (now timeout transit most : ℕ) (n : Next) → Sound mtu v → v.is_sending ≡ true → next wire now timeout transit most v.outgoing ≡ Some n → Sound mtu (sends v n)
-Sound-sends mtu v now timeout transit most n s sending e =
-    elim (next_cases now timeout transit most v.outgoing n e) [
-      | inl r ↦ Sound-resends mtu v now n s sending r
+pub Sound-sends : (mtu : ℕ) (v : WireLink) (occasion : Occasion) (n : Next) → Sound mtu v → v.is_sending ≡ true → next wire occasion v.outgoing ≡ Some n → Sound mtu (sends v n)
+Sound-sends mtu v occasion n s sending e =
+    elim (next_cases occasion v.outgoing n e) [
+      | inl r ↦ Sound-resends mtu v occasion.now n s sending r
       | inr b ↦
           let k = Heads-from mtu s.link.carried s.link.sent v.outgoing b.head b.rest s.shows.plain b.queued (s.shows.queues sending) in
           elim (either k.meant.reliable) [
-            | inl t ↦ Sound-begins_reliable mtu v now timeout transit most n s sending b k t
-            | inr t ↦ Sound-begins_unreliable mtu v now timeout transit most n s sending b k t
+            | inl t ↦ Sound-begins_reliable mtu v occasion n s sending b k t
+            | inr t ↦ Sound-begins_unreliable mtu v occasion n s sending b k t
           ]
     ]
 
@@ -496,21 +496,21 @@ skips (d ∷ left) =
     not_reliable true m h = absurd (cc)
     not_reliable false m h = refl
 
-pub Sound-drops : (mtu : ℕ) (v : WireLink) (now timeout transit most : ℕ) (n : Next) → Sound mtu v → v.is_sending ≡ true → next wire now timeout transit most v.outgoing ≡ Some n → n.command.reliable ≡ false → Sound mtu (drops v n)
-Sound-drops mtu v now timeout transit most n s sending e kind =
-    elim (next_cases now timeout transit most v.outgoing n e) [
+pub Sound-drops : (mtu : ℕ) (v : WireLink) (occasion : Occasion) (n : Next) → Sound mtu v → v.is_sending ≡ true → next wire occasion v.outgoing ≡ Some n → n.command.reliable ≡ false → Sound mtu (drops v n)
+Sound-drops mtu v occasion n s sending e kind =
+    elim (next_cases occasion v.outgoing n e) [
       | inl r ↦ absurd (not_resent r)
       | inr b ↦ begun_case b (Heads-from mtu s.link.carried s.link.sent v.outgoing b.head b.rest s.shows.plain b.queued (s.shows.queues sending))
     ]
   where
-    not_resent : Resends v.outgoing now n → ⊥
+    not_resent : Resends v.outgoing occasion.now n → ⊥
     not_resent r =
         let had = Images-has mtu s.link.carried s.link.unacked v.outgoing.sent r.which (s.shows.images sending) (Has-slice_get v.outgoing.sent r.place r.which r.there) in
         let im = had.2 in
         let is : n.command.reliable ≡ true = ap (λ (x : Next). x.command.reliable) r.is ∙ ap (λ (x : DataCommand). x.reliable) im.command ∙ im.reliable in
         (let f : true ≡ false = sym is ∙ kind in cc)
 
-    begun_case : (b : Begins v.outgoing now timeout transit most n) → Heads mtu s.link.carried s.link.sent v.outgoing b.head b.rest → Sound mtu (drops v n)
+    begun_case : (b : Begins v.outgoing occasion n) → Heads mtu s.link.carried s.link.sent v.outgoing b.head b.rest → Sound mtu (drops v n)
     begun_case b k =
         let l = s.link in
         let h = s.shows in
@@ -518,7 +518,7 @@ Sound-drops mtu v now timeout transit most n s sending e kind =
         let head_kind : c.reliable ≡ false = ap (λ (x : Next). x.command.reliable) (sym b.is) ∙ kind in
         let meant_kind : k.meant.reliable ≡ false = ap (λ (x : DataCommand). x.reliable) (sym k.command) ∙ head_kind in
         let out : n.sender ≡ (record v.outgoing { queued = b.rest; sent = v.outgoing.sent }) =
-        ap (λ (x : Next). x.sender) b.is ∙ ap (λ r. record v.outgoing { queued = b.rest; sent = if r then v.outgoing.sent ++ begun now timeout c ∷ [] else v.outgoing.sent }) head_kind in
+        ap (λ (x : Next). x.sender) b.is ∙ ap (λ r. record v.outgoing { queued = b.rest; sent = if r then v.outgoing.sent ++ begun occasion.now occasion.timeout c ∷ [] else v.outgoing.sent }) head_kind in
         let q = Queues-sent mtu l.carried l.sent v.outgoing c b.rest v.outgoing.sent k in
         let sk = skips q.left in
         let count : reliable_count q.gone ≡ l.sent = q.count ∙ ap (λ r. cond r (l.sent + 1) l.sent) meant_kind in

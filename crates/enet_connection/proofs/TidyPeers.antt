@@ -9,7 +9,7 @@ use Rattle.enet_receiver.specs.Receiver.{Receiver}
 use Rattle.enet_receiver.specs.Foresight.{ReceivingEnd, after_command}
 use Rattle.enet_inbox.specs.Inbox.{cleared_receiver, is_full}
 use Rattle.enet_inbox.specs.DataEffect.{emptied}
-use Rattle.enet_sender.specs.Sender.{Sender, Next, next, with_skipped, with_marked, nothing_sent}
+use Rattle.enet_sender.specs.Sender.{Occasion, Sender, Next, next, with_skipped, with_marked, nothing_sent}
 use Rattle.enet_sender.specs.Sender as sender
 use Rattle.enet_sender.specs.Due.{SendingEnd}
 use Rattle.enet_sender.specs.CommandChoice as command_choice
@@ -125,10 +125,10 @@ acknowledged-idle o j number h = by-control (j == 0xFF)
     by-control false = by (slice_get o.senders j) refl
 
 -- a sender that has something due isn't idle
-due-idle : (ss : List SendingEnd) (k now timeout transit most : ℕ) (s : SendingEnd) (n : Next) → slice_get ss k ≡ Some s → next wire now timeout transit most s.sender ≡ Some n → AreIdle ss → ⊥
-due-idle ss k now timeout transit most s n there due h =
+due-idle : (ss : List SendingEnd) (k : ℕ) (occasion : Occasion) (s : SendingEnd) (n : Next) → slice_get ss k ≡ Some s → next wire occasion s.sender ≡ Some n → AreIdle ss → ⊥
+due-idle ss k occasion s n there due h =
     let none : s.sender ≡ nothing_sent = sym (ap sender_in there) ∙ h k in
-    idle-next now timeout transit most s.sender n (ap (λ (x : Sender). x.queued) none) (ap (λ (x : Sender). x.sent) none) due
+    idle-next occasion s.sender n (ap (λ (x : Sender). x.queued) none) (ap (λ (x : Sender). x.sent) none) due
 
 -- what was dispatched may have gone
 sequenced-emptied : (r : Receiver) → HasSequenced r → HasSequenced (record r { dispatched = [] })
@@ -198,14 +198,14 @@ tidies qs = record {
   };
   takes_unsequenced = λ p j group payload on h. record { places = h.places; few = h.few; receivers = h.receivers; young = h.young; big = h.big };
   puts_control = λ p now timeout n due h. record { places = h.places; few = h.few; receivers = h.receivers; young = h.young; big = h.big };
-  puts_data = λ p k now timeout transit most s n there due h.
+  puts_data = λ p k occasion s n there due h.
       let t : SendingEnd = record s { sender = n.sender } in
       tidy-senders qs p (slice_set p.outbox.senders k t) (places-set p.outbox.senders k s t there refl h.places) (few-set p.outbox.senders k t h.few)
-      (λ idle. absurd (due-idle p.outbox.senders k now timeout transit most s n there due idle)) h;
-  drops_data = λ p k now timeout transit most s n there due h.
+      (λ idle. absurd (due-idle p.outbox.senders k occasion s n there due idle)) h;
+  drops_data = λ p k occasion s n there due h.
       let t : SendingEnd = record s { sender = with_skipped n.sender } in
       tidy-senders qs p (slice_set p.outbox.senders k t) (places-set p.outbox.senders k s t there refl h.places) (few-set p.outbox.senders k t h.few)
-      (λ idle. absurd (due-idle p.outbox.senders k now timeout transit most s n there due idle)) h;
+      (λ idle. absurd (due-idle p.outbox.senders k occasion s n there due idle)) h;
 }
 
 -- a submission

@@ -14,7 +14,7 @@ use Rattle.enet_rtt.specs.declared.expiry.Expiry.{Expiry}
 use Rattle.enet_rtt.specs.declared.expiry.Expiry.TheVariants.{No, Resend, End}
 use Rattle.enet_fragment.specs.declared.data.DataCommand.{DataCommand}
 use Rattle.enet_sender.specs.CommandChoice.{Packet, ChosenPacket, carried_as}
-use Rattle.enet_sender.specs.Sender.{Sender, Next, nothing_sent, command_at, commands_of, with_queued, submitted, again, begun, is_in_span, may_go, first_sent, next_queued, next_resent, next_of, next, is_after_first, is_more, skipped, with_skipped, position_of, without_place, after_acknowledgement, size_of, size_at, acknowledged_bytes, bytes_in_transit, is_late, marked, with_marked, ends, lateness, after_lateness, cleared, left}
+use Rattle.enet_sender.specs.Sender.{Occasion, Sender, Next, nothing_sent, command_at, commands_of, with_queued, submitted, again, begun, is_in_span, may_go, first_sent, next_queued, next_resent, next_of, next, is_after_first, is_more, skipped, with_skipped, position_of, without_place, after_acknowledgement, size_of, size_at, acknowledged_bytes, bytes_in_transit, is_late, marked, with_marked, ends, lateness, after_lateness, cleared, left}
 use Rattle.enet_sender.specs.declared.sent.Sent.{Sent}
 use Rattle.enet_connection.specs.Link.{wired, wired_fragment}
 use Rattle.enet_connection.specs.Image.{reliable_count, reached, numbers_of, IsRising, IsRow, IsInOrder, wired_sent, ShowsSender, ShowsNext}
@@ -252,22 +252,22 @@ may_go-same transit most v s c h number =
       | false ↦ λ t. refl
     ] refl
 
-pub Shows-next : (now timeout transit most : ℕ) (v s : Sender) → ShowsSender v s → ShowsNext (next wire now timeout transit most v) (next unbounded now timeout transit most s)
-Shows-next now timeout transit most v s h =
-    subst (λ o. ShowsNext (next_of wire now timeout transit most v o) (next unbounded now timeout transit most s)) (sym due)
+pub Shows-next : (occasion : Occasion) (v s : Sender) → ShowsSender v s → ShowsNext (next wire occasion v) (next unbounded occasion s)
+Shows-next occasion v s h =
+    subst (λ o. ShowsNext (next_of wire occasion v o) (next unbounded occasion s)) (sym due)
     (go (position (λ (p : Sent). p.transmission.due) s.sent))
   where
     due : position (λ (p : Sent). p.transmission.due) v.sent ≡ position (λ (p : Sent). p.transmission.due) s.sent
     due = ap (position (λ (p : Sent). p.transmission.due)) h.sent ∙ position-map wired_sent (λ (p : Sent). p.transmission.due) (λ (p : Sent). p.transmission.due) s.sent (λ p k. refl)
 
-    from_queue : (q : List DataCommand) → s.queued ≡ q → ShowsNext (next_queued wire now timeout transit most v (map wired q)) (next_queued unbounded now timeout transit most s q)
+    from_queue : (q : List DataCommand) → s.queued ≡ q → ShowsNext (next_queued wire occasion v (map wired q)) (next_queued unbounded occasion s q)
     from_queue [] e = tt
     from_queue (c ∷ rest) e =
         let row : IsRow (reached s) (c ∷ rest) s.number = let o = h.in_order in subst (λ l. IsRow (reached s) l s.number) e o.row in
-        let same : may_go wire v.sent transit most (wired c) ≡ may_go unbounded s.sent transit most c = may_go-same transit most v s c h row.0 in
-        subst (λ b. ShowsNext (cond b (Some (first_sent now timeout v (wired c) (map wired rest))) None) (next_queued unbounded now timeout transit most s (c ∷ rest))) (sym same)
-        (elim (may_go unbounded s.sent transit most c) as (λ b. may_go unbounded s.sent transit most c ≡ b → ShowsNext (cond b (Some (first_sent now timeout v (wired c) (map wired rest))) None) (cond b (Some (first_sent now timeout s c rest)) None)) [
-          | true ↦ λ t. (refl, refl, Shows-first now timeout v s c rest h e (λ k. allowed c.reliable _ _ t k))
+        let same : may_go wire v.sent occasion.transit occasion.most (wired c) ≡ may_go unbounded s.sent occasion.transit occasion.most c = may_go-same occasion.transit occasion.most v s c h row.0 in
+        subst (λ b. ShowsNext (cond b (Some (first_sent occasion.now occasion.timeout v (wired c) (map wired rest))) None) (next_queued unbounded occasion s (c ∷ rest))) (sym same)
+        (elim (may_go unbounded s.sent occasion.transit occasion.most c) as (λ b. may_go unbounded s.sent occasion.transit occasion.most c ≡ b → ShowsNext (cond b (Some (first_sent occasion.now occasion.timeout v (wired c) (map wired rest))) None) (cond b (Some (first_sent occasion.now occasion.timeout s c rest)) None)) [
+          | true ↦ λ t. (refl, refl, Shows-first occasion.now occasion.timeout v s c rest h e (λ k. allowed c.reliable _ _ t k))
           | false ↦ λ t. tt
         ] refl)
       where
@@ -276,19 +276,19 @@ Shows-next now timeout transit most v s h =
         allowed true false d x k = absurd (cc)
         allowed false b d x k = absurd (cc)
 
-    from_sent : (i : ℕ) (o : Option Sent) → slice_get s.sent i ≡ o → ShowsNext (next_resent now v i (option_map wired_sent o)) (next_resent now s i o)
+    from_sent : (i : ℕ) (o : Option Sent) → slice_get s.sent i ≡ o → ShowsNext (next_resent occasion.now v i (option_map wired_sent o)) (next_resent occasion.now s i o)
     from_sent i None e = tt
     from_sent i (Some p) e = (
       refl,
       refl,
-      Shows-resent v s (slice_set s.sent i (again now p)) (slice_set v.sent i (wired_sent (again now p))) h
-          (ap (λ l. slice_set l i (wired_sent (again now p))) h.sent ∙ slice_set-map s.sent i (again now p))
-          (numbers_of-set s.sent i p (again now p) e refl) (same-set s.sent i p (again now p) e refl),
+      Shows-resent v s (slice_set s.sent i (again occasion.now p)) (slice_set v.sent i (wired_sent (again occasion.now p))) h
+          (ap (λ l. slice_set l i (wired_sent (again occasion.now p))) h.sent ∙ slice_set-map s.sent i (again occasion.now p))
+          (numbers_of-set s.sent i p (again occasion.now p) e refl) (same-set s.sent i p (again occasion.now p) e refl),
     )
 
-    go : (o : Option ℕ) → ShowsNext (next_of wire now timeout transit most v o) (next_of unbounded now timeout transit most s o)
-    go None = subst (λ q. ShowsNext (next_queued wire now timeout transit most v q) (next_queued unbounded now timeout transit most s s.queued)) (sym h.queued) (from_queue s.queued refl)
-    go (Some i) = subst (λ p. ShowsNext (next_resent now v i p) (next_resent now s i (slice_get s.sent i))) (sym (ap (λ l. slice_get l i) h.sent ∙ slice_get-map s.sent i)) (from_sent i (slice_get s.sent i) refl)
+    go : (o : Option ℕ) → ShowsNext (next_of wire occasion v o) (next_of unbounded occasion s o)
+    go None = subst (λ q. ShowsNext (next_queued wire occasion v q) (next_queued unbounded occasion s s.queued)) (sym h.queued) (from_queue s.queued refl)
+    go (Some i) = subst (λ p. ShowsNext (next_resent occasion.now v i p) (next_resent occasion.now s i (slice_get s.sent i))) (sym (ap (λ l. slice_get l i) h.sent ∙ slice_get-map s.sent i)) (from_sent i (slice_get s.sent i) refl)
 
 -- the rest of an unreliable packet goes
 
@@ -480,9 +480,9 @@ reads-sent v s p h k = go s.sent (let o = h.in_order in o.sent_reads) (subst (λ
     go (q ∷ sent) all (inl e) = subst (λ (x : Sent). IsReadAsItself x.command) e (all q (inl refl))
     go (q ∷ sent) all (inr j) = go sent (λ x y. all x (inr y)) j
 
-pub reads-next : (now timeout transit most : ℕ) (v s : Sender) (n : Next) → ShowsSender v s → next wire now timeout transit most v ≡ Some n → IsReadAsItself n.command
-reads-next now timeout transit most v s n h e =
-    elim (next_cases now timeout transit most v n e) [
+pub reads-next : (occasion : Occasion) (v s : Sender) (n : Next) → ShowsSender v s → next wire occasion v ≡ Some n → IsReadAsItself n.command
+reads-next occasion v s n h e =
+    elim (next_cases occasion v n e) [
       | inl r ↦ subst (λ (x : Next). IsReadAsItself x.command) (sym r.is) (reads-sent v s r.which h (Has-slice_get v.sent r.place r.which r.there))
       | inr b ↦ subst (λ (x : Next). IsReadAsItself x.command) (sym b.is) (reads-queued v s b.head h (subst (λ l. Has l b.head) (sym b.queued) (inl refl)))
     ]

@@ -191,8 +191,8 @@ words w = record {
   takes = λ p j r c on there h. record { terms = h.terms; offer = h.offer; says = h.says };
   takes_unsequenced = λ p j group payload on h. record { terms = h.terms; offer = h.offer; says = h.says };
   puts_control = λ p now timeout n due h. stays-of w p (record p { outbox = record p.outbox { control = n.commands } }) refl refl refl (next-says w now timeout p.outbox.control n due h.says).0 h;
-  puts_data = λ p k now timeout transit most s n there due h. record { terms = h.terms; offer = h.offer; says = h.says };
-  drops_data = λ p k now timeout transit most s n there due h. record { terms = h.terms; offer = h.offer; says = h.says };
+  puts_data = λ p k occasion s n there due h. record { terms = h.terms; offer = h.offer; says = h.says };
+  drops_data = λ p k occasion s n there due h. record { terms = h.terms; offer = h.offer; says = h.says };
 }
 
 -- what a datagram says

@@ -8,7 +8,7 @@ use Rattle.enet_connection.specs.LinkSteps.{Event, Send, Runs}
 
 -- by an event that takes a link from v to w: the reliable commands that leave the queue to go into the datagram
 abbrev pub first_sends : Event → WireLink → WireLink → ℕ
-first_sends (Send now timeout transit most) v w = reliable_count v.outgoing.queued - reliable_count w.outgoing.queued
+first_sends (Send occasion) v w = reliable_count v.outgoing.queued - reliable_count w.outgoing.queued
 first_sends _ v w = 0
 
 -- by all events of a run

@@ -2,7 +2,7 @@
 use Rattle.std.specs.Prelude.{◌≡◌, ℕ, Bool, true, false, ◌≤◌, List, [], ◌∷◌, ◌++◌, Some, map}
 use Rattle.enet_seq.specs.Numbering.{wire}
 use Rattle.enet_sender.specs.CommandChoice.{Packet, carried_as, fragment_limit}
-use Rattle.enet_sender.specs.Sender.{Sender, Next, next, nothing_sent}
+use Rattle.enet_sender.specs.Sender.{Occasion, Sender, Next, next, nothing_sent}
 use Rattle.enet_packets.specs.declared.incoming_packet.Dispatched.{Dispatched}
 use Rattle.enet_receiver.specs.Receiver.{Receiver, nothing_received}
 use Rattle.enet_receiver.specs.DataOutcome.{acknowledged}
@@ -10,12 +10,12 @@ pub use Rattle.enet_receiver.specs.Members.{Has}
 use Rattle.enet_connection.specs.Link.{PutOut, Answer, is_late}
 use Rattle.enet_connection.specs.WireLink.{WireLink, submits, sends, drops, marks, puts_out, arrives, logs_answer, answered, stops_sending, stops_receiving, drops_answers}
 
--- `now` is a moment and `timeout` how long a first send waits, both in milliseconds; `transit` bytes are in transit, and `most`
--- may be. Of what comes, `max_packet` is the greatest packet that is taken in, in bytes, and `full` says that too many wait
+-- `now` is a moment, in milliseconds. Of what comes, `max_packet` is the greatest packet that is taken in, in bytes, and `full`
+-- says that too many wait
 pub data Event : Type 0 where
   Submit : (packet : Packet) → Event
-  Send : (now timeout transit most : ℕ) → Event  -- the command that is due next goes into the datagram
-  Drop : (now timeout transit most : ℕ) → Event  -- the throttle drops the unreliable packet that it begins
+  Send : (occasion : Occasion) → Event  -- the command that is due next goes into the datagram
+  Drop : (occasion : Occasion) → Event  -- the throttle drops the unreliable packet that it begins
   Mark : (now : ℕ) → Event  -- what waited too long is due to go again
   PutsOut : Event  -- the datagram is put out
   Arrive : (command : PutOut) (max_packet : ℕ) (full : Bool) → Event  -- a command of the log comes
@@ -32,16 +32,16 @@ pub record Submits (mtu : ℕ) (packet : Packet) (v w : WireLink) : Type 0 where
   pub few : (carried_as mtu v.outgoing.unreliable packet).pieces ≤ fragment_limit
   pub after : w ≡ submits mtu v packet
 
-pub record Sends (now timeout transit most : ℕ) (v w : WireLink) : Type 0 where
+pub record Sends (occasion : Occasion) (v w : WireLink) : Type 0 where
   pub due : Next
   pub sending : v.is_sending ≡ true
-  pub is_due : next wire now timeout transit most v.outgoing ≡ Some due
+  pub is_due : next wire occasion v.outgoing ≡ Some due
   pub after : w ≡ sends v due
 
-pub record Drops (now timeout transit most : ℕ) (v w : WireLink) : Type 0 where
+pub record Drops (occasion : Occasion) (v w : WireLink) : Type 0 where
   pub due : Next
   pub sending : v.is_sending ≡ true
-  pub is_due : next wire now timeout transit most v.outgoing ≡ Some due
+  pub is_due : next wire occasion v.outgoing ≡ Some due
   pub unreliable : due.command.reliable ≡ false
   pub after : w ≡ drops v due
 
@@ -84,8 +84,8 @@ pub record StopsReceiving (left : Receiver) (kept gone : List Dispatched) (v w :
 -- one event takes a link from v to w
 abbrev pub Happens : ℕ → Event → WireLink → WireLink → Type 0
 Happens mtu (Submit packet) v w = Submits mtu packet v w
-Happens mtu (Send now timeout transit most) v w = Sends now timeout transit most v w
-Happens mtu (Drop now timeout transit most) v w = Drops now timeout transit most v w
+Happens mtu (Send occasion) v w = Sends occasion v w
+Happens mtu (Drop occasion) v w = Drops occasion v w
 Happens mtu (Mark now) v w = Marks now v w
 Happens mtu PutsOut v w = w ≡ puts_out v
 Happens mtu (Arrive command max_packet full) v w = Arrives command max_packet full false v w

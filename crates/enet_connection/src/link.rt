@@ -27,7 +27,7 @@ ghost use Rattle.enet_receiver.specs.Receiver as receiver;
 ghost use Rattle.enet_receiver.specs.DataOutcome.{outcome, received, dispatch_count};
 ghost use Rattle.enet_receiver.specs.DataOutcome as reception;
 ghost use Rattle.enet_sender.specs.CommandChoice.{Packet};
-ghost use Rattle.enet_sender.specs.Sender.{Sender, Next, nothing_sent, submitted, next, with_skipped, after_acknowledgement, acknowledged_bytes, bytes_in_transit, with_marked, lateness, after_lateness, cleared, left};
+ghost use Rattle.enet_sender.specs.Sender.{Occasion, Sender, Next, nothing_sent, submitted, next, with_skipped, after_acknowledgement, acknowledged_bytes, bytes_in_transit, with_marked, lateness, after_lateness, cleared, left};
 ghost use Rattle.enet_connection.specs.Follows.{Follows};
 ghost use Rattle.enet_connection.specs.Link.{PutOut};
 ghost use Rattle.enet_connection.specs.Meant.{IsReadAsItself};
@@ -99,7 +99,7 @@ pub fn wire_receiver()
 pub fn wire_sender()
     ensures nothing { ShowsSender nothing_sent nothing_sent }
     ensures submitted { (mtu : ℕ) (v s : Sender) (p : Packet) → ShowsSender v s → ShowsSender (submitted wire mtu v p) (submitted unbounded mtu s p) }
-    ensures next { (now timeout transit most : ℕ) (v s : Sender) → ShowsSender v s → ShowsNext (next wire now timeout transit most v) (next unbounded now timeout transit most s) }
+    ensures next { (occasion : Occasion) (v s : Sender) → ShowsSender v s → ShowsNext (next wire occasion v) (next unbounded occasion s) }
     ensures skipped { (v s : Sender) → ShowsSender v s → ShowsSender (with_skipped v) (with_skipped s) }
     ensures acknowledged { (v s : Sender) (n : ℕ) → n ≤ reached s → reached s < n + 65536 → ShowsSender v s → ShowsSender (after_acknowledgement v (n % 65536)) (after_acknowledgement s n) }
     ensures acknowledged_bytes { (v s : Sender) (n : ℕ) → n ≤ reached s → reached s < n + 65536 → ShowsSender v s → acknowledged_bytes v (n % 65536) ≡ acknowledged_bytes s n }
@@ -110,5 +110,5 @@ pub fn wire_sender()
     ensures cleared { (v s : Sender) → ShowsSender v s → ShowsSender (cleared v) (cleared s) }
     ensures left { (v s : Sender) → ShowsSender v s → left v ≡ left s }
     ensures reads_queued { (v s : Sender) (c : DataCommand) → ShowsSender v s → Has v.queued c → IsReadAsItself c }
-    ensures reads_next { (now timeout transit most : ℕ) (v s : Sender) (n : Next) → ShowsSender v s → next wire now timeout transit most v ≡ Some n → IsReadAsItself n.command }
+    ensures reads_next { (occasion : Occasion) (v s : Sender) (n : Next) → ShowsSender v s → next wire occasion v ≡ Some n → IsReadAsItself n.command }
 {}

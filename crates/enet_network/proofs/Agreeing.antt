@@ -57,7 +57,7 @@ share-same g h now sent p e = shared-if (g.is_due now) (h.is_due now) g.config.o
 
 -- what falls to a peer
 pub fell-same : (c : Call) (g h : Common) (i : ℕ) (s : SlotState) (p : Peering) (ds : List Deed) → AgreeOnPeer c i g h → Fell g i s p c ds → Fell h i s p c ds
-fell-same (call.Receive from bytes answer) g h i s p ds e fell = subst (λ (now : ℕ). Reaches now i s from bytes answer ds) e fell
+fell-same (call.Receive from bytes answer) g h i s p ds e fell = subst (λ (now : ℕ). Reaches i s (record { now = now; from = from; bytes = bytes; answer = answer }) ds) e fell
 fell-same (call.Service answer buf) g h i s p ds e fell = fell ∙ asked-same g h i answer buf e
 fell-same (call.Tick ms) g h i s p ds e fell =
     let now : ℕ = clock_after g.clock ms in

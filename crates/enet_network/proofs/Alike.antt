@@ -312,7 +312,7 @@ record IsTaken (now i : ℕ) (s : SlotState) (from : Addr) (bytes : List ℕ) (a
   open' : refused_by_slot from header.session (Some s) ≡ None
   falls : Falls now header.sent 0 commands answer ds
 
-taken-once : (now i : ℕ) (s : SlotState) (from : Addr) (bytes : List ℕ) (answer : Received) (ds es : List Deed) → length bytes ≤ greatest → IsTaken now i s from bytes answer ds → Reaches now i s from bytes answer es → es ≡ ds
+taken-once : (now i : ℕ) (s : SlotState) (from : Addr) (bytes : List ℕ) (answer : Received) (ds es : List Deed) → length bytes ≤ greatest → IsTaken now i s from bytes answer ds → Reaches i s (record { now = now; from = from; bytes = bytes; answer = answer }) es → es ≡ ds
 taken-once now i s from bytes answer ds es low x (unreadable why u) = absurd (read-unread bytes x.commands x.header why x.read u)
 taken-once now i s from bytes answer ds es low x (elsewhere header commands read away) = by away
   where
@@ -331,7 +331,7 @@ taken-once now i s from bytes answer ds es low x (here header commands es' read 
     let l : length bytes ≤ greatest = low in
     falls-once now x.header.sent 0 0 commands x.commands answer answer es ds (omega arith) refl same.1 refl (subst (λ (h : Header). Falls now h.sent 0 commands answer es) same.0 falls) x.falls
 
-reaches-once : (now i : ℕ) (s : SlotState) (from : Addr) (bytes : List ℕ) (answer : Received) (ds es : List Deed) → length bytes ≤ greatest → Reaches now i s from bytes answer ds → Reaches now i s from bytes answer es → ds ≡ es
+reaches-once : (now i : ℕ) (s : SlotState) (from : Addr) (bytes : List ℕ) (answer : Received) (ds es : List Deed) → length bytes ≤ greatest → Reaches i s (record { now = now; from = from; bytes = bytes; answer = answer }) ds → Reaches i s (record { now = now; from = from; bytes = bytes; answer = answer }) es → ds ≡ es
 reaches-once now i s from bytes answer ds es low a (here header commands es' read known at open' falls) =
     taken-once now i s from bytes answer es ds low (record { header = header; commands = commands; read = read; known = known; at = at; open' = open'; falls = falls }) a
 reaches-once now i s from bytes answer ds es low (here header commands ds' read known at open' falls) b =

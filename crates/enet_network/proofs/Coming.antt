@@ -14,7 +14,7 @@ pub record Came (now : ℕ) (sent : Option ℕ) (before : ℕ) (bytes : List ℕ
   pub falls : Falls now sent before bytes answer deeds
   pub alone : AllAlone deeds p q
 
-pub came : (now : ℕ) (sent : Option ℕ) (before : ℕ) (bytes : List ℕ) (p : Peering) (answer : Received) (q : Peering) → Handles now sent before bytes p answer q → Came now sent before bytes p answer q
+pub came : (now : ℕ) (sent : Option ℕ) (before : ℕ) (bytes : List ℕ) (p : Peering) (answer : Received) (q : Peering) → Handles (record { now = now; sent = sent }) before bytes p answer q → Came now sent before bytes p answer q
 came now sent before bytes p answer q (handling.nothing_left handled r) = record { deeds = []; falls = falling.nothing_left handled; alone = refl }
 came now sent before bytes p answer q (handling.no_command handled text r some none) = record { deeds = []; falls = falling.no_command handled text some none; alone = refl }
 came now sent before bytes p answer q (handling.stops handled text rest m why r t spells h) =

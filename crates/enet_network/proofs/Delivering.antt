@@ -112,7 +112,7 @@ AllInTime : End → End → List Put → Type 0
 AllInTime own far ps = (x : Put) → Has ps x → InTime own far x
 
 comes : (now : ℕ) (sent : Option ℕ) (ps : List Put) (handled : ℕ) (p : Peering) (answer : Received) (q : Peering) (own far : End) → own.peer ≡ Some p → AllInTime own far ps
-    → HandlesEach now sent handled (messages_of ps) p answer q → (es : List Event) × RunsAt es own far (with_peer own q)
+    → HandlesEach (record { now = now; sent = sent }) handled (messages_of ps) p answer q → (es : List Event) × RunsAt es own far (with_peer own q)
 unfolding AllInTime
 comes now sent [] handled p answer q own far is times h = ([], same-peer own p is ∙ ap (with_peer own) (sym h.1))
 comes now sent (x ∷ ps) handled p answer q own far is times (inl s) = elim (stopped s.0 (wants_memory p now sent x.message) (obeyed p now sent x.message) p q s.1) [
@@ -223,8 +223,8 @@ heard-there from i d answer old new e own far k low acts same sent has apart sho
 
     run : (es : List Event) × RunsAt es own far (with_peer own hears.after)
     run = comes old.host.clock header.sent l.puts 0 k.peer answer hears.after own far k.has (in-time (numbers_of from e.connection) e.greatest own far d l shown.greatest k.greatest not-late)
-        (handles-each old.host.clock header.sent 0 commands (messages_of l.puts) k.peer hears.after answer (behind d.text l.header header read.front commands (messages_of l.puts) read.split read.spelled l.spelled)
-        (subst (λ (y : Peering). Rattle.enet_peer.specs.Handling.Handles old.host.clock header.sent 0 commands y answer hears.after) p hears.handled))
+        (handles-each (record { now = old.host.clock; sent = header.sent }) 0 commands (messages_of l.puts) k.peer hears.after answer (behind d.text l.header header read.front commands (messages_of l.puts) read.split read.spelled l.spelled)
+        (subst (λ (y : Peering). Rattle.enet_peer.specs.Handling.Handles (record { now = old.host.clock; sent = header.sent }) 0 commands y answer hears.after) p hears.handled))
 
 -- a datagram comes
 

@@ -303,8 +303,8 @@ hears next side from x k session sent d m q b o =
     s : SpellsDatagram d.text (record { peer = 0; session = session; compressed = false; sent = sent }) (m ∷ [])
     s = b.spelled
 
-    handles : Handles 0 sent 0 s.commands x.peer handled_one q
-    handles = subst (λ (l : List ℕ). Handles 0 sent 0 l x.peer handled_one q) (sym (s.messages.2 ∙ ap (λ (l : List ℕ). s.messages.0 ++ l) s.messages.4))
+    handles : Handles (record { now = 0; sent = sent }) 0 s.commands x.peer handled_one q
+    handles = subst (λ (l : List ℕ). Handles (record { now = 0; sent = sent }) 0 l x.peer handled_one q) (sym (s.messages.2 ∙ ap (λ (l : List ℕ). s.messages.0 ++ l) s.messages.4))
         (goes_on 0 s.messages.0 [] m handled_one x.peer q q s.messages.3 (o.goes, o.after) (nothing_left 1 q))
 
     hears-it : Hears 0 sent s.commands old handled_one new

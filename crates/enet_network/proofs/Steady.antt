@@ -43,8 +43,8 @@ steadies m = record {
   takes = λ p j r c on there h. record { old = h.old; same = h.same };
   takes_unsequenced = λ p j group payload on h. record { old = h.old; same = h.same };
   puts_control = λ p now timeout n due h. record { old = h.old; same = h.same };
-  puts_data = λ p k now timeout transit most s n there due h. record { old = h.old; same = h.same };
-  drops_data = λ p k now timeout transit most s n there due h. record { old = h.old; same = h.same };
+  puts_data = λ p k occasion s n there due h. record { old = h.old; same = h.same };
+  drops_data = λ p k occasion s n there due h. record { old = h.old; same = h.same };
 }
 
 steady-submitted : (m : ℕ) (p : Peering) (channel : ℕ) (q : command_choice.Packet) → IsSteady m p → IsSteady m (submitted p channel q)

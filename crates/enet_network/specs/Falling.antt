@@ -51,15 +51,22 @@ pub data Falls (now : ℕ) (sent : Option ℕ) : ℕ → List ℕ → Received �
   goes_on : (handled : ℕ) (text rest : List ℕ) (m : Message) (answer : Received) (ds : List Deed) → Spells text m
       → Falls now sent (one_more handled) rest answer ds → Falls now sent handled (text ++ rest) answer (Come now sent m (Ok tt) ∷ ds)
 
+-- a call of receive: the clock then, in milliseconds, the address that the datagram came from, its bytes, and what was answered
+pub record Receipt : Type 0 where
+  pub now : ℕ
+  pub from : Addr
+  pub bytes : List ℕ
+  pub answer : Received
+
 -- what of a datagram reaches the peer of slot i, which is s: nothing where it can't be read, doesn't name this slot or the slot
 -- turns it away, and else its commands
-pub data Reaches (now i : ℕ) (s : SlotState) (from : Addr) (bytes : List ℕ) (answer : Received) : List Deed → Type 0 where
-  unreadable : (why : Stop) → IsUnreadable bytes why → Reaches now i s from bytes answer []
-  elsewhere : (header : Header) (commands : List ℕ) → IsRead bytes header commands → ((header.peer ≡ no_peer) ⊎ (header.peer ≢ i)) → Reaches now i s from bytes answer []
-  turned_away : (header : Header) (commands : List ℕ) (why : Stop) → IsRead bytes header commands → header.peer ≢ no_peer → header.peer ≡ i
-      → refused_by_slot from header.session (Some s) ≡ Some why → answer ≡ stopped why → Reaches now i s from bytes answer []
-  here : (header : Header) (commands : List ℕ) (ds : List Deed) → IsRead bytes header commands → header.peer ≢ no_peer → header.peer ≡ i
-      → refused_by_slot from header.session (Some s) ≡ None → Falls now header.sent 0 commands answer ds → Reaches now i s from bytes answer ds
+pub data Reaches (i : ℕ) (s : SlotState) (r : Receipt) : List Deed → Type 0 where
+  unreadable : (why : Stop) → IsUnreadable r.bytes why → Reaches i s r []
+  elsewhere : (header : Header) (commands : List ℕ) → IsRead r.bytes header commands → ((header.peer ≡ no_peer) ⊎ (header.peer ≢ i)) → Reaches i s r []
+  turned_away : (header : Header) (commands : List ℕ) (why : Stop) → IsRead r.bytes header commands → header.peer ≢ no_peer → header.peer ≡ i
+      → refused_by_slot r.from header.session (Some s) ≡ Some why → r.answer ≡ stopped why → Reaches i s r []
+  here : (header : Header) (commands : List ℕ) (ds : List Deed) → IsRead r.bytes header commands → header.peer ≢ no_peer → header.peer ≡ i
+      → refused_by_slot r.from header.session (Some s) ≡ None → Falls r.now header.sent 0 commands r.answer ds → Reaches i s r ds
 
 -- slots are asked in turn, up to slot j: this falls to slot j, and that to each before it
 abbrev pub up_to : (turn : ℕ → ℕ) (j i : ℕ) (gives passes : Deed) → List Deed
@@ -97,7 +104,8 @@ abbrev pub Fell : Common → ℕ → SlotState → Peering → Call → List Dee
 Fell h i s p (call.Connect address channels info word answer) ds = ds ≡ []
 Fell h i s p (call.Submit name channel q answer) ds =
     ds ≡ deeds_if (is_meant name i s) (Submit (record { channel = channel; flags = q.flags; body = q.body }) answer)
-Fell h i s p (call.Receive from bytes answer) ds = Reaches h.clock i s from bytes answer ds
+Fell h i s p (call.Receive from bytes answer) ds =
+    Reaches i s (record { now = h.clock; from = from; bytes = bytes; answer = answer }) ds
 Fell h i s p (call.Service answer buf) ds = ds ≡ asked_for h i answer buf
 Fell h i s p (call.Tick ms) ds =
     ds ≡ Tick (clock_after h.clock ms) ∷ share_of h (clock_after h.clock ms) s.emitted (peers.ticked p (clock_after h.clock ms))

@@ -59,23 +59,23 @@ transit-set : (senders : List SendingEnd) (i : ℕ) (s t : SendingEnd) → slice
 transit-set senders i s t e = sum-set (λ (s : SendingEnd). bytes_in_transit s.sender) senders i s t e
 
 -- what a call did
-pub did-sent : (n : Option Next) (past added : ℕ) (k : Kind) (old new : SendingEnd) (from : List ℕ) (at : ℕ) (to : List ℕ) → Did n (due.Sent past added k) old new from at to →
+pub did-sent : (n : Option Next) (past added : ℕ) (k : Kind) (old new : SendingEnd) (from : List ℕ) (at : ℕ) (to : List ℕ) → Did n (due.Sent past added k) old new (record { old = from; at = at; new = to }) →
     (m : Next) × (n ≡ Some m) × Puts from at (canonical (message_of old.channel m.command)) to past × (added ≡ m.added) × (k ≡ due_kind m.command) × (new ≡ record old { sender = m.sender })
     × IsMessage (message_of old.channel m.command)
 did-sent None past added k old new from at to d = absurd d
 did-sent (Some m) past added k old new from at to d = (m, refl, d.0, d.1, d.2, d.3, d.4)
 
-did-full : (n : Option Next) (old new : SendingEnd) (from : List ℕ) (at : ℕ) (to : List ℕ) → Did n due.NoRoom old new from at to →
+did-full : (n : Option Next) (old new : SendingEnd) (from : List ℕ) (at : ℕ) (to : List ℕ) → Did n due.NoRoom old new (record { old = from; at = at; new = to }) →
     (m : Next) × (n ≡ Some m) × (length from < at + length (canonical (message_of old.channel m.command))) × (new ≡ old) × (to ≡ from)
 did-full None old new from at to d = absurd d
 did-full (Some m) old new from at to d = (m, refl, d.0, d.1, d.2)
 
-did-nothing : (n : Option Next) (old new : SendingEnd) (from : List ℕ) (at : ℕ) (to : List ℕ) → Did n due.Nothing old new from at to → (n ≡ None) × (new ≡ old) × (to ≡ from)
+did-nothing : (n : Option Next) (old new : SendingEnd) (from : List ℕ) (at : ℕ) (to : List ℕ) → Did n due.Nothing old new (record { old = from; at = at; new = to }) → (n ≡ None) × (new ≡ old) × (to ≡ from)
 did-nothing None old new from at to d = (refl, d.0, d.1)
 did-nothing (Some m) old new from at to d = absurd d
 
 -- there was room for the command that was written
-pub channel-room : (p : Progress) (past added : ℕ) (k : Kind) (old new : SendingEnd) (from to : List ℕ) (n : Option Next) → Did n (due.Sent past added k) old new from (place_in p from) to →
+pub channel-room : (p : Progress) (past added : ℕ) (k : Kind) (old new : SendingEnd) (from to : List ℕ) (n : Option Next) → Did n (due.Sent past added k) old new (record { old = from; at = place_in p from; new = to }) →
     (0 < p.commands) × (p.at < length to)
 channel-room p past added k old new from to n d =
     let s = did-sent n past added k old new from (place_in p from) to d in
@@ -109,7 +109,7 @@ step-drop f channel s n kind.Begins e =
 
 -- what is due next on a channel of a filling
 abbrev due_next : Pace → Outbox → SendingEnd → Option Next
-due_next pace o s = next wire pace.now pace.timeout (transit_of o) (transit_limit pace o) s.sender
+due_next pace o s = next wire (record { now = pace.now; timeout = pace.timeout; transit = transit_of o; most = transit_limit pace o }) s.sender
 
 -- so many turns more
 abbrev more_data : Pace → ℕ → ℕ → Filling → Filling
@@ -165,15 +165,15 @@ channel-begin {pace} {channel} {f} {s} {w} {p} {buf} h opened there e = record {
 
 -- what the code finds due
 abbrev pub due_by : Pace → SendingEnd → Flow → Option Next
-due_by pace s w = next wire pace.now pace.timeout w.transit (transit w.throttle pace.window pace.mtu) s.sender
+due_by pace s w = next wire (record { now = pace.now; timeout = pace.timeout; transit = w.transit; most = transit w.throttle pace.window pace.mtu }) s.sender
 
 here : {pace : Pace} {channel : ℕ} {f : Filling} {s : SendingEnd} {w : Flow} {p : Progress} {buf : List ℕ} (a : ChannelAt pace channel f s w p buf) → due_next pace a.g.outbox s ≡ due_by pace s w
 here {pace} {channel} {f} {s} {w} a =
-    ap (λ (n : ℕ). next wire pace.now pace.timeout n (transit_limit pace a.g.outbox) s.sender) a.in_transit
-    ∙ ap (λ (o : Outbox). next wire pace.now pace.timeout w.transit (transit_limit pace o) s.sender) a.outbox
+    ap (λ (n : ℕ). next wire (record { now = pace.now; timeout = pace.timeout; transit = n; most = transit_limit pace a.g.outbox }) s.sender) a.in_transit
+    ∙ ap (λ (o : Outbox). next wire (record { now = pace.now; timeout = pace.timeout; transit = w.transit; most = transit_limit pace o }) s.sender) a.outbox
 
 pub channel-put : {pace : Pace} {channel : ℕ} {f : Filling} {s new : SendingEnd} {w : Flow} {p : Progress} {from to : List ℕ} {past : ℕ} (added : ℕ) (k : Kind) → ChannelAt pace channel f s w p from →
-    Did (due_by pace s w) (due.Sent past added k) s new from (place_in p from) to → refuses k w.throttle ≡ false →
+    Did (due_by pace s w) (due.Sent past added k) s new (record { old = from; at = place_in p from; new = to }) → refuses k w.throttle ≡ false →
     ChannelAt pace channel f new (record { throttle = asked_for k w.throttle; transit = w.transit + added; last = Some channel }) (taken_in p past to) to
 channel-put {pace} {channel} {f} {s} {new} {w} {p} {from} {to} {past} added k a d admitted =
     let r = did-sent (due_by pace s w) past added k s new from (place_in p from) to d in
@@ -183,8 +183,8 @@ channel-put {pace} {channel} {f} {s} {new} {w} {p} {from} {to} {past} added k a 
     let t : SendingEnd = record s { sender = n.sender } in
     let room = place-open p from (canonical m) to past (omega arith) r.2 in
     let G : Outbox → Outbox = λ o. record o { senders = slice_set o.senders channel t; throttle = asked_for k o.throttle; last = Some channel } in
-    let less = left-falls wire pace.now pace.timeout w.transit (transit w.throttle pace.window pace.mtu) s.sender n r.1 in
-    let adds = transit-next wire pace.now pace.timeout w.transit (transit w.throttle pace.window pace.mtu) s.sender n r.1 in
+    let less = left-falls wire (record { now = pace.now; timeout = pace.timeout; transit = w.transit; most = transit w.throttle pace.window pace.mtu }) s.sender n r.1 in
+    let adds = transit-next wire (record { now = pace.now; timeout = pace.timeout; transit = w.transit; most = transit w.throttle pace.window pace.mtu }) s.sender n r.1 in
     let sums = transit-set a.g.outbox.senders channel s t a.there in
     let added_is : added ≡ n.added = r.3 in
     let in_transit = a.in_transit in
@@ -205,7 +205,7 @@ channel-put {pace} {channel} {f} {s} {new} {w} {p} {from} {to} {past} added k a 
     subst P (sym r.5) made
 
 pub channel-drop : {pace : Pace} {channel : ℕ} {f : Filling} {s : SendingEnd} {w : Flow} {p : Progress} {from to : List ℕ} (new : SendingEnd) (past added : ℕ) (k : Kind) → ChannelAt pace channel f s w p from →
-    Did (due_by pace s w) (due.Sent past added k) s new from (place_in p from) to → refuses k w.throttle ≡ true →
+    Did (due_by pace s w) (due.Sent past added k) s new (record { old = from; at = place_in p from; new = to }) → refuses k w.throttle ≡ true →
     ChannelAt pace channel f (record new { sender = with_skipped new.sender }) (record { throttle = asked_for k w.throttle; transit = w.transit; last = w.last }) p to
 channel-drop {pace} {channel} {f} {s} {w} {p} {from} {to} new past added k a d refused =
     let r = did-sent (due_by pace s w) past added k s new from (place_in p from) to d in
@@ -215,10 +215,10 @@ channel-drop {pace} {channel} {f} {s} {w} {p} {from} {to} new past added k a d r
     let t : SendingEnd = record s { sender = with_skipped n.sender } in
     let room = place-open p from (canonical m) to past (omega arith) r.2 in
     let G : Outbox → Outbox = λ o. record o { senders = slice_set o.senders channel t; throttle = asked_for k o.throttle } in
-    let less = left-falls wire pace.now pace.timeout w.transit (transit w.throttle pace.window pace.mtu) s.sender n r.1 in
+    let less = left-falls wire (record { now = pace.now; timeout = pace.timeout; transit = w.transit; most = transit w.throttle pace.window pace.mtu }) s.sender n r.1 in
     let skip = left-skipped n.sender in
-    let adds = transit-next wire pace.now pace.timeout w.transit (transit w.throttle pace.window pace.mtu) s.sender n r.1 in
-    let none = added-none wire pace.now pace.timeout w.transit (transit w.throttle pace.window pace.mtu) s.sender n r.1 (refused-unreliable n.command k w.throttle r.4 refused) in
+    let adds = transit-next wire (record { now = pace.now; timeout = pace.timeout; transit = w.transit; most = transit w.throttle pace.window pace.mtu }) s.sender n r.1 in
+    let none = added-none wire (record { now = pace.now; timeout = pace.timeout; transit = w.transit; most = transit w.throttle pace.window pace.mtu }) s.sender n r.1 (refused-unreliable n.command k w.throttle r.4 refused) in
     let sums = transit-set a.g.outbox.senders channel s t a.there in
     let in_transit = a.in_transit in
     let enough = a.enough in
@@ -244,18 +244,18 @@ Ends pace channel f s w p buf =
     × (transit_of (with_flow f.outbox (slice_set f.outbox.senders channel s) w) ≡ w.transit)
 
 pub channel-full : {pace : Pace} {channel : ℕ} {f : Filling} {s : SendingEnd} {w : Flow} {p : Progress} {from to : List ℕ} (new : SendingEnd) → ChannelAt pace channel f s w p from →
-    Did (due_by pace s w) due.NoRoom s new from (place_in p from) to → Ends pace channel f new w (record p { closed = true }) to
+    Did (due_by pace s w) due.NoRoom s new (record { old = from; at = place_in p from; new = to }) → Ends pace channel f new w (record p { closed = true }) to
 channel-full {pace} {channel} {f} {s} {w} {p} {from} {to} new a d =
     let r = did-full (due_by pace s w) s new from (place_in p from) to d in
     let n : Next = r.0 in
     let m : Message = message_of s.channel n.command in
-    let less = left-falls wire pace.now pace.timeout w.transit (transit w.throttle pace.window pace.mtu) s.sender n r.1 in
+    let less = left-falls wire (record { now = pace.now; timeout = pace.timeout; transit = w.transit; most = transit w.throttle pace.window pace.mtu }) s.sender n r.1 in
     let enough = a.enough in
     let stop = channel-stop pace channel a.turns a.g s n (omega arith) a.opened a.there (here a ∙ r.1) (unfit m a.holds (place-full p from (length (canonical m)) r.2)) in
     rw (r.3, r.4) (leads-by (a.stage ∙ stop) (holds-shut a.holds) a.outbox, ap transit_of (sym a.outbox) ∙ a.in_transit)
 
 pub channel-none : {pace : Pace} {channel : ℕ} {f : Filling} {s : SendingEnd} {w : Flow} {p : Progress} {from to : List ℕ} (new : SendingEnd) → ChannelAt pace channel f s w p from →
-    Did (due_by pace s w) due.Nothing s new from (place_in p from) to → Ends pace channel f new w p to
+    Did (due_by pace s w) due.Nothing s new (record { old = from; at = place_in p from; new = to }) → Ends pace channel f new w p to
 channel-none {pace} {channel} {f} {s} {w} {p} {from} {to} new a d =
     let r = did-nothing (due_by pace s w) s new from (place_in p from) to d in
     rw (r.1, r.2) (leads-by (a.stage ∙ channel-end pace channel a.turns a.g s a.opened a.there (here a ∙ r.0)) a.holds a.outbox, ap transit_of (sym a.outbox) ∙ a.in_transit)

@@ -25,7 +25,7 @@ some-sender xs i inside = (get_or xs i (new_end 0), slice_get-get_or xs i (new_e
 -- what a call did on a channel
 abbrev pub CalledWith : Pace → ℕ → Flow → ℕ → ℕ → List SendingEnd → List SendingEnd → List ℕ → List ℕ → Due → Type 0
 CalledWith pace channel w most at now later from to result =
-    (s : SendingEnd) → slice_get now channel ≡ Some s → (t : SendingEnd) × ((later ≡ slice_set now channel t) × Did (next wire pace.now pace.timeout w.transit most s.sender) result s t from at to)
+    (s : SendingEnd) → slice_get now channel ≡ Some s → (t : SendingEnd) × ((later ≡ slice_set now channel t) × Did (next wire (record { now = pace.now; timeout = pace.timeout; transit = w.transit; most = most }) s.sender) result s t (record { old = from; at = at; new = to }))
 
 abbrev pub Called : Pace → ℕ → Flow → Progress → List SendingEnd → List SendingEnd → List ℕ → List ℕ → Due → Type 0
 Called pace channel w p now later from to result = CalledWith pace channel w (transit w.throttle pace.window pace.mtu) (place_in p from) now later from to result
@@ -116,7 +116,7 @@ turn-falls pace channel w p now later from to past added k s there h =
     let was : left_at (slice_get now channel) ≡ left_of s.sender = ap left_at there in
     let is : left_at (slice_get later channel) ≡ left_of d.0.sender =
     ap left_at (ap (λ (xs : List SendingEnd). slice_get xs channel) r.1.0 ∙ get-set now channel s r.0 there) ∙ ap (λ (t : SendingEnd). left_of t.sender) d.5 in
-    let less = left-falls wire pace.now pace.timeout w.transit (transit w.throttle pace.window pace.mtu) s.sender d.0 d.1 in
+    let less = left-falls wire (record { now = pace.now; timeout = pace.timeout; transit = w.transit; most = transit w.throttle pace.window pace.mtu }) s.sender d.0 d.1 in
     omega arith
 
 pub skip-falls : (channel : ℕ) (later after : List SendingEnd) (s : SendingEnd) → slice_get later channel ≡ Some s → Skipped channel later after → left_at (slice_get after channel) ≤ left_at (slice_get later channel)
@@ -139,9 +139,9 @@ pub called-adds : (pace : Pace) (channel : ℕ) (w : Flow) (most at : ℕ) (now 
     → CalledWith pace channel w most at now later from to (due.Sent past added k) → (limit : ℕ) → w.transit < limit → most < limit → w.transit + added < limit
 called-adds pace channel w most at now later from to past added k s there h limit low few =
     let r = h s there in
-    let d = did-sent (next wire pace.now pace.timeout w.transit most s.sender) past added k s r.0 from at to r.1.1 in
+    let d = did-sent (next wire (record { now = pace.now; timeout = pace.timeout; transit = w.transit; most = most }) s.sender) past added k s r.0 from at to r.1.1 in
     let is : added ≡ d.0.added = d.3 in
-    by d.0.added is (added-fits wire pace.now pace.timeout w.transit most s.sender d.0 d.1)
+    by d.0.added is (added-fits wire (record { now = pace.now; timeout = pace.timeout; transit = w.transit; most = most }) s.sender d.0 d.1)
   where
     by : (n : ℕ) → added ≡ n → (n ≡ 0) ⊎ (w.transit + n ≤ most) → w.transit + added < limit
     by n is (inl none) = omega arith

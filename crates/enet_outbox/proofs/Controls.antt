@@ -14,22 +14,22 @@ use Rattle.enet_outbox.proofs.Repeats.{repeated-go, repeated-idle, repeated-shut
 use Rattle.enet_outbox.proofs.Turns.{control_left, control-most, control-falls}
 
 -- what a call did
-pub did-sent : (n : Option Next) (past : ℕ) (old new : Commands) (from : List ℕ) (at : ℕ) (to : List ℕ) → Did n (written.Sent past) old new from at to →
+pub did-sent : (n : Option Next) (past : ℕ) (old new : Commands) (from : List ℕ) (at : ℕ) (to : List ℕ) → Did n (written.Sent past) old new (record { old = from; at = at; new = to }) →
     (k : Next) × (n ≡ Some k) × Puts from at (canonical (message_of k.command)) to past × (new ≡ k.commands) × IsMessage (message_of k.command)
 did-sent None past old new from at to d = absurd d
 did-sent (Some k) past old new from at to d = (k, refl, d.0, d.1, d.2)
 
-did-full : (n : Option Next) (old new : Commands) (from : List ℕ) (at : ℕ) (to : List ℕ) → Did n written.NoRoom old new from at to →
+did-full : (n : Option Next) (old new : Commands) (from : List ℕ) (at : ℕ) (to : List ℕ) → Did n written.NoRoom old new (record { old = from; at = at; new = to }) →
     (k : Next) × (n ≡ Some k) × (length from < at + length (canonical (message_of k.command))) × (new ≡ old) × (to ≡ from)
 did-full None old new from at to d = absurd d
 did-full (Some k) old new from at to d = (k, refl, d.0, d.1, d.2)
 
-did-nothing : (n : Option Next) (old new : Commands) (from : List ℕ) (at : ℕ) (to : List ℕ) → Did n written.Nothing old new from at to → (n ≡ None) × (new ≡ old) × (to ≡ from)
+did-nothing : (n : Option Next) (old new : Commands) (from : List ℕ) (at : ℕ) (to : List ℕ) → Did n written.Nothing old new (record { old = from; at = at; new = to }) → (n ≡ None) × (new ≡ old) × (to ≡ from)
 did-nothing None old new from at to d = (refl, d.0, d.1)
 did-nothing (Some k) old new from at to d = absurd d
 
 -- there was room for the command that was written
-pub control-room : (p : Progress) (old new : Commands) (from to : List ℕ) (past : ℕ) (n : Option Next) → Did n (written.Sent past) old new from (place_in p from) to → (0 < p.commands) × (p.at < length to)
+pub control-room : (p : Progress) (old new : Commands) (from to : List ℕ) (past : ℕ) (n : Option Next) → Did n (written.Sent past) old new (record { old = from; at = place_in p from; new = to }) → (0 < p.commands) × (p.at < length to)
 control-room p old new from to past n d =
     let s = did-sent n past old new from (place_in p from) to d in
     let w = place-open p from (canonical (message_of s.0.command)) to past (omega arith) s.2 in
@@ -79,7 +79,7 @@ here : {pace : Pace} {f : Filling} {c : Commands} {p : Progress} {buf : List ℕ
 here {pace} a = ap (λ (o : Outbox). next pace.now pace.timeout o.control) a.outbox
 
 pub control-put : {pace : Pace} {f : Filling} {c new : Commands} {p : Progress} {from to : List ℕ} {past : ℕ} → ControlAt pace f c p from →
-    Did (next pace.now pace.timeout c) (written.Sent past) c new from (place_in p from) to → ControlAt pace f new (taken_in p past to) to
+    Did (next pace.now pace.timeout c) (written.Sent past) c new (record { old = from; at = place_in p from; new = to }) → ControlAt pace f new (taken_in p past to) to
 control-put {pace} {f} {c} {new} {p} {from} {to} {past} a d =
     let s = did-sent (next pace.now pace.timeout c) past c new from (place_in p from) to d in
     let k = s.0 in
@@ -99,7 +99,7 @@ control-put {pace} {f} {c} {new} {p} {from} {to} {past} a d =
     }
 
 pub control-full : {pace : Pace} {f : Filling} {c new : Commands} {p : Progress} {from to : List ℕ} → ControlAt pace f c p from →
-    Did (next pace.now pace.timeout c) written.NoRoom c new from (place_in p from) to →
+    Did (next pace.now pace.timeout c) written.NoRoom c new (record { old = from; at = place_in p from; new = to }) →
     Leads (with_controls pace f) (record f.outbox { control = new }) (record p { closed = true }) to
 control-full {pace} {f} {c} {new} {p} {from} {to} a d =
     let s = did-full (next pace.now pace.timeout c) c new from (place_in p from) to d in
@@ -109,7 +109,7 @@ control-full {pace} {f} {c} {new} {p} {from} {to} a d =
     rw (s.3, s.4) (leads-by (a.stage ∙ controls-stop pace a.turns a.g k (omega arith) a.opened (here a ∙ s.1) (unfit (message_of k.command) a.holds (place-full p from (length (canonical (message_of k.command))) s.2))) (holds-shut a.holds) a.outbox)
 
 pub control-none : {pace : Pace} {f : Filling} {c new : Commands} {p : Progress} {from to : List ℕ} → ControlAt pace f c p from →
-    Did (next pace.now pace.timeout c) written.Nothing c new from (place_in p from) to → Leads (with_controls pace f) (record f.outbox { control = new }) p to
+    Did (next pace.now pace.timeout c) written.Nothing c new (record { old = from; at = place_in p from; new = to }) → Leads (with_controls pace f) (record f.outbox { control = new }) p to
 control-none {pace} {f} {c} {new} {p} {from} {to} a d =
     let s = did-nothing (next pace.now pace.timeout c) c new from (place_in p from) to d in
     rw (s.1, s.2) (leads-by (a.stage ∙ controls-none pace a.turns a.g a.opened (here a ∙ s.0)) a.holds a.outbox)

@@ -9,7 +9,7 @@ use Rattle.enet_senders.specs.declared.control.SentControl.{SentControl}
 use Rattle.enet_fragment.specs.declared.data.DataCommand.{DataCommand}
 use Rattle.enet_seq.specs.Numbering.{Numbering, wire}
 use Rattle.enet_sender.specs.declared.sent.Sent.{Sent}
-use Rattle.enet_sender.specs.Sender.{Sender, next, next_of, next_queued}
+use Rattle.enet_sender.specs.Sender.{Occasion, Sender, next, next_of, next_queued}
 use Rattle.enet_sender.specs.Due.{SendingEnd}
 use Rattle.enet_outbox.specs.declared.parts.Pace.{Pace}
 use Rattle.enet_outbox.specs.Outbox.{Outbox, has_no_packet, has_no_reliable}
@@ -49,10 +49,10 @@ sent-none : (s : SendingEnd) → has_no_reliable s ≡ true → s.sender.sent �
 sent-none s e = none-sent _ s.sender.sent e
 
 -- a channel with nothing queued or sent has nothing due
-next-none : (g : Numbering) (now timeout transit most : ℕ) (s : Sender) → s.queued ≡ [] → s.sent ≡ [] → next g now timeout transit most s ≡ None
-next-none g now timeout transit most s e f =
-    ap (λ (xs : List Sent). next_of g now timeout transit most s (position (λ (p : Sent). p.transmission.due) xs)) f
-    ∙ ap (λ (xs : List DataCommand). next_queued g now timeout transit most s xs) e
+next-none : (g : Numbering) (occasion : Occasion) (s : Sender) → s.queued ≡ [] → s.sent ≡ [] → next g occasion s ≡ None
+next-none g occasion s e f =
+    ap (λ (xs : List Sent). next_of g occasion s (position (λ (p : Sent). p.transmission.due) xs)) f
+    ∙ ap (λ (xs : List DataCommand). next_queued g occasion s xs) e
 
 -- what holds of all holds at each place
 all-left : (a b : Bool) → (a && b) ≡ true → a ≡ true
@@ -88,9 +88,9 @@ control-none now timeout c e =
 abbrev StaysEmpty : Outbox → Filling → Type 0
 StaysEmpty o f = (f.messages ≡ []) × (f.outbox ≡ o)
 
-idle-next : (o : Outbox) (pace : Pace) (s : SendingEnd) (i transit most : ℕ) → HasNothing o → slice_get o.senders i ≡ Some s → next wire pace.now pace.timeout transit most s.sender ≡ None
+idle-next : (o : Outbox) (pace : Pace) (s : SendingEnd) (i transit most : ℕ) → HasNothing o → slice_get o.senders i ≡ Some s → next wire (record { now = pace.now; timeout = pace.timeout; transit = transit; most = most }) s.sender ≡ None
 idle-next o pace s i transit most h there =
-    next-none wire pace.now pace.timeout transit most s.sender (none-queued s.sender.queued (all-at has_no_packet o.senders i s h.packets there)) (sent-none s (all-at has_no_reliable o.senders i s h.reliable there))
+    next-none wire (record { now = pace.now; timeout = pace.timeout; transit = transit; most = most }) s.sender (none-queued s.sender.queued (all-at has_no_packet o.senders i s h.packets there)) (sent-none s (all-at has_no_reliable o.senders i s h.reliable there))
 
 none-some : {X Y : Type 0} (o : Option X) (x : X) → o ≡ None → o ≡ Some x → Y
 none-some o x e f = absurd (let y : ◌≡◌ {A = Option _} None (Some x) = sym e ∙ f in cc)

@@ -7,7 +7,7 @@ use Rattle.std.proofs.lemmas.Option.{get_or_from_slice_get}
 use Rattle.enet_seq.specs.Numbering.{Numbering}
 use Rattle.enet_fragment.specs.declared.data.DataCommand.{DataCommand}
 use Rattle.enet_sender.specs.declared.sent.Sent.{Sent}
-use Rattle.enet_sender.specs.Sender.{Sender, Next, next, next_of, next_queued, next_resent, first_sent, resent, begun, again, may_go, is_in_span, is_more, skipped, with_skipped}
+use Rattle.enet_sender.specs.Sender.{Occasion, Sender, Next, next, next_of, next_queued, next_resent, first_sent, resent, begun, again, may_go, is_in_span, is_more, skipped, with_skipped}
 use Rattle.enet_senders.specs.declared.control.Numbered.{Numbered}
 use Rattle.enet_senders.specs.declared.control.SentControl.{SentControl}
 use Rattle.enet_senders.specs.Controlling as control
@@ -61,21 +61,21 @@ pub left-most : (s : Sender) → left_of s ≤ length s.queued + length s.sent
 left-most s = let h = due-most (λ (p : Sent). p.transmission.due) s.sent in omega arith
 
 -- a fact of what is due next: of each first send and of each resend
-by-next : (P : Next → Type 0) (g : Numbering) (now timeout transit most : ℕ) (s : Sender) (n : Next)
-    → ((c : DataCommand) (rest : List DataCommand) → s.queued ≡ c ∷ rest → may_go g s.sent transit most c ≡ true → P (first_sent now timeout s c rest))
-    → ((i : ℕ) (p : Sent) → slice_get s.sent i ≡ Some p → p.transmission.due ≡ true → P (resent now s i p))
-    → next g now timeout transit most s ≡ Some n → P n
-by-next P g now timeout transit most s n first again_ e = by-place (position (λ (p : Sent). p.transmission.due) s.sent) refl e
+by-next : (P : Next → Type 0) (g : Numbering) (occasion : Occasion) (s : Sender) (n : Next)
+    → ((c : DataCommand) (rest : List DataCommand) → s.queued ≡ c ∷ rest → may_go g s.sent occasion.transit occasion.most c ≡ true → P (first_sent occasion.now occasion.timeout s c rest))
+    → ((i : ℕ) (p : Sent) → slice_get s.sent i ≡ Some p → p.transmission.due ≡ true → P (resent occasion.now s i p))
+    → next g occasion s ≡ Some n → P n
+by-next P g occasion s n first again_ e = by-place (position (λ (p : Sent). p.transmission.due) s.sent) refl e
   where
-    by-queue : (queued : List DataCommand) → s.queued ≡ queued → next_queued g now timeout transit most s queued ≡ Some n → P n
+    by-queue : (queued : List DataCommand) → s.queued ≡ queued → next_queued g occasion s queued ≡ Some n → P n
     by-queue [] is e = cc
-    by-queue (c ∷ rest) is e = if-goes P (may_go g s.sent transit most c) (first_sent now timeout s c rest) n (first c rest is) e
+    by-queue (c ∷ rest) is e = if-goes P (may_go g s.sent occasion.transit occasion.most c) (first_sent occasion.now occasion.timeout s c rest) n (first c rest is) e
 
-    by-sent : (i : ℕ) → position (λ (p : Sent). p.transmission.due) s.sent ≡ Some i → (o : Option Sent) → slice_get s.sent i ≡ o → next_resent now s i o ≡ Some n → P n
+    by-sent : (i : ℕ) → position (λ (p : Sent). p.transmission.due) s.sent ≡ Some i → (o : Option Sent) → slice_get s.sent i ≡ o → next_resent occasion.now s i o ≡ Some n → P n
     by-sent i found None is e = cc
-    by-sent i found (Some p) is e = if-some P (resent now s i p) n (again_ i p is (found-due (λ (p : Sent). p.transmission.due) s.sent i p found is)) e
+    by-sent i found (Some p) is e = if-some P (resent occasion.now s i p) n (again_ i p is (found-due (λ (p : Sent). p.transmission.due) s.sent i p found is)) e
 
-    by-place : (o : Option ℕ) → position (λ (p : Sent). p.transmission.due) s.sent ≡ o → next_of g now timeout transit most s o ≡ Some n → P n
+    by-place : (o : Option ℕ) → position (λ (p : Sent). p.transmission.due) s.sent ≡ o → next_of g occasion s o ≡ Some n → P n
     by-place None found e = by-queue s.queued refl e
     by-place (Some i) found e = by-sent i found (slice_get s.sent i) refl e
 
@@ -83,28 +83,28 @@ sent-first : (b : Bool) (sent : List Sent) (q : Sent) → q.transmission.due ≡
 sent-first true sent q e = due-push (λ (p : Sent). p.transmission.due) sent q e
 sent-first false sent q e = refl
 
-pub left-falls : (g : Numbering) (now timeout transit most : ℕ) (s : Sender) (n : Next) → next g now timeout transit most s ≡ Some n → left_of n.sender < left_of s
-left-falls g now timeout transit most s n e =
-    by-next (λ (m : Next). left_of m.sender < left_of s) g now timeout transit most s n
-    (λ c rest is goes. let d = sent-first c.reliable s.sent (begun now timeout c) refl in let l = ap (λ (cs : List DataCommand). length cs) is in omega arith)
-    (λ i p there due. let d = due-set (λ (p : Sent). p.transmission.due) s.sent i p (again now p) there due refl in omega arith) e
+pub left-falls : (g : Numbering) (occasion : Occasion) (s : Sender) (n : Next) → next g occasion s ≡ Some n → left_of n.sender < left_of s
+left-falls g occasion s n e =
+    by-next (λ (m : Next). left_of m.sender < left_of s) g occasion s n
+    (λ c rest is goes. let d = sent-first c.reliable s.sent (begun occasion.now occasion.timeout c) refl in let l = ap (λ (cs : List DataCommand). length cs) is in omega arith)
+    (λ i p there due. let d = due-set (λ (p : Sent). p.transmission.due) s.sent i p (again occasion.now p) there due refl in omega arith) e
 
 -- what is new in transit fits what may be
-pub added-fits : (g : Numbering) (now timeout transit most : ℕ) (s : Sender) (n : Next) → next g now timeout transit most s ≡ Some n → (n.added ≡ 0) ⊎ (transit + n.added ≤ most)
-added-fits g now timeout transit most s n e =
-    by-next (λ (m : Next). (m.added ≡ 0) ⊎ (transit + m.added ≤ most)) g now timeout transit most s n
+pub added-fits : (g : Numbering) (occasion : Occasion) (s : Sender) (n : Next) → next g occasion s ≡ Some n → (n.added ≡ 0) ⊎ (occasion.transit + n.added ≤ occasion.most)
+added-fits g occasion s n e =
+    by-next (λ (m : Next). (m.added ≡ 0) ⊎ (occasion.transit + m.added ≤ occasion.most)) g occasion s n
     (λ c rest is goes. first c.reliable (is_in_span g s.sent c.number) (length c.body) goes)
     (λ i p there due. inl refl) e
   where
-    first : (reliable span : Bool) (len : ℕ) → (not reliable || (span && nat_le (transit + len) most)) ≡ true → (cond reliable len 0 ≡ 0) ⊎ (transit + cond reliable len 0 ≤ most)
+    first : (reliable span : Bool) (len : ℕ) → (not reliable || (span && nat_le (occasion.transit + len) occasion.most)) ≡ true → (cond reliable len 0 ≡ 0) ⊎ (occasion.transit + cond reliable len 0 ≤ occasion.most)
     first false span len goes = inl refl
-    first true true len goes = inr (leb-true (transit + len) most goes)
+    first true true len goes = inr (leb-true (occasion.transit + len) occasion.most goes)
     first true false len goes = cc
 
 -- an unreliable command adds nothing
-pub added-none : (g : Numbering) (now timeout transit most : ℕ) (s : Sender) (n : Next) → next g now timeout transit most s ≡ Some n → n.command.reliable ≡ false → n.added ≡ 0
-added-none g now timeout transit most s n e =
-    by-next (λ (m : Next). m.command.reliable ≡ false → m.added ≡ 0) g now timeout transit most s n
+pub added-none : (g : Numbering) (occasion : Occasion) (s : Sender) (n : Next) → next g occasion s ≡ Some n → n.command.reliable ≡ false → n.added ≡ 0
+added-none g occasion s n e =
+    by-next (λ (m : Next). m.command.reliable ≡ false → m.added ≡ 0) g occasion s n
     (λ c rest is goes unreliable. ap (λ (b : Bool). cond b (length c.body) 0) unreliable)
     (λ i p there due unreliable. refl) e
 

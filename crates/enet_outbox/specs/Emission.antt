@@ -12,7 +12,7 @@ use Rattle.enet_senders.specs.Controlling as controlling
 use Rattle.enet_fragment.specs.DataCommand.{message_of}
 use Rattle.enet_sender.specs.declared.outgoing.Kind.{Kind}
 use Rattle.enet_sender.specs.declared.outgoing.Kind.TheVariants.{Reliable, Begins, More}
-use Rattle.enet_sender.specs.Sender.{Next, next, with_skipped}
+use Rattle.enet_sender.specs.Sender.{Occasion, Next, next, with_skipped}
 use Rattle.enet_sender.specs.Due.{SendingEnd, due_kind}
 use Rattle.enet_outbox.specs.declared.parts.Acknowledgement.{Acknowledgement}
 use Rattle.enet_outbox.specs.declared.parts.Unsequenced.{Unsequenced}
@@ -148,10 +148,14 @@ due_step f channel s None = f
 due_step f channel s (Some n) =
     if fits f (message_of s.channel n.command) then data_step f channel s n (due_kind n.command) else shut f
 
+-- what the sender of a channel is told when it is asked what is due
+abbrev pub occasion : Pace → Outbox → Occasion
+occasion pace o = record { now = pace.now; timeout = pace.timeout; transit = transit_of o; most = transit_limit pace o }
+
 abbrev pub channel_step : Pace → ℕ → Filling → Option SendingEnd → Filling
 channel_step pace channel f None = f
 channel_step pace channel f (Some s) =
-    due_step f channel s (next wire pace.now pace.timeout (transit_of f.outbox) (transit_limit pace f.outbox) s.sender)
+    due_step f channel s (next wire (occasion pace f.outbox) s.sender)
 
 -- one more of a channel, if one is due
 abbrev pub with_one_data : Pace → ℕ → Filling → Filling

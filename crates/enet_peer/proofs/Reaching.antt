@@ -34,7 +34,7 @@ use Rattle.enet_inbox.specs.Inbox.{Inbox, is_full, cleared_receiver}
 use Rattle.enet_inbox.specs.DataEffect.{DataEffect, handled, stopped as refused, unsequenced, unsequenced_taken, by_took, sequenced, sequenced_on, passed_over, arrival, arrival_of, emptied}
 use Rattle.enet_sender.specs.CommandChoice.{Packet}
 use Rattle.enet_sender.specs.declared.sent.Sent.{Sent}
-use Rattle.enet_sender.specs.Sender.{Sender, Next, next, with_skipped}
+use Rattle.enet_sender.specs.Sender.{Occasion, Sender, Next, next, with_skipped}
 use Rattle.enet_sender.specs.Sender as sender
 use Rattle.enet_sender.specs.Due.{SendingEnd, new_end}
 use Rattle.enet_outbox.specs.declared.parts.Acknowledgement.{Acknowledgement}
@@ -394,11 +394,11 @@ idle-control now timeout c n q t e =
     let both : None ≡ Some n = is in
     cc
 
-idle-next : (now timeout transit most : ℕ) (s : Sender) (n : Next) → s.queued ≡ [] → s.sent ≡ [] → next wire now timeout transit most s ≡ Some n → ⊥
-idle-next now timeout transit most s n q t e =
-    let is : next wire now timeout transit most (record s { queued = []; sent = [] }) ≡ Some n =
-    ap (λ (x : List DataCommand). next wire now timeout transit most (record s { queued = x; sent = [] })) (sym q)
-    ∙ ap (λ (x : List Sent). next wire now timeout transit most (record s { sent = x })) (sym t) ∙ e in
+idle-next : (occasion : Occasion) (s : Sender) (n : Next) → s.queued ≡ [] → s.sent ≡ [] → next wire occasion s ≡ Some n → ⊥
+idle-next occasion s n q t e =
+    let is : next wire occasion (record s { queued = []; sent = [] }) ≡ Some n =
+    ap (λ (x : List DataCommand). next wire occasion (record s { queued = x; sent = [] })) (sym q)
+    ∙ ap (λ (x : List Sent). next wire occasion (record s { sent = x })) (sym t) ∙ e in
     let both : None ≡ Some n = is in
     cc
 
@@ -448,8 +448,8 @@ filled-spent pace o Left goes h = by-filling pace o (λ (f : Filling). Spent Lef
       (record { no_unsequenced = a.0.no_unsequenced; no_control_sent = g.0; no_queued = a.0.no_queued; no_sent = a.0.no_sent }, a.1, g.1));
   puts_unsequenced = λ f u rest t e a. absurd (nil-cons f.outbox.unsequenced u rest a.0.no_unsequenced e);
   drops_unsequenced = λ f u rest t e a. absurd (nil-cons f.outbox.unsequenced u rest a.0.no_unsequenced e);
-  puts_data = λ f k s n t there due a. absurd (idle-next _ _ _ _ s.sender n (a.0.no_queued k s there) (a.0.no_sent k s there) due);
-  drops_data = λ f k s n t there due kind a. absurd (idle-next _ _ _ _ s.sender n (a.0.no_queued k s there) (a.0.no_sent k s there) due);
+  puts_data = λ f k s n t there due a. absurd (idle-next _ s.sender n (a.0.no_queued k s there) (a.0.no_sent k s there) due);
+  drops_data = λ f k s n t there due kind a. absurd (idle-next _ s.sender n (a.0.no_queued k s there) (a.0.no_sent k s there) due);
 }) h
 
 filled-empty : (pace : Pace) (o : Outbox) → Spent (λ queued. queued ≡ []) o → Spent (λ queued. queued ≡ []) (filled pace o).outbox

@@ -20,22 +20,27 @@ abbrev pub counted : ℕ → Stop → ℕ
 counted handled stop.NoSentTime = one_more handled
 counted handled _ = handled
 
--- the commands that bytes spell come to a peer at the time `now`, in a datagram that tells this sent time or none, `handled`
--- having counted before: what is answered, and the peer after them
-pub data Handles (now : ℕ) (sent : Option ℕ) : ℕ → List ℕ → Peering → Received → Peering → Type 0 where
-  nothing_left : (handled : ℕ) (p : Peering) → Handles now sent handled [] p (record { handled = handled; stop = None }) p
+-- when a datagram comes, in milliseconds, and the sent time that its header tells, if it tells one
+pub record Arrival : Type 0 where
+  pub now : ℕ
+  pub sent : Option ℕ
+
+-- the commands that bytes spell come to a peer in a datagram, `handled` having counted before: what is answered, and the peer
+-- after them
+pub data Handles (a : Arrival) : ℕ → List ℕ → Peering → Received → Peering → Type 0 where
+  nothing_left : (handled : ℕ) (p : Peering) → Handles a handled [] p (record { handled = handled; stop = None }) p
   no_command : (handled : ℕ) (bytes : List ℕ) (p : Peering) → bytes ≢ [] → SpellsNone bytes
-      → Handles now sent handled bytes p (record { handled = handled; stop = Some stop.BadCommand }) p
+      → Handles a handled bytes p (record { handled = handled; stop = Some stop.BadCommand }) p
   stops : (handled : ℕ) (text rest : List ℕ) (m : Message) (why : Stop) (p q : Peering) → Spells text m
-      → Obeys {T = Unit {0}} (Err why) (wants_memory p now sent m) (obeyed p now sent m) p q
-      → Handles now sent handled (text ++ rest) p (record { handled = counted handled why; stop = Some why }) q
+      → Obeys {T = Unit {0}} (Err why) (wants_memory p a.now a.sent m) (obeyed p a.now a.sent m) p q
+      → Handles a handled (text ++ rest) p (record { handled = counted handled why; stop = Some why }) q
   goes_on : (handled : ℕ) (text rest : List ℕ) (m : Message) (answer : Received) (p q r : Peering) → Spells text m
-      → Obeys {T = Unit {0}} (Ok tt) (wants_memory p now sent m) (obeyed p now sent m) p q → Handles now sent (one_more handled) rest q answer r
-      → Handles now sent handled (text ++ rest) p answer r
+      → Obeys {T = Unit {0}} (Ok tt) (wants_memory p a.now a.sent m) (obeyed p a.now a.sent m) p q → Handles a (one_more handled) rest q answer r
+      → Handles a handled (text ++ rest) p answer r
 
 -- the commands of a list come to a peer in the same way, until none is left or one stops them
-abbrev pub HandlesEach : ℕ → Option ℕ → ℕ → List Message → Peering → Received → Peering → Type 0
-HandlesEach now sent handled [] p answer q = (answer ≡ record { handled = handled; stop = None }) × (q ≡ p)
-HandlesEach now sent handled (m ∷ ms) p answer q =
-    ((why : Stop) × Obeys {T = Unit {0}} (Err why) (wants_memory p now sent m) (obeyed p now sent m) p q × (answer ≡ record { handled = counted handled why; stop = Some why }))
-    ⊎ ((between : Peering) × Obeys {T = Unit {0}} (Ok tt) (wants_memory p now sent m) (obeyed p now sent m) p between × HandlesEach now sent (one_more handled) ms between answer q)
+abbrev pub HandlesEach : Arrival → ℕ → List Message → Peering → Received → Peering → Type 0
+HandlesEach a handled [] p answer q = (answer ≡ record { handled = handled; stop = None }) × (q ≡ p)
+HandlesEach a handled (m ∷ ms) p answer q =
+    ((why : Stop) × Obeys {T = Unit {0}} (Err why) (wants_memory p a.now a.sent m) (obeyed p a.now a.sent m) p q × (answer ≡ record { handled = counted handled why; stop = Some why }))
+    ⊎ ((between : Peering) × Obeys {T = Unit {0}} (Ok tt) (wants_memory p a.now a.sent m) (obeyed p a.now a.sent m) p between × HandlesEach a (one_more handled) ms between answer q)

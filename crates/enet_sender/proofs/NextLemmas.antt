@@ -3,7 +3,7 @@ use Rattle.std.proofs.Common.{◌≡◌, ℕ, suc, zero, ◌<◌, true, false, c
 use Rattle.std.specs.List.{slice_get}
 use Rattle.enet_seq.specs.Numbering.{wire}
 use Rattle.enet_fragment.specs.declared.data.DataCommand.{DataCommand}
-use Rattle.enet_sender.specs.Sender.{Sender, Next, next_queued, first_sent, may_go}
+use Rattle.enet_sender.specs.Sender.{Occasion, Sender, Next, next_queued, first_sent, may_go}
 
 -- a list by its head
 pub by_head : {X : Type 0} (xs : List X) (x : X) → 0 < length xs → x ≡ get_or xs 0 x → xs ≡ x ∷ drop 1 xs
@@ -16,21 +16,21 @@ slice_get-inside [] i x low is = absurd (omega arith)
 slice_get-inside (y ∷ xs) zero x low is = ap (λ z. Some z) (sym is)
 slice_get-inside (y ∷ xs) (suc i) x low is = slice_get-inside xs i x (omega arith) is
 
-pub next_queued-empty : (now timeout transit most : ℕ) (s : Sender) → length s.queued ≡ 0 → next_queued wire now timeout transit most s s.queued ≡ None
-next_queued-empty now timeout transit most s none = go s.queued none
+pub next_queued-empty : (occasion : Occasion) (s : Sender) → length s.queued ≡ 0 → next_queued wire occasion s s.queued ≡ None
+next_queued-empty occasion s none = go s.queued none
   where
-    go : (cs : List DataCommand) → length cs ≡ 0 → next_queued wire now timeout transit most s cs ≡ None
+    go : (cs : List DataCommand) → length cs ≡ 0 → next_queued wire occasion s cs ≡ None
     go [] e = refl
     go (c ∷ cs) e = absurd (omega arith)
 
-pub next_queued-blocked : (now timeout transit most : ℕ) (s : Sender) (c : DataCommand) → s.queued ≡ c ∷ drop 1 s.queued
-    → may_go wire s.sent transit most c ≡ false → next_queued wire now timeout transit most s s.queued ≡ None
-next_queued-blocked now timeout transit most s c is blocked =
-    let goes : Option Next = Some (first_sent now timeout s c (drop 1 s.queued)) in
-    ap (next_queued wire now timeout transit most s) is ∙ ap (λ b. cond b goes None) blocked
+pub next_queued-blocked : (occasion : Occasion) (s : Sender) (c : DataCommand) → s.queued ≡ c ∷ drop 1 s.queued
+    → may_go wire s.sent occasion.transit occasion.most c ≡ false → next_queued wire occasion s s.queued ≡ None
+next_queued-blocked occasion s c is blocked =
+    let goes : Option Next = Some (first_sent occasion.now occasion.timeout s c (drop 1 s.queued)) in
+    ap (next_queued wire occasion s) is ∙ ap (λ b. cond b goes None) blocked
 
-pub next_queued-goes : (now timeout transit most : ℕ) (s : Sender) (c : DataCommand) → s.queued ≡ c ∷ drop 1 s.queued
-    → may_go wire s.sent transit most c ≡ true → next_queued wire now timeout transit most s s.queued ≡ Some (first_sent now timeout s c (drop 1 s.queued))
-next_queued-goes now timeout transit most s c is goes =
-    let next : Option Next = Some (first_sent now timeout s c (drop 1 s.queued)) in
-    ap (next_queued wire now timeout transit most s) is ∙ ap (λ b. cond b next None) goes
+pub next_queued-goes : (occasion : Occasion) (s : Sender) (c : DataCommand) → s.queued ≡ c ∷ drop 1 s.queued
+    → may_go wire s.sent occasion.transit occasion.most c ≡ true → next_queued wire occasion s s.queued ≡ Some (first_sent occasion.now occasion.timeout s c (drop 1 s.queued))
+next_queued-goes occasion s c is goes =
+    let next : Option Next = Some (first_sent occasion.now occasion.timeout s c (drop 1 s.queued)) in
+    ap (next_queued wire occasion s) is ∙ ap (λ b. cond b next None) goes

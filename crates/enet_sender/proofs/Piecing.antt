@@ -28,9 +28,9 @@ after-more : (n k : ℕ) → after (after n k) 1 ≡ after n (k + 1)
 after-more n k = omega arith
 
 pub queues-more : (course : Course) (body : List ℕ) (i : ℕ) (before : ℕ → Option Sent) (old : Outgoing) (s t : Slab Sent) (mid new : Outgoing) (c : DataCommand)
-    → Queues course body i before old (get s) mid → c ≡ piece_command course body i → course.number ≡ old.number → Keeps (get t) (rings_of new) → Passes (get s) (get t) (keys_of (rings_of mid)) (keys_of (rings_of new))
+    → Queues course body i (record { outgoing = old; at = before }) (record { outgoing = mid; at = get s }) → c ≡ piece_command course body i → course.number ≡ old.number → Keeps (get t) (rings_of new) → Passes (get s) (get t) (keys_of (rings_of mid)) (keys_of (rings_of new))
     → end_of t new ≡ record (end_of s mid) { sender = record (sender_of (get s) (rings_of mid)) { number = cond c.reliable c.number mid.number; queued = commands_at (get s) mid.queued.items ++ c ∷ [] } }
-    → Queues course body (i + 1) before old (get t) new
+    → Queues course body (i + 1) (record { outgoing = old; at = before }) (record { outgoing = new; at = get t })
 queues-more course body i before old s t mid new c h is number_is kept passes ends =
     let n : new.number ≡ cond c.reliable c.number mid.number = ap (λ (e : SendingEnd). e.sender.number) ends in
     let reliable : c.reliable ≡ course.reliable = ap (λ (d : DataCommand). d.reliable) is in

@@ -9,7 +9,7 @@ use Rattle.enet_seq.specs.Numbering.{Numbering}
 use Rattle.enet_fragment.specs.declared.data.DataCommand.{DataCommand}
 use Rattle.enet_sender.specs.declared.sent.Sent.{Sent}
 use Rattle.enet_sender.specs.declared.outgoing.Left.{Left}
-use Rattle.enet_sender.specs.Sender.{Sender, Next, next, next_of, next_queued, next_resent, first_sent, resent, begun, again, may_go, is_after_first, skipped, with_skipped, after_acknowledgement, acknowledged_bytes, without_place, position_of, size_at, size_of, marked, with_marked, bytes_in_transit, left}
+use Rattle.enet_sender.specs.Sender.{Occasion, Sender, Next, next, next_of, next_queued, next_resent, first_sent, resent, begun, again, may_go, is_after_first, skipped, with_skipped, after_acknowledgement, acknowledged_bytes, without_place, position_of, size_at, size_of, marked, with_marked, bytes_in_transit, left}
 use Rattle.enet_sender.specs.Invariant.{reliable_in}
 use Rattle.enet_sender.proofs.Counting.{found_by_count, counted-head}
 
@@ -43,29 +43,29 @@ if_goes P true x n h e = if_some P x n h e
 if_goes P false x n h e = cc
 
 -- a fact of what is due next: of each first send and of each resend
-by_next : (P : Next → Type 0) (g : Numbering) (now timeout transit most : ℕ) (s : Sender) (n : Next)
-    → ((c : DataCommand) (rest : List DataCommand) → s.queued ≡ c ∷ rest → P (first_sent now timeout s c rest))
-    → ((i : ℕ) (p : Sent) → slice_get s.sent i ≡ Some p → P (resent now s i p))
-    → next g now timeout transit most s ≡ Some n → P n
-by_next P g now timeout transit most s n first again_ e = by_place (position (λ (p : Sent). p.transmission.due) s.sent) e
+by_next : (P : Next → Type 0) (g : Numbering) (occasion : Occasion) (s : Sender) (n : Next)
+    → ((c : DataCommand) (rest : List DataCommand) → s.queued ≡ c ∷ rest → P (first_sent occasion.now occasion.timeout s c rest))
+    → ((i : ℕ) (p : Sent) → slice_get s.sent i ≡ Some p → P (resent occasion.now s i p))
+    → next g occasion s ≡ Some n → P n
+by_next P g occasion s n first again_ e = by_place (position (λ (p : Sent). p.transmission.due) s.sent) e
   where
-    by_queue : (queued : List DataCommand) → s.queued ≡ queued → next_queued g now timeout transit most s queued ≡ Some n → P n
+    by_queue : (queued : List DataCommand) → s.queued ≡ queued → next_queued g occasion s queued ≡ Some n → P n
     by_queue [] is e = cc
-    by_queue (c ∷ rest) is e = if_goes P (may_go g s.sent transit most c) (first_sent now timeout s c rest) n (first c rest is) e
+    by_queue (c ∷ rest) is e = if_goes P (may_go g s.sent occasion.transit occasion.most c) (first_sent occasion.now occasion.timeout s c rest) n (first c rest is) e
 
-    by_sent : (i : ℕ) (o : Option Sent) → slice_get s.sent i ≡ o → next_resent now s i o ≡ Some n → P n
+    by_sent : (i : ℕ) (o : Option Sent) → slice_get s.sent i ≡ o → next_resent occasion.now s i o ≡ Some n → P n
     by_sent i None is e = cc
-    by_sent i (Some p) is e = if_some P (resent now s i p) n (again_ i p is) e
+    by_sent i (Some p) is e = if_some P (resent occasion.now s i p) n (again_ i p is) e
 
-    by_place : (o : Option ℕ) → next_of g now timeout transit most s o ≡ Some n → P n
+    by_place : (o : Option ℕ) → next_of g occasion s o ≡ Some n → P n
     by_place None e = by_queue s.queued refl e
     by_place (Some i) e = by_sent i (slice_get s.sent i) refl e
 
-pub transit-next : (g : Numbering) (now timeout transit most : ℕ) (s : Sender) (n : Next) → next g now timeout transit most s ≡ Some n → Adds s n
-transit-next g now timeout transit most s n e =
-    by_next (Adds s) g now timeout transit most s n
-    (λ c rest is. bytes-begun c.reliable s.sent (begun now timeout c))
-    (λ i p there. bytes-set s.sent i p (again now p) there refl ∙ (omega arith)) e
+pub transit-next : (g : Numbering) (occasion : Occasion) (s : Sender) (n : Next) → next g occasion s ≡ Some n → Adds s n
+transit-next g occasion s n e =
+    by_next (Adds s) g occasion s n
+    (λ c rest is. bytes-begun c.reliable s.sent (begun occasion.now occasion.timeout c))
+    (λ i p there. bytes-set s.sent i p (again occasion.now p) there refl ∙ (omega arith)) e
 
 bytes-remove : (sent : List Sent) (i : ℕ) → all_bytes (remove sent i) + unwrap_or (size_of (slice_get sent i)) 0 ≡ all_bytes sent
 bytes-remove [] zero = refl
@@ -113,12 +113,12 @@ left-begun true sent q count = last (ltb 0 count) ∙ sym (head (length sent))
     head n = let e : ltb 0 (1 + count) ≡ true = lt-ltb 0 (1 + count) (omega arith) in ap (λ b. b || ltb 0 n) e
 left-begun false sent q count = let e : count ≡ 0 + count = omega arith in ap (λ k. is_left k (length sent)) e
 
-pub left-next : (g : Numbering) (now timeout transit most : ℕ) (s : Sender) (n : Next) → next g now timeout transit most s ≡ Some n → (left n.sender).reliable ≡ (left s).reliable
-left-next g now timeout transit most s n e =
-    by_next (λ (m : Next). (left m.sender).reliable ≡ (left s).reliable) g now timeout transit most s n
-    (λ c rest is. left_is (first_sent now timeout s c rest).sender ∙ left-begun c.reliable s.sent (begun now timeout c) (reliable_in rest)
+pub left-next : (g : Numbering) (occasion : Occasion) (s : Sender) (n : Next) → next g occasion s ≡ Some n → (left n.sender).reliable ≡ (left s).reliable
+left-next g occasion s n e =
+    by_next (λ (m : Next). (left m.sender).reliable ≡ (left s).reliable) g occasion s n
+    (λ c rest is. left_is (first_sent occasion.now occasion.timeout s c rest).sender ∙ left-begun c.reliable s.sent (begun occasion.now occasion.timeout c) (reliable_in rest)
     ∙ ap (λ k. is_left k (length s.sent)) (sym (counted-head s.queued c rest is)) ∙ sym (left_is s))
-    (λ i p there. ap (λ k. is_some (position (λ (c : DataCommand). c.reliable) s.queued) || ltb 0 k) (length-set s.sent i (again now p))) e
+    (λ i p there. ap (λ k. is_some (position (λ (c : DataCommand). c.reliable) s.queued) || ltb 0 k) (length-set s.sent i (again occasion.now p))) e
 
 pub left-marked : (now : ℕ) (s : Sender) → left (with_marked now s) ≡ left s
 left-marked now s = ap (λ k. left_by s k) (length-map s.sent (marked now))

@@ -28,13 +28,19 @@ with_submitted mtu e flags body = record e { sender = submitted wire mtu e.sende
 abbrev pub due_kind : DataCommand → Kind
 due_kind c = if c.reliable then kind.Reliable else (if is_more c then kind.More else kind.Begins)
 
+-- a buffer before a call and after it, with the place at which the call may write
+pub record Buffer : Type 0 where
+  pub old : List ℕ
+  pub at : ℕ
+  pub new : List ℕ
+
 -- what a call did, by what was due and what it answers: what is written has its numbers in their ranges, so its bytes spell it
-abbrev pub Did : Option Next → Due → SendingEnd → SendingEnd → List ℕ → ℕ → List ℕ → Type 0
-Did (Some n) (due.Sent past added kind) old new from at to =
-    Puts from at (canonical (message_of old.channel n.command)) to past
+abbrev pub Did : Option Next → Due → SendingEnd → SendingEnd → Buffer → Type 0
+Did (Some n) (due.Sent past added kind) old new buf =
+    Puts buf.old buf.at (canonical (message_of old.channel n.command)) buf.new past
     × (added ≡ n.added) × (kind ≡ due_kind n.command) × (new ≡ record old { sender = n.sender })
     × IsMessage (message_of old.channel n.command)
-Did (Some n) due.NoRoom old new from at to =
-    (length from < at + length (canonical (message_of old.channel n.command))) × (new ≡ old) × (to ≡ from)
-Did None due.Nothing old new from at to = (new ≡ old) × (to ≡ from)
-Did _ _ old new from at to = ⊥
+Did (Some n) due.NoRoom old new buf =
+    (length buf.old < buf.at + length (canonical (message_of old.channel n.command))) × (new ≡ old) × (buf.new ≡ buf.old)
+Did None due.Nothing old new buf = (new ≡ old) × (buf.new ≡ buf.old)
+Did _ _ old new buf = ⊥

@@ -72,6 +72,13 @@ is_in_span g (oldest ∷ sent) number = nat_lt (g.ahead oldest.command.number nu
 abbrev pub may_go : Numbering → List Sent → ℕ → ℕ → DataCommand → Bool
 may_go g sent transit most c = not c.reliable || (is_in_span g sent c.number && nat_le (transit + length c.body) most)
 
+-- what a sender is told when it is asked what is due
+pub record Occasion : Type 0 where
+  pub now : ℕ  -- the clock, in milliseconds
+  pub timeout : ℕ  -- how long a first send waits for its acknowledgement, in milliseconds
+  pub transit : ℕ  -- the payload bytes of the peer that are sent and unacknowledged
+  pub most : ℕ  -- how many of them there may be
+
 -- what is due next: a command with the sender after it
 pub record Next : Type 0 where
   pub command : DataCommand
@@ -88,21 +95,21 @@ first_sent now timeout s c rest = record {
   sender = record s { queued = rest; sent = if c.reliable then s.sent ++ begun now timeout c ∷ [] else s.sent };
 }
 
-abbrev pub next_queued : Numbering → ℕ → ℕ → ℕ → ℕ → Sender → List DataCommand → Option Next
-next_queued g now timeout transit most s [] = None
-next_queued g now timeout transit most s (c ∷ rest) = if may_go g s.sent transit most c then Some (first_sent now timeout s c rest) else None
+abbrev pub next_queued : Numbering → Occasion → Sender → List DataCommand → Option Next
+next_queued g o s [] = None
+next_queued g o s (c ∷ rest) = if may_go g s.sent o.transit o.most c then Some (first_sent o.now o.timeout s c rest) else None
 
 abbrev pub next_resent : ℕ → Sender → ℕ → Option Sent → Option Next
 next_resent now s i None = None
 next_resent now s i (Some p) = Some (resent now s i p)
 
-abbrev pub next_of : Numbering → ℕ → ℕ → ℕ → ℕ → Sender → Option ℕ → Option Next
-next_of g now timeout transit most s None = next_queued g now timeout transit most s s.queued
-next_of g now timeout transit most s (Some i) = next_resent now s i (slice_get s.sent i)
+abbrev pub next_of : Numbering → Occasion → Sender → Option ℕ → Option Next
+next_of g o s None = next_queued g o s s.queued
+next_of g o s (Some i) = next_resent o.now s i (slice_get s.sent i)
 
 -- the first sent command that is due to go again, else the head of the queue where it may go
-abbrev pub next : Numbering → ℕ → ℕ → ℕ → ℕ → Sender → Option Next
-next g now timeout transit most s = next_of g now timeout transit most s (position (λ (p : Sent). p.transmission.due) s.sent)
+abbrev pub next : Numbering → Occasion → Sender → Option Next
+next g o s = next_of g o s (position (λ (p : Sent). p.transmission.due) s.sent)
 
 -- a piece that isn't the first of its packet
 abbrev pub is_after_first : Option Fragment → Bool

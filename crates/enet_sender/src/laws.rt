@@ -4,12 +4,12 @@
 ghost use Rattle.std.specs.Prelude.{◌≡◌, ℕ, ◌+◌, Some, unwrap_or};
 ghost use Rattle.enet_seq.specs.Numbering.{Numbering};
 ghost use Rattle.enet_sender.specs.CommandChoice.{Packet};
-ghost use Rattle.enet_sender.specs.Sender.{Sender, Next, next, submitted, with_skipped, after_acknowledgement, acknowledged_bytes, with_marked, cleared, bytes_in_transit, left};
+ghost use Rattle.enet_sender.specs.Sender.{Occasion, Sender, Next, next, submitted, with_skipped, after_acknowledgement, acknowledged_bytes, with_marked, cleared, bytes_in_transit, left};
 
 /// How the payload bytes of what is sent and not acknowledged change: what is due next adds just the bytes that it tells, an
 /// acknowledgement takes out just those that it answers, `clear` takes out all, and nothing else changes them.
 pub fn transit_follows()
-    ensures next { (g : Numbering) (now timeout transit most : ℕ) (s : Sender) (n : Next) → next g now timeout transit most s ≡ Some n
+    ensures next { (g : Numbering) (occasion : Occasion) (s : Sender) (n : Next) → next g occasion s ≡ Some n
         → bytes_in_transit n.sender ≡ bytes_in_transit s + n.added }
     ensures acknowledged { (s : Sender) (number : ℕ)
         → bytes_in_transit (after_acknowledgement s number) + unwrap_or (acknowledged_bytes s number) 0 ≡ bytes_in_transit s }
@@ -22,7 +22,7 @@ pub fn transit_follows()
 /// What is sent stays left: whether a reliable command is queued or unacknowledged is the same after what is due next, after
 /// a skip and after a mark.
 pub fn reliable_stays_left()
-    ensures next { (g : Numbering) (now timeout transit most : ℕ) (s : Sender) (n : Next) → next g now timeout transit most s ≡ Some n
+    ensures next { (g : Numbering) (occasion : Occasion) (s : Sender) (n : Next) → next g occasion s ≡ Some n
         → (left n.sender).reliable ≡ (left s).reliable }
     ensures skipped { (s : Sender) → (left (with_skipped s)).reliable ≡ (left s).reliable }
     ensures marked { (now : ℕ) (s : Sender) → left (with_marked now s) ≡ left s }

@@ -129,8 +129,8 @@ impl Outgoing {
     ) -> Due
         requires kept { KeepsIn pending.old self.old }
         requires room { HasRoom self.old }
-        ensures did { Did (next wire now timeout transit most (sender_in pending.old self.old)) result
-            (end_in pending.old self.old) (end_in pending.new self.new) buf.old at buf.new }
+        ensures did { Did (next wire (record { now = now; timeout = timeout; transit = transit; most = most })
+            (sender_in pending.old self.old)) result (end_in pending.old self.old) (end_in pending.new self.new) (record { old = buf.old; at = at; new = buf.new }) }
         ensures kept { KeepsIn pending.new self.new }
         ensures passes { PassesIn pending.old self.old pending.new self.new }
         ensures room { HasRoom self.new }
@@ -174,7 +174,7 @@ impl Outgoing {
         requires first { IsFirstDue (get pending.old.slab) self.old.sent.items place }
         ensures did { Did (next_resent now (sender_in pending.old self.old) (length (named (get pending.old.slab) (take place self.old.sent.items)))
             (slice_get (named (get pending.old.slab) self.old.sent.items) (length (named (get pending.old.slab) (take place self.old.sent.items))))) result
-            (end_in pending.old self.old) (end_in pending.new self.new) buf.old at buf.new }
+            (end_in pending.old self.old) (end_in pending.new self.new) (record { old = buf.old; at = at; new = buf.new }) }
         ensures rings { self.new ≡ record self.old { due_from = self.new.due_from } }
         ensures kept { KeepsIn pending.new self.new }
         ensures passes { PassesIn pending.old self.old pending.new self.new }
@@ -223,8 +223,9 @@ impl Outgoing {
         requires kept { KeepsIn pending.old self.old }
         requires room { HasRoom self.old }
         requires none { NoneDue (get pending.old.slab) self.old.sent.items 0 (length self.old.sent.items) }
-        ensures did { Did (next_queued wire now timeout transit most (sender_in pending.old self.old) (sender_in pending.old self.old).queued) result
-            (end_in pending.old self.old) (end_in pending.new self.new) buf.old at buf.new }
+        ensures did { Did (next_queued wire (record { now = now; timeout = timeout; transit = transit; most = most })
+            (sender_in pending.old self.old) (sender_in pending.old self.old).queued) result
+            (end_in pending.old self.old) (end_in pending.new self.new) (record { old = buf.old; at = at; new = buf.new }) }
         ensures kept { KeepsIn pending.new self.new }
         ensures passes { PassesIn pending.old self.old pending.new self.new }
         ensures room { HasRoom self.new }
@@ -548,7 +549,8 @@ impl Outgoing {
         requires sent_place { deque_len self.old.sent + (deque_len self.old.queued + course.pieces) ≤ deque_capacity self.old.sent }
         requires number { course.number ≡ self.old.number }
         requires pieces { pieces.items ≡ map (piece_of_body (piece_length course.mtu) _body.now) (range_with_len 0 course.pieces) }
-        ensures queues { Queues course _body.now course.pieces (get pending.old.slab) self.old (get pending.new.slab) self.new }
+        ensures queues { Queues course _body.now course.pieces (record { outgoing = self.old; at = get pending.old.slab })
+            (record { outgoing = self.new; at = get pending.new.slab }) }
         ensures room { HasRoom self.new }
     {
         for i in 0..course.pieces {

@@ -14,7 +14,7 @@ use Rattle.enet_sender.specs.declared.sent.Sent.{Sent}
 use Rattle.enet_sender.specs.declared.outgoing.Due.{Due}
 use Rattle.enet_sender.specs.declared.outgoing.Kind.{Kind}
 use Rattle.enet_sender.specs.declared.outgoing.Due.TheVariants as due
-use Rattle.enet_sender.specs.Sender.{Sender, Next, begun, again, marked, is_late, without_place, position_of, next, next_of, next_queued, next_resent, may_go, first_sent, resent}
+use Rattle.enet_sender.specs.Sender.{Occasion, Sender, Next, begun, again, marked, is_late, without_place, position_of, next, next_of, next_queued, next_resent, may_go, first_sent, resent}
 use Rattle.enet_sender.specs.Due.{SendingEnd, Did, new_end, with_submitted}
 use Rattle.enet_senders.specs.declared.quiet.Quiet.{Quiet}
 use Rattle.enet_senders.specs.Senders.{marked_end}
@@ -87,20 +87,20 @@ if-goes P true x n h e = if-some P x n h e
 if-goes P false x n h e = cc
 
 -- a fact of what is due next: of each first send and of each resend
-by-next : (P : Next → Type 0) (g : Numbering) (now timeout transit most : ℕ) (s : Sender) (n : Next)
-    → ((c : DataCommand) (rest : List DataCommand) → P (first_sent now timeout s c rest)) → ((i : ℕ) (p : Sent) → slice_get s.sent i ≡ Some p → P (resent now s i p))
-    → next g now timeout transit most s ≡ Some n → P n
-by-next P g now timeout transit most s n first again_ e = by-place (position (λ (p : Sent). p.transmission.due) s.sent) e
+by-next : (P : Next → Type 0) (g : Numbering) (occasion : Occasion) (s : Sender) (n : Next)
+    → ((c : DataCommand) (rest : List DataCommand) → P (first_sent occasion.now occasion.timeout s c rest)) → ((i : ℕ) (p : Sent) → slice_get s.sent i ≡ Some p → P (resent occasion.now s i p))
+    → next g occasion s ≡ Some n → P n
+by-next P g occasion s n first again_ e = by-place (position (λ (p : Sent). p.transmission.due) s.sent) e
   where
-    by-queue : (queued : List DataCommand) → next_queued g now timeout transit most s queued ≡ Some n → P n
+    by-queue : (queued : List DataCommand) → next_queued g occasion s queued ≡ Some n → P n
     by-queue [] e = cc
-    by-queue (c ∷ rest) e = if-goes P (may_go g s.sent transit most c) (first_sent now timeout s c rest) n (first c rest) e
+    by-queue (c ∷ rest) e = if-goes P (may_go g s.sent occasion.transit occasion.most c) (first_sent occasion.now occasion.timeout s c rest) n (first c rest) e
 
-    by-sent : (i : ℕ) (o : Option Sent) → slice_get s.sent i ≡ o → next_resent now s i o ≡ Some n → P n
+    by-sent : (i : ℕ) (o : Option Sent) → slice_get s.sent i ≡ o → next_resent occasion.now s i o ≡ Some n → P n
     by-sent i None is e = cc
-    by-sent i (Some p) is e = if-some P (resent now s i p) n (again_ i p is) e
+    by-sent i (Some p) is e = if-some P (resent occasion.now s i p) n (again_ i p is) e
 
-    by-place : (o : Option ℕ) → next_of g now timeout transit most s o ≡ Some n → P n
+    by-place : (o : Option ℕ) → next_of g occasion s o ≡ Some n → P n
     by-place None e = by-queue s.queued e
     by-place (Some i) e = by-sent i (slice_get s.sent i) refl e
 
@@ -110,17 +110,17 @@ there-quiet P (y ∷ xs) zero x h there = let is : y ≡ x = cc in subst P is (h
 there-quiet P (y ∷ xs) (suc i) x h there = there-quiet P xs i x (λ k d inside. h (suc k) d (omega arith)) there
 
 -- what is due next goes
-quiet-next : (q : Quiet) (now timeout transit most : ℕ) (s : Sender) (n : Next) → FitsQuiet q → now < 2 ^ 32 → next wire now timeout transit most s ≡ Some n → AreQuiet q s.sent → AreQuiet (after_send q now timeout) n.sender.sent
-quiet-next q now timeout transit most s n fits low e h =
-    by-next (λ (m : Next). AreQuiet (after_send q now timeout) m.sender.sent) wire now timeout transit most s n
+quiet-next : (q : Quiet) (occasion : Occasion) (s : Sender) (n : Next) → FitsQuiet q → occasion.now < 2 ^ 32 → next wire occasion s ≡ Some n → AreQuiet q s.sent → AreQuiet (after_send q occasion.now occasion.timeout) n.sender.sent
+quiet-next q occasion s n fits low e h =
+    by-next (λ (m : Next). AreQuiet (after_send q occasion.now occasion.timeout) m.sender.sent) wire occasion s n
     (λ c rest. first c c.reliable)
-    (λ i p there. All-set (IsQuiet (after_send q now timeout)) s.sent i (again now p) (quiet-again q now timeout p fits low (there-quiet (IsQuiet q) s.sent i p h there)) others) e
+    (λ i p there. All-set (IsQuiet (after_send q occasion.now occasion.timeout)) s.sent i (again occasion.now p) (quiet-again q occasion.now occasion.timeout p fits low (there-quiet (IsQuiet q) s.sent i p h there)) others) e
   where
-    others : AreQuiet (after_send q now timeout) s.sent
-    others = quiet-others q now timeout s.sent fits low h
+    others : AreQuiet (after_send q occasion.now occasion.timeout) s.sent
+    others = quiet-others q occasion.now occasion.timeout s.sent fits low h
 
-    first : (c : DataCommand) (b : Bool) → AreQuiet (after_send q now timeout) (cond b (s.sent ++ begun now timeout c ∷ []) s.sent)
-    first c true = All-push (IsQuiet (after_send q now timeout)) s.sent (begun now timeout c) others (quiet-begun q now timeout c fits low)
+    first : (c : DataCommand) (b : Bool) → AreQuiet (after_send q occasion.now occasion.timeout) (cond b (s.sent ++ begun occasion.now occasion.timeout c ∷ []) s.sent)
+    first c true = All-push (IsQuiet (after_send q occasion.now occasion.timeout)) s.sent (begun occasion.now occasion.timeout c) others (quiet-begun q occasion.now occasion.timeout c fits low)
     first c false = others
 
 -- the bound after a call of `next_due`
@@ -129,7 +129,7 @@ quiet_after (due.Sent past added kind) q now timeout = after_send q now timeout
 quiet_after _ q now timeout = q
 
 quiet-did : (q : Quiet) (now timeout : ℕ) (o : Option Next) (result : Due) (s t : SendingEnd) (from : List ℕ) (at : ℕ) (to : List ℕ) → FitsQuiet q → now < 2 ^ 32
-    → ((n : Next) → o ≡ Some n → AreQuiet (after_send q now timeout) n.sender.sent) → AreQuiet q s.sender.sent → Did o result s t from at to → AreQuiet (quiet_after result q now timeout) t.sender.sent
+    → ((n : Next) → o ≡ Some n → AreQuiet (after_send q now timeout) n.sender.sent) → AreQuiet q s.sender.sent → Did o result s t (record { old = from; at = at; new = to }) → AreQuiet (quiet_after result q now timeout) t.sender.sent
 quiet-did q now timeout (Some n) (due.Sent past added kind) s t from at to fits low after h d = subst (λ (e : SendingEnd). AreQuiet (after_send q now timeout) e.sender.sent) (sym d.3) (after n refl)
 quiet-did q now timeout None (due.Sent past added kind) s t from at to fits low after h d = absurd d
 quiet-did q now timeout (Some n) due.NoRoom s t from at to fits low after h d = subst (λ (e : SendingEnd). AreQuiet q e.sender.sent) (sym d.1) h
@@ -149,30 +149,30 @@ some-end [] i inside = absurd (omega arith)
 some-end (e ∷ es) zero inside = (e, refl)
 some-end (e ∷ es) (suc i) inside = some-end es i (omega arith)
 
-pub quiet-due : (q : Quiet) (now timeout transit most : ℕ) (es new : List SendingEnd) (i : ℕ) (result : Due) (from : List ℕ) (at : ℕ) (to : List ℕ) → FitsQuiet q → now < 2 ^ 32 → i < length es
-    → ((s : SendingEnd) → slice_get es i ≡ Some s → (t : SendingEnd) × ((new ≡ slice_set es i t) × Did (next wire now timeout transit most s.sender) result s t from at to))
-    → AllQuiet q es → AllQuiet (quiet_after result q now timeout) new
-quiet-due q now timeout transit most es new i result from at to fits low inside did h =
+pub quiet-due : (q : Quiet) (occasion : Occasion) (es new : List SendingEnd) (i : ℕ) (result : Due) (from : List ℕ) (at : ℕ) (to : List ℕ) → FitsQuiet q → occasion.now < 2 ^ 32 → i < length es
+    → ((s : SendingEnd) → slice_get es i ≡ Some s → (t : SendingEnd) × ((new ≡ slice_set es i t) × Did (next wire occasion s.sender) result s t (record { old = from; at = at; new = to })))
+    → AllQuiet q es → AllQuiet (quiet_after result q occasion.now occasion.timeout) new
+quiet-due q occasion es new i result from at to fits low inside did h =
     let one = some-end es i inside in
     let s = one.0 in
     let r = did s one.1 in
     let here : AreQuiet q s.sender.sent = there-quiet (end_quiet q) es i s h one.1 in
-    quiet-at q (quiet_after result q now timeout) es new i s r.0 one.1 r.1.0 (others result)
-    (quiet-did q now timeout (next wire now timeout transit most s.sender) result s r.0 from at to fits low (λ n e. quiet-next q now timeout transit most s.sender n fits low e here) here r.1.1)
+    quiet-at q (quiet_after result q occasion.now occasion.timeout) es new i s r.0 one.1 r.1.0 (others result)
+    (quiet-did q occasion.now occasion.timeout (next wire occasion s.sender) result s r.0 from at to fits low (λ n e. quiet-next q occasion s.sender n fits low e here) here r.1.1)
   where
-    others : (d : Due) → AllQuiet (quiet_after d q now timeout) es
-    others (due.Sent past added kind) = λ k e within. quiet-others q now timeout (get_or es k e).sender.sent fits low (h k e within)
+    others : (d : Due) → AllQuiet (quiet_after d q occasion.now occasion.timeout) es
+    others (due.Sent past added kind) = λ k e within. quiet-others q occasion.now occasion.timeout (get_or es k e).sender.sent fits low (h k e within)
     others due.NoRoom = h
     others due.Nothing = h
 
 -- nothing was sent: the bound stays
-pub quiet-unsent : (q : Quiet) (now timeout transit most : ℕ) (es new : List SendingEnd) (i : ℕ) (result : Due) (from : List ℕ) (at : ℕ) (to : List ℕ) → FitsQuiet q → now < 2 ^ 32 → i < length es
+pub quiet-unsent : (q : Quiet) (occasion : Occasion) (es new : List SendingEnd) (i : ℕ) (result : Due) (from : List ℕ) (at : ℕ) (to : List ℕ) → FitsQuiet q → occasion.now < 2 ^ 32 → i < length es
     → ((past : ℕ) (added : ℕ) (kind : Kind) → result ≢ due.Sent past added kind)
-    → ((s : SendingEnd) → slice_get es i ≡ Some s → (t : SendingEnd) × ((new ≡ slice_set es i t) × Did (next wire now timeout transit most s.sender) result s t from at to))
+    → ((s : SendingEnd) → slice_get es i ≡ Some s → (t : SendingEnd) × ((new ≡ slice_set es i t) × Did (next wire occasion s.sender) result s t (record { old = from; at = at; new = to })))
     → AllQuiet q es → AllQuiet q new
-quiet-unsent q now timeout transit most es new i (due.Sent past added kind) from at to fits low inside unsent did h = absurd (unsent past added kind refl)
-quiet-unsent q now timeout transit most es new i due.NoRoom from at to fits low inside unsent did h = quiet-due q now timeout transit most es new i due.NoRoom from at to fits low inside did h
-quiet-unsent q now timeout transit most es new i due.Nothing from at to fits low inside unsent did h = quiet-due q now timeout transit most es new i due.Nothing from at to fits low inside did h
+quiet-unsent q occasion es new i (due.Sent past added kind) from at to fits low inside unsent did h = absurd (unsent past added kind refl)
+quiet-unsent q occasion es new i due.NoRoom from at to fits low inside unsent did h = quiet-due q occasion es new i due.NoRoom from at to fits low inside did h
+quiet-unsent q occasion es new i due.Nothing from at to fits low inside unsent did h = quiet-due q occasion es new i due.Nothing from at to fits low inside did h
 
 -- one channel's sent commands become fewer, or stay
 pub quiet-fewer : (q : Quiet) (es new : List SendingEnd) (i : ℕ) (f : SendingEnd → SendingEnd) → i < length es → ((s : SendingEnd) → slice_get es i ≡ Some s → new ≡ slice_set es i (f s))

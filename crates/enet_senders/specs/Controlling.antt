@@ -8,6 +8,7 @@ use Rattle.enet_rtt.specs.Transmission as transmission
 use Rattle.enet_rtt.specs.declared.expiry.Patience.{Patience}
 use Rattle.enet_rtt.specs.declared.expiry.Expiry.{Expiry}
 use Rattle.enet_rtt.specs.declared.expiry.Expiry.TheVariants.{No, Resend, End}
+use Rattle.enet_sender.specs.Due.{Buffer}
 use Rattle.enet_senders.specs.declared.control.Control.{Control}
 use Rattle.enet_senders.specs.declared.control.Control.TheVariants as control
 use Rattle.enet_senders.specs.declared.control.Numbered.{Numbered}
@@ -97,12 +98,13 @@ next now timeout c = next_of now timeout c (position (λ (p : SentControl). p.tr
 
 -- what a call of next_due does: it writes what is due where that fits, and else changes nothing. What is written has its
 -- numbers in their ranges, so its bytes spell it
-abbrev pub Did : Option Next → Written → Commands → Commands → List ℕ → ℕ → List ℕ → Type 0
-Did (Some n) (written.Sent past) old new from at to =
-    Puts from at (canonical (message_of n.command)) to past × (new ≡ n.commands) × IsMessage (message_of n.command)
-Did (Some n) written.NoRoom old new from at to = (length from < at + length (canonical (message_of n.command))) × (new ≡ old) × (to ≡ from)
-Did None written.Nothing old new from at to = (new ≡ old) × (to ≡ from)
-Did _ _ old new from at to = ⊥
+abbrev pub Did : Option Next → Written → Commands → Commands → Buffer → Type 0
+Did (Some n) (written.Sent past) old new buf =
+    Puts buf.old buf.at (canonical (message_of n.command)) buf.new past × (new ≡ n.commands) × IsMessage (message_of n.command)
+Did (Some n) written.NoRoom old new buf =
+    (length buf.old < buf.at + length (canonical (message_of n.command))) × (new ≡ old) × (buf.new ≡ buf.old)
+Did None written.Nothing old new buf = (new ≡ old) × (buf.new ≡ buf.old)
+Did _ _ old new buf = ⊥
 
 -- where the sent command of this number stands
 abbrev pub position_of : ℕ → List SentControl → Option ℕ

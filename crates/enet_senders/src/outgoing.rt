@@ -115,7 +115,8 @@ impl ControlChannel {
     ///
     /// `now` is the clock and `timeout` how long to wait for the acknowledgement, in milliseconds. It takes no memory.
     pub fn next_due(&mut self, now: u32, timeout: u32, buf: &mut [u8], at: usize) -> Written
-        ensures written { Did (next now timeout self.old.commands) result self.old.commands self.new.commands buf.old at buf.new }
+        ensures written { Did (next now timeout self.old.commands) result self.old.commands self.new.commands
+            (record { old = buf.old; at = at; new = buf.new }) }
         ensures room { self.old.room ≤ self.new.room }
         ensures no_room { result ≡ Written.NoRoom → self.new ≡ self.old }
         ensures nothing { result ≡ Written.Nothing → self.new ≡ self.old }
@@ -129,7 +130,8 @@ impl ControlChannel {
     /// Writes the sent command at a place once more, where it fits.
     fn resend(&mut self, place: usize, now: u32, buf: &mut [u8], at: usize) -> Written
         requires { place < length self.old.commands.sent }
-        ensures written { Did (next_resent now self.old.commands place (slice_get self.old.commands.sent place)) result self.old.commands self.new.commands buf.old at buf.new }
+        ensures written { Did (next_resent now self.old.commands place (slice_get self.old.commands.sent place)) result self.old.commands self.new.commands
+            (record { old = buf.old; at = at; new = buf.new }) }
         ensures room { self.old.room ≤ self.new.room }
         ensures no_room { result ≡ Written.NoRoom → self.new ≡ self.old }
         ensures nothing { result ≡ Written.Nothing → self.new ≡ self.old }
@@ -146,7 +148,8 @@ impl ControlChannel {
 
     /// Writes the head of the queue, where it may go and fits.
     fn send_first(&mut self, now: u32, timeout: u32, buf: &mut [u8], at: usize) -> Written
-        ensures written { Did (next_queued now timeout self.old.commands self.old.commands.queued) result self.old.commands self.new.commands buf.old at buf.new }
+        ensures written { Did (next_queued now timeout self.old.commands self.old.commands.queued) result self.old.commands self.new.commands
+            (record { old = buf.old; at = at; new = buf.new }) }
         ensures room { self.old.room ≤ self.new.room }
         ensures no_room { result ≡ Written.NoRoom → self.new ≡ self.old }
         ensures nothing { result ≡ Written.Nothing → self.new ≡ self.old }

@@ -102,7 +102,8 @@ fn next_due_on(
     requires inside { channel < length channels.old.items }
     ensures did { (s : SendingEnd) → slice_get (ends_in pending.old channels.old.items) channel ≡ Some s
         → (t : SendingEnd) × ((ends_in pending.new channels.new.items ≡ slice_set (ends_in pending.old channels.old.items) channel t)
-        × Did (next wire now timeout transit most s.sender) result s t buf.old at buf.new) }
+        × Did (next wire (record { now = now; timeout = timeout; transit = transit; most = most }) s.sender) result s t
+        (record { old = buf.old; at = at; new = buf.new })) }
     ensures kept { KeepsAllIn pending.new channels.new.items }
 {
     channels[usize::from(channel)].next_due(pending, now, timeout, transit, most, buf, at)
@@ -304,7 +305,8 @@ impl Senders {
     ) -> Due
         requires { channel < length self.old }
         ensures { (s : SendingEnd) → slice_get self.old channel ≡ Some s
-            → (t : SendingEnd) × ((self.new ≡ slice_set self.old channel t) × Did (next wire now timeout transit most s.sender) result s t buf.old at buf.new) }
+            → (t : SendingEnd) × ((self.new ≡ slice_set self.old channel t) × Did (next wire (record { now = now; timeout = timeout; transit = transit; most = most }) s.sender) result s t
+            (record { old = buf.old; at = at; new = buf.new })) }
     {
         let due = next_due_on(
             &mut self.channels,

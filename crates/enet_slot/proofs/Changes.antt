@@ -30,7 +30,7 @@ with-peer-over s q p = over-in p.state s q p
 
 -- `v` is what was seen of the slot before
 pub hears-of : (now : ℕ) (sent : Option ℕ) (commands : List ℕ) (v s t : SlotState) (p q : Peering) (answer : Received) → v ≡ s → v.peer ≡ Some p
-    → Handles now sent 0 commands p answer q → t ≡ with_peer (record v { peer = Some q }) q → Hears now sent commands s answer t
+    → Handles (record { now = now; sent = sent }) 0 commands p answer q → t ≡ with_peer (record v { peer = Some q }) q → Hears now sent commands s answer t
 hears-of now sent commands v s t p q answer same held handled left =
     subst (λ (u : SlotState). Hears now sent commands u answer t) same
     (record { peer = p; after = q; held = held; handled = handled; left = left ∙ with-peer-over v (Some q) q })

@@ -46,7 +46,7 @@ pub record Hears (now : ℕ) (sent : Option ℕ) (commands : List ℕ) (s : Slot
   pub peer : Peering
   pub after : Peering
   pub held : s.peer ≡ Some peer
-  pub handled : Handles now sent 0 commands peer answer after
+  pub handled : Handles (record { now = now; sent = sent }) 0 commands peer answer after
   pub left : t ≡ with_peer s after
 
 -- whether a slot holds the connection of an offer from this address with this connect id already

@@ -1,5 +1,5 @@
 -- One channel from a sender to a receiver and the acknowledgements back, with unbounded numbers.
-use Rattle.std.specs.Prelude.{ℕ, Bool, false, ◌+◌, ◌-◌, ◌%◌, not, ◌==◌, if◌then◌else◌, List, [], ◌∷◌, ◌++◌, filter}
+use Rattle.std.specs.Prelude.{ℕ, Bool, false, ◌+◌, ◌%◌, not, ◌==◌, if◌then◌else◌, List, [], ◌∷◌, ◌++◌, filter}
 use Rattle.enet_seq.specs.Numbering.{unbounded}
 use Rattle.enet_sender.specs.CommandChoice.{ChosenPacket}
 use Rattle.enet_fragment.specs.declared.data.DataCommand.{DataCommand}

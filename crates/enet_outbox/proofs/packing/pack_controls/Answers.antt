@@ -24,7 +24,7 @@ turns-smaller c =
 
 pub turns-preserved : goal.turns-preserved
 turns-preserved c =
-    let P : ℕ → Type 0 = λ at. Did (next c.args.pace.now c.args.pace.timeout c.turns.control.commands) (written.Sent c.in-Sent.past) c.turns.control.commands c.next_due.new.self.commands c.turns.buf at c.next_due.new.buf in
+    let P : ℕ → Type 0 = λ at. Did (next c.args.pace.now c.args.pace.timeout c.turns.control.commands) (written.Sent c.in-Sent.past) c.turns.control.commands c.next_due.new.self.commands (record { old = c.turns.buf; at = at; new = c.next_due.new.buf }) in
     let d : P (place_in c.turns.progress c.turns.buf) = subst P c.place-place.ensures c.in-Sent.ensures.written in
     record {
       stage = λ f h e. rw c.with-progress.ensures (control-put (c.turns.invariant.stage f h e) d);
@@ -33,18 +33,18 @@ turns-preserved c =
 
 pub with-progress-requires-clause-within : goal.with-progress-requires-clause-within
 with-progress-requires-clause-within c =
-    let P : ℕ → Type 0 = λ at. Did (next c.args.pace.now c.args.pace.timeout c.turns.control.commands) (written.Sent c.in-Sent.past) c.turns.control.commands c.next_due.new.self.commands c.turns.buf at c.next_due.new.buf in
+    let P : ℕ → Type 0 = λ at. Did (next c.args.pace.now c.args.pace.timeout c.turns.control.commands) (written.Sent c.in-Sent.past) c.turns.control.commands c.next_due.new.self.commands (record { old = c.turns.buf; at = at; new = c.next_due.new.buf }) in
     let d : P (place_in c.turns.progress c.turns.buf) = subst P c.place-place.ensures c.in-Sent.ensures.written in
     (control-room c.turns.progress c.turns.control.commands c.next_due.new.self.commands c.turns.buf c.next_due.new.buf c.in-Sent.past (next c.args.pace.now c.args.pace.timeout c.turns.control.commands) d).1
 
 pub returns-in-NoRoom-clause-packs : goal.returns-in-NoRoom-clause-packs
 returns-in-NoRoom-clause-packs c = λ f h e.
-    let P : ℕ → Type 0 = λ at. Did (next c.args.pace.now c.args.pace.timeout c.turns.control.commands) written.NoRoom c.turns.control.commands c.next_due.new.self.commands c.turns.buf at c.next_due.new.buf in
+    let P : ℕ → Type 0 = λ at. Did (next c.args.pace.now c.args.pace.timeout c.turns.control.commands) written.NoRoom c.turns.control.commands c.next_due.new.self.commands (record { old = c.turns.buf; at = at; new = c.next_due.new.buf }) in
     let d : P (place_in c.turns.progress c.turns.buf) = subst P c.place-place.ensures c.in-NoRoom.ensures.written in
     rw c.shut.ensures (control-full (c.turns.invariant.stage f h e) d)
 
 pub returns-in-Nothing-clause-packs : goal.returns-in-Nothing-clause-packs
 returns-in-Nothing-clause-packs c = λ f h e.
-    let P : ℕ → Type 0 = λ at. Did (next c.args.pace.now c.args.pace.timeout c.turns.control.commands) written.Nothing c.turns.control.commands c.next_due.new.self.commands c.turns.buf at c.next_due.new.buf in
+    let P : ℕ → Type 0 = λ at. Did (next c.args.pace.now c.args.pace.timeout c.turns.control.commands) written.Nothing c.turns.control.commands c.next_due.new.self.commands (record { old = c.turns.buf; at = at; new = c.next_due.new.buf }) in
     let d : P (place_in c.turns.progress c.turns.buf) = subst P c.place-place.ensures c.in-Nothing.ensures.written in
     control-none (c.turns.invariant.stage f h e) d

@@ -13,15 +13,15 @@ returns-in_default c =
 pub returns-in-Err : goal.returns-in-Err
 returns-in-Err c =
     c.loop-rest.invariant _ _
-    (stops-at _ _ _ c.in-Some.len _ (view c.in-Some.command) _ _ _ _ c.in-Some.ensures.found c.in-Err.ensures c.counted.ensures)
+    (stops-at _ _ c.in-Some.len _ (view c.in-Some.command) _ _ _ _ c.in-Some.ensures.found c.in-Err.ensures c.counted.ensures)
 
 pub loop-rest-preserved : goal.loop-rest-preserved
 loop-rest-preserved c = λ answer after later.
     let count : c.saturating_add-handled.result ≡ one_more c.loop-rest.handled = c.saturating_add-handled.ensures in
     c.loop-rest.invariant answer after
-    (goes-on-at _ _ _ c.in-Some.len _ _ (view c.in-Some.command) _ _ _ _ _ c.in-Some.ensures.found c.in_default-command.ensures c.bytes_after-rest.ensures count later)
+    (goes-on-at _ _ c.in-Some.len _ _ (view c.in-Some.command) _ _ _ _ _ c.in-Some.ensures.found c.in_default-command.ensures c.bytes_after-rest.ensures count later)
 
 pub returns : goal.returns
 returns c =
     let none : length c.loop-rest.rest.now ≡ 0 = search rules in
-    c.loop-rest.invariant _ _ (ends _ _ _ _ _ (nil_from_length _ none))
+    c.loop-rest.invariant _ _ (ends _ _ _ _ (nil_from_length _ none))

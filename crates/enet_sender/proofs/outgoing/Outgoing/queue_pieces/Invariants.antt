@@ -9,7 +9,7 @@ use Rattle.enet_sender.proofs.outgoing.Outgoing.queue_pieces.Given as goal
 
 abbrev pub invariant-loop-i : goal.invariant-loop-i
 invariant-loop-i l = record {
-  queues : Queues l.course l._body l.i (get l.initial.pending.slab) l.initial.self (get l.pending.slab) l.self;
+  queues : Queues l.course l._body l.i (record { outgoing = l.initial.self; at = get l.initial.pending.slab }) (record { outgoing = l.self; at = get l.pending.slab });
   pieces : l.pieces.items ≡ map (piece_of_body (piece_length l.course.mtu) l._body) (range_with_len l.i (l.course.pieces - l.i));
   slab_len : slab_len l.pending.slab ≡ slab_len l.initial.pending.slab + l.i;
   slab_capacity : l.pending.slab.capacity ≡ l.initial.pending.slab.capacity;

@@ -32,7 +32,7 @@ returns-in_default-put-clause-did c =
     let old : SendingEnd = end_of c.args.pending.now.slab c.args.self.now in
     let key_is = sym (get_or_read sent c.args.place c.index-key.result.now c.requires.first.inside c.index-key.ensures 4294967295) in
     let read = place-read at sent c.args.place c.in-Some.sent.now c.requires.first.inside (ap at key_is ∙ sym c.in-Some.ensures) in
-    let P : Option Sent → Type 0 = λ o. Did (next_resent c.args.now (sender_of at (rings_of c.args.self.now)) (length (named at (take c.args.place sent))) o) due.NoRoom old old c.args.buf.now c.args.at c.put.new.buf in
+    let P : Option Sent → Type 0 = λ o. Did (next_resent c.args.now (sender_of at (rings_of c.args.self.now)) (length (named at (take c.args.place sent))) o) due.NoRoom old old (record { old = c.args.buf.now; at = c.args.at; new = c.put.new.buf }) in
     subst P (sym read) (c.in_default-put.ensures.room, refl, c.in_default-put.ensures.none)
 
 pub returns-clause-did : goal.returns-clause-did
@@ -44,7 +44,7 @@ returns-clause-did c =
     let g = changes (goal.at.returns-clause-did c).After-send_again in
     let changed = change-sent g in
     let queued = ap (map command_of) (change-named g).2 in
-    let P : Option Sent → Type 0 = λ o. Did (next_resent c.args.now (sender_of at (rings_of c.args.self.now)) (length (named at (take c.args.place sent))) o) (due.Sent c.in-Some-put.past 0 c.due_kind-kind.result) old new c.args.buf.now c.args.at c.put.new.buf in
+    let P : Option Sent → Type 0 = λ o. Did (next_resent c.args.now (sender_of at (rings_of c.args.self.now)) (length (named at (take c.args.place sent))) o) (due.Sent c.in-Some-put.past 0 c.due_kind-kind.result) old new (record { old = c.args.buf.now; at = c.args.at; new = c.put.new.buf }) in
     subst P (sym changed.0) (
       c.in-Some-put.ensures.some,
       refl,

@@ -10,6 +10,6 @@ returns-in-Some-clause-written c =
     let there : Some c.in-Some.place ≡ position (λ (p : SentControl). p.transmission.due) s.sent =
     c.in-Some.ensures.place ∙ ap (λ (v : Controlling). position (λ (p : SentControl). p.transmission.due) v.commands.sent) c.self.view_is in
     subst
-    (λ (place : Option ℕ). Did (next_of c.args.now c.args.timeout s place) c.resend.result s c.resend.new.self.commands c.args.buf.now c.args.at c.resend.new.buf)
+    (λ (place : Option ℕ). Did (next_of c.args.now c.args.timeout s place) c.resend.result s c.resend.new.self.commands (record { old = c.args.buf.now; at = c.args.at; new = c.resend.new.buf }))
     there
     c.resend.ensures.written

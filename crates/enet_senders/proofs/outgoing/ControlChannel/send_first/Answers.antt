@@ -22,6 +22,6 @@ returns-clause-written c =
     let sent = c.send_head.ensures.sent n (drop 1 s.queued) is in
     let is_new : new ≡ gone.commands = λ i. record { number = s.number; queued = c.send_head.ensures.queued i; sent = sent i } in
     subst
-    (λ (next : Option Next). Did next (written.Sent c.in-Some-put.past) old new c.args.buf.now c.args.at c.put.new.buf)
+    (λ (next : Option Next). Did next (written.Sent c.in-Some-put.past) old new (record { old = c.args.buf.now; at = c.args.at; new = c.put.new.buf }))
     (sym due)
     (c.in-Some-put.ensures.some, is_new, c.in-Some-put.ensures.message)

@@ -16,7 +16,7 @@ invariant_of-self c =
       kept = c.next_due_on-due.ensures.kept;
       fits = subst FitsQuiet left (fits-after q c.args.now c.args.timeout (omega (arith, c.ranges.now.fits)) c.self.invariant.fits);
       quiet = subst (λ (r : Quiet). AllQuiet r (ends_in c.next_due_on-due.new.pending c.next_due_on-due.new.channels.items)) left
-          (quiet-due q c.args.now c.args.timeout c.args.transit c.args.most (ends_in c.self.inside.pending c.self.inside.channels.items) (ends_in c.next_due_on-due.new.pending c.next_due_on-due.new.channels.items)
+          (quiet-due q (record { now = c.args.now; timeout = c.args.timeout; transit = c.args.transit; most = c.args.most }) (ends_in c.self.inside.pending c.self.inside.channels.items) (ends_in c.next_due_on-due.new.pending c.next_due_on-due.new.channels.items)
           c.args.channel (due.Sent c.in-Sent.past c.in-Sent.added c.in-Sent.kind) c.args.buf.now c.args.at c.next_due_on-due.new.buf c.self.invariant.fits (omega (arith, c.ranges.now.fits)) inside c.in-Sent.ensures.did
           c.self.invariant.quiet);
     }
@@ -27,7 +27,7 @@ invariant_of-self-in_default c =
     let inside = subst (λ (es : List SendingEnd). c.args.channel < length es) (sym c.self.view_is) c.requires in record {
       kept = c.next_due_on-due.ensures.kept;
       fits = c.self.invariant.fits;
-      quiet = quiet-unsent q c.args.now c.args.timeout c.args.transit c.args.most (ends_in c.self.inside.pending c.self.inside.channels.items) (ends_in c.next_due_on-due.new.pending c.next_due_on-due.new.channels.items)
+      quiet = quiet-unsent q (record { now = c.args.now; timeout = c.args.timeout; transit = c.args.transit; most = c.args.most }) (ends_in c.self.inside.pending c.self.inside.channels.items) (ends_in c.next_due_on-due.new.pending c.next_due_on-due.new.channels.items)
           c.args.channel c.next_due_on-due.result c.args.buf.now c.args.at c.next_due_on-due.new.buf c.self.invariant.fits (omega (arith, c.ranges.now.fits)) inside c.in_default.not-Sent c.next_due_on-due.ensures.did
           c.self.invariant.quiet;
     }
