@@ -306,6 +306,18 @@ impl Incoming {
         if self.comes_alone(arriving, place) {
             return self.dispatch_in_place(arriving, place);
         }
+        self.keep_in_full(arriving, place)
+    }
+
+    /// The same of any such command. It stays a function of its own, as `foresee_in_full` does.
+    #[inline(never)]
+    fn keep_in_full(&mut self, arriving: ArrivingData<'_>, place: u16) -> bool
+        requires short { length arriving.payload.now < 2 ^ 32 }
+        requires admitted { Admitted self.old.max_packet self.old.receiver (data_command arriving) place }
+        requires inside { IsInside self.old.receiver.front place }
+        ensures kept { IsTrue result → self.new ≡ with_kept self.old (data_command arriving.entry) place }
+        ensures unchanged { result ≡ false → self.new ≡ self.old }
+    {
         if !make_room(&self.held, &self.waiting, &mut self.dispatched) {
             return false;
         }
