@@ -46,7 +46,7 @@ kept-longer : (n : ℕ) (e : HostEnd) → IsKept n e → IsKept (n + 1) e
 kept-longer n e k = record { channels = k.channels; numbers = k.numbers; below = λ i. (let b = k.below i in omega arith) }
 
 -- a datagram is logged
-pub kept-noted : (far : ℕ → List ℕ) (name : PeerRef) (to : Addr) (text : List ℕ) (old new : List HostEnd) (logged : Logged) (log after : List Logged) → AreKept log old → Notes far name to text old new logged → after ≡ log ++ logged ∷ [] → AreKept after new
+pub kept-noted : (far : ℕ → List ℕ) (name : PeerRef) (to : Addr) (text : List ℕ) (old new : List HostEnd) (logged : Logged) (log after : List Logged) → AreKept log old → Notes far (record { name = name; to = to; text = text }) old new logged → after ≡ log ++ logged ∷ [] → AreKept after new
 kept-noted far name to text old new logged log after k n grown =
     subst (λ (l : List Logged). AreKept l new) (sym grown)
     (subst (AreKept (log ++ logged ∷ [])) (sym n.ends) (record { each = each; apart = apart-changed change name old (λ e. refl) k.apart }))

@@ -41,17 +41,22 @@ pub record AreKept (log : List Logged) (ends : List HostEnd) : Type 0 where
 abbrev pub HasEnd : List HostEnd → PeerRef → Type 0
 HasEnd ends name = (e : HostEnd) × Has ends e × (e.name ≡ name)
 
--- a datagram of the end of this name is to be logged: its commands are counted and marked; `far` has the greatest numbers that the other end of a
--- connection sent
-pub record Notes (far : ℕ → List ℕ) (name : PeerRef) (to : Addr) (text : List ℕ) (old new : List HostEnd) (logged : Logged) : Type 0 where
+-- a datagram that a host gave: of the end of this name, to this address
+pub record Given : Type 0 where
+  pub name : PeerRef
+  pub to : Addr
+  pub text : List ℕ
+
+-- it is to be logged: its commands are counted and marked; `far` has the greatest numbers that the other end of a connection sent
+pub record Notes (far : ℕ → List ℕ) (given : Given) (old new : List HostEnd) (logged : Logged) : Type 0 where
   pub own : HostEnd
   pub there : Has old own
-  pub named : own.name ≡ name
+  pub named : own.name ≡ given.name
   pub header : Header
   pub commands : List ℕ
-  pub read : IsRead text header commands
+  pub read : IsRead given.text header commands
   pub greatest : List ℕ
   pub marks : List Mark
-  pub counts : Counts text own.greatest greatest (far own.connection) marks
-  pub is : logged ≡ record { connection = own.connection; to = to; peer = header.peer; text = text; marks = marks }
-  pub ends : new ≡ with_end (λ (e : HostEnd). record e { greatest = greatest }) name old
+  pub counts : Counts given.text own.greatest greatest (far own.connection) marks
+  pub is : logged ≡ record { connection = own.connection; to = given.to; peer = header.peer; text = given.text; marks = marks }
+  pub ends : new ≡ with_end (λ (e : HostEnd). record e { greatest = greatest }) given.name old

@@ -91,7 +91,7 @@ pub fn note<A: Around>(
     requires apart { AreApart ends.old }
     requires below { (e : HostEnd) → Has ends.old e → AreBelow (2 ^ 126) e.greatest }
     requires read { (header : Header) × (commands : List ℕ) × IsRead text.items header commands }
-    ensures { Notes (A.numbers around.now) name to text.items ends.old ends.new result }
+    ensures { Notes (A.numbers around.now) (record { name = name; to = to; text = text.items }) ends.old ends.new result }
 {
     let place = position_of(ends, name).unwrap_or(0);
     let own = &mut ends[place];

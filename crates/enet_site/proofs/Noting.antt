@@ -23,8 +23,8 @@ around hosts far = record { count = 0; is_host = hosts; numbers = far }
 
 -- a datagram to a host is logged
 
-logged : (hosts : Addr → Bool) (far : ℕ → List ℕ) (a : Addr) (old new : Host) (was is : Records) (p : Puts hosts far old was new is) (text : List ℕ) → text ≡ p.text → text ≡ take (p.gives).len (p.gives).buf
-    → Notes far p.name p.to (take (p.gives).len (p.gives).buf) was.ends is.ends p.logged → LogsIf true far (p.name, p.to, (p.gives).len) (p.gives).buf (site a old was) (site a new is)
+logged : (hosts : Addr → Bool) (far : ℕ → List ℕ) (a : Addr) (old new : Host) (was is : Records) (p : Puts hosts far (record { host = old; records = was }) (record { host = new; records = is })) (text : List ℕ) → text ≡ (p.given).text → text ≡ take (p.gives).len (p.gives).buf
+    → Notes far (record p.given { text = take (p.gives).len (p.gives).buf }) was.ends is.ends p.logged → LogsIf true far ((p.given).name, (p.given).to, (p.gives).len) (p.gives).buf (site a old was) (site a new is)
 logged hosts far a old new was is p text whole cut notes = record {
   own = notes.own;
   there = notes.there;
@@ -43,14 +43,15 @@ serves : (hosts : Addr → Bool) (far : ℕ → List ℕ) (b : Bool) (name : Pee
     → ServesAmong hosts far (Some (name, to, len)) buf old new
 serves hosts far b name to len buf old new at gives logs = λ count from. (gives, subst (λ (c : Bool). LogsIf c far (name, to, len) buf old new) (sym at) logs)
 
-turns-at : (hosts : Addr → Bool) (far : ℕ → List ℕ) (a : Addr) (old new : Host) (was is : Records) (sent : Option Turned) → Turns hosts far sent old was new is → TurnsAmong hosts far sent (site a old was) (site a new is)
+turns-at : (hosts : Addr → Bool) (far : ℕ → List ℕ) (a : Addr) (old new : Host) (was is : Records) (sent : Option Turned) → Turns hosts far sent (record { host = old; records = was }) (record { host = new; records = is }) → TurnsAmong hosts far sent (site a old was) (site a new is)
 turns-at hosts far a old new was is None t = (t.0.0, λ count from. (t.0.1, ap (λ (r : Records). site a new r) t.1))
 turns-at hosts far a old new was is (Some (Sent n)) t =
     let p = t.1 in
+    let d = p.given in
     let g = p.gives in
     let cut = g.text_is in
-    let logs : LogsIf true far (p.name, p.to, g.len) g.buf (site a old was) (site a new is) = logged hosts far a old new was is p p.text refl cut (subst (λ (l : List ℕ). Notes far p.name p.to l was.ends is.ends p.logged) cut p.notes) in
-    (t.0, (p.name, p.to, g.len), g.buf, p.host, serves hosts far true p.name p.to g.len g.buf (site a old was) (site a new is) p.host g.serves logs)
+    let logs : LogsIf true far (d.name, d.to, g.len) g.buf (site a old was) (site a new is) = logged hosts far a old new was is p d.text refl cut (subst (λ (l : List ℕ). Notes far (record d { text = l }) was.ends is.ends p.logged) cut p.notes) in
+    (t.0, (d.name, d.to, g.len), g.buf, p.host, serves hosts far true d.name d.to g.len g.buf (site a old was) (site a new is) p.host g.serves logs)
 turns-at hosts far a old new was is (Some (Away to text)) t =
     let name = t.0 in
     let g = t.1 in
@@ -64,10 +65,10 @@ goes-of hosts far (Some (Away to text)) old new was is t = (around hosts far, si
 
 -- by what a call answered
 
-pub whole-turned : (r : Result (Option Turned) Refusal) (hosts : Addr → Bool) (far : ℕ → List ℕ) (old new : Host) (was is : Records) → OnErr r (new ≡ old) → OnErr r (is ≡ was) → IfOk r (λ sent. Turns hosts far sent old was new is) → IsWhole old was.ends → IsWhole new is.ends
+pub whole-turned : (r : Result (Option Turned) Refusal) (hosts : Addr → Bool) (far : ℕ → List ℕ) (old new : Host) (was is : Records) → OnErr r (new ≡ old) → OnErr r (is ≡ was) → IfOk r (λ sent. Turns hosts far sent (record { host = old; records = was }) (record { host = new; records = is })) → IsWhole old was.ends → IsWhole new is.ends
 whole-turned r hosts far old new was is host same turns k =
-    whole-after r (λ sent. Turns hosts far sent old was new is) old new was is host same turns (λ sent t. goes-of hosts far sent old new was is (turns-at hosts far no_address old new was is sent t)) k
+    whole-after r (λ sent. Turns hosts far sent (record { host = old; records = was }) (record { host = new; records = is })) old new was is host same turns (λ sent t. goes-of hosts far sent old new was is (turns-at hosts far no_address old new was is sent t)) k
 
-pub site-turned : (r : Result (Option Turned) Refusal) (hosts : Addr → Bool) (far : ℕ → List ℕ) (a : Addr) (old new : Host) (was is : Records) → IfOk r (λ sent. Turns hosts far sent old was new is) → (s : Site) → site a old was ≡ s → IfOk r (λ sent. TurnsAmong hosts far sent s (site a new is))
+pub site-turned : (r : Result (Option Turned) Refusal) (hosts : Addr → Bool) (far : ℕ → List ℕ) (a : Addr) (old new : Host) (was is : Records) → IfOk r (λ sent. Turns hosts far sent (record { host = old; records = was }) (record { host = new; records = is })) → (s : Site) → site a old was ≡ s → IfOk r (λ sent. TurnsAmong hosts far sent s (site a new is))
 site-turned (Ok sent) hosts far a old new was is turns s before = subst (λ (x : Site). TurnsAmong hosts far sent x (site a new is)) before (turns-at hosts far a old new was is sent turns)
 site-turned (Err why) hosts far a old new was is turns s before = tt

@@ -19,7 +19,7 @@ fn emit(host: &mut HostCore, room: Vec<u8>) -> Option<(PeerRef, Addr, Vec<u8>)>
     requires empty { room.items ≡ [] }
     requires room { vec_len room + 4096 ≤ vec_capacity room }
     ensures none { IfNone result (Rests host.old host.new) }
-    ensures gives { IfSome result (λ gave. Gives host.old gave.0 gave.1 gave.2.items host.new) }
+    ensures gives { IfSome result (λ gave. Gives host.old (record { name = gave.0; to = gave.1; text = gave.2.items }) host.new) }
 {
     let mut buf = [0; MAX_DATAGRAM];
     let (name, to, len) = host.service(&mut buf)?;
@@ -41,7 +41,8 @@ pub(crate) fn turn<A: Around>(
     ensures memory { IfErr result (λ why. why ≡ Refusal.Memory) }
     ensures host { OnErr result (host.new ≡ host.old) }
     ensures unchanged { OnErr result (own.new ≡ own.old) }
-    ensures turns { IfOk result (λ sent. Turns (A.hosts around.now) (A.numbers around.now) sent host.old own.old host.new own.new) }
+    ensures turns { IfOk result (λ sent. Turns (A.hosts around.now) (A.numbers around.now) sent
+        (record { host = host.old; records = own.old }) (record { host = host.new; records = own.new })) }
 {
     let Ok(room) = Vec::with_capacity(alloc, MAX_DATAGRAM) else {
         return Err(Refusal::Memory);
