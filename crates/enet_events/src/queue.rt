@@ -95,6 +95,35 @@ impl EventQueue {
         }
         let number = poster.count;
         let item = Numbered { number, event };
+        if let Err(back) = self.ring.try_push_as::<Posts>(&mut poster.pass, item) {
+            return self.post_again(rt, poster, back.event);
+        }
+        poster.count = number + 1;
+        Ok(number)
+    }
+
+    // Hands an event over where the first attempt failed: the queue is full, or a taker is in the way.
+    #[cold]
+    #[inline(never)]
+    fn post_again<R: Wait>(
+        &self,
+        rt: &R,
+        poster: &mut Poster,
+        event: Event,
+    ) -> Result<u64, (Refusal, Event)>
+        requires { poster.old.queue ≡ self.now.id }
+        ensures own { poster.new.queue ≡ poster.old.queue }
+        ensures number { IfOk result (λ n. (n ≡ length poster.old.posted) × (n < 4294967295)) }
+        ensures posted { OnOk result (poster.new.posted ≡ poster.old.posted ++ next poster.old event ∷ []) }
+        ensures moment { OnOk result ((held : List _) × PosterFits poster.new (held ++ next poster.old event ∷ [])) }
+        ensures refused { IfErr result (λ e. IsNotPosted self.now poster.old e.0) }
+        ensures back { IfErr result (λ e. (e.1 ≡ event) × (poster.new.posted ≡ poster.old.posted)) }
+    {
+        if poster.count >= 4_294_967_295 {
+            return Err((Refusal::SeatSpent, event));
+        }
+        let number = poster.count;
+        let item = Numbered { number, event };
         match self.ring.push_as::<Posts, R>(rt, &mut poster.pass, item) {
             Ok(()) => {
                 poster.count = number + 1;

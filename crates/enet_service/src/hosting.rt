@@ -16,6 +16,7 @@ impl Core for HostCore {
         HostCore::tick(self, ms);
     }
 
+    #[inline(always)]
     fn apply_order(&mut self, order: Order) -> Result<(), Refusal> {
         match order {
             Order::Connect {

@@ -209,6 +209,7 @@ impl Core for WatchedHost {
         Core::tick(&mut self.host, ms);
     }
 
+    #[inline(always)]
     fn apply_order(&mut self, order: Order) -> Result<(), Refusal> {
         let peer = peer_of(&order);
         let obeyed = match order {

@@ -134,6 +134,7 @@ impl SubmitQueue {
     }
 
     /// The oldest order that the queue holds; None where a step of this call found it empty, and then nothing has changed.
+    #[inline(always)]
     pub fn take<R: Wait>(&self, rt: &R, drain: &mut Drain) -> Option<Submission>
         requires { IsDrainOf self.now drain.old }
         ensures same { IsDrainOf self.now drain.new }
