@@ -1,7 +1,7 @@
 -- Lists of packets of one channel, packet by packet.
 use Rattle.std.proofs.Common.{◌≡◌, ℕ, List, ◌∷◌, inl, inr, refl, sym, ap, ◌∙◌}
 use Rattle.enet_codec.specs.declared.packet.Packet.{Packet}
-use Rattle.enet_network.specs.Headline.{AreOn}
+use Rattle.law_network.specs.Headline.{AreOn}
 
 pub on-cons : (channel : ℕ) (p : Packet) (ps : List Packet) → p.channel ≡ channel → AreOn channel ps → AreOn channel (p ∷ ps)
 on-cons channel p ps first rest q (inl same) = ap (λ (r : Packet). r.channel) (sym same) ∙ first

@@ -6,7 +6,7 @@ use Rattle.enet_codec.specs.declared.event.PeerRef.{PeerRef}
 use Rattle.enet_peer.specs.declared.parts.PeerEvent.{PeerEvent}
 use Rattle.enet_peer.specs.declared.parts.PeerEvent.TheVariants as told
 use Rattle.enet_slot.specs.Calls.{event_of}
-use Rattle.enet_connection.specs.Law.{AreLast, IsOneLife}
+use Rattle.law_connection.specs.Law.{AreLast, IsOneLife}
 use Rattle.check_outcome.specs.Life.{IsSomeLife}
 use Rattle.check_outcome.specs.Private.Life.{AreLastOf}
 

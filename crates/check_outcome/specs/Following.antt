@@ -4,9 +4,9 @@ use Rattle.enet_codec.specs.declared.packet.Packet.{Packet}
 use Rattle.enet_sender.specs.CommandChoice as command_choice
 use Rattle.enet_sender.specs.CommandChoice.{carried_from}
 use Rattle.enet_outbox.specs.Outbox.{is_unsequenced}
-use Rattle.enet_connection.specs.Follows.{FollowsCarried}
-use Rattle.enet_connection.specs.LinkSteps.{bodies_of}
-use Rattle.enet_connection.specs.Connection.{of_channel, in_sequence}
+use Rattle.law_connection.specs.Follows.{FollowsCarried}
+use Rattle.law_connection.specs.LinkSteps.{bodies_of}
+use Rattle.law_connection.specs.Connection.{of_channel, in_sequence}
 
 -- a submitted packet, as the choice of its commands sees it
 abbrev pub submission : Packet → command_choice.Packet

@@ -1,14 +1,14 @@
 -- What is to hold of a world or a fleet that was opened, whatever happened in it.
 use Rattle.std.specs.Prelude.{◌<◌, ℕ, List, Option}
 use Rattle.enet_codec.specs.declared.packet.Packet.{Packet}
-use Rattle.enet_connection.specs.Follows.{Follows}
-use Rattle.enet_connection.specs.LinkSteps.{bodies_of}
-use Rattle.enet_connection.specs.Connection.{of_channel, in_sequence}
-use Rattle.enet_network.specs.declared.event.Side.{Side}
-use Rattle.enet_network.specs.declared.event.Side.TheVariants.{A, B}
-use Rattle.enet_network.specs.Headline.{AreOn, end_at, submitted_at, taken_at, events_at}
-use Rattle.enet_network.specs.Network.{HostEnd}
-use Rattle.enet_network.specs.World.{World, other}
+use Rattle.law_connection.specs.Follows.{Follows}
+use Rattle.law_connection.specs.LinkSteps.{bodies_of}
+use Rattle.law_connection.specs.Connection.{of_channel, in_sequence}
+use Rattle.law_network.specs.declared.event.Side.{Side}
+use Rattle.law_network.specs.declared.event.Side.TheVariants.{A, B}
+use Rattle.law_network.specs.Headline.{AreOn, end_at, submitted_at, taken_at, events_at}
+use Rattle.law_network.specs.Network.{HostEnd}
+use Rattle.law_network.specs.World.{World, other}
 use Rattle.enet_fleet.specs.declared.event.End.{End}
 use Rattle.enet_fleet.specs.declared.event.End.TheVariants.{Client, Server}
 use Rattle.enet_fleet.specs.Fleets.{Fleet}

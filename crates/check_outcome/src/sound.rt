@@ -1,8 +1,8 @@
 //! What is tested once a list has happened in a world of two hosts.
 
 ghost use Rattle.std.specs.Prelude.{◌<◌, ◌≤◌, ◌↔◌, ℕ, IsTrue};
-ghost use Rattle.enet_network.specs.Headline.{AreOn, end_at};
-ghost use Rattle.enet_network.specs.World.{other};
+ghost use Rattle.law_network.specs.Headline.{AreOn, end_at};
+ghost use Rattle.law_network.specs.World.{other};
 ghost use Rattle.check_outcome.specs.Sound.{AreInOrder, IsFollowed, IsSideSound, IsSound};
 
 use crate::following::follows;

@@ -1,11 +1,11 @@
 -- The calls of each host of a run.
 use Rattle.std.proofs.Common.{◌≡◌, ◌≢◌, ℕ, ◌+◌, ◌⊎◌, inl, inr, List, [], ◌∷◌, length, refl, sym, ap, subst, ◌∙◌, arith, Some, Result, Ok, Err, slice_get}
 use Rattle.enet_codec.specs.declared.refusal.Refusal.{Refusal}
-use Rattle.enet_network.proofs.Lists.{same-or, get-set, get-set_other}
-use Rattle.enet_network.specs.declared.event.Answer.{Answer}
-use Rattle.enet_network.specs.Steps.{Happening}
-use Rattle.enet_network.proofs.Alone.{Led, by-none, by-one, led-on, alone}
-use Rattle.enet_network.proofs.Submitting.{same-some}
+use Rattle.law_network.proofs.Lists.{same-or, get-set, get-set_other}
+use Rattle.law_network.specs.declared.event.Answer.{Answer}
+use Rattle.law_network.specs.Steps.{Happening}
+use Rattle.law_network.proofs.Alone.{Led, by-none, by-one, led-on, alone}
+use Rattle.law_network.proofs.Submitting.{same-some}
 use Rattle.enet_site.specs.Places.{Place}
 use Rattle.enet_fleet.specs.declared.event.FleetEvent.{FleetEvent}
 use Rattle.enet_fleet.specs.declared.event.Node.{Node}

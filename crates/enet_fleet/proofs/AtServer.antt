@@ -3,21 +3,21 @@ use Rattle.std.proofs.Common.{◌≡◌, ◌≢◌, ℕ, ◌⊎◌, inl, inr, fa
 use Rattle.std.proofs.lemmas.Option.{slice_get_within}
 use Rattle.enet_codec.specs.declared.address.Addr.{Addr}
 use Rattle.enet_codec.specs.declared.event.Received.{Received}
-use Rattle.enet_connection.specs.LinkSteps.{Has}
-use Rattle.enet_connection.proofs.Lists.{Has-slice_get}
-use Rattle.enet_network.specs.Calls as call
-use Rattle.enet_network.proofs.Lists.{same-or}
-use Rattle.enet_network.specs.Log.{Logged}
-use Rattle.enet_network.specs.Law.{IsElsewhere}
-use Rattle.enet_network.specs.Network.{HostEnd, Site}
-use Rattle.enet_network.specs.Steps.{Around, Happening, Calls, Hears, HappensAmong}
-use Rattle.enet_network.proofs.Growing.{more_of}
-use Rattle.enet_network.proofs.Submitting.{same-some}
-use Rattle.enet_network.proofs.Worlds.{IsHost, Pair, BeginsOnce, AreShown, AreAllOf, ComesOf, IsJoined, swapped, pair-goes, host-goes, shown-end}
-use Rattle.enet_network.proofs.Once.{IsOfSender, at-goes, begins-once}
-use Rattle.enet_network.proofs.Owned.{owned-goes}
-use Rattle.enet_network.proofs.Runs.{stays-put}
-use Rattle.enet_network.proofs.Sent.{sent-goes, more-brought}
+use Rattle.law_connection.specs.LinkSteps.{Has}
+use Rattle.law_connection.proofs.Lists.{Has-slice_get}
+use Rattle.law_network.specs.Calls as call
+use Rattle.law_network.proofs.Lists.{same-or}
+use Rattle.law_network.specs.Log.{Logged}
+use Rattle.law_network.specs.Law.{IsElsewhere}
+use Rattle.law_network.specs.Network.{HostEnd, Site}
+use Rattle.law_network.specs.Steps.{Around, Happening, Calls, Hears, HappensAmong}
+use Rattle.law_network.proofs.Growing.{more_of}
+use Rattle.law_network.proofs.Submitting.{same-some}
+use Rattle.law_network.proofs.Worlds.{IsHost, Pair, BeginsOnce, AreShown, AreAllOf, ComesOf, IsJoined, swapped, pair-goes, host-goes, shown-end}
+use Rattle.law_network.proofs.Once.{IsOfSender, at-goes, begins-once}
+use Rattle.law_network.proofs.Owned.{owned-goes}
+use Rattle.law_network.proofs.Runs.{stays-put}
+use Rattle.law_network.proofs.Sent.{sent-goes, more-brought}
 use Rattle.enet_site.specs.Places.{Place}
 use Rattle.enet_fleet.specs.declared.event.Node.{Node}
 use Rattle.enet_fleet.specs.declared.event.Node.TheVariants.{Server, Client}

@@ -7,16 +7,16 @@ use Rattle.enet_peer.specs.declared.parts.PeerEvent.TheVariants as told
 use Rattle.enet_peer.specs.Peering.{Peering}
 use Rattle.enet_slot.specs.Hearing.{stopped}
 use Rattle.enet_host.specs.Receiving.{handled_one}
-use Rattle.enet_connection.specs.Examples.{example_packet}
-use Rattle.enet_connection.proofs.FirstPacket.{with_untaken, rest, first_message}
-use Rattle.enet_network.specs.declared.event.Answer.TheVariants as answer
-use Rattle.enet_network.specs.declared.event.Side.TheVariants.{A, B}
-use Rattle.enet_network.specs.Examples.{example_config, first_name}
-use Rattle.enet_network.specs.Log.{fresh_greatest, fresh_channels}
-use Rattle.enet_network.specs.Network.{Site}
-use Rattle.enet_network.specs.World as world
-use Rattle.enet_network.proofs.LoneSites.{Lone, site, stands, submits, takes, PutsOne, after_putting, puts-out, text_of, header_of, after_hearing, hears, hears-nothing, free_site, asks-first, answers-first}
-use Rattle.enet_network.proofs.ExampleWorlds.{content, submitting, sending, sent, hearing, taking, offer, reliable, asking_message, verifying_message, confirming_message, asking, asked, ask, answering, verified, verify, welcomed, confirmed, confirm, standing, told_asker, told_answerer, puts-ask, brings-ask, puts-verify, brings-verify, puts-confirm, brings-confirm, crosses-told}
+use Rattle.law_connection.specs.Examples.{example_packet}
+use Rattle.law_connection.proofs.FirstPacket.{with_untaken, rest, first_message}
+use Rattle.law_network.specs.declared.event.Answer.TheVariants as answer
+use Rattle.law_network.specs.declared.event.Side.TheVariants.{A, B}
+use Rattle.law_network.specs.Examples.{example_config, first_name}
+use Rattle.law_network.specs.Log.{fresh_greatest, fresh_channels}
+use Rattle.law_network.specs.Network.{Site}
+use Rattle.law_network.specs.World as world
+use Rattle.law_network.proofs.LoneSites.{Lone, site, stands, submits, takes, PutsOne, after_putting, puts-out, text_of, header_of, after_hearing, hears, hears-nothing, free_site, asks-first, answers-first}
+use Rattle.law_network.proofs.ExampleWorlds.{content, submitting, sending, sent, hearing, taking, offer, reliable, asking_message, verifying_message, confirming_message, asking, asked, ask, answering, verified, verify, welcomed, confirmed, confirm, standing, told_asker, told_answerer, puts-ask, brings-ask, puts-verify, brings-verify, puts-confirm, brings-confirm, crosses-told}
 use Rattle.enet_site.specs.Places.{Place, opened_at}
 use Rattle.enet_site.specs.declared.put_out.Sent.{Sent}
 use Rattle.enet_site.specs.declared.put_out.Sent.TheVariants.{Of}

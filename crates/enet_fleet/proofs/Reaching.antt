@@ -9,15 +9,15 @@ use Rattle.enet_codec.specs.declared.config.Config.{Config}
 use Rattle.enet_codec.specs.declared.refusal.Refusal.{Refusal}
 use Rattle.enet_codec.specs.declared.refusal.Refusal.TheVariants.{NoSuchDatagram, NoSuchHost}
 use Rattle.enet_codec.specs.Config.{is_in_range}
-use Rattle.enet_connection.proofs.Lists.{Has-slice_get}
+use Rattle.law_connection.proofs.Lists.{Has-slice_get}
 use Rattle.enet_slot.specs.Hearing.{is_same_address}
-use Rattle.enet_network.specs.declared.event.Answer.{Answer}
-use Rattle.enet_network.specs.Headline.{AreEnds}
-use Rattle.enet_network.specs.Log.{Logged}
-use Rattle.enet_network.specs.World.{IsRefusedFor}
-use Rattle.enet_network.proofs.Addresses.{equal-address}
-use Rattle.enet_network.proofs.Running.{runs-keep, runs-push}
-use Rattle.enet_network.proofs.Runs.{both}
+use Rattle.law_network.specs.declared.event.Answer.{Answer}
+use Rattle.law_network.specs.Headline.{AreEnds}
+use Rattle.law_network.specs.Log.{Logged}
+use Rattle.law_network.specs.World.{IsRefusedFor}
+use Rattle.law_network.proofs.Addresses.{equal-address}
+use Rattle.law_network.proofs.Running.{runs-keep, runs-push}
+use Rattle.law_network.proofs.Runs.{both}
 use Rattle.enet_site.specs.declared.put_out.Sent.{Sent}
 use Rattle.enet_site.specs.declared.put_out.Sent.TheVariants.{Of, Away}
 use Rattle.enet_site.specs.Places.{Place, all_opened}

@@ -6,20 +6,20 @@ use Rattle.enet_codec.specs.declared.config.Config.{Config}
 use Rattle.enet_codec.specs.declared.event.Received.{Received}
 use Rattle.enet_codec.specs.declared.refusal.Refusal.{Refusal}
 use Rattle.enet_codec.specs.Config.{is_in_range}
-use Rattle.enet_connection.specs.LinkSteps.{Has}
+use Rattle.law_connection.specs.LinkSteps.{Has}
 use Rattle.enet_slot.specs.Hearing.{is_same_address}
-use Rattle.enet_network.specs.Calls.{Call}
-use Rattle.enet_network.specs.Calls as call
-use Rattle.enet_network.specs.declared.event.Answer.{Answer}
-use Rattle.enet_network.specs.declared.event.Answer.TheVariants as answers
-use Rattle.enet_network.specs.Log.{Logged}
-use Rattle.enet_network.specs.Network.{Site}
-use Rattle.enet_network.specs.Steps.{Happening, Calls, Hears, HappensAmong}
-use Rattle.enet_network.proofs.Addresses.{equal-address}
-use Rattle.enet_network.proofs.Submitting.{same-some}
-use Rattle.enet_network.proofs.Owned.{none-held}
-use Rattle.enet_network.proofs.Running.{runs-keep}
-use Rattle.enet_network.proofs.Runs.{few-of, both, none-at, lawful-either}
+use Rattle.law_network.specs.Calls.{Call}
+use Rattle.law_network.specs.Calls as call
+use Rattle.law_network.specs.declared.event.Answer.{Answer}
+use Rattle.law_network.specs.declared.event.Answer.TheVariants as answers
+use Rattle.law_network.specs.Log.{Logged}
+use Rattle.law_network.specs.Network.{Site}
+use Rattle.law_network.specs.Steps.{Happening, Calls, Hears, HappensAmong}
+use Rattle.law_network.proofs.Addresses.{equal-address}
+use Rattle.law_network.proofs.Submitting.{same-some}
+use Rattle.law_network.proofs.Owned.{none-held}
+use Rattle.law_network.proofs.Running.{runs-keep}
+use Rattle.law_network.proofs.Runs.{few-of, both, none-at, lawful-either}
 use Rattle.enet_site.specs.declared.put_out.Sent.{Sent}
 use Rattle.enet_site.specs.declared.put_out.Sent.TheVariants.{Of, Away}
 use Rattle.enet_site.specs.Places.{Place, opened_at, all_opened}

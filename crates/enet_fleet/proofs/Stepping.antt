@@ -10,13 +10,13 @@ use Rattle.enet_codec.specs.declared.event.PeerRef.{PeerRef}
 use Rattle.enet_codec.specs.declared.event.Received.{Received}
 use Rattle.enet_codec.specs.declared.refusal.Refusal.{Refusal}
 use Rattle.enet_codec.specs.declared.refusal.Refusal.TheVariants.{Memory, NoSuchHost}
-use Rattle.enet_network.specs.Calls.{Call}
-use Rattle.enet_network.specs.Calls as call
-use Rattle.enet_network.specs.declared.event.Answer.{Answer}
-use Rattle.enet_network.specs.declared.event.Answer.TheVariants as answers
-use Rattle.enet_network.specs.Network.{Site}
-use Rattle.enet_network.specs.Steps.{Happening, Calls, Hears, Happens, HappensAmong, Called}
-use Rattle.enet_network.specs.World.{IsRefusedFor, RefusesCall}
+use Rattle.law_network.specs.Calls.{Call}
+use Rattle.law_network.specs.Calls as call
+use Rattle.law_network.specs.declared.event.Answer.{Answer}
+use Rattle.law_network.specs.declared.event.Answer.TheVariants as answers
+use Rattle.law_network.specs.Network.{Site}
+use Rattle.law_network.specs.Steps.{Happening, Calls, Hears, Happens, HappensAmong, Called}
+use Rattle.law_network.specs.World.{IsRefusedFor, RefusesCall}
 use Rattle.enet_site.specs.declared.put_out.Sent.TheVariants.{Of, Away}
 use Rattle.enet_site.specs.declared.put_out.Turned.{Turned}
 use Rattle.enet_site.specs.declared.put_out.Turned.TheVariants as turn

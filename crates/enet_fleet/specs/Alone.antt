@@ -1,8 +1,8 @@
 -- Each host of a fleet is where a list of its own calls leads, of which isolation speaks.
 use Rattle.std.specs.Prelude.{◌≡◌, List, length, Some, Result}
 use Rattle.enet_codec.specs.declared.refusal.Refusal.{Refusal}
-use Rattle.enet_network.specs.declared.event.Answer.{Answer}
-use Rattle.enet_network.specs.Alone.{LiveAlone}
+use Rattle.law_network.specs.declared.event.Answer.{Answer}
+use Rattle.law_network.specs.Alone.{LiveAlone}
 use Rattle.enet_site.specs.Places.{Place}
 use Rattle.enet_fleet.specs.declared.event.FleetEvent.{FleetEvent}
 use Rattle.enet_fleet.specs.declared.event.Node.{Node}

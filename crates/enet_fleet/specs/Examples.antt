@@ -4,13 +4,13 @@ use Rattle.enet_codec.specs.declared.address.Addr.{Addr}
 use Rattle.enet_codec.specs.declared.refusal.Refusal.{Refusal}
 use Rattle.enet_codec.specs.declared.refusal.Refusal.TheVariants.{NoSuchDatagram, NoSuchHost}
 use Rattle.enet_codec.specs.declared.stop.Stop.TheVariants.{Short}
-use Rattle.enet_connection.specs.Examples.{example_packet}
+use Rattle.law_connection.specs.Examples.{example_packet}
 use Rattle.enet_slot.specs.Hearing.{stopped}
-use Rattle.enet_network.specs.declared.event.Answer.{Answer}
-use Rattle.enet_network.specs.declared.event.Answer.TheVariants as answers
-use Rattle.enet_network.specs.Examples.{example_config, first_name, connected, crossed}
-use Rattle.enet_network.specs.Headline.{submitted_at, taken_at}
-use Rattle.enet_network.specs.Numbers.{Stands}
+use Rattle.law_network.specs.declared.event.Answer.{Answer}
+use Rattle.law_network.specs.declared.event.Answer.TheVariants as answers
+use Rattle.law_network.specs.Examples.{example_config, first_name, connected, crossed}
+use Rattle.law_network.specs.Headline.{submitted_at, taken_at}
+use Rattle.law_network.specs.Numbers.{Stands}
 use Rattle.enet_site.specs.Places.{Place}
 use Rattle.enet_fleet.specs.declared.event.End.TheVariants as end
 use Rattle.enet_fleet.specs.declared.event.FleetEvent.{FleetEvent}

@@ -7,15 +7,15 @@ use Rattle.enet_codec.specs.declared.event.PeerRef.{PeerRef}
 use Rattle.enet_codec.specs.declared.refusal.Refusal.{Refusal}
 use Rattle.enet_codec.specs.declared.refusal.Refusal.TheVariants.{Memory, NoSuchDatagram, NoSuchHost}
 use Rattle.enet_slot.specs.Hearing.{is_same_address}
-use Rattle.enet_network.specs.Calls.{Call}
-use Rattle.enet_network.specs.Calls as call
-use Rattle.enet_network.specs.declared.event.Answer.{Answer}
-use Rattle.enet_network.specs.declared.event.Answer.TheVariants as answers
-use Rattle.enet_network.specs.Log.{Logged}
-use Rattle.enet_network.specs.Network.{Site, numbers_of, delivery_refusal}
-use Rattle.enet_network.specs.Running.{RunsBy}
-use Rattle.enet_network.specs.Steps.{Around, Happening, Calls, Hears, HappensAmong}
-use Rattle.enet_network.specs.World.{IsRefusedFor, RefusesCall}
+use Rattle.law_network.specs.Calls.{Call}
+use Rattle.law_network.specs.Calls as call
+use Rattle.law_network.specs.declared.event.Answer.{Answer}
+use Rattle.law_network.specs.declared.event.Answer.TheVariants as answers
+use Rattle.law_network.specs.Log.{Logged}
+use Rattle.law_network.specs.Network.{Site, numbers_of, delivery_refusal}
+use Rattle.law_network.specs.Running.{RunsBy}
+use Rattle.law_network.specs.Steps.{Around, Happening, Calls, Hears, HappensAmong}
+use Rattle.law_network.specs.World.{IsRefusedFor, RefusesCall}
 use Rattle.enet_site.specs.declared.put_out.Sent.{Sent}
 use Rattle.enet_site.specs.declared.put_out.Sent.TheVariants.{Of, Away}
 use Rattle.enet_site.specs.Places.{Place, opened_at, all_opened}

@@ -4,10 +4,10 @@ use Rattle.std.specs.List.{list_all}
 use Rattle.enet_codec.specs.declared.config.Config.{Config}
 use Rattle.enet_codec.specs.declared.refusal.Refusal.{Refusal}
 use Rattle.enet_codec.specs.Config.{is_in_range}
-use Rattle.enet_network.specs.declared.event.Answer.{Answer}
-use Rattle.enet_connection.specs.LinkSteps.{Has}
-use Rattle.enet_network.specs.Law.{IsPaired}
-use Rattle.enet_network.specs.Log.{Logged}
+use Rattle.law_network.specs.declared.event.Answer.{Answer}
+use Rattle.law_connection.specs.LinkSteps.{Has}
+use Rattle.law_network.specs.Law.{IsPaired}
+use Rattle.law_network.specs.Log.{Logged}
 use Rattle.enet_site.specs.Places.{Place}
 use Rattle.enet_fleet.specs.declared.event.FleetEvent.{FleetEvent}
 use Rattle.enet_fleet.specs.declared.event.Node.{Node}

@@ -15,7 +15,7 @@ pub(crate) struct AroundClient<'a> {
 }
 
 impl Around for AroundClient<'_> {
-    ghost use Rattle.enet_network.specs.Network.{numbers_of};
+    ghost use Rattle.law_network.specs.Network.{numbers_of};
     ghost use Rattle.enet_fleet.specs.Fleets.{is_host};
 
     ghost hosts = { λ w. is_host w.clients };

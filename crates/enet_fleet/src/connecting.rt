@@ -2,17 +2,17 @@
 
 ghost use Rattle.std.specs.Prelude.{◌≡◌, ℕ, ◌++◌, ◌∷◌, [], length, Ok, Err, IfOk, IfErr, OnErr};
 ghost use Rattle.enet_codec.specs.declared.address.Addr.{Addr};
-ghost use Rattle.enet_network.specs.Calls as call;
-ghost use Rattle.enet_network.specs.Steps.{Calls, Happens};
-ghost use Rattle.enet_network.specs.World.{RefusesCall};
+ghost use Rattle.law_network.specs.Calls as call;
+ghost use Rattle.law_network.specs.Steps.{Calls, Happens};
+ghost use Rattle.law_network.specs.World.{RefusesCall};
 ghost use Rattle.enet_fleet.specs.declared.event.FleetEvent.TheVariants as happen;
 ghost use Rattle.enet_fleet.specs.Fleets.{Steps};
 ghost use Rattle.enet_fleet.specs.Reached.{IsReached};
 
 use crate::hosts::Hosts;
 use enet_codec::{PeerRef, Refusal};
-use enet_network::Answer;
 use enet_site::Site;
+use law_network::Answer;
 use std::alloc::Global;
 
 /// Why a client's question for so many channels is refused where there is no memory to note it.

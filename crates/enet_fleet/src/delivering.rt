@@ -1,8 +1,8 @@
 //! The network brings a host a datagram of another.
 
 ghost use Rattle.std.specs.Prelude.{◌≡◌, ℕ, Some, IfOk, IfErr, OnErr};
-ghost use Rattle.enet_network.specs.Steps.{Hears, Happens};
-ghost use Rattle.enet_network.specs.World.{IsRefusedFor};
+ghost use Rattle.law_network.specs.Steps.{Hears, Happens};
+ghost use Rattle.law_network.specs.World.{IsRefusedFor};
 ghost use Rattle.enet_fleet.specs.declared.event.FleetEvent.TheVariants as happen;
 ghost use Rattle.enet_fleet.specs.declared.event.Node.TheVariants as node;
 ghost use Rattle.enet_fleet.specs.Fleets.{Steps, Refuses, logged_to, refused_there};
@@ -11,8 +11,8 @@ ghost use Rattle.enet_fleet.specs.Reached.{IsReached};
 use crate::event::Node;
 use crate::hosts::{Hosts, SERVER, client_address};
 use enet_codec::{Addr, Received, Refusal};
-use enet_network::Answer;
 use enet_site::{Place, Sent, Site};
+use law_network::Answer;
 use std::alloc::Global;
 
 /// Which datagram of a host's log is its datagram `k`, where that went to this address.

@@ -4,7 +4,7 @@ ghost use Rattle.std.specs.Prelude.{◌≡◌, ◌&&◌, nat_le, true, false, le
 ghost use Rattle.std.specs.List.{list_all};
 ghost use Rattle.std.specs.Option.{option_map};
 ghost use Rattle.enet_codec.specs.Config.{is_in_range};
-ghost use Rattle.enet_network.specs.Headline.{submitted_at, taken_at, events_at};
+ghost use Rattle.law_network.specs.Headline.{submitted_at, taken_at, events_at};
 ghost use Rattle.enet_fleet.specs.Fleets.{Steps, Runs, open_fleet, place_of, sent_by};
 ghost use Rattle.enet_fleet.specs.Headline.{HasHeadline, end_at, far_end};
 ghost use Rattle.enet_fleet.specs.Reached.{fit};
@@ -14,7 +14,7 @@ use crate::event::{End, FleetEvent, Node};
 use crate::happening::happen;
 use crate::hosts::{Hosts, sent_by};
 use enet_codec::{Addr, Config, Event, Packet, Refusal};
-use enet_network::Answer;
+use law_network::Answer;
 use std::alloc::Global;
 use std::marker::Model;
 

@@ -11,7 +11,7 @@ use crate::hosts::{Hosts, is_host};
 use crate::turning::turn;
 use bytes::Bytes;
 use enet_codec::{Addr, DisconnectMode, PeerRef, Refusal};
-use enet_network::Answer;
+use law_network::Answer;
 use std::alloc::Global;
 
 /// The user of a host submits a packet.

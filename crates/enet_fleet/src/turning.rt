@@ -1,7 +1,7 @@
 //! A host may put out a datagram.
 
 ghost use Rattle.std.specs.Prelude.{◌≡◌, IfOk, IfErr, OnErr};
-ghost use Rattle.enet_network.specs.Headline.{AreEnds};
+ghost use Rattle.law_network.specs.Headline.{AreEnds};
 ghost use Rattle.enet_fleet.specs.declared.event.FleetEvent.TheVariants as happen;
 ghost use Rattle.enet_fleet.specs.declared.event.Node.TheVariants as node;
 ghost use Rattle.enet_fleet.specs.Fleets.{Steps};
@@ -12,9 +12,9 @@ use crate::around::{AroundClient, AroundServer};
 use crate::event::Node;
 use crate::hosts::Hosts;
 use enet_codec::Refusal;
-use enet_network::Answer;
 use enet_records::Around;
 use enet_site::{Place, Sent, Turned};
+use law_network::Answer;
 use std::alloc::Global;
 
 /// What a turn put out, as it is kept.

@@ -3,8 +3,8 @@ use Rattle.std.specs.Prelude.{ℕ, List, [], ◌++◌, codes, Option, Some, None
 use Rattle.std.specs.Fmt.{decimal}
 use Rattle.enet_codec.specs.declared.refusal.Refusal.{Refusal}
 use Rattle.enet_codec.specs.Refusal.{label_of}
-use Rattle.enet_network.specs.declared.event.Answer.{Answer}
-use Rattle.enet_network.specs.declared.event.Answer.TheVariants.{Peer, Done, Received, Sent, Taken}
+use Rattle.law_network.specs.declared.event.Answer.{Answer}
+use Rattle.law_network.specs.declared.event.Answer.TheVariants.{Peer, Done, Received, Sent, Taken}
 use Rattle.enet_text.specs.Texts.{bytes_text, event_text, peer_text, received_text}
 use Rattle.enet_lab.specs.declared.host.Host.{Host}
 use Rattle.enet_lab.specs.declared.host.Recipient.{Recipient}

@@ -4,8 +4,8 @@ use Rattle.std.specs.Option.{option_or}
 use Rattle.std.specs.Fmt.{decimal}
 use Rattle.enet_codec.specs.declared.address.Addr.{Addr}
 use Rattle.enet_slot.specs.Hearing.{is_same_address}
-use Rattle.enet_network.specs.declared.event.Side.{Side}
-use Rattle.enet_network.specs.declared.event.Side.TheVariants.{A, B}
+use Rattle.law_network.specs.declared.event.Side.{Side}
+use Rattle.law_network.specs.declared.event.Side.TheVariants.{A, B}
 use Rattle.enet_fleet.specs.declared.event.Node.{Node}
 use Rattle.enet_fleet.specs.declared.event.Node.TheVariants.{Server, Client}
 use Rattle.enet_fleet.specs.Fleets.{address_of, is_host}

@@ -6,13 +6,13 @@ use Rattle.enet_codec.specs.declared.refusal.Refusal.{Refusal}
 use Rattle.enet_codec.specs.declared.refusal.Refusal.TheVariants.{Memory, BadConfig}
 use Rattle.enet_codec.specs.Config.{is_in_range, standard_config}
 use Rattle.enet_codec.specs.Refusal.{label_of}
-use Rattle.enet_network.specs.declared.event.Answer.{Answer}
-use Rattle.enet_network.specs.declared.event.Answer.TheVariants.{Sent}
-use Rattle.enet_network.specs.declared.event.Side.{Side}
-use Rattle.enet_network.specs.declared.event.WorldEvent.{WorldEvent}
-use Rattle.enet_network.specs.Log.{Logged}
-use Rattle.enet_network.specs.World.{World, site_of, side_of}
-use Rattle.enet_network.specs.World as world
+use Rattle.law_network.specs.declared.event.Answer.{Answer}
+use Rattle.law_network.specs.declared.event.Answer.TheVariants.{Sent}
+use Rattle.law_network.specs.declared.event.Side.{Side}
+use Rattle.law_network.specs.declared.event.WorldEvent.{WorldEvent}
+use Rattle.law_network.specs.Log.{Logged}
+use Rattle.law_network.specs.World.{World, site_of, side_of}
+use Rattle.law_network.specs.World as world
 use Rattle.enet_world.specs.Worlds.{Begun, begun}
 use Rattle.enet_fleet.specs.declared.event.FleetEvent.{FleetEvent}
 use Rattle.enet_fleet.specs.declared.event.Node.{Node}

@@ -9,8 +9,8 @@ ghost use Rattle.enet_lab.specs.Hosts.{host_text};
 
 use crate::host::{Host, Recipient, host_text, recipient_text};
 use enet_codec::Refusal;
-use enet_network::Answer;
 use enet_text::{bytes_text, event_text, peer_text, received_text, refusal_text};
+use law_network::Answer;
 use std::alloc::{AllocError, Global};
 
 /// The text of what a host answered to an event. Where it put a datagram out, `datagram` has its bytes, and `to` is

@@ -8,7 +8,7 @@ use crate::line::Line;
 use bytes::Bytes;
 use enet_codec::{DisconnectMode, PeerRef};
 use enet_fleet::{FleetEvent, Node};
-use enet_network::WorldEvent;
+use law_network::WorldEvent;
 
 impl Host {
     /// Its user asks for a connection; None for a server, which doesn't.

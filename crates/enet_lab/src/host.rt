@@ -6,8 +6,8 @@ ghost use Rattle.enet_lab.specs.Hosts.{side_named, client_named, node_named, hos
 
 use enet_codec::Addr;
 use enet_fleet::Node;
-use enet_network::Side;
 use enet_text::{address_text, u16_of};
+use law_network::Side;
 use std::alloc::{AllocError, Global};
 
 /// A host, whose name tells of which kind of network it is.

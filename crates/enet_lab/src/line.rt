@@ -7,11 +7,11 @@ ghost use Rattle.enet_lab.specs.EnetLines.{mode_named, pair_of, open_of, fleet_o
 use crate::host::{host_named, is, node_named, side_named};
 use enet_codec::{Addr, DisconnectMode};
 use enet_fleet::FleetEvent;
-use enet_network::WorldEvent;
 use enet_text::{
     bytes_of, five, four, id_of, ip_of, one, peer_of, three, two, u8_of, u16_of, u32_of, u64_of,
     word,
 };
+use law_network::WorldEvent;
 use std::alloc::{AllocError, Global};
 
 /// What a line spells.

@@ -14,8 +14,8 @@ use crate::step::{fleet_step, world_step};
 use crate::{Line, read_line};
 use enet_codec::{Config, Refusal};
 use enet_fleet::FleetEvent;
-use enet_network::WorldEvent;
 use enet_text::refusal_text;
+use law_network::WorldEvent;
 use std::alloc::Global;
 use std::mem::replace;
 

@@ -8,8 +8,8 @@ ghost use Rattle.enet_lab.specs.Lines.{FleetSteps, StepsTo, WorldSteps, bytes_sh
 use crate::{Host, Recipient, outcome_text};
 use enet_codec::{Addr, Refusal};
 use enet_fleet::{Fleet, FleetEvent, Node, node_of};
-use enet_network::{Answer, Side, WorldEvent};
 use enet_world::{World, side_of};
+use law_network::{Answer, Side, WorldEvent};
 use std::alloc::{AllocError, Global};
 
 /// Makes one event happen in a world, and gives the text of its answer.

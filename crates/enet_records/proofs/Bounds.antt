@@ -1,15 +1,15 @@
 -- The numbers of an end stay below their bound.
 use Rattle.std.proofs.Common.{◌≡◌, ℕ, zero, suc, ◌+◌, ◌*◌, ◌^◌, ◌<◌, ◌≤◌, List, [], ◌∷◌, ◌++◌, length, take, Option, Some, None, option_to_list, slice_set, refl, ap, subst, inl, inr, ◌⊎◌, arith}
 use Rattle.std.proofs.lemmas.List.{length-take}
-use Rattle.enet_connection.specs.Greatest.{greatest_after}
-use Rattle.enet_connection.proofs.Greatest.{step}
-use Rattle.enet_network.specs.declared.mark.Mark.{Mark}
-use Rattle.enet_network.specs.declared.mark.MarkKind.{MarkKind}
-use Rattle.enet_network.specs.declared.mark.MarkKind.TheVariants.{Data, Acknowledgement, Control}
-use Rattle.enet_network.specs.Log.{greatest_at, with_number, counted_by, counted, counted_all}
-use Rattle.enet_network.specs.Marks.{mark_of, MarksOf, MarksIn, Counts}
-use Rattle.enet_network.proofs.Counting.{number-there, number-other}
-use Rattle.enet_network.proofs.Keeping.{equal-or-not}
+use Rattle.law_connection.specs.Greatest.{greatest_after}
+use Rattle.law_connection.proofs.Greatest.{step}
+use Rattle.law_network.specs.declared.mark.Mark.{Mark}
+use Rattle.law_network.specs.declared.mark.MarkKind.{MarkKind}
+use Rattle.law_network.specs.declared.mark.MarkKind.TheVariants.{Data, Acknowledgement, Control}
+use Rattle.law_network.specs.Log.{greatest_at, with_number, counted_by, counted, counted_all}
+use Rattle.law_network.specs.Marks.{mark_of, MarksOf, MarksIn, Counts}
+use Rattle.law_network.proofs.Counting.{number-there, number-other}
+use Rattle.law_network.proofs.Keeping.{equal-or-not}
 use Rattle.enet_records.specs.Records.{AreBelow}
 
 -- by each command a number rises by less than 2 ^ 15

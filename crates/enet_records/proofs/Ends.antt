@@ -5,9 +5,9 @@ use Rattle.std.proofs.lemmas.Bool.Decides.{nat_tests}
 use Rattle.std.proofs.lemmas.List.Quantifiers.{position-Some}
 use Rattle.std.proofs.lemmas.Option.{slice_get-get_or}
 use Rattle.enet_codec.specs.declared.event.PeerRef.{PeerRef}
-use Rattle.enet_connection.specs.LinkSteps.{Has}
-use Rattle.enet_network.specs.Network.{HostEnd, is_same_name, with_end, end_of}
-use Rattle.enet_connection.proofs.Lists.{Has-slice_get}
+use Rattle.law_connection.specs.LinkSteps.{Has}
+use Rattle.law_network.specs.Network.{HostEnd, is_same_name, with_end, end_of}
+use Rattle.law_connection.proofs.Lists.{Has-slice_get}
 use Rattle.enet_records.specs.Records.{AreApart, HasEnd}
 use Rattle.enet_records.proofs.Places.{none-passes}
 

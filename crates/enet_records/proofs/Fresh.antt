@@ -1,10 +1,10 @@
 -- What is kept of a host at first.
 use Rattle.std.proofs.Common.{◌≡◌, ℕ, zero, suc, ◌+◌, ◌*◌, ◌^◌, ◌<◌, List, [], ◌∷◌, ◌++◌, length, replicate, Some, None, Option, refl, sym, ap, subst, ◌∙◌, inl, inr, arith}
 use Rattle.enet_codec.specs.declared.event.PeerRef.{PeerRef}
-use Rattle.enet_connection.specs.LinkSteps.{Has}
-use Rattle.enet_network.specs.Log.{Logged, ChannelPackets, no_packets, fresh_channels, fresh_greatest, joined_greatest, greatest_at}
-use Rattle.enet_network.specs.Network.{HostEnd, fresh_end}
-use Rattle.enet_network.specs.World.{joined_end}
+use Rattle.law_connection.specs.LinkSteps.{Has}
+use Rattle.law_network.specs.Log.{Logged, ChannelPackets, no_packets, fresh_channels, fresh_greatest, joined_greatest, greatest_at}
+use Rattle.law_network.specs.Network.{HostEnd, fresh_end}
+use Rattle.law_network.specs.World.{joined_end}
 use Rattle.enet_records.specs.Records.{first_numbers, AreBelow, IsKept, AreApart, AreKept}
 
 pub channels-of : (n : ℕ) (all : List ChannelPackets) → n ≡ 256 → all ≡ replicate n no_packets → all ≡ fresh_channels

@@ -6,13 +6,13 @@ use Rattle.enet_codec.specs.declared.event.Event.{Event}
 use Rattle.enet_codec.specs.declared.event.Event.TheVariants as events
 use Rattle.enet_codec.specs.declared.event.PeerRef.{PeerRef}
 use Rattle.enet_codec.specs.declared.packet.Packet.{Packet}
-use Rattle.enet_connection.specs.LinkSteps.{Has}
-use Rattle.enet_connection.proofs.Lists.{Has-push_cases, Has-slice_get}
-use Rattle.enet_connection.proofs.Emits.{Has-from_map}
-use Rattle.enet_network.specs.Log.{Logged, packets_at, with_submitted_packet, with_taken}
-use Rattle.enet_network.specs.Network.{HostEnd, is_same_name, with_end}
-use Rattle.enet_network.specs.Steps.{with_packet, with_event}
-use Rattle.enet_network.proofs.Counting.{counted-long}
+use Rattle.law_connection.specs.LinkSteps.{Has}
+use Rattle.law_connection.proofs.Lists.{Has-push_cases, Has-slice_get}
+use Rattle.law_connection.proofs.Emits.{Has-from_map}
+use Rattle.law_network.specs.Log.{Logged, packets_at, with_submitted_packet, with_taken}
+use Rattle.law_network.specs.Network.{HostEnd, is_same_name, with_end}
+use Rattle.law_network.specs.Steps.{with_packet, with_event}
+use Rattle.law_network.proofs.Counting.{counted-long}
 use Rattle.enet_records.specs.Records.{AreBelow, IsKept, AreApart, AreKept, Notes}
 use Rattle.enet_records.proofs.Bounds.{below-after}
 use Rattle.enet_records.proofs.Places.{has-set}

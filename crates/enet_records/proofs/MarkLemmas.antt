@@ -2,9 +2,9 @@
 use Rattle.std.proofs.Common.{◌≡◌, ℕ, zero, suc, List, [], ◌++◌, take, drop, option_to_list, refl, subst, sym, inl, inr, append-nil}
 use Rattle.std.proofs.lemmas.List.{take-append-drop}
 use Rattle.enet_codec.specs.Message.{Message, Spells}
-use Rattle.enet_network.specs.declared.mark.Mark.{Mark}
+use Rattle.law_network.specs.declared.mark.Mark.{Mark}
 use Rattle.enet_peer.specs.Handling.{SpellsNone}
-use Rattle.enet_network.specs.Marks.{mark_of, MarksOf}
+use Rattle.law_network.specs.Marks.{mark_of, MarksOf}
 
 -- none is left
 pub marks-none : (most : ℕ) (bytes : List ℕ) → SpellsNone bytes → MarksOf most bytes []

@@ -4,11 +4,11 @@ use Rattle.enet_codec.specs.declared.address.Addr.{Addr}
 use Rattle.enet_codec.specs.declared.event.PeerRef.{PeerRef}
 use Rattle.enet_codec.specs.declared.header.Header.{Header}
 use Rattle.enet_peer.specs.Heading.{IsRead}
-use Rattle.enet_connection.specs.LinkSteps.{Has}
-use Rattle.enet_network.specs.declared.mark.Mark.{Mark}
-use Rattle.enet_network.specs.Log.{Logged, greatest_at}
-use Rattle.enet_network.specs.Marks.{Counts}
-use Rattle.enet_network.specs.Network.{HostEnd, with_end}
+use Rattle.law_connection.specs.LinkSteps.{Has}
+use Rattle.law_network.specs.declared.mark.Mark.{Mark}
+use Rattle.law_network.specs.Log.{Logged, greatest_at}
+use Rattle.law_network.specs.Marks.{Counts}
+use Rattle.law_network.specs.Network.{HostEnd, with_end}
 
 pub record Records : Type 0 where
   pub log : List Logged

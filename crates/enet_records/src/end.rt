@@ -3,9 +3,9 @@
 ghost use Rattle.std.specs.Prelude.{◌≡◌, ◌==◌, ◌<◌, length, IfSome};
 ghost use Rattle.std.specs.Option.{option_copied};
 ghost use Rattle.std.specs.List.{position};
-ghost use Rattle.enet_network.specs.Log.{packets_at};
-ghost use Rattle.enet_network.specs.Network.{HostEnd, is_same_name, end_of, numbers_in};
-ghost use Rattle.enet_network.specs.Headline.{submitted_at, taken_at, events_at};
+ghost use Rattle.law_network.specs.Log.{packets_at};
+ghost use Rattle.law_network.specs.Network.{HostEnd, is_same_name, end_of, numbers_in};
+ghost use Rattle.law_network.specs.Headline.{submitted_at, taken_at, events_at};
 
 use enet_codec::{Event, Packet, PeerRef};
 use std::marker::Model;
@@ -20,7 +20,7 @@ pub struct Channel {
 }
 
 impl Model for Channel {
-    ghost use Rattle.enet_network.specs.Log.{ChannelPackets};
+    ghost use Rattle.law_network.specs.Log.{ChannelPackets};
 
     ghost Value = { ChannelPackets };
 
@@ -46,7 +46,7 @@ pub struct End {
 }
 
 impl Model for End {
-    ghost use Rattle.enet_network.specs.Network.{HostEnd};
+    ghost use Rattle.law_network.specs.Network.{HostEnd};
 
     ghost Value = { HostEnd };
 

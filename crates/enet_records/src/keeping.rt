@@ -3,8 +3,8 @@
 ghost use Rattle.std.specs.Prelude.{◌≡◌, OnOk, OnErr, IfOk, IfErr, IsTrue};
 ghost use Rattle.std.specs.Bool.{OnFalse};
 ghost use Rattle.enet_codec.specs.declared.event.Event.TheVariants as events;
-ghost use Rattle.enet_network.specs.Log.{with_packets, with_taken};
-ghost use Rattle.enet_network.specs.Steps.{with_event};
+ghost use Rattle.law_network.specs.Log.{with_packets, with_taken};
+ghost use Rattle.law_network.specs.Steps.{with_event};
 
 use crate::end::{Channel, End};
 use enet_codec::{Event, Packet, Refusal};

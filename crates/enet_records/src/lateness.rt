@@ -1,15 +1,15 @@
 //! Whether a datagram comes too late.
 
 ghost use Rattle.std.specs.Prelude.{◌≡◌};
-ghost use Rattle.enet_connection.specs.Link.{number_below};
-ghost use Rattle.enet_network.specs.Lateness.{is_late_command, has_late};
-ghost use Rattle.enet_network.specs.Log.{greatest_at};
-ghost use Rattle.enet_network.specs.Network.{numbers_in, end_of};
+ghost use Rattle.law_connection.specs.Link.{number_below};
+ghost use Rattle.law_network.specs.Lateness.{is_late_command, has_late};
+ghost use Rattle.law_network.specs.Log.{greatest_at};
+ghost use Rattle.law_network.specs.Network.{numbers_in, end_of};
 
 use crate::end::{End, numbers_of};
 use crate::numbers::greatest_at;
-use enet_network::{Mark, MarkKind};
 use enet_seq::ahead;
+use law_network::{Mark, MarkKind};
 
 /// By how many numbers a command may be late.
 const LATEST: u128 = 32_768;

@@ -1,6 +1,6 @@
 //! What is kept of a host in a network: the datagrams that it put out, each with its connection and the marks of its commands,
 //! and its ends of connections, each with what its user submitted and took and how far its numbers have come. The definitions
-//! are those of `enet_network`; no host is named here. What is around one is asked by the trait `Around`. Want of memory changes
+//! are those of `law_network`; no host is named here. What is around one is asked by the trait `Around`. Want of memory changes
 //! nothing.
 //!
 //! Proved, without a premise but those that are named: `Records::open`, `Records::joined` and `fresh_end` give the stated first

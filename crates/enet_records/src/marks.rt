@@ -2,10 +2,10 @@
 
 ghost use Rattle.std.specs.Prelude.{◌≡◌, ◌+◌, ◌≤◌, ◌<◌, [], ◌++◌, drop, length, option_to_list, vec_len, vec_capacity};
 ghost use Rattle.enet_codec.specs.Message.{view};
-ghost use Rattle.enet_network.specs.Marks.{mark_as, mark_of, MarksOf, MarksIn};
+ghost use Rattle.law_network.specs.Marks.{mark_as, mark_of, MarksOf, MarksIn};
 
 use enet_codec::{Command, read_command, read_header};
-use enet_network::{Mark, MarkKind};
+use law_network::{Mark, MarkKind};
 
 /// At most so many commands stand in a datagram that is put out, so it has at most so many marks.
 pub const MAX_COMMANDS: usize = 32;

@@ -1,13 +1,13 @@
 //! The greatest numbers that an end of a connection has sent, by channel.
 
 ghost use Rattle.std.specs.Prelude.{◌≡◌, ◌+◌, ◌≤◌, ◌<◌, ◌^◌, [], length, map, vec_len, vec_capacity};
-ghost use Rattle.enet_network.specs.Log.{greatest_at, counted, counted_all, reached};
-ghost use Rattle.enet_network.specs.Marks.{Counts};
+ghost use Rattle.law_network.specs.Log.{greatest_at, counted, counted_all, reached};
+ghost use Rattle.law_network.specs.Marks.{Counts};
 ghost use Rattle.enet_records.specs.Records.{AreBelow};
 
 use crate::marks::read_marks;
-use enet_network::{Mark, MarkKind};
 use enet_seq::ahead;
+use law_network::{Mark, MarkKind};
 
 /// The greatest number sent on a channel.
 pub(crate) fn greatest_at(greatest: &[u128], channel: u8) -> u128

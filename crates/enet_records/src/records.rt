@@ -4,16 +4,16 @@ ghost use Rattle.std.specs.Prelude.{◌≡◌, ℕ, ◌+◌, ◌<◌, ◌≤◌,
 ghost use Rattle.std.specs.Option.{option_copied};
 ghost use Rattle.enet_codec.specs.declared.header.Header.{Header};
 ghost use Rattle.enet_peer.specs.Heading.{IsRead};
-ghost use Rattle.enet_connection.specs.LinkSteps.{Has};
-ghost use Rattle.enet_network.specs.Network.{HostEnd};
+ghost use Rattle.law_connection.specs.LinkSteps.{Has};
+ghost use Rattle.law_network.specs.Network.{HostEnd};
 ghost use Rattle.enet_records.specs.Records.{AreBelow, AreApart, HasEnd, Notes};
 
 use crate::around::Around;
 use crate::end::{End, position_of};
 use crate::numbers::marks_of;
 use enet_codec::{Addr, PeerRef};
-use enet_network::Mark;
 use enet_peer::read_heading;
+use law_network::Mark;
 use std::marker::Model;
 
 /// A datagram that was put out.
@@ -32,7 +32,7 @@ pub struct Datagram {
 }
 
 impl Model for Datagram {
-    ghost use Rattle.enet_network.specs.Log.{Logged};
+    ghost use Rattle.law_network.specs.Log.{Logged};
 
     ghost Value = { Logged };
 

@@ -8,11 +8,11 @@ use Rattle.enet_codec.specs.declared.refusal.Refusal.{Refusal}
 use Rattle.enet_sender.specs.CommandChoice.{Packet}
 use Rattle.enet_host.specs.Host.{Host}
 use Rattle.enet_slot.specs.Giving.{no_address}
-use Rattle.enet_network.specs.Calls.{Call, Done, Acts}
-use Rattle.enet_network.specs.Calls as call
-use Rattle.enet_network.specs.Network.{Site, delivery_refusal}
-use Rattle.enet_network.specs.Steps.{Calls, Hears, beside, Happens, Called, BringsOne}
-use Rattle.enet_network.specs.World.{IsRefusedFor, RefusesCall}
+use Rattle.law_network.specs.Calls.{Call, Done, Acts}
+use Rattle.law_network.specs.Calls as call
+use Rattle.law_network.specs.Network.{Site, delivery_refusal}
+use Rattle.law_network.specs.Steps.{Calls, Hears, beside, Happens, Called, BringsOne}
+use Rattle.law_network.specs.World.{IsRefusedFor, RefusesCall}
 use Rattle.enet_records.specs.Records.{Records}
 use Rattle.enet_site.specs.Sites.{site, IsWhole, CallsAt}
 use Rattle.enet_site.specs.Private.Sites.{CallsOn}

@@ -10,23 +10,23 @@ use Rattle.enet_codec.specs.declared.header.Header.{Header}
 use Rattle.enet_peer.specs.Heading.{IsRead}
 use Rattle.enet_peer.specs.declared.parts.PeerState.{PeerState}
 use Rattle.enet_peer.specs.Peering.{Peering}
-use Rattle.enet_connection.specs.LinkSteps.{Has}
+use Rattle.law_connection.specs.LinkSteps.{Has}
 use Rattle.enet_slot.specs.Slot.{SlotState, name_of}
 use Rattle.enet_host.specs.Host.{Host, named, peer_in, with_generation}
 use Rattle.enet_host.specs.Opening.{available, no_channel, no_slot, no_memory}
 use Rattle.enet_host.specs.Foretelling.{next_name}
 use Rattle.enet_slot.specs.Hearing.{no_peer}
-use Rattle.enet_network.specs.Calls.{Call, Acts}
-use Rattle.enet_network.specs.Calls as call
-use Rattle.enet_network.specs.Common.{common_of}
-use Rattle.enet_network.specs.Falling as falling
-use Rattle.enet_network.specs.IsolationLaw.{Fares, untouched, goes_on, begins}
-use Rattle.enet_network.proofs.OneCall.{one-call}
-use Rattle.enet_network.proofs.Receiving.{is_open}
-use Rattle.enet_network.specs.Network.{HostEnd, fresh_end}
-use Rattle.enet_network.specs.Steps.{end_in, end_in_slot, begun_in, begun}
-use Rattle.enet_network.proofs.Beginnings.{free-there}
-use Rattle.enet_network.proofs.Worlds.{IsFresh, not-fresh, kept-generation}
+use Rattle.law_network.specs.Calls.{Call, Acts}
+use Rattle.law_network.specs.Calls as call
+use Rattle.law_network.specs.Common.{common_of}
+use Rattle.law_network.specs.Falling as falling
+use Rattle.law_network.specs.IsolationLaw.{Fares, untouched, goes_on, begins}
+use Rattle.law_network.proofs.OneCall.{one-call}
+use Rattle.law_network.proofs.Receiving.{is_open}
+use Rattle.law_network.specs.Network.{HostEnd, fresh_end}
+use Rattle.law_network.specs.Steps.{end_in, end_in_slot, begun_in, begun}
+use Rattle.law_network.proofs.Beginnings.{free-there}
+use Rattle.law_network.proofs.Worlds.{IsFresh, not-fresh, kept-generation}
 use Rattle.enet_site.specs.Sites.{AreShown}
 use Rattle.enet_site.specs.Private.Sites.{begun_if}
 

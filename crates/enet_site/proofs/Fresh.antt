@@ -10,11 +10,11 @@ use Rattle.enet_slot.specs.Giving.{limits_of, unused_slot, joined_terms, given}
 use Rattle.enet_slot.specs.Slot.{SlotState}
 use Rattle.enet_host.specs.Host.{Host}
 use Rattle.enet_host.specs.Opening.{opened, joined}
-use Rattle.enet_network.proofs.IsolationKeeping.{each-keeps}
-use Rattle.enet_network.specs.Network.{HostEnd}
-use Rattle.enet_network.specs.Shown.{ShowsPeer}
-use Rattle.enet_network.specs.World.{joined_end}
-use Rattle.enet_network.proofs.Peers.{shows-held}
+use Rattle.law_network.proofs.IsolationKeeping.{each-keeps}
+use Rattle.law_network.specs.Network.{HostEnd}
+use Rattle.law_network.specs.Shown.{ShowsPeer}
+use Rattle.law_network.specs.World.{joined_end}
+use Rattle.law_network.proofs.Peers.{shows-held}
 use Rattle.enet_records.specs.Records.{Records}
 use Rattle.enet_site.specs.Sites.{AreShown, IsWhole}
 

@@ -3,23 +3,23 @@ use Rattle.std.proofs.Common.{◌≡◌, ℕ, refl, sym, ap, subst, ◌∙◌, i
 use Rattle.enet_codec.specs.declared.event.PeerRef.{PeerRef}
 use Rattle.enet_codec.specs.declared.refusal.Refusal.{Refusal}
 use Rattle.enet_peer.specs.Peering.{Peering}
-use Rattle.enet_connection.specs.LinkSteps.{Has}
+use Rattle.law_connection.specs.LinkSteps.{Has}
 use Rattle.enet_slot.specs.Slot.{SlotState}
 use Rattle.enet_host.specs.Host.{Host, Keeps}
 use Rattle.enet_slot.specs.Giving.{no_address}
 use Rattle.enet_host.specs.Opening.{available}
-use Rattle.enet_network.specs.Calls.{Call, Acts}
-use Rattle.enet_network.specs.Calls as call
-use Rattle.enet_network.proofs.IsolationKeeping.{each-keeps}
-use Rattle.enet_network.proofs.Names.{IsThere}
-use Rattle.enet_network.specs.Log.{Logged}
-use Rattle.enet_network.specs.Network.{HostEnd, Site}
-use Rattle.enet_network.specs.Shown.{ShowsPeer}
-use Rattle.enet_network.specs.Steps.{Around, Happening, Calls, Hears, HappensAmong, end_in, end_in_slot, begun_in}
-use Rattle.enet_network.proofs.Beginnings.{asked-in}
-use Rattle.enet_network.proofs.Growing.{more_of, more_in, Grows, grows, from-before}
-use Rattle.enet_network.proofs.Peers.{shows-held, is_gone, goes, Moved, moved}
-use Rattle.enet_network.proofs.Worlds.{some-acts}
+use Rattle.law_network.specs.Calls.{Call, Acts}
+use Rattle.law_network.specs.Calls as call
+use Rattle.law_network.proofs.IsolationKeeping.{each-keeps}
+use Rattle.law_network.proofs.Names.{IsThere}
+use Rattle.law_network.specs.Log.{Logged}
+use Rattle.law_network.specs.Network.{HostEnd, Site}
+use Rattle.law_network.specs.Shown.{ShowsPeer}
+use Rattle.law_network.specs.Steps.{Around, Happening, Calls, Hears, HappensAmong, end_in, end_in_slot, begun_in}
+use Rattle.law_network.proofs.Beginnings.{asked-in}
+use Rattle.law_network.proofs.Growing.{more_of, more_in, Grows, grows, from-before}
+use Rattle.law_network.proofs.Peers.{shows-held, is_gone, goes, Moved, moved}
+use Rattle.law_network.proofs.Worlds.{some-acts}
 use Rattle.enet_records.specs.Records.{Records}
 use Rattle.enet_site.specs.Sites.{site, AreShown, IsWhole}
 

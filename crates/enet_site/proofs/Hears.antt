@@ -10,11 +10,11 @@ use Rattle.enet_peer.specs.Heading.{IsRead}
 use Rattle.enet_host.specs.Host.{Host}
 use Rattle.enet_host.specs.Foretelling.{next_name}
 use Rattle.enet_slot.specs.Hearing.{no_peer}
-use Rattle.enet_network.specs.Calls.{Acts}
-use Rattle.enet_network.specs.Calls as call
-use Rattle.enet_network.specs.Log.{Logged}
-use Rattle.enet_network.specs.Network.{HostEnd, delivery_refusal}
-use Rattle.enet_network.specs.Steps.{BringsOne, Brought, begun}
+use Rattle.law_network.specs.Calls.{Acts}
+use Rattle.law_network.specs.Calls as call
+use Rattle.law_network.specs.Log.{Logged}
+use Rattle.law_network.specs.Network.{HostEnd, delivery_refusal}
+use Rattle.law_network.specs.Steps.{BringsOne, Brought, begun}
 use Rattle.enet_records.specs.Records.{Records}
 use Rattle.enet_site.specs.Sites.{site}
 use Rattle.enet_site.proofs.Beginning.{next-none, begun-none}

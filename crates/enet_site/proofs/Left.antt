@@ -6,11 +6,11 @@ use Rattle.enet_codec.specs.declared.event.PeerRef.{PeerRef}
 use Rattle.enet_codec.specs.declared.refusal.Refusal.{Refusal}
 use Rattle.enet_slot.specs.Slot.{SlotState}
 use Rattle.enet_host.specs.Host.{Host}
-use Rattle.enet_network.specs.Calls.{Done, Acts}
-use Rattle.enet_network.specs.Calls as call
-use Rattle.enet_network.specs.Network.{Site}
-use Rattle.enet_network.specs.Steps.{Calls, beside}
-use Rattle.enet_network.specs.World.{RefusesCall}
+use Rattle.law_network.specs.Calls.{Done, Acts}
+use Rattle.law_network.specs.Calls as call
+use Rattle.law_network.specs.Network.{Site}
+use Rattle.law_network.specs.Steps.{Calls, beside}
+use Rattle.law_network.specs.World.{RefusesCall}
 use Rattle.enet_records.specs.Records.{Records}
 use Rattle.enet_site.specs.Sites.{site, IsWhole, CallsAt}
 use Rattle.enet_site.proofs.Going.{whole-goes}

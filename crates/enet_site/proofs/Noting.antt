@@ -6,10 +6,10 @@ use Rattle.enet_codec.specs.declared.refusal.Refusal.{Refusal}
 use Rattle.enet_host.specs.Host.{Host}
 use Rattle.enet_host.specs.Serving.{Serves}
 use Rattle.enet_slot.specs.Giving.{no_address}
-use Rattle.enet_network.specs.Calls as call
-use Rattle.enet_network.specs.Log.{Logged}
-use Rattle.enet_network.specs.Network.{Site}
-use Rattle.enet_network.specs.Steps.{Around, Calls, LogsIf}
+use Rattle.law_network.specs.Calls as call
+use Rattle.law_network.specs.Log.{Logged}
+use Rattle.law_network.specs.Network.{Site}
+use Rattle.law_network.specs.Steps.{Around, Calls, LogsIf}
 use Rattle.enet_records.specs.Records.{Records, Notes}
 use Rattle.enet_site.specs.declared.put_out.Turned.{Turned}
 use Rattle.enet_site.specs.declared.put_out.Turned.TheVariants.{Sent, Away}

@@ -19,8 +19,8 @@ use Rattle.enet_host.specs.Host.{Host}
 use Rattle.enet_host.specs.Calls.{address_of, address_in, address_named}
 use Rattle.enet_slot.specs.Serving.{Gives as GivesSlot}
 use Rattle.enet_host.specs.Serving.{served_of, GivesInTurn, Serves}
-use Rattle.enet_network.proofs.Lists.{get-within}
-use Rattle.enet_network.proofs.Names.{IsThere, there-slot}
+use Rattle.law_network.proofs.Lists.{get-within}
+use Rattle.law_network.proofs.Names.{IsThere, there-slot}
 
 -- bit 14 of the word is bit 6 of the first byte
 low-bit : (p s b : ℕ) → p < 4096 → s < 4 → b < 2 → (p + 4096 * s + 2 ^ 14 * 0 + 2 ^ 15 * b) / 256 % 256 / 2 ^ 6 % 2 ≡ 0

@@ -1,8 +1,8 @@
 -- Why a delivery is refused, test by test.
 use Rattle.std.proofs.Common.{◌≡◌, Bool, true, false, cond, sym, ap, subst, Option, Some, None}
 use Rattle.enet_codec.specs.declared.refusal.Refusal.TheVariants.{Late, Earlier}
-use Rattle.enet_network.specs.Log.{Logged}
-use Rattle.enet_network.specs.Network.{Site, is_earlier, is_late, delivery_refusal}
+use Rattle.law_network.specs.Log.{Logged}
+use Rattle.law_network.specs.Network.{Site, is_earlier, is_late, delivery_refusal}
 
 pub earlier-at : (from to : Site) (found : Option Logged) (d : Logged) → Some d ≡ found → is_earlier to from.address d ≡ true → Some Earlier ≡ delivery_refusal from to found
 earlier-at from to found d is so =

@@ -5,14 +5,14 @@ use Rattle.enet_codec.specs.declared.event.PeerRef.{PeerRef}
 use Rattle.enet_codec.specs.declared.packet.Packet.{Packet}
 use Rattle.enet_codec.specs.declared.refusal.Refusal.{Refusal}
 use Rattle.enet_sender.specs.CommandChoice as command_choice
-use Rattle.enet_connection.specs.Law.{mtu_in}
+use Rattle.law_connection.specs.Law.{mtu_in}
 use Rattle.enet_host.specs.Host.{Host, named}
 use Rattle.enet_host.specs.Foretelling.{refusal_of}
-use Rattle.enet_network.specs.Calls.{Done, Acts}
-use Rattle.enet_network.specs.Calls as call
-use Rattle.enet_network.specs.Log.{Logged}
-use Rattle.enet_network.specs.Network.{HostEnd, is_same_name, with_end}
-use Rattle.enet_network.specs.Steps.{with_packet}
+use Rattle.law_network.specs.Calls.{Done, Acts}
+use Rattle.law_network.specs.Calls as call
+use Rattle.law_network.specs.Log.{Logged}
+use Rattle.law_network.specs.Network.{HostEnd, is_same_name, with_end}
+use Rattle.law_network.specs.Steps.{with_packet}
 use Rattle.enet_records.specs.Records.{Records, IsKept, AreApart, AreKept}
 use Rattle.enet_records.proofs.Ends.{Placed, placed-some, with-one, with-none}
 use Rattle.enet_records.proofs.Keeps.{kept-set, packet-kept}

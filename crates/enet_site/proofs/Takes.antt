@@ -9,10 +9,10 @@ use Rattle.enet_codec.specs.declared.refusal.Refusal.{Refusal}
 use Rattle.enet_host.specs.Host.{Host}
 use Rattle.enet_host.specs.Calls.{Takes}
 use Rattle.enet_host.specs.Foretelling.{teller_of, packet_of, Foretells}
-use Rattle.enet_network.specs.Calls as call
-use Rattle.enet_network.specs.Log.{Logged}
-use Rattle.enet_network.specs.Network.{HostEnd, is_same_name, with_end}
-use Rattle.enet_network.specs.Steps.{with_event, after_event}
+use Rattle.law_network.specs.Calls as call
+use Rattle.law_network.specs.Log.{Logged}
+use Rattle.law_network.specs.Network.{HostEnd, is_same_name, with_end}
+use Rattle.law_network.specs.Steps.{with_event, after_event}
 use Rattle.enet_records.specs.Records.{Records, IsKept, AreApart, AreKept}
 use Rattle.enet_records.proofs.Ends.{Placed, with-one, with-none}
 use Rattle.enet_records.proofs.Keeps.{kept-set, event-kept}

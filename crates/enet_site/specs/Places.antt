@@ -3,7 +3,7 @@ use Rattle.std.specs.Prelude.{ℕ, ◌+◌, List, [], ◌∷◌}
 use Rattle.enet_codec.specs.declared.address.Addr.{Addr}
 use Rattle.enet_codec.specs.declared.config.Config.{Config}
 use Rattle.enet_host.specs.Opening.{opened}
-use Rattle.enet_network.specs.Network.{Site}
+use Rattle.law_network.specs.Network.{Site}
 pub use Rattle.enet_site.specs.declared.put_out.Sent.{Sent}
 pub use Rattle.enet_site.specs.declared.put_out.Sent.TheVariants.{Of, Away}
 

@@ -2,12 +2,12 @@
 use Rattle.std.specs.Prelude.{ℕ, List}
 use Rattle.enet_codec.specs.declared.address.Addr.{Addr}
 use Rattle.enet_peer.specs.Peering.{Peering}
-use Rattle.enet_connection.specs.LinkSteps.{Has}
+use Rattle.law_connection.specs.LinkSteps.{Has}
 use Rattle.enet_host.specs.Host.{Host, Keeps}
-use Rattle.enet_network.specs.Calls.{Call}
-use Rattle.enet_network.specs.Network.{HostEnd, Site}
-use Rattle.enet_network.specs.Shown.{ShowsPeer}
-use Rattle.enet_network.specs.Steps.{Calls, Happens}
+use Rattle.law_network.specs.Calls.{Call}
+use Rattle.law_network.specs.Network.{HostEnd, Site}
+use Rattle.law_network.specs.Shown.{ShowsPeer}
+use Rattle.law_network.specs.Steps.{Calls, Happens}
 use Rattle.enet_records.specs.Records.{Records}
 
 abbrev pub site : Addr → Host → Records → Site

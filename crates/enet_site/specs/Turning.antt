@@ -2,9 +2,9 @@
 use Rattle.std.specs.Prelude.{◌≡◌, ℕ, Bool, true, false, List, length, take, Option, Some, None}
 use Rattle.enet_codec.specs.declared.address.Addr.{Addr}
 use Rattle.enet_codec.specs.declared.event.PeerRef.{PeerRef}
-use Rattle.enet_network.specs.Calls as call
-use Rattle.enet_network.specs.Network.{Site}
-use Rattle.enet_network.specs.Steps.{Calls, HappensAmong}
+use Rattle.law_network.specs.Calls as call
+use Rattle.law_network.specs.Network.{Site}
+use Rattle.law_network.specs.Steps.{Calls, HappensAmong}
 use Rattle.enet_site.specs.declared.put_out.Turned.{Turned}
 use Rattle.enet_site.specs.declared.put_out.Turned.TheVariants.{Sent, Away}
 

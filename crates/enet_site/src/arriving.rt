@@ -8,11 +8,11 @@ ghost use Rattle.enet_peer.specs.Heading.{IsRead};
 ghost use Rattle.enet_host.specs.Host.{Host};
 ghost use Rattle.enet_host.specs.Foretelling.{next_name};
 ghost use Rattle.enet_slot.specs.Hearing.{no_peer};
-ghost use Rattle.enet_network.specs.Calls.{Acts};
-ghost use Rattle.enet_network.specs.Calls as call;
-ghost use Rattle.enet_network.specs.Network.{delivery_refusal};
-ghost use Rattle.enet_network.specs.Steps.{BringsOne, Brought, begun};
-ghost use Rattle.enet_network.specs.World.{IsRefusedFor};
+ghost use Rattle.law_network.specs.Calls.{Acts};
+ghost use Rattle.law_network.specs.Calls as call;
+ghost use Rattle.law_network.specs.Network.{delivery_refusal};
+ghost use Rattle.law_network.specs.Steps.{BringsOne, Brought, begun};
+ghost use Rattle.law_network.specs.World.{IsRefusedFor};
 ghost use Rattle.enet_site.specs.Sites.{site, IsWhole};
 ghost use Rattle.enet_site.specs.Private.Sites.{begun_if};
 

@@ -3,8 +3,8 @@
 ghost use Rattle.std.specs.Prelude.{◌≡◌, ℕ, Some, Ok, Err, IfSome, IfNone, IfOk, IfErr, OnErr};
 ghost use Rattle.enet_codec.specs.declared.address.Addr.{Addr};
 ghost use Rattle.enet_host.specs.Foretelling.{next_name};
-ghost use Rattle.enet_network.specs.Calls.{Acts};
-ghost use Rattle.enet_network.specs.Calls as call;
+ghost use Rattle.law_network.specs.Calls.{Acts};
+ghost use Rattle.law_network.specs.Calls as call;
 ghost use Rattle.enet_site.specs.Sites.{IsWhole};
 ghost use Rattle.enet_site.specs.Private.Sites.{CallsOn};
 

@@ -1,7 +1,7 @@
 //! A user ends a connection.
 
-ghost use Rattle.enet_network.specs.Calls.{Acts};
-ghost use Rattle.enet_network.specs.Calls as call;
+ghost use Rattle.law_network.specs.Calls.{Acts};
+ghost use Rattle.law_network.specs.Calls as call;
 
 use enet_codec::{DisconnectMode, PeerRef, Refusal};
 use enet_host::HostCore;

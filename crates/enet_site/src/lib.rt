@@ -1,6 +1,6 @@
 //! A host in a network, at its address, with all that is kept of it: the datagrams of connections that it put out, each with the
 //! marks of its commands, and its ends of connections. Around it are other hosts, and strangers. The definitions are those of
-//! `enet_network`.
+//! `law_network`.
 //!
 //! Proved, without a premise but the one that is named: `open` and `joined` give the stated first state, and refuse as stated. Each
 //! call is one thing that happens at the host by the network's definition, or is refused as the network's events are, with nothing

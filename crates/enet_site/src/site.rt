@@ -4,11 +4,11 @@ ghost use Rattle.std.specs.Prelude.{◌≡◌, ◌<◌, ◌^◌, ℕ, [], length
 ghost use Rattle.std.specs.Option.{option_copied, option_map};
 ghost use Rattle.enet_codec.specs.Config.{is_in_range};
 ghost use Rattle.enet_host.specs.Opening.{opened, joined};
-ghost use Rattle.enet_network.specs.Headline.{AreEnds, submitted_at, taken_at, events_at};
-ghost use Rattle.enet_network.specs.Network.{end_of, delivery_refusal};
-ghost use Rattle.enet_network.specs.Calls as call;
-ghost use Rattle.enet_network.specs.Steps.{Calls, Hears, Happens, Called};
-ghost use Rattle.enet_network.specs.World.{joined_end, IsRefusedFor, RefusesCall};
+ghost use Rattle.law_network.specs.Headline.{AreEnds, submitted_at, taken_at, events_at};
+ghost use Rattle.law_network.specs.Network.{end_of, delivery_refusal};
+ghost use Rattle.law_network.specs.Calls as call;
+ghost use Rattle.law_network.specs.Steps.{Calls, Hears, Happens, Called};
+ghost use Rattle.law_network.specs.World.{joined_end, IsRefusedFor, RefusesCall};
 ghost use Rattle.enet_site.specs.Sites.{CallsAt};
 ghost use Rattle.enet_site.specs.Turning.{TurnsAmong};
 
@@ -37,7 +37,7 @@ pub struct Site {
 }
 
 impl Model for Site {
-    ghost use Rattle.enet_network.specs.Network.{Site};
+    ghost use Rattle.law_network.specs.Network.{Site};
     ghost use Rattle.enet_site.specs.Sites.{site, IsWhole};
     ghost use Rattle.std.specs.Coded.{codes};
     ghost use Rattle.enet_inbox.specs.Codes.{inbox_code};
@@ -269,7 +269,7 @@ impl Site {
 
 /// Of the two hosts of a pair, each has the other around it alone: no stranger is there.
 impl Around for Site {
-    ghost use Rattle.enet_network.specs.Network.{numbers_of};
+    ghost use Rattle.law_network.specs.Network.{numbers_of};
 
     ghost hosts = { λ site address. true };
 

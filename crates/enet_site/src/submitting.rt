@@ -1,13 +1,13 @@
 //! A user submits a packet.
 
 ghost use Rattle.std.specs.Prelude.{◌≡◌, ◌<◌, true, is_ok, length, Ok, Err, IfOk, IfErr, OnErr};
-ghost use Rattle.enet_connection.specs.Law.{mtu_in};
+ghost use Rattle.law_connection.specs.Law.{mtu_in};
 ghost use Rattle.enet_host.specs.Host.{named};
 ghost use Rattle.enet_slot.specs.Calls.{submission};
 ghost use Rattle.enet_host.specs.Calls.{on_named};
-ghost use Rattle.enet_network.specs.Calls.{Acts};
-ghost use Rattle.enet_network.specs.Calls as call;
-ghost use Rattle.enet_network.specs.Steps.{with_packet};
+ghost use Rattle.law_network.specs.Calls.{Acts};
+ghost use Rattle.law_network.specs.Calls as call;
+ghost use Rattle.law_network.specs.Steps.{with_packet};
 ghost use Rattle.enet_site.specs.Sites.{IsWhole};
 ghost use Rattle.enet_site.specs.Private.Sites.{CallsOn};
 

@@ -3,7 +3,7 @@
 ghost use Rattle.std.specs.Prelude.{◌≡◌, Some, None, IfSome, IfNone, IfOk, IfErr, OnErr};
 ghost use Rattle.enet_host.specs.Calls.{Takes};
 ghost use Rattle.enet_host.specs.Foretelling.{teller_of, packet_of, Foretells};
-ghost use Rattle.enet_network.specs.Calls as call;
+ghost use Rattle.law_network.specs.Calls as call;
 ghost use Rattle.enet_site.specs.Sites.{IsWhole};
 ghost use Rattle.enet_site.specs.Private.Sites.{CallsOn, told};
 

@@ -1,7 +1,7 @@
 //! A host may put out a datagram.
 
 ghost use Rattle.std.specs.Prelude.{◌≡◌, ◌+◌, ◌≤◌, [], vec_len, vec_capacity, IfSome, IfNone, IfOk, IfErr, OnErr};
-ghost use Rattle.enet_network.specs.Headline.{AreEnds};
+ghost use Rattle.law_network.specs.Headline.{AreEnds};
 ghost use Rattle.enet_site.specs.Private.Sites.{with_ends};
 ghost use Rattle.enet_site.specs.Private.Turning.{Rests, Gives, Turns};
 

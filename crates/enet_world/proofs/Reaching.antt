@@ -1,12 +1,12 @@
 -- The worlds that are reached.
 use Rattle.std.proofs.Common.{Bool, true, false, [], ◌∷◌, ◌++◌, Result}
 use Rattle.enet_codec.specs.declared.refusal.Refusal.{Refusal}
-use Rattle.enet_network.specs.declared.event.Answer.{Answer}
-use Rattle.enet_network.specs.declared.event.WorldEvent.{WorldEvent}
-use Rattle.enet_network.specs.Headline.{HasHeadline}
-use Rattle.enet_network.specs.Law.{OfEachList, OfEachJoinedList}
-use Rattle.enet_network.specs.World.{World, Steps}
-use Rattle.enet_network.proofs.Running.{runs-push}
+use Rattle.law_network.specs.declared.event.Answer.{Answer}
+use Rattle.law_network.specs.declared.event.WorldEvent.{WorldEvent}
+use Rattle.law_network.specs.Headline.{HasHeadline}
+use Rattle.law_network.specs.Law.{OfEachList, OfEachJoinedList}
+use Rattle.law_network.specs.World.{World, Steps}
+use Rattle.law_network.proofs.Running.{runs-push}
 use Rattle.enet_world.specs.Worlds.{IsReached, first}
 
 pub reached-step : (joined : Bool) (w v : World) (e : WorldEvent) (x : Result Answer Refusal) → IsReached joined w → Steps w e x v → IsReached joined v

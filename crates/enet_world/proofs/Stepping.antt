@@ -4,16 +4,16 @@ use Rattle.enet_codec.specs.declared.event.DisconnectMode.{DisconnectMode}
 use Rattle.enet_codec.specs.declared.event.Event.{Event}
 use Rattle.enet_codec.specs.declared.event.PeerRef.{PeerRef}
 use Rattle.enet_codec.specs.declared.event.Received.{Received}
-use Rattle.enet_network.specs.Calls as call
-use Rattle.enet_network.specs.declared.event.Answer.{Answer}
-use Rattle.enet_network.specs.declared.event.Answer.TheVariants as answers
-use Rattle.enet_network.specs.declared.event.Side.{Side}
-use Rattle.enet_network.specs.declared.event.Side.TheVariants.{A, B}
-use Rattle.enet_network.specs.declared.event.WorldEvent.{WorldEvent}
-use Rattle.enet_network.specs.declared.event.WorldEvent.TheVariants as happen
-use Rattle.enet_network.specs.Network.{Site, numbers_of}
-use Rattle.enet_network.specs.Steps.{Happening, Calls, Hears, Happens, count_after}
-use Rattle.enet_network.specs.World.{Steps, Makes, side_of}
+use Rattle.law_network.specs.Calls as call
+use Rattle.law_network.specs.declared.event.Answer.{Answer}
+use Rattle.law_network.specs.declared.event.Answer.TheVariants as answers
+use Rattle.law_network.specs.declared.event.Side.{Side}
+use Rattle.law_network.specs.declared.event.Side.TheVariants.{A, B}
+use Rattle.law_network.specs.declared.event.WorldEvent.{WorldEvent}
+use Rattle.law_network.specs.declared.event.WorldEvent.TheVariants as happen
+use Rattle.law_network.specs.Network.{Site, numbers_of}
+use Rattle.law_network.specs.Steps.{Happening, Calls, Hears, Happens, count_after}
+use Rattle.law_network.specs.World.{Steps, Makes, side_of}
 use Rattle.enet_site.specs.Sites.{CallsAt}
 use Rattle.enet_site.specs.declared.put_out.Turned.TheVariants as turn
 use Rattle.enet_site.specs.Turning.{TurnsAmong}
@@ -22,8 +22,8 @@ use Rattle.enet_world.specs.Private.Worlds.{world_of}
 -- one thing happens at a side
 done : (side : Side) (here new far : Site) (n m : ℕ) (event : WorldEvent) (answer : Answer) (e : Happening) → side_of event ≡ side → Makes (world_of side here far n) event answer e
     → Happens n far e here new → m ≡ count_after n e → Steps (world_of side here far n) event (Ok answer) (world_of side new far m)
-done A here new far n m event answer e is makes h count = (e, makes, subst (λ (side : Side). Rattle.enet_network.specs.World.HappensAt side e (world_of A here far n) (world_of A new far m)) (sym is) (record { here = h; there = refl; count = count }))
-done B here new far n m event answer e is makes h count = (e, makes, subst (λ (side : Side). Rattle.enet_network.specs.World.HappensAt side e (world_of B here far n) (world_of B new far m)) (sym is) (record { here = h; there = refl; count = count }))
+done A here new far n m event answer e is makes h count = (e, makes, subst (λ (side : Side). Rattle.law_network.specs.World.HappensAt side e (world_of A here far n) (world_of A new far m)) (sym is) (record { here = h; there = refl; count = count }))
+done B here new far n m event answer e is makes h count = (e, makes, subst (λ (side : Side). Rattle.law_network.specs.World.HappensAt side e (world_of B here far n) (world_of B new far m)) (sym is) (record { here = h; there = refl; count = count }))
 
 pub submitted : (side : Side) (peer : PeerRef) (channel flags : ℕ) (body : List ℕ) (here new far : Site) (n : ℕ)
     → CallsAt (call.Submit peer channel (record { flags = flags; body = body }) (Ok tt)) here new

@@ -3,10 +3,10 @@ use Rattle.std.specs.Prelude.{◌≡◌, ◌+◌, ◌≤◌, ◌&&◌, Bool, tru
 use Rattle.enet_codec.specs.declared.refusal.Refusal.{Refusal}
 use Rattle.enet_codec.specs.declared.config.Config.{Config}
 use Rattle.enet_codec.specs.Config.{is_in_range}
-use Rattle.enet_network.specs.declared.event.Answer.{Answer}
-use Rattle.enet_network.specs.declared.event.Side.TheVariants.{A, B}
-use Rattle.enet_network.specs.declared.event.WorldEvent.{WorldEvent}
-use Rattle.enet_network.specs.World.{World, Runs, address_of, open_world, joined_world}
+use Rattle.law_network.specs.declared.event.Answer.{Answer}
+use Rattle.law_network.specs.declared.event.Side.TheVariants.{A, B}
+use Rattle.law_network.specs.declared.event.WorldEvent.{WorldEvent}
+use Rattle.law_network.specs.World.{World, Runs, address_of, open_world, joined_world}
 
 -- a world, and whether connection 0 stood from its start
 pub record Begun : Type 0 where

@@ -1,15 +1,15 @@
 //! What an event does at its side. `far` is the other side, and `count` says how many connections there have been.
 
 ghost use Rattle.std.specs.Prelude.{◌≡◌, ◌<◌, true};
-ghost use Rattle.enet_network.specs.declared.event.WorldEvent.TheVariants as happen;
-ghost use Rattle.enet_network.specs.Headline.{AreEnds};
-ghost use Rattle.enet_network.specs.World.{Steps, address_of, other, side_of};
+ghost use Rattle.law_network.specs.declared.event.WorldEvent.TheVariants as happen;
+ghost use Rattle.law_network.specs.Headline.{AreEnds};
+ghost use Rattle.law_network.specs.World.{Steps, address_of, other, side_of};
 ghost use Rattle.enet_world.specs.Private.Worlds.{world_of};
 
 use bytes::Bytes;
 use enet_codec::{DisconnectMode, PeerRef, Refusal};
-use enet_network::{Answer, Side, WorldEvent};
 use enet_site::{Site, Turned};
+use law_network::{Answer, Side, WorldEvent};
 use std::alloc::Global;
 
 /// The user of a side asks for a connection. An accepted one gets the next number.

@@ -2,14 +2,14 @@
 
 ghost use Rattle.std.specs.Prelude.{◌≡◌, ◌&&◌, true, IfOk, IfErr};
 ghost use Rattle.enet_codec.specs.Config.{is_in_range};
-ghost use Rattle.enet_network.specs.declared.event.Side.{Side};
-ghost use Rattle.enet_network.specs.Headline.{AreEnds};
-ghost use Rattle.enet_network.specs.World.{Steps, joined_config, open_world, joined_world, site_of};
+ghost use Rattle.law_network.specs.declared.event.Side.{Side};
+ghost use Rattle.law_network.specs.Headline.{AreEnds};
+ghost use Rattle.law_network.specs.World.{Steps, joined_config, open_world, joined_world, site_of};
 
 use crate::happening::{happen, side_of};
 use enet_codec::{Addr, Config, Refusal};
-use enet_network::{Answer, Side, WorldEvent};
 use enet_site::Site;
+use law_network::{Answer, Side, WorldEvent};
 use std::alloc::Global;
 use std::marker::Model;
 
@@ -34,7 +34,7 @@ pub(crate) struct Hosts {
 }
 
 impl Model for Hosts {
-    ghost use Rattle.enet_network.specs.World.{World};
+    ghost use Rattle.law_network.specs.World.{World};
     ghost use Rattle.enet_world.specs.Worlds.{IsPlaced};
     ghost use Rattle.std.specs.Coded.{codes};
     ghost use Rattle.enet_inbox.specs.Codes.{inbox_code};

@@ -1,5 +1,5 @@
 //! A world of two hosts and the network between them, which loses, repeats and reorders datagrams as the events say. Each host sees
-//! of the other only the bytes of datagrams. The definitions are those of `enet_network`.
+//! of the other only the bytes of datagrams. The definitions are those of `law_network`.
 //!
 //! Proved, without a premise: `World::open` and `World::joined` give the stated first world, and refuse as stated. `step` is one event
 //! by the network's definition (`Steps`): a refusal is the first that applies and changes nothing, and any other event makes its one
@@ -15,6 +15,6 @@ mod happening;
 mod hosts;
 mod world;
 
-pub use enet_network::{Answer, Side, WorldEvent};
 pub use happening::side_of;
+pub use law_network::{Answer, Side, WorldEvent};
 pub use world::World;

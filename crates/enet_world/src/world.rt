@@ -3,13 +3,13 @@
 ghost use Rattle.std.specs.Prelude.{◌≡◌, ◌&&◌, true, false, slice_get, IfOk, IfErr, OnErr};
 ghost use Rattle.std.specs.Option.{option_copied, option_map};
 ghost use Rattle.enet_codec.specs.Config.{is_in_range};
-ghost use Rattle.enet_network.specs.Headline.{HasHeadline, end_at, submitted_at, taken_at, events_at};
-ghost use Rattle.enet_network.specs.World.{Steps, Runs, site_of, other};
+ghost use Rattle.law_network.specs.Headline.{HasHeadline, end_at, submitted_at, taken_at, events_at};
+ghost use Rattle.law_network.specs.World.{Steps, Runs, site_of, other};
 ghost use Rattle.enet_world.specs.Worlds.{begun};
 
 use crate::hosts::Hosts;
 use enet_codec::{Config, Event, Packet, Refusal};
-use enet_network::{Answer, Side, WorldEvent, each_connection_in_order};
+use law_network::{Answer, Side, WorldEvent, each_connection_in_order};
 use std::alloc::Global;
 use std::marker::Model;
 

@@ -5,10 +5,10 @@ use Rattle.enet_codec.specs.declared.event.Event.{Event}
 use Rattle.enet_codec.specs.declared.event.PeerRef.{PeerRef}
 use Rattle.enet_host.specs.Host.{Host}
 use Rattle.enet_slot.specs.Giving.{no_address}
-use Rattle.enet_network.specs.Calls.{Call}
-use Rattle.enet_network.specs.Log.{Logged}
-use Rattle.enet_network.specs.Network.{HostEnd, Site, fresh_end}
-use Rattle.enet_network.specs.Steps.{Called, with_event}
+use Rattle.law_network.specs.Calls.{Call}
+use Rattle.law_network.specs.Log.{Logged}
+use Rattle.law_network.specs.Network.{HostEnd, Site, fresh_end}
+use Rattle.law_network.specs.Steps.{Called, with_event}
 use Rattle.enet_records.specs.Records.{Records}
 use Rattle.enet_site.specs.Sites.{site}
 

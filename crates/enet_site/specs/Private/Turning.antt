@@ -4,7 +4,7 @@ use Rattle.enet_codec.specs.declared.address.Addr.{Addr}
 use Rattle.enet_codec.specs.declared.event.PeerRef.{PeerRef}
 use Rattle.enet_host.specs.Host.{Host}
 use Rattle.enet_host.specs.Serving.{Serves}
-use Rattle.enet_network.specs.Log.{Logged}
+use Rattle.law_network.specs.Log.{Logged}
 use Rattle.enet_records.specs.Records.{Records, Given, Notes}
 use Rattle.enet_site.specs.declared.put_out.Turned.{Turned}
 use Rattle.enet_site.specs.declared.put_out.Turned.TheVariants.{Sent, Away}

@@ -1,6 +1,6 @@
 use Rattle.std.proofs.Common.{◌≡◌, ◌∷◌, sym, subst, arith}
 use Rattle.std.proofs.lemmas.Grind.{common_steps}
-use Rattle.enet_network.specs.Headline.{AreOn}
+use Rattle.law_network.specs.Headline.{AreOn}
 use Rattle.check_outcome.proofs.OnChannel.{on-cons, on-first, on-rest}
 use Rattle.check_outcome.proofs.sound.+are_on.Goals as goal
 

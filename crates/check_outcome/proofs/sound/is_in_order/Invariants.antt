@@ -1,6 +1,6 @@
 use Rattle.std.proofs.Common.{ℕ, ◌<◌}
-use Rattle.enet_network.specs.Headline.{end_at}
-use Rattle.enet_network.specs.World.{other}
+use Rattle.law_network.specs.Headline.{end_at}
+use Rattle.law_network.specs.World.{other}
 use Rattle.check_outcome.specs.Sound.{IsFollowed}
 use Rattle.check_outcome.proofs.sound.is_in_order.Given as goal
 

@@ -1,5 +1,5 @@
 use Rattle.std.proofs.Common.{◌≡◌, [], ◌∷◌, ◌++◌, length, List, sym, ap, subst, ◌∙◌, arith}
-use Rattle.enet_network.specs.Headline.{AreEnds}
+use Rattle.law_network.specs.Headline.{AreEnds}
 use Rattle.enet_site.specs.declared.put_out.Sent.{Sent}
 use Rattle.enet_site.specs.Places.{Place}
 use Rattle.enet_fleet.proofs.Stepping.{puts-none, puts-some}

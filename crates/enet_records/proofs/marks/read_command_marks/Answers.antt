@@ -1,6 +1,6 @@
 use Rattle.std.proofs.Common.{◌≡◌, ◌+◌, ◌-◌, [], arith, subst, sym, append_assoc}
 use Rattle.enet_codec.specs.Message.{view}
-use Rattle.enet_network.specs.Marks.{MarksOf}
+use Rattle.law_network.specs.Marks.{MarksOf}
 use Rattle.enet_records.proofs.MarkLemmas.{marks-none, marks-zero, marks-more, ended, split-at}
 use Rattle.enet_records.proofs.marks.read_command_marks.Goals as goal
 

@@ -1,6 +1,6 @@
 use Rattle.std.proofs.Common.{◌≤◌, ◌+◌, ◌-◌, ◌++◌, List, vec_len, vec_capacity}
-use Rattle.enet_network.specs.declared.mark.Mark.{Mark}
-use Rattle.enet_network.specs.Marks.{MarksOf}
+use Rattle.law_network.specs.declared.mark.Mark.{Mark}
+use Rattle.law_network.specs.Marks.{MarksOf}
 use Rattle.enet_records.proofs.marks.read_command_marks.Given as goal
 
 abbrev pub invariant-loop-command : goal.invariant-loop-command

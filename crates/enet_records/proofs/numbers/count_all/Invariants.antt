@@ -1,6 +1,6 @@
 use Rattle.std.proofs.Common.{◌≡◌, take}
 use Rattle.std.specs.List.{fold}
-use Rattle.enet_network.specs.Log.{counted}
+use Rattle.law_network.specs.Log.{counted}
 use Rattle.enet_records.proofs.numbers.count_all.Given as goal
 
 abbrev pub invariant-loop-mark : goal.invariant-loop-mark

@@ -1,7 +1,7 @@
 use Rattle.std.proofs.Common.{◌≡◌, ◌≤◌, List, length, map, rules, ap, subst, sym, ◌∙◌}
 use Rattle.std.proofs.lemmas.List.{with_items_is}
-use Rattle.enet_network.specs.declared.mark.Mark.{Mark}
-use Rattle.enet_network.specs.Log.{reached}
+use Rattle.law_network.specs.declared.mark.Mark.{Mark}
+use Rattle.law_network.specs.Log.{reached}
 use Rattle.enet_records.proofs.Bounds.{few-marks}
 use Rattle.enet_records.proofs.numbers.marks_of.Goals as goal
 

@@ -1,9 +1,9 @@
 use Rattle.std.proofs.Common.{length, ◌<◌, arith, get_or}
 use Rattle.std.proofs.lemmas.List.{get_or_default}
 use Rattle.std.proofs.lemmas.List.Edits.{map_over_more}
-use Rattle.enet_network.specs.declared.mark.Mark.{Mark}
-use Rattle.enet_network.specs.declared.mark.MarkKind.TheVariants.{Data}
-use Rattle.enet_network.specs.Log.{reached}
+use Rattle.law_network.specs.declared.mark.Mark.{Mark}
+use Rattle.law_network.specs.declared.mark.MarkKind.TheVariants.{Data}
+use Rattle.law_network.specs.Log.{reached}
 use Rattle.enet_records.proofs.numbers.note_reach.Goals as goal
 
 blank : Mark

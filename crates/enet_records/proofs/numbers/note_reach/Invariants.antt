@@ -1,5 +1,5 @@
 use Rattle.std.proofs.Common.{◌≡◌, ◌++◌, map, take, drop}
-use Rattle.enet_network.specs.Log.{reached}
+use Rattle.law_network.specs.Log.{reached}
 use Rattle.enet_records.proofs.numbers.note_reach.Given as goal
 
 abbrev pub invariant-loop-mark : goal.invariant-loop-mark

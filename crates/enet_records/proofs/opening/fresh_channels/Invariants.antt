@@ -1,5 +1,5 @@
 use Rattle.std.proofs.Common.{◌≡◌, replicate, vec_len, vec_capacity}
-use Rattle.enet_network.specs.Log.{no_packets}
+use Rattle.law_network.specs.Log.{no_packets}
 use Rattle.enet_records.proofs.opening.fresh_channels.Given as goal
 
 abbrev pub invariant-loop-channel : goal.invariant-loop-channel

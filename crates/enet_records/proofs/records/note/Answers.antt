@@ -2,8 +2,8 @@ use Rattle.std.proofs.Common.{◌≡◌, ◌^◌, ℕ, List, length, rules, sym,
 use Rattle.std.proofs.lemmas.List.{with_items_is}
 use Rattle.enet_codec.specs.declared.header.Header.{Header}
 use Rattle.enet_peer.specs.Heading.{IsRead}
-use Rattle.enet_network.specs.Marks.{Counts}
-use Rattle.enet_network.specs.Network.{HostEnd}
+use Rattle.law_network.specs.Marks.{Counts}
+use Rattle.law_network.specs.Network.{HostEnd}
 use Rattle.enet_records.specs.Records.{AreBelow}
 use Rattle.enet_records.proofs.Ends.{placed, with-one}
 use Rattle.enet_records.proofs.records.note.Goals as goal

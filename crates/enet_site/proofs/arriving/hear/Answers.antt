@@ -1,6 +1,6 @@
 use Rattle.std.proofs.Common.{◌≡◌, Bool, List, [], ◌∷◌, ◌++◌, length, sym, ap, subst, ◌∙◌}
-use Rattle.enet_network.specs.Log.{Logged}
-use Rattle.enet_network.specs.Network.{HostEnd, fresh_end}
+use Rattle.law_network.specs.Log.{Logged}
+use Rattle.law_network.specs.Network.{HostEnd, fresh_end}
 use Rattle.enet_records.specs.Records.{Records, AreKept}
 use Rattle.enet_records.proofs.Fresh.{fresh-kept}
 use Rattle.enet_records.proofs.Keeps.{kept-more}

@@ -1,4 +1,4 @@
-use Rattle.enet_network.specs.Calls as call
+use Rattle.law_network.specs.Calls as call
 use Rattle.enet_site.proofs.Beginning.{begins-if}
 use Rattle.enet_site.proofs.arriving.receive.Goals as goal
 

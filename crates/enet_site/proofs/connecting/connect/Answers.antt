@@ -1,5 +1,5 @@
 use Rattle.std.proofs.Common.{◌≡◌, [], ◌∷◌, ◌++◌, length, sym, subst, ◌∙◌}
-use Rattle.enet_network.specs.Network.{fresh_end}
+use Rattle.law_network.specs.Network.{fresh_end}
 use Rattle.enet_records.specs.Records.{Records, AreKept}
 use Rattle.enet_records.proofs.Fresh.{fresh-kept}
 use Rattle.enet_records.proofs.Keeps.{kept-more}

@@ -1,6 +1,6 @@
 use Rattle.std.proofs.Common.{[], ◌∷◌, ◌++◌, Some, ap, ◌∙◌}
-use Rattle.enet_network.specs.Network.{HostEnd}
-use Rattle.enet_network.specs.Steps.{with_event}
+use Rattle.law_network.specs.Network.{HostEnd}
+use Rattle.law_network.specs.Steps.{with_event}
 use Rattle.enet_site.proofs.Takes.{word-keeps}
 use Rattle.enet_site.proofs.taking.take_word.Goals as goal
 

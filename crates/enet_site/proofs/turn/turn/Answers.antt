@@ -1,8 +1,8 @@
 use Rattle.std.proofs.Common.{◌≡◌, ℕ, true, List, [], ◌∷◌, ◌++◌, length, rules, sym, ap, subst, ◌∙◌}
 use Rattle.std.proofs.lemmas.List.{with_items_is}
 use Rattle.enet_peer.specs.Heading.{IsRead}
-use Rattle.enet_network.specs.Log.{Logged}
-use Rattle.enet_network.specs.Network.{HostEnd}
+use Rattle.law_network.specs.Log.{Logged}
+use Rattle.law_network.specs.Network.{HostEnd}
 use Rattle.enet_records.specs.Records.{Records, AreKept, HasEnd}
 use Rattle.enet_records.proofs.Keeps.{kept-noted}
 use Rattle.enet_site.proofs.Reading.{gave-read, gave-address}

@@ -1,6 +1,6 @@
 use Rattle.std.proofs.Common.{arith}
 use Rattle.std.proofs.lemmas.List.{take_more}
-use Rattle.enet_network.proofs.Running.{runs-push}
+use Rattle.law_network.proofs.Running.{runs-push}
 use Rattle.enet_fleet.specs.Fleets.{Steps}
 use Rattle.enet_fleet.proofs.fleet.Fleet.run_all.Goals as goal
 

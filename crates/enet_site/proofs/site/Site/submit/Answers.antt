@@ -1,5 +1,5 @@
 use Rattle.std.proofs.Common.{Err}
-use Rattle.enet_network.specs.Calls as call
+use Rattle.law_network.specs.Calls as call
 use Rattle.enet_site.proofs.AtSite.{refuses-at, submitted-at, submitted-whole}
 use Rattle.enet_site.proofs.site.Site.submit.Goals as goal
 

@@ -1,5 +1,5 @@
 use Rattle.std.proofs.Common.{sym, subst}
-use Rattle.enet_network.specs.Headline.{AreEnds}
+use Rattle.law_network.specs.Headline.{AreEnds}
 use Rattle.enet_site.proofs.Noting.{whole-turned, site-turned}
 use Rattle.enet_site.proofs.site.Site.turn.Goals as goal
 

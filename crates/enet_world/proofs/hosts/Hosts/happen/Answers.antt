@@ -1,7 +1,7 @@
 use Rattle.std.proofs.Common.{true, sym, subst}
-use Rattle.enet_network.specs.declared.event.Side.TheVariants.{A, B}
-use Rattle.enet_network.specs.Headline.{AreEnds}
-use Rattle.enet_network.specs.World.{World}
+use Rattle.law_network.specs.declared.event.Side.TheVariants.{A, B}
+use Rattle.law_network.specs.Headline.{AreEnds}
+use Rattle.law_network.specs.World.{World}
 use Rattle.enet_world.proofs.hosts.Hosts.happen.Goals as goal
 
 pub happen-requires-clause-owned : goal.happen-requires-clause-owned

@@ -1,6 +1,6 @@
 use Rattle.std.proofs.Common.{ap, sym, ◌∙◌}
-use Rattle.enet_network.specs.declared.event.Side.{Side}
-use Rattle.enet_network.specs.World.{World, site_of}
+use Rattle.law_network.specs.declared.event.Side.{Side}
+use Rattle.law_network.specs.World.{World, site_of}
 use Rattle.enet_world.proofs.hosts.Hosts.site.Goals as goal
 
 pub returns-in-A : goal.returns-in-A

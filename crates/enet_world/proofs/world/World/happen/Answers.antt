@@ -1,6 +1,6 @@
 use Rattle.std.proofs.Common.{true, sym, subst}
-use Rattle.enet_network.specs.Headline.{AreEnds}
-use Rattle.enet_network.specs.World.{site_of}
+use Rattle.law_network.specs.Headline.{AreEnds}
+use Rattle.law_network.specs.World.{site_of}
 use Rattle.enet_world.specs.Worlds.{Begun}
 use Rattle.enet_world.proofs.Reaching.{reached-step}
 use Rattle.enet_world.proofs.world.World.happen.Goals as goal

@@ -1,6 +1,6 @@
 use Rattle.std.proofs.Common.{◌≡◌, ◌&&◌, true, false, [], ap, rules}
 use Rattle.enet_codec.specs.Config.{is_in_range}
-use Rattle.enet_network.specs.World.{World}
+use Rattle.law_network.specs.World.{World}
 use Rattle.enet_world.proofs.world.World.open.Goals as goal
 
 pub returns-clause-fresh : goal.returns-clause-fresh

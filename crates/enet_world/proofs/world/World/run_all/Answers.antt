@@ -1,7 +1,7 @@
 use Rattle.std.proofs.Common.{arith, ◌∙◌}
 use Rattle.std.proofs.lemmas.List.{take_more}
-use Rattle.enet_network.specs.World.{Steps}
-use Rattle.enet_network.proofs.Running.{runs-push}
+use Rattle.law_network.specs.World.{Steps}
+use Rattle.law_network.proofs.Running.{runs-push}
 use Rattle.enet_world.proofs.world.World.run_all.Goals as goal
 
 pub loop-event-preserved : goal.loop-event-preserved

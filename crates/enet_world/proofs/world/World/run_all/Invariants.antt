@@ -1,5 +1,5 @@
 use Rattle.std.proofs.Common.{◌≡◌, length, take, vec_len, vec_capacity}
-use Rattle.enet_network.specs.World.{Runs}
+use Rattle.law_network.specs.World.{Runs}
 use Rattle.enet_world.proofs.world.World.run_all.Given as goal
 
 abbrev pub invariant-loop-event : goal.invariant-loop-event

@@ -1,5 +1,0 @@
-use Rattle.enet_network.proofs.AllCalls as all
-use Rattle.enet_network.proofs.apart.isolation_of.Goals as goal
-
-pub returns : goal.returns
-returns c = all.isolation c.args.host.now c.keeps.ensures

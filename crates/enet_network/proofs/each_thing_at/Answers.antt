@@ -1,5 +1,0 @@
-use Rattle.enet_network.proofs.OneThing.{go-on-at}
-use Rattle.enet_network.proofs.each_thing_at.Goals as goal
-
-pub returns : goal.returns
-returns c = go-on-at c.args.host.now c.keeps.ensures

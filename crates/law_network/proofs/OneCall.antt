@@ -1,0 +1,115 @@
+-- Each call, slot by slot.
+use Rattle.std.proofs.Common.{◌≡◌, ℕ, List, length, refl, sym, ap, subst, ◌∙◌, Option, Some, None, Result, Ok, Err}
+use Rattle.enet_codec.specs.declared.event.DisconnectMode.{DisconnectMode}
+use Rattle.enet_codec.specs.declared.event.DisconnectMode.TheVariants as mode
+use Rattle.enet_codec.specs.declared.refusal.Refusal.{Refusal}
+use Rattle.enet_codec.specs.declared.refusal.Refusal.TheVariants as refusal
+use Rattle.enet_sender.specs.CommandChoice.{Packet}
+use Rattle.enet_peer.specs.Peering.{Peering}
+use Rattle.enet_peer.specs.Calls.{Refuses, submission_refusal, submitted, left}
+use Rattle.enet_peer.specs.Calls as peers
+use Rattle.enet_host.specs.Host.{Host, peer_in}
+use Rattle.enet_slot.specs.Calls.{IsRefusedBy, submission, submitted_unless, leaving, left_by, or_not_connected, throttling, pinging, waiting}
+use Rattle.enet_slot.specs.Sharing.{wants_room_in}
+use Rattle.law_connection.specs.Steps.{leave_by}
+use Rattle.law_connection.specs.Steps as setting
+use Rattle.law_network.specs.Calls.{Call, Acts}
+use Rattle.law_network.specs.Calls as call
+use Rattle.law_network.specs.Common.{common_of}
+use Rattle.law_network.specs.Deeds.{Deed, Alone, Submit, Disconnect, Set}
+use Rattle.law_network.specs.Falling.{way_of}
+use Rattle.law_network.specs.IsolationLaw.{OneCall}
+use Rattle.law_network.proofs.Single.{Each, idle, begins-not, each-none, each-named, each-refused, peer-refused, peer-refused_memory}
+use Rattle.law_network.proofs.Receiving.{each-connects, each-arrives}
+use Rattle.law_network.proofs.IsolationServing.{each-passed, each-given, each-gave, each-mute}
+use Rattle.law_network.proofs.Ticking.{each-changed, each-ticked}
+
+ok-same : (a b : Peering) → ◌≡◌ {A = Result Peering Refusal} (Ok a) (Ok b) → b ≡ a
+ok-same a b e = cc
+
+-- what a call on a peer answers, as its own relation has it
+
+abbrev submitting : ℕ → Packet → Result (Unit {0}) (Refusal × List ℕ) → Deed
+submitting channel q answer = Submit (record { channel = channel; flags = q.flags; body = q.body }) answer
+
+alone-submission : (channel : ℕ) (q : Packet) (p r : Peering) → submission channel q p ≡ Ok r → Alone (submitting channel q (Ok tt)) p r
+alone-submission channel q p r e = by (submission_refusal p channel (length q.body)) refl e
+  where
+    by : (o : Option Refusal) → submission_refusal p channel (length q.body) ≡ o → submitted_unless p channel q o ≡ Ok r → Alone (submitting channel q (Ok tt)) p r
+    by None none e = (none, ok-same (submitted p channel q) r e)
+    by (Some why) some e = absurd (cc)
+
+refuses : (channel : ℕ) (q : Packet) (p : Peering) (o : Option Refusal) (why : Refusal) → IsRefusedBy why (submitted_unless p channel q o) → Refuses why o
+refuses channel q p None refusal.Memory e = refl
+refuses channel q p None why e = absurd (cc)
+refuses channel q p (Some first) refusal.Memory e = absurd (cc)
+refuses channel q p (Some first) why e = let same : ◌≡◌ {A = Result Peering Refusal} (Err first) (Err why) = e in cc
+
+was-left : (o : Option Peering) (r : Peering) → or_not_connected o ≡ Ok r → o ≡ Some r
+was-left None r e = absurd (cc)
+was-left (Some p) r e = ap (λ (x : Peering). Some x) (sym (ok-same p r e))
+
+not-left : (o : Option Peering) (why : Refusal) → or_not_connected o ≡ Err why → (o ≡ None) × (why ≡ refusal.NotConnected)
+not-left None why e = (refl, cc)
+not-left (Some p) why e = absurd (cc)
+
+left-same : (m : DisconnectMode) (info : ℕ) (p : Peering) → left (leave_by (way_of m) p.state) p info ≡ left_by m p info
+left-same mode.Ask info p = refl
+left-same mode.Now info p = refl
+left-same mode.Later info p = refl
+
+alone-leaving : (m : DisconnectMode) (info : ℕ) (p r : Peering) → leaving m info p ≡ Ok r → Alone (Disconnect (way_of m) info (Ok tt)) p r
+alone-leaving m info p r e = left-same m info p ∙ was-left (left_by m p info) r e
+
+alone-staying : (m : DisconnectMode) (info : ℕ) (p : Peering) (why : Refusal) → leaving m info p ≡ Err why → Alone (Disconnect (way_of m) info (Err why)) p p
+alone-staying m info p why e = let n = not-left (left_by m p info) why e in (left-same m info p ∙ n.0, n.1, refl)
+
+pub each-call : (c : Call) (old new : Host) → Acts c old new → Each c old new.slots
+each-call (call.Connect address channels info word answer) old new acts = each-connects old address channels info word answer old.slots new.slots refl acts.0
+each-call (call.Submit name channel q (Ok done)) old new acts =
+    each-named (call.Submit name channel q (Ok done)) old name (submission channel q) (submitting channel q (Ok done)) new.slots acts.0 (alone-submission channel q) (λ i s p ds e. e) (λ i s. refl) refl
+each-call (call.Submit name channel q (Err e)) old new acts =
+    each-refused (call.Submit name channel q (Err e)) old name (submitting channel q (Err e)) new.slots acts.0.2
+    (λ s p named held. (acts.0.1, refl, refuses channel q p (submission_refusal p channel (length q.body)) e.0 (peer-refused_memory old.slots name (submission channel q) s p e.0 named held acts.0.0)))
+    (λ i s p ds e. e) (λ i s. refl) refl
+each-call (call.Receive from bytes answer) old new acts = each-arrives old from bytes answer old.slots new.slots refl acts.arrives
+each-call (call.Service None buf) old new acts = each-passed old buf new.slots acts.0
+each-call (call.Service (Some gave) buf) old new acts = each-given old gave.0 gave.1 gave.2 buf new.slots acts.0
+each-call (call.Tick ms) old new acts = subst (λ (h : Host). Each (call.Tick ms) old h.slots) (sym acts) (each-ticked old ms)
+each-call (call.Disconnect m name info (Ok done)) old new acts =
+    each-named (call.Disconnect m name info (Ok done)) old name (leaving m info) (Disconnect (way_of m) info (Ok done)) new.slots acts.0 (alone-leaving m info) (λ i s p ds e. e) (λ i s. refl) refl
+each-call (call.Disconnect m name info (Err why)) old new acts =
+    each-refused (call.Disconnect m name info (Err why)) old name (Disconnect (way_of m) info (Err why)) new.slots acts.0.1
+    (λ s p named held. alone-staying m info p why (peer-refused old.slots name (leaving m info) s p why named held acts.0.0)) (λ i s p ds e. e) (λ i s. refl) refl
+each-call (call.SetBandwidth incoming outgoing (Ok done)) old new acts =
+    subst (λ (h : Host). Each (call.SetBandwidth incoming outgoing (Ok done)) old h.slots) (sym acts)
+    (each-changed (call.SetBandwidth incoming outgoing (Ok done)) old (λ p. peers.with_bandwidth p incoming outgoing) (Set (setting.Bandwidth incoming outgoing) (Ok done)) (λ p. (refl, tt)) (λ i s p. refl) (λ i s. refl) refl)
+each-call (call.SetBandwidth incoming outgoing (Err why)) old new acts =
+    each-none (call.SetBandwidth incoming outgoing (Err why)) old new.slots (λ i s. refl) (ap (λ (h : Host). h.slots) acts.1)
+    (λ i s p there held. idle (call.SetBandwidth incoming outgoing (Err why)) (common_of old) i s p refl)
+    (λ i. begins-not (call.SetBandwidth incoming outgoing (Err why)) old i refl)
+each-call (call.ConfigureThrottle name interval acceleration deceleration (Ok done)) old new acts =
+    each-named (call.ConfigureThrottle name interval acceleration deceleration (Ok done)) old name (throttling interval acceleration deceleration) (Set (setting.Throttle interval acceleration deceleration) (Ok done)) new.slots acts.0
+    (λ p r e. (e, tt)) (λ i s p ds e. e) (λ i s. refl) refl
+each-call (call.ConfigureThrottle name interval acceleration deceleration (Err why)) old new acts =
+    each-refused (call.ConfigureThrottle name interval acceleration deceleration (Err why)) old name (Set (setting.Throttle interval acceleration deceleration) (Err why)) new.slots acts.0.1
+    (λ s p named held. (
+      (peer-refused_memory old.slots name (throttling interval acceleration deceleration) s p why named held acts.0.0, refl),
+      λ memory. ap wants_room_in (sym (ap peer_in named ∙ held)) ∙ acts.2 memory,
+    ))
+    (λ i s p ds e. e) (λ i s. refl) refl
+each-call (call.SetPingInterval name ms (Ok done)) old new acts =
+    each-named (call.SetPingInterval name ms (Ok done)) old name (pinging ms) (Set (setting.PingInterval ms) (Ok done)) new.slots acts.0 (λ p r e. e) (λ i s p ds e. e) (λ i s. refl) refl
+each-call (call.SetPingInterval name ms (Err why)) old new acts =
+    each-refused (call.SetPingInterval name ms (Err why)) old name (Set (setting.PingInterval ms) (Err why)) new.slots acts.0.1
+    (λ s p named held. (peer-refused old.slots name (pinging ms) s p why named held acts.0.0, refl)) (λ i s p ds e. e) (λ i s. refl) refl
+each-call (call.SetTimeout name limit minimum maximum (Ok done)) old new acts =
+    each-named (call.SetTimeout name limit minimum maximum (Ok done)) old name (waiting limit minimum maximum) (Set (setting.Timeout limit minimum maximum) (Ok done)) new.slots acts.0 (λ p r e. e) (λ i s p ds e. e) (λ i s. refl) refl
+each-call (call.SetTimeout name limit minimum maximum (Err why)) old new acts =
+    each-refused (call.SetTimeout name limit minimum maximum (Err why)) old name (Set (setting.Timeout limit minimum maximum) (Err why)) new.slots acts.0.1
+    (λ s p named held. (peer-refused old.slots name (waiting limit minimum maximum) s p why named held acts.0.0, refl)) (λ i s p ds e. e) (λ i s. refl) refl
+each-call (call.NextEvent None) old new acts = each-mute old new.slots (ap (λ (h : Host). h.slots) acts.1) acts.0
+each-call (call.NextEvent (Some event)) old new acts = subst (λ (h : Host). Each (call.NextEvent (Some event)) old h.slots) (sym acts.rest) (each-gave old event acts.from acts.first acts.after acts.gives)
+
+pub one-call : OneCall
+one-call c old new acts i s e = each-call c old new acts i s e

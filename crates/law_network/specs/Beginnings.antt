@@ -1,0 +1,71 @@
+-- From a host's opening on: how each peer began, and whose sessions its slot had then.
+use Rattle.std.specs.Prelude.{◌≡◌, ◌⊎◌, ℕ, ◌+◌, true, List, [], ◌∷◌, Some, None, slice_get}
+use Rattle.enet_codec.specs.declared.address.Addr.{Addr}
+use Rattle.enet_codec.specs.declared.config.Config.{Config}
+use Rattle.enet_codec.specs.declared.event.PeerRef.{PeerRef}
+use Rattle.enet_codec.specs.Config.{is_in_range}
+use Rattle.enet_peer.specs.declared.parts.PeerState.TheVariants as state
+use Rattle.enet_peer.specs.Peering.{Peering}
+use Rattle.enet_peer.specs.Peering as peers
+use Rattle.enet_slot.specs.Slot.{SlotState}
+use Rattle.enet_slot.specs.Giving.{limits_of, joined_terms}
+use Rattle.enet_host.specs.Host.{Host, slot_named, named}
+use Rattle.enet_host.specs.Opening as opening
+use Rattle.law_network.specs.Calls.{Call, Steps}
+use Rattle.law_network.specs.Common.{common_of}
+use Rattle.law_network.specs.Deeds.{Deed, AllAlone}
+use Rattle.law_network.specs.Falling.{Begins, FellAll}
+
+-- by this call on a host the peer of this name begins so, in a slot that was free
+pub record BeginsAs (c : Call) (h : Host) (name : PeerRef) (first : Peering) : Type 0 where
+  pub slot : SlotState
+  pub there : slot_named h.slots name ≡ Some slot
+  pub given : SlotState
+  pub begins : Begins c (common_of h) name.slot slot given
+  pub peer : given.peer ≡ Some first
+
+-- the peer of this name began so by one of these calls, and these deeds fell to it since
+abbrev pub BeganBy : PeerRef → (cs : List Call) (old new : Host) → Steps cs old new → Peering → List Deed → Type 0
+BeganBy name [] old new steps first ds = ⊥
+BeganBy name (c ∷ cs) old new steps first ds =
+    (BeginsAs c old name first × FellAll name cs steps.0 new steps.2 ds) ⊎ BeganBy name cs steps.0 new steps.2 first ds
+
+-- or it was there before them
+abbrev pub WasThere : PeerRef → (cs : List Call) (old new : Host) → Steps cs old new → Peering → List Deed → Type 0
+WasThere name cs old new steps first ds = (named old.slots name ≡ Some first) × FellAll name cs old new steps ds
+
+-- where the peer of this name is after these calls, or where it ended: where one peer alone is, from its beginning on
+pub record Lived (name : PeerRef) (cs : List Call) (old new : Host) (steps : Steps cs old new) (p : Peering) : Type 0 where
+  pub first : Peering
+  pub deeds : List Deed
+  pub began : WasThere name cs old new steps first deeds ⊎ BeganBy name cs old new steps first deeds
+  pub alone : AllAlone deeds first p
+
+-- the sessions of slot i, which is s, are those of the peer of the generation before, as it ended
+pub record IsAfter (i : ℕ) (cs : List Call) (old new : Host) (steps : Steps cs old new) (s : SlotState) : Type 0 where
+  pub generation : ℕ
+  pub next : s.generation ≡ generation + 1
+  pub last : Peering
+  pub lived : Lived (record { slot = i; generation = generation }) cs old new steps last
+  pub ended : last.state ≡ state.Free
+  pub incoming : s.incoming_session ≡ last.terms.incoming_session
+  pub outgoing : s.outgoing_session ≡ last.terms.outgoing_session
+
+-- or 0xFF, where it had none
+pub record IsFirst (s : SlotState) : Type 0 where
+  pub generation : s.generation ≡ 0
+  pub incoming : s.incoming_session ≡ 0xFF
+  pub outgoing : s.outgoing_session ≡ 0xFF
+
+-- whatever is called on this host: each peer of a name lived from its beginning on, and each slot has the sessions of its last peer
+pub record IsBeginning (old : Host) : Type 0 where
+  pub lived : (cs : List Call) (new : Host) (steps : Steps cs old new) (name : PeerRef) (p : Peering) → named new.slots name ≡ Some p → Lived name cs old new steps p
+  pub sessions : (cs : List Call) (new : Host) (steps : Steps cs old new) (i : ℕ) (s : SlotState) → slice_get new.slots i ≡ Some s → IsFirst s ⊎ IsAfter i cs old new steps s
+
+-- so it is of each host that was opened: nobody was there before, or the one peer of a host that is joined from the start
+pub record Beginnings : Type 0 where
+  pub opened : (c : Config) → is_in_range c ≡ true → IsBeginning (opening.opened c)
+  pub nobody : (c : Config) (name : PeerRef) → named (opening.opened c).slots name ≡ None
+  pub joined : (c : Config) (address : Addr) → is_in_range c ≡ true → IsBeginning (opening.joined c address)
+  pub one : (c : Config) (address : Addr) (name : PeerRef) (p : Peering) → named (opening.joined c address).slots name ≡ Some p
+      → (name ≡ record { slot = 0; generation = 0 }) × (p ≡ peers.joined c.clock (joined_terms c) (limits_of c))

@@ -1,0 +1,68 @@
+-- What one peer alone is asked, one thing after another, and what it answers.
+use Rattle.std.specs.Prelude.{◌≡◌, ℕ, List, [], ◌∷◌, Option, Some, None, Result, Ok}
+use Rattle.enet_codec.specs.declared.packet.Packet.{Packet}
+use Rattle.enet_codec.specs.declared.refusal.Refusal.{Refusal}
+use Rattle.enet_codec.specs.declared.stop.Stop.{Stop}
+use Rattle.enet_codec.specs.Message.{Message}
+use Rattle.enet_outbox.specs.Emission.{filled, datagram}
+use Rattle.enet_peer.specs.declared.parts.PeerEvent.{PeerEvent}
+use Rattle.enet_peer.specs.Peering.{Peering}
+use Rattle.enet_peer.specs.CommandEffect.{Obeys, wants_memory, obeyed}
+use Rattle.enet_peer.specs.Calls.{Submits, Leaves, Takes, pace_of, destination_of, gone_on, left, ticked, next_event, with_bandwidth, with_throttle_limit}
+use Rattle.enet_slot.specs.Calls.{Does, DoesWithMemory, throttling, pinging, waiting}
+use Rattle.enet_slot.specs.Sharing.{wants_room_in}
+use Rattle.law_connection.specs.Steps.{Way, leave_by, Setting}
+use Rattle.law_connection.specs.Steps as setting
+use Rattle.law_network.specs.Calls.{Done, IsWanted}
+
+-- what a peer is asked, with what it answers, also where it refuses or where memory is wanting
+pub data Deed : Type 0 where
+  Submit : (packet : Packet) (answer : Result (Unit {0}) (Refusal × List ℕ)) → Deed  -- a packet is submitted; a refusal hands its body back
+  Emit : (now : ℕ) (given : Option (List ℕ)) → Deed  -- the peer is asked for a datagram and puts out these bytes, or nothing
+  Come : (now : ℕ) (sent : Option ℕ) (message : Message) (answer : Result (Unit {0}) Stop) → Deed  -- a command comes, and may stop its datagram
+  Tick : (now : ℕ) → Deed
+  Take : (given : Option PeerEvent) → Deed  -- the peer is asked for its next event
+  Disconnect : (way : Way) (info : ℕ) (answer : Done) → Deed  -- the user ends the connection
+  Set : (setting : Setting) (answer : Done) → Deed
+
+-- what is left of a peer that was asked for a datagram
+abbrev pub emitted : Peering → ℕ → Peering
+emitted p now = gone_on (record p { outbox = (filled (pace_of p now) p.outbox).outbox })
+
+-- the datagram that it puts out: nothing where no command goes
+abbrev pub bytes_of : Peering → ℕ → List Message → Option (List ℕ)
+bytes_of p now [] = None
+bytes_of p now (m ∷ ms) = Some (datagram now (destination_of p) (m ∷ ms))
+
+abbrev pub put_out : Peering → ℕ → Option (List ℕ)
+put_out p now = bytes_of p now (filled (pace_of p now) p.outbox).messages
+
+-- something of which the other end is told is set, or refused: memory may be wanted where the peer is connected and has an earlier
+-- command of channel 0xFF queued or unacknowledged
+abbrev pub SetsAndTells : Done → Result Peering Refusal → Peering → Peering → Type 0
+SetsAndTells answer outcome old new = DoesWithMemory answer outcome old new × IsWanted answer (wants_room_in (Some old))
+
+-- something is set, or refused: by the peer's state the throttle's numbers alone, for want of memory what the other end is told
+abbrev pub Sets : Setting → Done → Peering → Peering → Type 0
+Sets (setting.Bandwidth incoming outgoing) answer old new = SetsAndTells answer (Ok (with_bandwidth old incoming outgoing)) old new
+Sets (setting.Throttle interval acceleration deceleration) answer old new = SetsAndTells answer (throttling interval acceleration deceleration old) old new
+Sets (setting.ThrottleLimit limit) answer old new = Does {S = Peering} answer (Ok (with_throttle_limit old limit)) old new
+Sets (setting.PingInterval ms) answer old new = Does answer (pinging ms old) old new
+Sets (setting.Timeout limit minimum maximum) answer old new = Does answer (waiting limit minimum maximum old) old new
+
+-- one peer alone does this, by the relations that the contracts of its calls name. An emission is what these relations make of the
+-- peer and of the front of its buffer. A setting leaves what they name too, or is refused as a host refuses it: what a peer's own
+-- call requires, that it is connected and has room for a command, is here why it is refused
+abbrev pub Alone : Deed → Peering → Peering → Type 0
+Alone (Submit q answer) old new = Submits answer old new q.channel (record { flags = q.flags; body = q.body })
+Alone (Emit now given) old new = (given ≡ put_out old now) × (new ≡ emitted old now)
+Alone (Come now sent m answer) old new = Obeys answer (wants_memory old now sent m) (obeyed old now sent m) old new
+Alone (Tick now) old new = new ≡ ticked old now
+Alone (Take given) old new = Takes given (next_event old) old new
+Alone (Disconnect way info answer) old new = Leaves answer (left (leave_by way old.state) old info) old new
+Alone (Set setting answer) old new = Sets setting answer old new
+
+-- one peer alone does all these, in order
+abbrev pub AllAlone : List Deed → Peering → Peering → Type 0
+AllAlone [] old new = old ≡ new
+AllAlone (d ∷ ds) old new = (next : Peering) × Alone d old next × AllAlone ds next new
