@@ -44,11 +44,17 @@ unstaged = 35
 abbrev pub untold : ℕ
 untold = 36
 
--- P says of what the handle held, of the number that was answered, and of what it holds then; a closed handle stays closed
-abbrev pub Crosses : (Held → ℕ → Held → Type 0) → Option Held → ℕ → Option Held → Type 0
+-- a call on what an open handle holds: that before it, the number that it answers, and that after it
+pub record Crossing : Type 0 where
+  pub before : Held
+  pub number : ℕ
+  pub after : Held
+
+-- P says of the call on what the handle held; a closed handle stays closed
+abbrev pub Crosses : (Crossing → Type 0) → Option Held → ℕ → Option Held → Type 0
 Crosses P None number None = number ≡ closed
-Crosses P (Some held) number (Some after) = P held number after
-Crosses P (Some held) number None = ⊥
+Crosses P (Some before) number (Some after) = P (record { before = before; number = number; after = after })
+Crosses P (Some before) number None = ⊥
 Crosses P None number (Some after) = ⊥
 
 -- what a call leaves
@@ -57,45 +63,46 @@ left_by (Ok new) old = new
 left_by (Err why) old = old
 
 -- a call on slots: the number is that of its outcome, and it changed the slots alone, as the outcome says
-abbrev pub Settles : (List SlotState → Result (List SlotState) Refusal) → Held → ℕ → Held → Type 0
-Settles call held number after = (number ≡ answered_by (call held.host.slots))
-    × (after ≡ record held { host = record held.host { slots = left_by (call held.host.slots) held.host.slots } })
+abbrev pub Settles : (List SlotState → Result (List SlotState) Refusal) → Crossing → Type 0
+Settles call c = (c.number ≡ answered_by (call c.before.host.slots))
+    × (c.after ≡ record c.before { host = record c.before.host { slots = left_by (call c.before.host.slots) c.before.host.slots } })
 
 -- the same of a call that takes memory: it may be refused by 1 where nothing else is refused, and that changes nothing
-abbrev pub SettlesWithMemory : (List SlotState → Result (List SlotState) Refusal) → Held → ℕ → Held → Type 0
-SettlesWithMemory call held number after =
-    Settles call held number after ⊎ ((number ≡ 1) × (is_ok (call held.host.slots) ≡ true) × (after ≡ held))
+abbrev pub SettlesWithMemory : (List SlotState → Result (List SlotState) Refusal) → Crossing → Type 0
+SettlesWithMemory call c =
+    Settles call c ⊎ ((c.number ≡ 1) × (is_ok (call c.before.host.slots) ≡ true) × (c.after ≡ c.before))
 
 -- a call that reads: it answers 0, and nothing changes
-abbrev pub Reads : Held → ℕ → Held → Type 0
-Reads held number after = (number ≡ 0) × (after ≡ held)
+abbrev pub Reads : Crossing → Type 0
+Reads c = (c.number ≡ 0) × (c.after ≡ c.before)
 
 -- what is read of a peer, or 2 where there is none of this name
 abbrev pub IsReading : Option CoreReading → CoreReading → CoreReading → ℕ → Type 0
 IsReading None old new number = (number ≡ 2) × (new ≡ old)
 IsReading (Some found) old new number = (number ≡ 0) × (new ≡ found)
 
-abbrev pub ReadsPeer : PeerRef → CoreReading → CoreReading → Held → ℕ → Held → Type 0
-ReadsPeer name old new held number after = IsReading (reading_named held.host.slots name) old new number × (after ≡ held)
+abbrev pub ReadsPeer : PeerRef → CoreReading → CoreReading → Crossing → Type 0
+ReadsPeer name old new c = IsReading (reading_named c.before.host.slots name) old new c.number × (c.after ≡ c.before)
 
 -- a body is staged, or memory is refused
-abbrev pub Stages : List ℕ → Held → ℕ → Held → Type 0
-Stages body held number after = ((number ≡ 0) × (after ≡ record held { staged = Some body })) ⊎ ((number ≡ 1) × (after ≡ held))
+abbrev pub Stages : List ℕ → Crossing → Type 0
+Stages body c =
+    ((c.number ≡ 0) × (c.after ≡ record c.before { staged = Some body })) ⊎ ((c.number ≡ 1) × (c.after ≡ c.before))
 
 -- the staged body is submitted by this call on slots, if there is one
-abbrev pub SubmitsBody : (List ℕ → List SlotState → Result (List SlotState) Refusal) → Option (List ℕ) → Held → ℕ → Held → Type 0
-SubmitsBody call None held number after = (number ≡ unstaged) × (after ≡ held)
-SubmitsBody call (Some body) held number after = SettlesWithMemory (call body) held number after
+abbrev pub SubmitsBody : (List ℕ → List SlotState → Result (List SlotState) Refusal) → Option (List ℕ) → Crossing → Type 0
+SubmitsBody call None c = (c.number ≡ unstaged) × (c.after ≡ c.before)
+SubmitsBody call (Some body) c = SettlesWithMemory (call body) c
 
-abbrev pub SubmitsStaged : PeerRef → ℕ → ℕ → Held → ℕ → Held → Type 0
-SubmitsStaged name channel flags held number after =
-    SubmitsBody (λ body slots. on_named slots name (submission channel (record { flags = flags; body = body }))) held.staged held number after
+abbrev pub SubmitsStaged : PeerRef → ℕ → ℕ → Crossing → Type 0
+SubmitsStaged name channel flags c =
+    SubmitsBody (λ body slots. on_named slots name (submission channel (record { flags = flags; body = body }))) c.before.staged c
 
 -- new bandwidths, or 1 where a peer that must be told wants memory for it
-abbrev pub SetsBandwidth : ℕ → ℕ → Held → ℕ → Held → Type 0
-SetsBandwidth incoming outgoing held number after =
-    ((number ≡ 0) × (after ≡ record held { host = with_bandwidth held.host incoming outgoing }))
-    ⊎ ((number ≡ 1) × (list_any wants_room held.host.slots ≡ true) × (after ≡ held))
+abbrev pub SetsBandwidth : ℕ → ℕ → Crossing → Type 0
+SetsBandwidth incoming outgoing c =
+    ((c.number ≡ 0) × (c.after ≡ record c.before { host = with_bandwidth c.before.host incoming outgoing }))
+    ⊎ ((c.number ≡ 1) × (list_any wants_room c.before.host.slots ≡ true) × (c.after ≡ c.before))
 
 -- a host begins with these settings, unless the handle holds one or the host is refused
 abbrev pub new_held : Host → Held
@@ -120,45 +127,45 @@ abbrev pub named_by : Result PeerRef Refusal → CorePeer → CorePeer
 named_by (Ok name) old = name_shown name
 named_by (Err why) old = old
 
-pub record Asks (question : Question) (old new : CorePeer) (held : Held) (number : ℕ) (after : Held) : Type 0 where
+pub record Asks (question : Question) (old new : CorePeer) (c : Crossing) : Type 0 where
   pub answer : Result PeerRef Refusal
-  pub connects : Connects (host_basis held.host) held.host.slots question answer after.host.slots
-  pub told : number ≡ answered_by answer
+  pub connects : Connects (host_basis c.before.host) c.before.host.slots question answer c.after.host.slots
+  pub told : c.number ≡ answered_by answer
   pub named : new ≡ named_by answer old
-  pub rest : after ≡ record held { host = record held.host { slots = after.host.slots } }
+  pub rest : c.after ≡ record c.before { host = record c.before.host { slots = c.after.host.slots } }
 
 -- a datagram comes
-pub record TakesIn (from : Addr) (bytes : List ℕ) (shown : CoreReceived) (held : Held) (number : ℕ) (after : Held) : Type 0 where
+pub record TakesIn (from : Addr) (bytes : List ℕ) (shown : CoreReceived) (c : Crossing) : Type 0 where
   pub answer : Received
-  pub receives : Receives held.host from bytes answer after.host
+  pub receives : Receives c.before.host from bytes answer c.after.host
   pub is_shown : shown ≡ received_shown answer
-  pub rest : after ≡ record held { host = after.host }
+  pub rest : c.after ≡ record c.before { host = c.after.host }
 
 -- a datagram goes, or the buffer is too short for any
-pub record Sends (old new : List ℕ) (datagram : CoreDatagram) (held : Held) (number : ℕ) (after : Held) : Type 0 where
+pub record Sends (old new : List ℕ) (datagram : CoreDatagram) (c : Crossing) : Type 0 where
   pub gave : Option (PeerRef × Addr × ℕ)
   pub front : List ℕ
-  pub serves : Serves held.host gave front after.host
+  pub serves : Serves c.before.host gave front c.after.host
   pub room : 4096 ≤ length old
   pub written : new ≡ front ++ drop 4096 old
   pub shown : datagram ≡ datagram_shown gave
-  pub done : number ≡ 0
-  pub rest : after ≡ record held { host = after.host }
+  pub done : c.number ≡ 0
+  pub rest : c.after ≡ record c.before { host = c.after.host }
 
-abbrev pub SendsNothing : List ℕ → List ℕ → CoreDatagram → Held → ℕ → Held → Type 0
-SendsNothing old new datagram held number after =
-    (length old < 4096) × (number ≡ short_buffer) × (datagram ≡ no_datagram) × (new ≡ old) × (after ≡ held)
+abbrev pub SendsNothing : List ℕ → List ℕ → CoreDatagram → Crossing → Type 0
+SendsNothing old new datagram c =
+    (length old < 4096) × (c.number ≡ short_buffer) × (datagram ≡ no_datagram) × (new ≡ old) × (c.after ≡ c.before)
 
-abbrev pub PutsOut : List ℕ → List ℕ → CoreDatagram → Held → ℕ → Held → Type 0
-PutsOut old new datagram held number after = SendsNothing old new datagram held number after ⊎ Sends old new datagram held number after
+abbrev pub PutsOut : List ℕ → List ℕ → CoreDatagram → Crossing → Type 0
+PutsOut old new datagram c = SendsNothing old new datagram c ⊎ Sends old new datagram c
 
 -- the next event is told, and the body of its packet is kept
-pub record Tells (shown : CoreEvent) (held : Held) (number : ℕ) (after : Held) : Type 0 where
+pub record Tells (shown : CoreEvent) (c : Crossing) : Type 0 where
   pub event : Option Event
-  pub takes : Takes event held.host after.host
+  pub takes : Takes event c.before.host c.after.host
   pub is_shown : shown ≡ event_shown event
-  pub done : number ≡ 0
-  pub rest : after ≡ record held { host = after.host; told = option_and_then body_of event }
+  pub done : c.number ≡ 0
+  pub rest : c.after ≡ record c.before { host = c.after.host; told = option_and_then body_of event }
 
 -- a body that is kept goes to the front of a buffer
 pub data Copies : Option (List ℕ) → List ℕ → ℕ → List ℕ → Type 0 where

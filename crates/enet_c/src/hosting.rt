@@ -23,7 +23,7 @@ impl Held {
         word: u32,
         peer: &mut CorePeer,
     ) -> u32
-        ensures { Asks (record { address = to; channels = channels; info = info; word = word }) peer.old peer.new self.old result self.new }
+        ensures { Asks (record { address = to; channels = channels; info = info; word = word }) peer.old peer.new (record { before = self.old; number = result; after = self.new }) }
     {
         match self.host.connect(to, channels, info, word) {
             Ok(name) => {
@@ -36,7 +36,7 @@ impl Held {
 
     /// Submits a packet with a body of its own.
     pub(crate) fn give(&mut self, name: PeerRef, channel: u8, flags: u8, body: Bytes) -> u32
-        ensures { SettlesWithMemory (λ slots. on_named slots name (submission channel (record { flags = flags; body = body }))) self.old result self.new }
+        ensures { SettlesWithMemory (λ slots. on_named slots name (submission channel (record { flags = flags; body = body }))) (record { before = self.old; number = result; after = self.new }) }
     {
         match self.host.submit(name, channel, flags, body) {
             Ok(()) => OK,
@@ -53,7 +53,7 @@ impl Held {
         flags: u8,
         body: &[u8],
     ) -> u32
-        ensures { SettlesWithMemory (λ slots. on_named slots name (submission channel (record { flags = flags; body = body.now }))) self.old result self.new }
+        ensures { SettlesWithMemory (λ slots. on_named slots name (submission channel (record { flags = flags; body = body.now }))) (record { before = self.old; number = result; after = self.new }) }
     {
         if let Some(why) = self.host.submission_refusal(name, channel, body.len()) {
             return number_of(why);
@@ -66,7 +66,7 @@ impl Held {
 
     /// Submits a packet with the staged body, which is shared.
     pub(crate) fn submit_staged(&mut self, name: PeerRef, channel: u8, flags: u8) -> u32
-        ensures { SubmitsStaged name channel flags self.old result self.new }
+        ensures { SubmitsStaged name channel flags (record { before = self.old; number = result; after = self.new }) }
     {
         let Some(staged) = &self.staged else {
             return UNSTAGED;
@@ -82,7 +82,7 @@ impl Held {
 
     /// Puts out the next datagram, into the first 4,096 bytes of a buffer.
     pub(crate) fn service(&mut self, buffer: &mut [u8], datagram: &mut CoreDatagram) -> u32
-        ensures { PutsOut buffer.old buffer.new datagram.new self.old result self.new }
+        ensures { PutsOut buffer.old buffer.new datagram.new (record { before = self.old; number = result; after = self.new }) }
     {
         *datagram = CoreDatagram::none();
         let Some(front) = buffer.first_chunk_mut::<4096>() else {
@@ -94,7 +94,7 @@ impl Held {
 
     /// Tells the next event, and keeps the body of its packet.
     pub(crate) fn next_event(&mut self, event: &mut CoreEvent) -> u32
-        ensures { Tells event.new self.old result self.new }
+        ensures { Tells event.new (record { before = self.old; number = result; after = self.new }) }
     {
         let told = self.host.next_event();
         *event = CoreEvent::of(&told);

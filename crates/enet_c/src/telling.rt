@@ -29,7 +29,7 @@ pub extern "C" fn gofnjerta_core_next_event(
 /// Copies the body that is kept to the front of a buffer: 34 where the buffer is shorter than it, 36 where none is kept.
 #[unsafe(no_mangle)]
 pub extern "C" fn gofnjerta_core_body(alloc: Global, handle: &mut Handle, buffer: &mut [u8]) -> u32
-    ensures { Crosses (λ held number after. Copies held.told buffer.old number buffer.new × (after ≡ held)) handle.old.own.value result handle.new.own.value }
+    ensures { Crosses (λ c. Copies c.before.told buffer.old c.number buffer.new × (c.after ≡ c.before)) handle.old.own.value result handle.new.own.value }
 {
     let Some(held) = handle.take(alloc) else {
         return CLOSED;

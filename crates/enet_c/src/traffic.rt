@@ -138,7 +138,7 @@ pub extern "C" fn gofnjerta_core_service(
 /// The clock goes on by so many milliseconds, by a minute at most.
 #[unsafe(no_mangle)]
 pub extern "C" fn gofnjerta_core_tick(alloc: Global, handle: &mut Handle, ms: u32) -> u32
-    ensures { Crosses (λ held number after. (number ≡ 0) × (after ≡ record held { host = ticked held.host ms })) handle.old.own.value result handle.new.own.value }
+    ensures { Crosses (λ c. (c.number ≡ 0) × (c.after ≡ record c.before { host = ticked c.before.host ms })) handle.old.own.value result handle.new.own.value }
 {
     let Some(mut held) = handle.take(alloc) else {
         return CLOSED;
