@@ -28,10 +28,10 @@ arrives-moved : (mtu most : ℕ) (v : WireLink) (e : PutOut) (full answer : Bool
     → (answer ≡ true → (e.command.reliable ≡ true) × (v.is_open ≡ true → acknowledged wire most v.incoming e.command full ≡ true)) → Moved mtu v (arrives v most e.command full answer)
 arrives-moved mtu most v e full true there late rule =
     let w : WireLink = arrives v most e.command full true in
-    record { events = ArriveAnswered e most full ∷ []; runs = (w, record { arrives = record { logged = there; in_time = late; after = refl }; reliable = (rule refl).0; rule = (rule refl).1 }, refl); same = refl }
+    record { events = ArriveAnswered e most full ∷ []; runs = (w, record { comes = record { logged = there; in_time = late }; reliable = (rule refl).0; rule = (rule refl).1; after = refl }, refl); same = refl }
 arrives-moved mtu most v e full false there late rule =
     let w : WireLink = arrives v most e.command full false in
-    record { events = Arrive e most full ∷ []; runs = (w, record { logged = there; in_time = late; after = refl }, refl); same = refl }
+    record { events = Arrive e most full ∷ []; runs = (w, record { comes = record { logged = there; in_time = late }; after = refl }, refl); same = refl }
 
 -- a command of the log that comes: what it is, and that it isn't late
 pub record Comes (own other : End) (put : Put) (c : DataCommand) : Type 0 where

@@ -11,7 +11,7 @@ use Rattle.law_connection.specs.LinkSteps.{Has}
 use Rattle.law_connection.specs.Connection as connection
 use Rattle.law_connection.specs.Connection.{Put, End, Connection, sent_on}
 use Rattle.law_connection.specs.Steps.{One, Two, Submit, Emit, Come, Take, Answer, InTime, no_end, asking_pair, joined_pair, with_submission, with_emission, with_peer}
-use Rattle.law_connection.specs.Examples.{example_terms, example_limits, example_packet, example_offer, OfSomeJoined, OfSomeAsking, HasTaken, HasOneMark, HasConnected}
+use Rattle.law_connection.specs.Examples.{example_terms, example_limits, example_end, example_packet, example_offer, OfSomeJoined, OfSomeAsking, HasTaken, HasOneMark, HasConnected}
 use Rattle.law_connection.proofs.FirstPacket.{first_message, with_untaken, rest, first-comes}
 
 abbrev here : Peering
@@ -32,7 +32,7 @@ second (p ∷ log) = first log
 -- a packet is submitted, put out, comes, and is taken
 
 abbrev pair : Connection
-pair = joined_pair 0 0 example_terms example_terms example_limits example_limits
+pair = joined_pair example_end example_end
 
 abbrev submitted : End
 submitted = with_submission pair.one here example_packet

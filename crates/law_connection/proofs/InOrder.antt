@@ -86,7 +86,7 @@ joined-linked now1 now2 t1 t2 l1 l2 channel big = record {
   acks = λ p number time h. absurd h;
 }
 
-pub joined-both : (now1 now2 : ℕ) (t1 t2 : Terms) (l1 l2 : Limits) → 28 < t1.mtu → 28 < t2.mtu → (c : Connection) → c ≡ joined_pair now1 now2 t1 t2 l1 l2 → AreLinked c.one c.two
+pub joined-both : (now1 now2 : ℕ) (t1 t2 : Terms) (l1 l2 : Limits) → 28 < t1.mtu → 28 < t2.mtu → (c : Connection) → c ≡ joined_pair (record { now = now1; terms = t1; limits = l1 }) (record { now = now2; terms = t2; limits = l2 }) → AreLinked c.one c.two
 joined-both now1 now2 t1 t2 l1 l2 big1 big2 c e = subst (λ (x : Connection). AreLinked x.one x.two) (sym e) (record {
   out = λ channel few. joined-linked now1 now2 t1 t2 l1 l2 channel big1;
   back = λ channel few. joined-linked now2 now1 t2 t1 l2 l1 channel big2;

@@ -70,9 +70,9 @@ fit-joined now t l big few = record {
   peer = (tidy-joined now t l big few, low-new (joined now t l) l.max_packet t.channels few refl refl);
 }
 
-pub joined-kept : (now1 now2 : ℕ) (t1 t2 : Terms) (l1 l2 : Limits) → 28 < t1.mtu → 28 < t2.mtu → t1.channels ≤ 255 → t2.channels ≤ 255 → Invariant true (joined_pair now1 now2 t1 t2 l1 l2)
+pub joined-kept : (now1 now2 : ℕ) (t1 t2 : Terms) (l1 l2 : Limits) → 28 < t1.mtu → 28 < t2.mtu → t1.channels ≤ 255 → t2.channels ≤ 255 → Invariant true (joined_pair (record { now = now1; terms = t1; limits = l1 }) (record { now = now2; terms = t2; limits = l2 }))
 joined-kept now1 now2 t1 t2 l1 l2 big1 big2 few1 few2 = record {
-  both = joined-both now1 now2 t1 t2 l1 l2 big1 big2 (joined_pair now1 now2 t1 t2 l1 l2) refl;
+  both = joined-both now1 now2 t1 t2 l1 l2 big1 big2 (joined_pair (record { now = now1; terms = t1; limits = l1 }) (record { now = now2; terms = t2; limits = l2 })) refl;
   one = fit-joined now1 t1 l1 big1 few1;
   two = fit-joined now2 t2 l2 big2 few2;
   life_one = inl (refl, tt);
@@ -98,14 +98,14 @@ big-of n h = omega arith
 -- each run keeps the invariant
 
 kept-joined : OfEachJoined (Invariant true)
-kept-joined now1 now2 terms1 terms2 limits1 limits2 events c big1 big2 few1 few2 r =
-    kept-runs true events (joined_pair now1 now2 terms1 terms2 limits1 limits2) c r (joined-kept now1 now2 terms1 terms2 limits1 limits2 (big-of terms1.mtu big1) (big-of terms2.mtu big2) few1 few2)
+kept-joined one two events c big1 big2 few1 few2 r =
+    kept-runs true events (joined_pair one two) c r (joined-kept one.now two.now one.terms two.terms one.limits two.limits (big-of one.terms.mtu big1) (big-of two.terms.mtu big2) few1 few2)
 
 kept-asking : OfEachAsking (Invariant false)
 kept-asking now offer limits events c r = kept-runs false events (asking_pair now offer limits) c r (asking-kept now offer limits)
 
 pub joined-law : JoinedLaw
-joined-law now1 now2 terms1 terms2 limits1 limits2 events c big1 big2 few1 few2 r = lawful true c (kept-joined now1 now2 terms1 terms2 limits1 limits2 events c big1 big2 few1 few2 r)
+joined-law one two events c big1 big2 few1 few2 r = lawful true c (kept-joined one two events c big1 big2 few1 few2 r)
 
 pub asking-law : AskingLaw
 asking-law now offer limits events c r = lawful false c (kept-asking now offer limits events c r)
@@ -116,7 +116,7 @@ pub agree : (joined : Bool) (c : Connection) → Invariant joined c → Agree c
 agree joined c k channel few = let b = k.both in (agree-on c.one c.two channel (b.out channel few), agree-on c.two c.one channel (b.back channel few))
 
 pub joined-agree : OfEachJoined Agree
-joined-agree now1 now2 terms1 terms2 limits1 limits2 events c big1 big2 few1 few2 r = agree true c (kept-joined now1 now2 terms1 terms2 limits1 limits2 events c big1 big2 few1 few2 r)
+joined-agree one two events c big1 big2 few1 few2 r = agree true c (kept-joined one two events c big1 big2 few1 few2 r)
 
 pub asking-agree : OfEachAsking Agree
 asking-agree now offer limits events c r = agree false c (kept-asking now offer limits events c r)

@@ -76,10 +76,9 @@ Sound-happens mtu (Send occasion) v w big s h = subst (λ x. Sound mtu x) (sym h
 Sound-happens mtu (Drop occasion) v w big s h = subst (λ x. Sound mtu x) (sym h.after) (Sound-drops mtu v occasion h.due s h.sending h.is_due h.unreliable)
 Sound-happens mtu (Mark now) v w big s h = subst (λ x. Sound mtu x) (sym h.after) (Sound-marks mtu v now s h.sending)
 Sound-happens mtu PutsOut v w big s h = subst (λ x. Sound mtu x) (sym h) (Sound-puts_out mtu v s)
-Sound-happens mtu (Arrive command most full) v w big s h = subst (λ x. Sound mtu x) (sym h.after) (Sound-arrives mtu most v command full s h.logged h.in_time)
+Sound-happens mtu (Arrive command most full) v w big s h = subst (λ x. Sound mtu x) (sym h.after) (Sound-arrives mtu most v command full s (h.comes).logged (h.comes).in_time)
 Sound-happens mtu (ArriveAnswered command most full) v w big s h =
-    let a = h.arrives in
-    subst (λ x. Sound mtu x) (sym a.after) (Sound-arrives_answered mtu most v command full s a.logged a.in_time h.reliable (λ o. handled (is_handled (outcome wire most v.incoming command.command full)) _ (h.rule o)))
+    subst (λ x. Sound mtu x) (sym h.after) (Sound-arrives_answered mtu most v command full s (h.comes).logged (h.comes).in_time h.reliable (λ o. handled (is_handled (outcome wire most v.incoming command.command full)) _ (h.rule o)))
   where
     handled : (a b : Bool) → (a && b) ≡ true → a ≡ true
     handled true b t = refl

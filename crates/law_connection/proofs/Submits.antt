@@ -36,7 +36,7 @@ happens-any a b (Drop occasion) v w h none = (h, ap (λ (x : WireLink). x.submit
 happens-any a b (Mark now) v w h none = (h, ap (λ (x : WireLink). x.submitted) (sym h.after) ∙ none)
 happens-any a b PutsOut v w h none = (h, ap (λ (x : WireLink). x.submitted) (sym h) ∙ none)
 happens-any a b (Arrive c most full) v w h none = (h, ap (λ (x : WireLink). x.submitted) (sym h.after) ∙ none)
-happens-any a b (ArriveAnswered c most full) v w h none = (let r = h.arrives in (h, ap (λ (x : WireLink). x.submitted) (sym r.after) ∙ none))
+happens-any a b (ArriveAnswered c most full) v w h none = (h, ap (λ (x : WireLink). x.submitted) (sym h.after) ∙ none)
 happens-any a b (PutsAnswer number rest) v w h none = (h, ap (λ (x : WireLink). x.submitted) (sym h.after) ∙ none)
 happens-any a b (Acknowledge answer) v w h none = (h, ap (λ (x : WireLink). x.submitted) (sym h.after) ∙ none)
 happens-any a b (StopSending l) v w h none = (h, ap (λ (x : WireLink). x.submitted) (sym h.after) ∙ none)

@@ -8,7 +8,7 @@ use Rattle.enet_peer.specs.declared.parts.PeerEvent.TheVariants as told
 use Rattle.enet_peer.specs.declared.parts.PeerState.TheVariants as state
 use Rattle.enet_peer.specs.Peering.{Peering}
 use Rattle.law_connection.specs.Connection.{Put, End, Connection}
-use Rattle.law_connection.specs.Steps.{Side, Event, Runs, joined_pair, asking_pair}
+use Rattle.law_connection.specs.Steps.{Side, Event, Runs, JoinedEnd, joined_pair, asking_pair}
 
 abbrev pub example_terms : Terms
 example_terms = record { slot = 0; channels = 1; mtu = 576; window = 65536; incoming_session = 0; outgoing_session = 0; throttle_interval = 5000; acceleration = 2; deceleration = 2; connect_id = 0 }
@@ -23,9 +23,12 @@ example_packet = record { channel = 0; flags = 1; body = 7 ∷ 8 ∷ [] }
 abbrev pub example_offer : Offer
 example_offer = record { outgoing_peer = 0; incoming_session = 255; outgoing_session = 255; mtu = 1000; window = 65536; channels = 1; incoming_bandwidth = 0; outgoing_bandwidth = 0; throttle_interval = 5000; acceleration = 2; deceleration = 2; connect_id = 9; info = 3 }
 
+abbrev pub example_end : JoinedEnd
+example_end = record { now = 0; terms = example_terms; limits = example_limits }
+
 -- this holds after some run of a joined pair
 abbrev pub OfSomeJoined : (Connection → Type 0) → Type 0
-OfSomeJoined P = (events : List (Side × Event)) × (c : Connection) × Runs events (joined_pair 0 0 example_terms example_terms example_limits example_limits) c × P c
+OfSomeJoined P = (events : List (Side × Event)) × (c : Connection) × Runs events (joined_pair example_end example_end) c × P c
 
 -- or of a client that asks and a host that answers
 abbrev pub OfSomeAsking : (Connection → Type 0) → Type 0

@@ -1,6 +1,5 @@
 -- What holds of every connection, whatever happens to it.
 use Rattle.std.specs.Prelude.{◌≡◌, ℕ, Bool, true, false, ◌≤◌, List, [], ◌∷◌, Option, Some, None}
-use Rattle.enet_connect.specs.declared.terms.Terms.{Terms}
 use Rattle.enet_codec.specs.declared.command.Offer.{Offer}
 use Rattle.law_connection.specs.Follows.{Follows}
 use Rattle.law_connection.specs.LinkSteps.{bodies_of}
@@ -9,7 +8,7 @@ use Rattle.enet_peer.specs.declared.parts.PeerEvent.{PeerEvent}
 use Rattle.enet_peer.specs.declared.parts.PeerEvent.TheVariants as told
 use Rattle.enet_peer.specs.Peering.{Peering}
 use Rattle.law_connection.specs.Connection.{End, Connection, of_channel, packets_of, in_sequence}
-use Rattle.law_connection.specs.Steps.{Side, Event, Runs, joined_pair, asking_pair}
+use Rattle.law_connection.specs.Steps.{Side, Event, Runs, JoinedEnd, joined_pair, asking_pair}
 
 -- the mtu by which an end's packets go
 abbrev pub mtu_in : Option Peering → ℕ
@@ -46,9 +45,9 @@ pub record IsLawful (joined : Bool) (c : Connection) : Type 0 where
 
 -- this holds after every run of a pair that is connected from the start, whose ends have mtus from 576 bytes on and at most 255 channels
 abbrev pub OfEachJoined : (Connection → Type 0) → Type 0
-OfEachJoined P = (now1 now2 : ℕ) (terms1 terms2 : Terms) (limits1 limits2 : Limits) (events : List (Side × Event)) (c : Connection)
-    → 576 ≤ terms1.mtu → 576 ≤ terms2.mtu → terms1.channels ≤ 255 → terms2.channels ≤ 255
-    → Runs events (joined_pair now1 now2 terms1 terms2 limits1 limits2) c → P c
+OfEachJoined P = (one two : JoinedEnd) (events : List (Side × Event)) (c : Connection)
+    → 576 ≤ one.terms.mtu → 576 ≤ two.terms.mtu → one.terms.channels ≤ 255 → two.terms.channels ≤ 255
+    → Runs events (joined_pair one two) c → P c
 
 -- this holds after every run of a client that asks and a host that knows nothing of it
 abbrev pub OfEachAsking : (Connection → Type 0) → Type 0

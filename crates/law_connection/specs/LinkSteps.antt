@@ -55,16 +55,21 @@ pub record StopsSending (left : Sender) (v w : WireLink) : Type 0 where
   pub after : w ≡ stops_sending v left
 
 -- a command of the log comes, not more than 32,768 late
-pub record Arrives (command : PutOut) (max_packet : ℕ) (full answer : Bool) (v w : WireLink) : Type 0 where
+pub record Comes (command : PutOut) (v : WireLink) : Type 0 where
   pub logged : Has v.commands command
   pub in_time : is_late v.greatest command.sent_then command.command.number ≡ false
-  pub after : w ≡ arrives v max_packet command.command full answer
+
+-- it is not acknowledged
+pub record Arrives (command : PutOut) (max_packet : ℕ) (full : Bool) (v w : WireLink) : Type 0 where
+  pub comes : Comes command v
+  pub after : w ≡ arrives v max_packet command.command full false
 
 -- a reliable one is acknowledged: where the receiver dispatches, by its rule
 pub record ArrivesAnswered (command : PutOut) (max_packet : ℕ) (full : Bool) (v w : WireLink) : Type 0 where
-  pub arrives : Arrives command max_packet full true v w
+  pub comes : Comes command v
   pub reliable : command.command.reliable ≡ true
   pub rule : v.is_open ≡ true → acknowledged wire max_packet v.incoming command.command full ≡ true
+  pub after : w ≡ arrives v max_packet command.command full true
 
 pub record PutsAnswers (number : ℕ) (rest : List ℕ) (v w : WireLink) : Type 0 where
   pub oldest : v.answers ≡ number ∷ rest
@@ -88,7 +93,7 @@ Happens mtu (Send occasion) v w = Sends occasion v w
 Happens mtu (Drop occasion) v w = Drops occasion v w
 Happens mtu (Mark now) v w = Marks now v w
 Happens mtu PutsOut v w = w ≡ puts_out v
-Happens mtu (Arrive command max_packet full) v w = Arrives command max_packet full false v w
+Happens mtu (Arrive command max_packet full) v w = Arrives command max_packet full v w
 Happens mtu (ArriveAnswered command max_packet full) v w = ArrivesAnswered command max_packet full v w
 Happens mtu (PutsAnswer number rest) v w = PutsAnswers number rest v w
 Happens mtu (Acknowledge answer) v w = Acknowledges answer v w

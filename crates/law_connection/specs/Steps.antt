@@ -116,11 +116,17 @@ Runs (e ∷ es) c d = (b : Connection) × HappensAt e.0 e.1 c b × Runs es b d
 abbrev pub no_end : End
 no_end = record { peer = None; log = []; submitted = []; events = [] }
 
+-- what an end goes by that is connected from the start: its clock then, in milliseconds, its terms, and what its host allows
+pub record JoinedEnd : Type 0 where
+  pub now : ℕ
+  pub terms : Terms
+  pub limits : Limits
+
 -- a pair that is connected from the start
-abbrev pub joined_pair : (now1 now2 : ℕ) → Terms → Terms → Limits → Limits → Connection
-joined_pair now1 now2 terms1 terms2 limits1 limits2 = record {
-  one = with_peer no_end (joined now1 terms1 limits1);
-  two = with_peer no_end (joined now2 terms2 limits2);
+abbrev pub joined_pair : (one two : JoinedEnd) → Connection
+joined_pair one two = record {
+  one = with_peer no_end (joined one.now one.terms one.limits);
+  two = with_peer no_end (joined two.now two.terms two.limits);
 }
 
 -- a client that asks, and a host that knows nothing of it

@@ -11,10 +11,9 @@
 
 ghost use Rattle.std.specs.Prelude.{ℕ, ◌≤◌, Bool, true, false};
 ghost use Rattle.enet_codec.specs.declared.command.Offer.{Offer};
-ghost use Rattle.enet_connect.specs.declared.terms.Terms.{Terms};
 ghost use Rattle.enet_peer.specs.declared.parts.Limits.{Limits};
 ghost use Rattle.law_connection.specs.Connection.{Connection};
-ghost use Rattle.law_connection.specs.Steps.{Side, Event, HappensAt, joined_pair, asking_pair};
+ghost use Rattle.law_connection.specs.Steps.{Side, Event, HappensAt, JoinedEnd, joined_pair, asking_pair};
 ghost use Rattle.law_connection.specs.Law.{IsLawful, OfEachJoined, OfEachAsking, JoinedLaw, AskingLaw};
 ghost use Rattle.law_connection.specs.Invariant.{Invariant};
 ghost use Rattle.law_connection.specs.Numbers.{Agree};
@@ -52,8 +51,8 @@ pub fn ends_agree_on_numbers()
 /// The law one event at a time, for those who show that their steps are a connection's events: `Invariant` holds of both pairs at
 /// first (`joined`, `asking`), one event at either side keeps it (`event`), and from it the law comes (`lawful`, `agree`).
 pub fn each_event_keeps()
-    ensures joined { (now1 now2 : ℕ) (terms1 terms2 : Terms) (limits1 limits2 : Limits) → 576 ≤ terms1.mtu → 576 ≤ terms2.mtu
-        → terms1.channels ≤ 255 → terms2.channels ≤ 255 → Invariant true (joined_pair now1 now2 terms1 terms2 limits1 limits2) }
+    ensures joined { (one two : JoinedEnd) → 576 ≤ one.terms.mtu → 576 ≤ two.terms.mtu → one.terms.channels ≤ 255 → two.terms.channels ≤ 255
+        → Invariant true (joined_pair one two) }
     ensures asking { (now : ℕ) (offer : Offer) (limits : Limits) → Invariant false (asking_pair now offer limits) }
     ensures event { (joined : Bool) (side : Side) (event : Event) (c d : Connection) → HappensAt side event c d → Invariant joined c → Invariant joined d }
     ensures lawful { (joined : Bool) (c : Connection) → Invariant joined c → IsLawful joined c }

@@ -2,7 +2,7 @@ use Rattle.law_connection.proofs.Laws.{joined-kept, asking-kept, kept-at, lawful
 use Rattle.law_connection.proofs.each_event_keeps.Goals as goal
 
 pub returns-clause-joined : goal.returns-clause-joined
-returns-clause-joined c = λ now1 now2 terms1 terms2 limits1 limits2 big1 big2 few1 few2. joined-kept now1 now2 terms1 terms2 limits1 limits2 (big-of terms1.mtu big1) (big-of terms2.mtu big2) few1 few2
+returns-clause-joined c = λ one two big1 big2 few1 few2. joined-kept one.now two.now one.terms two.terms one.limits two.limits (big-of one.terms.mtu big1) (big-of two.terms.mtu big2) few1 few2
 
 pub returns-clause-asking : goal.returns-clause-asking
 returns-clause-asking c = asking-kept
