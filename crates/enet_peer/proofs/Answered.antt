@@ -23,7 +23,7 @@ use Rattle.enet_outbox.proofs.Oldest.{oldest-first}
 use Rattle.enet_peer.specs.Peering.{Peering}
 use Rattle.enet_peer.specs.declared.parts.PeerState.{PeerState}
 use Rattle.enet_peer.specs.declared.parts.PeerState.TheVariants as state
-use Rattle.enet_peer.specs.CommandEffect.{Obeys, wants_memory, answered, answered_at, is_answered_in, obeyed, on_acknowledge, on_match}
+use Rattle.enet_peer.specs.CommandEffect.{Obeys, wants_memory, answered, answered_at, is_answered_in, obeyed, acknowledged, on_acknowledge, on_match}
 use Rattle.enet_peer.specs.Calls.{PutsOut, after_timeouts, after_timeouts_by, destination_of, gone_on, gone_on_in, is_pinged, pace_of, ticked}
 use Rattle.enet_peer.specs.Reachable.{Answers, IsAnswering, IsReachable, IsStill, answer_to}
 use Rattle.enet_peer.proofs.Obeying.{obeys-holds}
@@ -79,7 +79,7 @@ acknowledged-waits a p now channel number time w = by (matched_by p.outbox chann
     left : IsAnswering a (at-end (record p { outbox = after_acknowledgement p.outbox channel number }))
     left = (refl, w.1, matched-stays p.outbox channel number ∙ w.2)
 
-    by : (x : Matched) → IsAnswering a (on_match x (at-end p) now channel number time)
+    by : (x : Matched) → IsAnswering a (on_match x (at-end p) (acknowledged (at-end p) now channel number time))
     by matched.Nothing = (refl, w.1, w.2)
     by matched.Data = left
     by (matched.Control what) = left

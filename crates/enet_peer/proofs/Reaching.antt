@@ -272,7 +272,7 @@ acknowledged-keeps p now channel number time h = by (matched_by p.outbox channel
     a : IsReachable q
     a = matched-keeps p channel number h
 
-    by : (x : Matched) → IsReachable (on_match x p now channel number time)
+    by : (x : Matched) → IsReachable (on_match x p q)
     by matched.Nothing = h
     by matched.Data = settled-keeps q a
     by (matched.Control what) = settled-keeps (with_answer p.state what q) (with-answer-keeps q p.state what a)

@@ -98,15 +98,19 @@ with_answer state.Answering (control.VerifyConnect verify) p = record p { state 
 with_answer state.Disconnecting (control.Disconnect info) p = ended p 0
 with_answer _ _ p = p
 
-abbrev pub on_match : Matched → Peering → ℕ → ℕ → ℕ → ℕ → Peering
-on_match matched.Nothing p now channel number time = p
-on_match matched.Data p now channel number time = settled (sampled (record p { outbox = after_acknowledgement p.outbox channel number }) now time)
-on_match (matched.Control what) p now channel number time =
-    settled (with_answer p.state what (sampled (record p { outbox = after_acknowledgement p.outbox channel number }) now time))
+-- the command that is acknowledged is gone, and its round trip is measured
+abbrev pub acknowledged : Peering → (now channel number time : ℕ) → Peering
+acknowledged p now channel number time = sampled (record p { outbox = after_acknowledgement p.outbox channel number }) now time
+
+-- what an acknowledgement makes of a peer, by what it matches: from `old` to where the command is gone, and on
+abbrev pub on_match : Matched → (old gone : Peering) → Peering
+on_match matched.Nothing old gone = old
+on_match matched.Data old gone = settled gone
+on_match (matched.Control what) old gone = settled (with_answer old.state what gone)
 
 -- an acknowledgement comes; one that matches nothing has no effect
 abbrev pub on_acknowledge : Peering → ℕ → ℕ → ℕ → ℕ → Peering
-on_acknowledge p now channel number time = on_match (matched_by p.outbox channel number) p now channel number time
+on_acknowledge p now channel number time = on_match (matched_by p.outbox channel number) p (acknowledged p now channel number time)
 
 -- a server's answer comes to a client. Where it isn't accepted, the connection has ended; else it stands, and the answer is the
 -- acknowledgement of CONNECT, which is all that the client had to send

@@ -123,7 +123,7 @@ holds-acknowledged own other p put now number time logged body late h = by (matc
     k = holds-sampled own other (record p { outbox = after_acknowledgement p.outbox put.message.head.channel number }) now time
         (both-acknowledged (with_peer own p) other p put number time refl logged body late h)
 
-    by : (x : Matched) → Holds own other (on_match x p now put.message.head.channel number time)
+    by : (x : Matched) → Holds own other (on_match x p q)
     by matched.Nothing = h
     by matched.Data = holds-settled own other q k
     by (matched.Control what) = holds-settled own other (with_answer p.state what q) (holds-with_answer own other q p.state what refl k)

@@ -264,7 +264,7 @@ kept-acknowledged P k p now channel number time here h = by (matched_by p.outbox
     a : P q
     a = k.quiet (record p { outbox = after_acknowledgement p.outbox channel number }) q refl (k.acknowledges p channel number here h)
 
-    by : (x : Matched) → P (on_match x p now channel number time)
+    by : (x : Matched) → P (on_match x p q)
     by matched.Nothing = h
     by matched.Data = kept-settled P k q a
     by (matched.Control what) = kept-settled P k (with_answer p.state what q) (kept-with_answer P k q p.state what refl a)

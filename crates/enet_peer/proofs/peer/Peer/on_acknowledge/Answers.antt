@@ -4,7 +4,7 @@ use Rattle.enet_outbox.specs.Outbox.{Outbox}
 use Rattle.enet_peer.specs.contracts.peer.Peer.{the_view}
 use Rattle.enet_peer.specs.Peering.{Peering}
 use Rattle.enet_peer.specs.Peered.{Peered}
-use Rattle.enet_peer.specs.CommandEffect.{on_acknowledge, on_match}
+use Rattle.enet_peer.specs.CommandEffect.{acknowledged, on_acknowledge, on_match}
 use Rattle.enet_peer.proofs.Unmatched.{unmatched}
 use Rattle.enet_peer.proofs.peer.Peer.on_acknowledge.Goals as goal
 
@@ -15,5 +15,5 @@ returns-in-Nothing-clause-peer c =
     let stays : c.matched.new.self.outbox ≡ p.outbox = c.in-Nothing.ensures.outbox ∙ unmatched p.outbox c.args.channel c.args.number (sym found) in
     let after : record p { outbox = c.matched.new.self.outbox } ≡ p = ap (λ (o : Outbox). record p { outbox = o }) stays in
     let is : p ≡ on_acknowledge p c.args.now c.args.channel c.args.number c.args.time =
-    subst (λ (m : Matched). p ≡ on_match m p c.args.now c.args.channel c.args.number c.args.time) found refl in
+    subst (λ (m : Matched). p ≡ on_match m p (acknowledged p c.args.now c.args.channel c.args.number c.args.time)) found refl in
     subst (λ (v : Peered). record p { outbox = c.matched.new.self.outbox } ≡ on_acknowledge v.peer c.args.now c.args.channel c.args.number c.args.time) c.self.view_is (after ∙ is)
