@@ -22,7 +22,7 @@ use Rattle.enet_site.specs.declared.put_out.Turned.{Turned}
 use Rattle.enet_site.specs.declared.put_out.Turned.TheVariants as turn
 use Rattle.enet_site.specs.Places.{Place}
 use Rattle.enet_site.specs.Sites.{CallsAt}
-use Rattle.enet_site.specs.Turning.{ServesAmong, TurnsAmong}
+use Rattle.enet_site.specs.Turning.{CallsAround, TurnsAmong}
 use Rattle.enet_fleet.specs.declared.event.FleetEvent.{FleetEvent}
 use Rattle.enet_fleet.specs.declared.event.FleetEvent.TheVariants as happen
 use Rattle.enet_fleet.specs.declared.event.Node.{Node}
@@ -198,7 +198,7 @@ not-turned f n why was is there memory same =
 -- what a turn put out is kept
 
 pub puts-none : (hosts : Addr → Bool) (far : ℕ → List ℕ) (was is : Place) (site : Site) → site ≡ was.site → TurnsAmong hosts far None site is.site → is.sent ≡ was.sent → PutsOut hosts far None was is
-puts-none hosts far was is site same h kept = (h.0, subst (λ (s : Site). ServesAmong hosts far None h.0 s is.site) same h.1, kept)
+puts-none hosts far was is site same h kept = (h.0, subst (λ (s : Site). CallsAround hosts far (call.Service None h.0) s is.site) same h.1, kept)
 
 pub puts-some : (hosts : Addr → Bool) (far : ℕ → List ℕ) (was is : Place) (site : Site) (given : Turned) (k : ℕ) → site ≡ was.site → TurnsAmong hosts far (Some given) site is.site → k ≡ length was.sent
     → is.sent ≡ was.sent ++ sent_of given ∷ [] → PutsOut hosts far (Some k) was is
@@ -206,14 +206,14 @@ puts-some hosts far was is site (turn.Sent n) k same h number kept = (
   number,
   h.1,
   h.2,
-  subst (λ (s : Site). ServesAmong hosts far (Some h.1) h.2 s is.site) same h.4,
+  subst (λ (s : Site). CallsAround hosts far (call.Service (Some h.1) h.2) s is.site) same h.4,
   kept ∙ ap (λ (m : ℕ). was.sent ++ Of m ∷ []) (h.0 ∙ ap (λ (s : Site). length s.log) same) ∙ ap (λ (b : Bool). sent_if b h.1 h.2 was) (sym h.3),
 )
 puts-some hosts far was is site (turn.Away to text) k same h number kept = (
   number,
   h.0,
   h.1,
-  subst (λ (s : Site). ServesAmong hosts far (Some h.0) h.1 s is.site) same h.5,
+  subst (λ (s : Site). CallsAround hosts far (call.Service (Some h.0) h.1) s is.site) same h.5,
   kept ∙ (λ t. was.sent ++ Away (h.3 t) (h.4 t) ∷ []) ∙ ap (λ (b : Bool). sent_if b h.0 h.1 was) (sym h.2),
 )
 

@@ -30,39 +30,39 @@ asked-refused-at r a b h g was far channels info word s f before beside is =
     subst (λ (z : Site). IfErr r (λ why. RefusesCall (call.Connect z.address channels info word (Err why)) s)) beside (refuses-at r (λ why. call.Connect b channels info word (Err why)) a h was s before is)
 
 pub asked-at : (r : Result PeerRef Refusal) (a b : Addr) (old new g : Host) (was is far : Records) (next channels info word : ℕ) (s f : Site) → site a old was ≡ s → site b g far ≡ f
-    → IfOk r (λ name. CallsOn next (call.Connect b channels info word (Ok name)) old was new is) → IfOk r (λ name. Happens next f (Calls (call.Connect f.address channels info word (Ok name))) s (site a new is))
+    → IfOk r (λ name. CallsOn next (call.Connect b channels info word (Ok name)) (record { host = old; records = was }) (record { host = new; records = is })) → IfOk r (λ name. Happens next f (Calls (call.Connect f.address channels info word (Ok name))) s (site a new is))
 asked-at (Err why) a b old new g was is far next channels info word s f before beside done = tt
 asked-at (Ok name) a b old new g was is far next channels info word s f before beside done =
     subst (λ (z : Site). Happens next z (Calls (call.Connect z.address channels info word (Ok name))) s (site a new is)) beside
     (subst (λ (z : Site). Happens next (site b g far) (Calls (call.Connect b channels info word (Ok name))) z (site a new is)) before (refl, done a))
 
 pub asked-whole : (r : Result PeerRef Refusal) (b : Addr) (old new : Host) (was is : Records) (next channels info word : ℕ) → OnErr r (new ≡ old) → OnErr r (is ≡ was)
-    → IfOk r (λ name. CallsOn next (call.Connect b channels info word (Ok name)) old was new is) → IsWhole old was.ends → IsWhole new is.ends
+    → IfOk r (λ name. CallsOn next (call.Connect b channels info word (Ok name)) (record { host = old; records = was }) (record { host = new; records = is })) → IsWhole old was.ends → IsWhole new is.ends
 asked-whole r b old new was is next channels info word host same done k =
-    whole-after r (λ name. CallsOn next (call.Connect b channels info word (Ok name)) old was new is) old new was is host same done
+    whole-after r (λ name. CallsOn next (call.Connect b channels info word (Ok name)) (record { host = old; records = was }) (record { host = new; records = is })) old new was is host same done
     (λ name d. (beside next (site b old was), site b old was, Calls (call.Connect b channels info word (Ok name)), (refl, d no_address))) k
 
 -- a packet is submitted
 
-pub submitted-at : (r : Done) (a : Addr) (old new : Host) (was is : Records) (name : PeerRef) (channel : ℕ) (q : Packet) (s : Site) → site a old was ≡ s → IfOk r (λ done. CallsOn 0 (call.Submit name channel q (Ok tt)) old was new is)
+pub submitted-at : (r : Done) (a : Addr) (old new : Host) (was is : Records) (name : PeerRef) (channel : ℕ) (q : Packet) (s : Site) → site a old was ≡ s → IfOk r (λ done. CallsOn 0 (call.Submit name channel q (Ok tt)) (record { host = old; records = was }) (record { host = new; records = is }))
     → IfOk r (λ done. CallsAt (call.Submit name channel q (Ok tt)) s (site a new is))
 submitted-at (Err why) a old new was is name channel q s before done = tt
 submitted-at (Ok u) a old new was is name channel q s before done = subst (λ (z : Site). CallsAt (call.Submit name channel q (Ok tt)) z (site a new is)) before (λ next far. done a)
 
-pub submitted-whole : (r : Done) (old new : Host) (was is : Records) (name : PeerRef) (channel : ℕ) (q : Packet) → OnErr r (new ≡ old) → OnErr r (is ≡ was) → IfOk r (λ done. CallsOn 0 (call.Submit name channel q (Ok tt)) old was new is)
+pub submitted-whole : (r : Done) (old new : Host) (was is : Records) (name : PeerRef) (channel : ℕ) (q : Packet) → OnErr r (new ≡ old) → OnErr r (is ≡ was) → IfOk r (λ done. CallsOn 0 (call.Submit name channel q (Ok tt)) (record { host = old; records = was }) (record { host = new; records = is }))
     → IsWhole old was.ends → IsWhole new is.ends
 submitted-whole r old new was is name channel q host same done k =
-    whole-after r (λ u. CallsOn 0 (call.Submit name channel q (Ok tt)) old was new is) old new was is host same done (λ u d. (beside 0 (site no_address old was), site no_address old was, Calls (call.Submit name channel q (Ok tt)), d no_address)) k
+    whole-after r (λ u. CallsOn 0 (call.Submit name channel q (Ok tt)) (record { host = old; records = was }) (record { host = new; records = is })) old new was is host same done (λ u d. (beside 0 (site no_address old was), site no_address old was, Calls (call.Submit name channel q (Ok tt)), d no_address)) k
 
 -- an event is taken
 
-pub taken-at : (r : Result (Option Event) Refusal) (a : Addr) (old new : Host) (was is : Records) (s : Site) → site a old was ≡ s → IfOk r (λ event. CallsOn 0 (call.NextEvent event) old was new is) → IfOk r (λ event. CallsAt (call.NextEvent event) s (site a new is))
+pub taken-at : (r : Result (Option Event) Refusal) (a : Addr) (old new : Host) (was is : Records) (s : Site) → site a old was ≡ s → IfOk r (λ event. CallsOn 0 (call.NextEvent event) (record { host = old; records = was }) (record { host = new; records = is })) → IfOk r (λ event. CallsAt (call.NextEvent event) s (site a new is))
 taken-at (Err why) a old new was is s before done = tt
 taken-at (Ok event) a old new was is s before done = subst (λ (z : Site). CallsAt (call.NextEvent event) z (site a new is)) before (λ next far. done a)
 
-pub taken-whole : (r : Result (Option Event) Refusal) (old new : Host) (was is : Records) → OnErr r (new ≡ old) → OnErr r (is ≡ was) → IfOk r (λ event. CallsOn 0 (call.NextEvent event) old was new is) → IsWhole old was.ends → IsWhole new is.ends
+pub taken-whole : (r : Result (Option Event) Refusal) (old new : Host) (was is : Records) → OnErr r (new ≡ old) → OnErr r (is ≡ was) → IfOk r (λ event. CallsOn 0 (call.NextEvent event) (record { host = old; records = was }) (record { host = new; records = is })) → IsWhole old was.ends → IsWhole new is.ends
 taken-whole r old new was is host same done k =
-    whole-after r (λ event. CallsOn 0 (call.NextEvent event) old was new is) old new was is host same done (λ event d. (beside 0 (site no_address old was), site no_address old was, Calls (call.NextEvent event), d no_address)) k
+    whole-after r (λ event. CallsOn 0 (call.NextEvent event) (record { host = old; records = was }) (record { host = new; records = is })) old new was is host same done (λ event d. (beside 0 (site no_address old was), site no_address old was, Calls (call.NextEvent event), d no_address)) k
 
 -- a datagram is brought
 

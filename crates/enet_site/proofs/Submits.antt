@@ -55,10 +55,10 @@ pub submitted-on : (r : Done) (old new : Host) (was : Records) (log : List Logge
     → AreApart ends → Placed ends peer place e → mtu ≡ mtu_in (named old.slots peer) → copy ≡ body
     → IfOk r (λ done. Acts (call.Submit e.name channel (record { flags = flags; body = copy }) (Ok tt)) old new)
     → IfOk r (λ done. f ≡ with_packet mtu (record { channel = channel; flags = flags; body = copy }) e)
-    → IfOk r (λ done. CallsOn 0 (call.Submit peer channel (record { flags = flags; body = body }) (Ok tt)) old was new (record { log = log; ends = slice_set ends place f }))
+    → IfOk r (λ done. CallsOn 0 (call.Submit peer channel (record { flags = flags; body = body }) (Ok tt)) (record { host = old; records = was }) (record { host = new; records = record { log = log; ends = slice_set ends place f } }))
 submitted-on (Err why) old new was log ends place e f peer mtu channel flags body copy view apart at by content does keeps = tt
 submitted-on (Ok done) old new was log ends place e f peer mtu channel flags body copy view apart at by content does keeps =
-    subst (λ (w : Records). CallsOn 0 (call.Submit peer channel (record { flags = flags; body = body }) (Ok tt)) old w new (record { log = log; ends = slice_set ends place f })) view
+    subst (λ (w : Records). CallsOn 0 (call.Submit peer channel (record { flags = flags; body = body }) (Ok tt)) (record { host = old; records = w }) (record { host = new; records = record { log = log; ends = slice_set ends place f } })) view
     (λ address. (acts, (λ i. record { address = address; host = new; log = log; ends = same i })))
   where
     acts : Acts (call.Submit peer channel (record { flags = flags; body = body }) (Ok tt)) old new
@@ -84,7 +84,7 @@ channel-inside log ends place e peer channel k at low = (let own = k.each e at.t
 -- a packet that is submitted to a peer which no end has is kept nowhere
 pub submitted-off : (r : Done) (old new : Host) (was : Records) (log : List Logged) (ends xs : List HostEnd) (peer : PeerRef) (channel flags : ℕ) (body copy : List ℕ) → record { log = log; ends = ends } ≡ was → xs ≡ ends
     → None ≡ position (λ (f : HostEnd). is_same_name f.name peer) xs → copy ≡ body → IfOk r (λ done. Acts (call.Submit peer channel (record { flags = flags; body = copy }) (Ok tt)) old new)
-    → IfOk r (λ done. CallsOn 0 (call.Submit peer channel (record { flags = flags; body = body }) (Ok tt)) old was new was)
+    → IfOk r (λ done. CallsOn 0 (call.Submit peer channel (record { flags = flags; body = body }) (Ok tt)) (record { host = old; records = was }) (record { host = new; records = was }))
 submitted-off (Err why) old new was log ends xs peer channel flags body copy view same found content does = tt
 submitted-off (Ok done) old new was log ends xs peer channel flags body copy view same found content does = λ address. (
   subst (λ (b : List ℕ). Acts (call.Submit peer channel (record { flags = flags; body = b }) (Ok tt)) old new) content does,

@@ -41,11 +41,11 @@ kept-told (Ok (Some event)) log ends place e f name k at same keeps =
 kept-told (Err why) log ends place e f name k at same keeps = kept-set log ends place e f k at.at (ap (λ (x : HostEnd). x.name) same) (subst (IsKept (length log)) (sym same) (k.each e at.there))
 
 pub taken-on : (r : Result (Option Event) Refusal) (old new : Host) (was : Records) (log : List Logged) (ends : List HostEnd) (place : ℕ) (e f : HostEnd) (name : PeerRef) → record { log = log; ends = ends } ≡ was → AreApart ends → Placed ends name place e
-    → Foretells teller_of old (Some name) → IfOk r (λ event. Takes event old new) → IfOk r (λ event. f ≡ told event e) → IfOk r (λ event. CallsOn 0 (call.NextEvent event) old was new (record { log = log; ends = slice_set ends place f }))
+    → Foretells teller_of old (Some name) → IfOk r (λ event. Takes event old new) → IfOk r (λ event. f ≡ told event e) → IfOk r (λ event. CallsOn 0 (call.NextEvent event) (record { host = old; records = was }) (record { host = new; records = record { log = log; ends = slice_set ends place f } }))
 taken-on (Err why) old new was log ends place e f name view apart at tells takes keeps = tt
 taken-on (Ok None) old new was log ends place e f name view apart at tells takes keeps = absurd (let y : ◌≡◌ {A = Option PeerRef} (Some name) None = tells None new takes in cc)
 taken-on (Ok (Some event)) old new was log ends place e f name view apart at tells takes keeps =
-    subst (λ (w : Records). CallsOn 0 (call.NextEvent (Some event)) old w new (record { log = log; ends = slice_set ends place f })) view
+    subst (λ (w : Records). CallsOn 0 (call.NextEvent (Some event)) (record { host = old; records = w }) (record { host = new; records = record { log = log; ends = slice_set ends place f } })) view
     (λ address. (takes, (λ i. record { address = address; host = new; log = log; ends = same i })))
   where
     same : slice_set ends place f ≡ after_event event ends
@@ -56,7 +56,7 @@ told-by h own name same tells = subst (λ (n : PeerRef). Foretells teller_of h (
 
 -- a peer that no end has tells, and nothing is kept
 pub taken-off : (r : Option Event) (old new : Host) (was : Records) (log : List Logged) (ends xs : List HostEnd) (name : PeerRef) → record { log = log; ends = ends } ≡ was → xs ≡ ends → None ≡ position (λ (f : HostEnd). is_same_name f.name name) xs
-    → Foretells teller_of old (Some name) → Takes r old new → CallsOn 0 (call.NextEvent r) old was new was
+    → Foretells teller_of old (Some name) → Takes r old new → CallsOn 0 (call.NextEvent r) (record { host = old; records = was }) (record { host = new; records = was })
 taken-off None old new was log ends xs name view same found tells takes = absurd (let y : ◌≡◌ {A = Option PeerRef} (Some name) None = tells None new takes in cc)
 taken-off (Some event) old new was log ends xs name view same found tells takes = λ address. (takes, (λ i. record { address = address; host = new; log = was.log; ends = stays i }))
   where

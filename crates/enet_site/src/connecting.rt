@@ -63,7 +63,7 @@ pub(crate) fn connect(
     ensures refused { IfErr result (λ why. Acts (call.Connect question.address question.channels question.info question.word (Err why)) host.old host.old) }
     ensures host { OnErr result (host.new ≡ host.old) }
     ensures unchanged { OnErr result (own.new ≡ own.old) }
-    ensures connects { IfOk result (λ name. CallsOn next (call.Connect question.address question.channels question.info question.word (Ok name)) host.old own.old host.new own.new) }
+    ensures connects { IfOk result (λ name. CallsOn next (call.Connect question.address question.channels question.info question.word (Ok name)) (record { host = host.old; records = own.old }) (record { host = host.new; records = own.new })) }
 {
     let name = asking_peer(host, question.channels)?;
     let end = fresh_end(alloc, next, name)?;

@@ -84,7 +84,7 @@ pub(crate) fn submit(
     ensures refused { IfErr result (λ why. Acts (call.Submit peer channel (record { flags = flags; body = body.now }) (Err (why, body.now))) host.old host.old) }
     ensures host { OnErr result (host.new ≡ host.old) }
     ensures unchanged { OnErr result (own.new ≡ own.old) }
-    ensures submits { IfOk result (λ done. CallsOn 0 (call.Submit peer channel (record { flags = flags; body = body.now }) (Ok tt)) host.old own.old host.new own.new) }
+    ensures submits { IfOk result (λ done. CallsOn 0 (call.Submit peer channel (record { flags = flags; body = body.now }) (Ok tt)) (record { host = host.old; records = own.old }) (record { host = host.new; records = own.new })) }
 {
     if let Some(why) = host.submission_refusal(peer, channel, body.len()) {
         return Err(why);

@@ -85,7 +85,7 @@ pub(crate) fn take(host: &mut HostCore, own: &mut Records) -> Result<Option<Even
     ensures memory { IfErr result (λ why. why ≡ Refusal.Memory) }
     ensures host { OnErr result (host.new ≡ host.old) }
     ensures unchanged { OnErr result (own.new ≡ own.old) }
-    ensures takes { IfOk result (λ event. CallsOn 0 (call.NextEvent event) host.old own.old host.new own.new) }
+    ensures takes { IfOk result (λ event. CallsOn 0 (call.NextEvent event) (record { host = host.old; records = own.old }) (record { host = host.new; records = own.new })) }
 {
     let Some(name) = host.next_event_of() else {
         return Ok(None);

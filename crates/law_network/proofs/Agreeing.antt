@@ -56,7 +56,7 @@ share-same : (g h : Common) (now sent : ℕ) (p : Peering) → AgreeOnShares now
 share-same g h now sent p e = shared-if (g.is_due now) (h.is_due now) g.config.outgoing h.config.outgoing (g.standing now) (h.standing now) sent p e.0 e.1
 
 -- what falls to a peer
-pub fell-same : (c : Call) (g h : Common) (i : ℕ) (s : SlotState) (p : Peering) (ds : List Deed) → AgreeOnPeer c i g h → Fell g i s p c ds → Fell h i s p c ds
+pub fell-same : (c : Call) (g h : Common) (i : ℕ) (s : SlotState) (p : Peering) (ds : List Deed) → AgreeOnPeer c i g h → Fell g (record { number = i; slot = s; peer = p }) c ds → Fell h (record { number = i; slot = s; peer = p }) c ds
 fell-same (call.Receive from bytes answer) g h i s p ds e fell = subst (λ (now : ℕ). Reaches i s (record { now = now; from = from; bytes = bytes; answer = answer }) ds) e fell
 fell-same (call.Service answer buf) g h i s p ds e fell = fell ∙ asked-same g h i answer buf e
 fell-same (call.Tick ms) g h i s p ds e fell =

@@ -215,7 +215,7 @@ shorter text rest m spells before low =
     let h : before + length (text ++ rest) ≤ greatest = low in (omega arith, omega arith)
 
 -- how many were handled
-handled-low : (now : ℕ) (sent : Option ℕ) (before : ℕ) (bytes : List ℕ) (answer : Received) (ds : List Deed) → before + length bytes ≤ greatest → Falls now sent before bytes answer ds
+handled-low : (now : ℕ) (sent : Option ℕ) (before : ℕ) (bytes : List ℕ) (answer : Received) (ds : List Deed) → before + length bytes ≤ greatest → Falls (record { now = now; sent = sent }) before bytes answer ds
     → (before ≤ answer.handled) × (answer.stop ≡ Some stop.NoSentTime → before + 1 ≤ answer.handled)
 handled-low now sent before bytes answer ds low (nothing_left handled) = (omega arith, λ e. absurd (cc))
 handled-low now sent before bytes answer ds low (no_command handled text some none) = (omega arith, λ e. absurd (cc))
@@ -235,7 +235,7 @@ handled-low now sent before bytes answer ds low (falling.goes_on handled text re
     (let b : one_more handled ≤ reply.handled = k.0 in omega arith, λ e. let b : one_more handled + 1 ≤ reply.handled = k.1 e in omega arith)
 
 -- a stop isn't followed by more
-stop-last : (now : ℕ) (sent : Option ℕ) (before : ℕ) (rest : List ℕ) (answer : Received) (ds : List Deed) (why : Stop) → before + 1 + length rest ≤ greatest → Falls now sent (before + 1) rest answer ds
+stop-last : (now : ℕ) (sent : Option ℕ) (before : ℕ) (rest : List ℕ) (answer : Received) (ds : List Deed) (why : Stop) → before + 1 + length rest ≤ greatest → Falls (record { now = now; sent = sent }) (before + 1) rest answer ds
     → answer ≡ record { handled = handling.counted before why; stop = Some why } → one_more before ≡ before + 1 → ⊥
 stop-last now sent before rest answer ds why low falls is one = by why is
   where
@@ -255,7 +255,7 @@ same-front text rest text' rest' m n a b e =
     let one : (text ≡ text') × (m ≡ n) = one_spelling text text' rest rest' m n a b e in
     (one.1, append_cancel_left text' rest rest' (ap (λ (xs : List ℕ). xs ++ rest) (sym one.0) ∙ e))
 
-falls-once : (now : ℕ) (sent : Option ℕ) (n1 n2 : ℕ) (b1 b2 : List ℕ) (r1 r2 : Received) (ds es : List Deed) → n1 + length b1 ≤ greatest → n1 ≡ n2 → b1 ≡ b2 → r1 ≡ r2 → Falls now sent n1 b1 r1 ds → Falls now sent n2 b2 r2 es → ds ≡ es
+falls-once : (now : ℕ) (sent : Option ℕ) (n1 n2 : ℕ) (b1 b2 : List ℕ) (r1 r2 : Received) (ds es : List Deed) → n1 + length b1 ≤ greatest → n1 ≡ n2 → b1 ≡ b2 → r1 ≡ r2 → Falls (record { now = now; sent = sent }) n1 b1 r1 ds → Falls (record { now = now; sent = sent }) n2 b2 r2 es → ds ≡ es
 falls-once now sent n1 n2 b1 b2 r1 r2 ds es low n b r (nothing_left h) (nothing_left k) = refl
 falls-once now sent n1 n2 b1 b2 r1 r2 ds es low n b r (nothing_left h) (no_command k text some none) = refl
 falls-once now sent n1 n2 b1 b2 r1 r2 ds es low n b r (nothing_left h) (stops k text rest m why spells) = absurd (some-bytes text rest m spells (sym b))
@@ -274,12 +274,12 @@ falls-once now sent n1 n2 b1 b2 r1 r2 ds es low n b r (stops h text rest m why s
     let front : (m ≡ m') × (rest ≡ rest') = same-front text rest text' rest' m m' spells spells' b in
     let room : (one_more h ≡ h + 1) × (h + 1 + length rest ≤ greatest) = shorter text rest m spells h low in
     let one : one_more k ≡ h + 1 = ap one_more (sym n) ∙ room.0 in
-    absurd (stop-last now sent h rest' reply fs why (subst (λ (xs : List ℕ). h + 1 + length xs ≤ greatest) front.1 room.1) (subst (λ (x : ℕ). Falls now sent x rest' reply fs) one more) (sym r) room.0)
+    absurd (stop-last now sent h rest' reply fs why (subst (λ (xs : List ℕ). h + 1 + length xs ≤ greatest) front.1 room.1) (subst (λ (x : ℕ). Falls (record { now = now; sent = sent }) x rest' reply fs) one more) (sym r) room.0)
 falls-once now sent n1 n2 b1 b2 r1 r2 ds es low n b r (falling.goes_on h text rest m reply fs spells more) (nothing_left k) = absurd (some-bytes text rest m spells b)
 falls-once now sent n1 n2 b1 b2 r1 r2 ds es low n b r (falling.goes_on h text rest m reply fs spells more) (no_command k bytes some none) = absurd (none m text rest (sym b) spells)
 falls-once now sent n1 n2 b1 b2 r1 r2 ds es low n b r (falling.goes_on h text rest m reply fs spells more) (stops k text' rest' m' why spells') =
     let room : (one_more h ≡ h + 1) × (h + 1 + length rest ≤ greatest) = shorter text rest m spells h low in
-    absurd (stop-last now sent h rest reply fs why room.1 (subst (λ (x : ℕ). Falls now sent x rest reply fs) room.0 more) (r ∙ ap (λ (x : ℕ). record { handled = handling.counted x why; stop = Some why }) (sym n)) room.0)
+    absurd (stop-last now sent h rest reply fs why room.1 (subst (λ (x : ℕ). Falls (record { now = now; sent = sent }) x rest reply fs) room.0 more) (r ∙ ap (λ (x : ℕ). record { handled = handling.counted x why; stop = Some why }) (sym n)) room.0)
 falls-once now sent n1 n2 b1 b2 r1 r2 ds es low n b r (falling.goes_on h text rest m reply fs spells more) (falling.goes_on k text' rest' m' reply' gs spells' more') =
     let front : (m ≡ m') × (rest ≡ rest') = same-front text rest text' rest' m m' spells spells' b in
     let room : (one_more h ≡ h + 1) × (h + 1 + length rest ≤ greatest) = shorter text rest m spells h low in
@@ -310,7 +310,7 @@ record IsTaken (now i : ℕ) (s : SlotState) (from : Addr) (bytes : List ℕ) (a
   known : header.peer ≢ no_peer
   at : header.peer ≡ i
   open' : refused_by_slot from header.session (Some s) ≡ None
-  falls : Falls now header.sent 0 commands answer ds
+  falls : Falls (record { now = now; sent = header.sent }) 0 commands answer ds
 
 taken-once : (now i : ℕ) (s : SlotState) (from : Addr) (bytes : List ℕ) (answer : Received) (ds es : List Deed) → length bytes ≤ greatest → IsTaken now i s from bytes answer ds → Reaches i s (record { now = now; from = from; bytes = bytes; answer = answer }) es → es ≡ ds
 taken-once now i s from bytes answer ds es low x (unreadable why u) = absurd (read-unread bytes x.commands x.header why x.read u)
@@ -329,7 +329,7 @@ taken-once now i s from bytes answer ds es low x (here header commands es' read 
     let same : (header ≡ x.header) × (commands ≡ x.commands) = read-once bytes commands x.commands header x.header read x.read in
     let fits : length commands ≤ length bytes = (read-length bytes commands header read).1 in
     let l : length bytes ≤ greatest = low in
-    falls-once now x.header.sent 0 0 commands x.commands answer answer es ds (omega arith) refl same.1 refl (subst (λ (h : Header). Falls now h.sent 0 commands answer es) same.0 falls) x.falls
+    falls-once now x.header.sent 0 0 commands x.commands answer answer es ds (omega arith) refl same.1 refl (subst (λ (h : Header). Falls (record { now = now; sent = h.sent }) 0 commands answer es) same.0 falls) x.falls
 
 reaches-once : (now i : ℕ) (s : SlotState) (from : Addr) (bytes : List ℕ) (answer : Received) (ds es : List Deed) → length bytes ≤ greatest → Reaches i s (record { now = now; from = from; bytes = bytes; answer = answer }) ds → Reaches i s (record { now = now; from = from; bytes = bytes; answer = answer }) es → ds ≡ es
 reaches-once now i s from bytes answer ds es low a (here header commands es' read known at open' falls) =
@@ -340,7 +340,7 @@ reaches-once now i s from bytes answer ds es low a b = refl
 
 -- a call falls in one way
 
-fell-once : (c : Call) (h : Common) (i : ℕ) (s : SlotState) (p : Peering) (ds es : List Deed) → IsCounted c → Fell h i s p c ds → Fell h i s p c es → ds ≡ es
+fell-once : (c : Call) (h : Common) (i : ℕ) (s : SlotState) (p : Peering) (ds es : List Deed) → IsCounted c → Fell h (record { number = i; slot = s; peer = p }) c ds → Fell h (record { number = i; slot = s; peer = p }) c es → ds ≡ es
 fell-once (call.Receive from bytes answer) h i s p ds es low a b = reaches-once h.clock i s from bytes answer ds es low a b
 fell-once (call.Connect address channels info word answer) h i s p ds es low a b = a ∙ sym b
 fell-once (call.Submit name channel q answer) h i s p ds es low a b = a ∙ sym b
@@ -388,7 +388,7 @@ none-some : {A : Type 0} (o : Option Peering) (p : Peering) → o ≡ None → o
 none-some o p e f = absurd (let y : ◌≡◌ {A = Option Peering} None (Some p) = sym e ∙ f in cc)
 
 -- a peer that stays leaves its slot as it is
-stays-so : (c : Call) (h : Common) (i : ℕ) (s u : SlotState) (p q : Peering) (ds : List Deed) → IsCounted c → IsHeld s → s.peer ≡ Some p → Stays c h i s p → Fell h i s p c ds → AllAlone ds p q → u ≡ having_emitted (with_peer s q) (counted c h i s)
+stays-so : (c : Call) (h : Common) (i : ℕ) (s u : SlotState) (p q : Peering) (ds : List Deed) → IsCounted c → IsHeld s → s.peer ≡ Some p → Stays c h i s p → Fell h (record { number = i; slot = s; peer = p }) c ds → AllAlone ds p q → u ≡ having_emitted (with_peer s q) (counted c h i s)
     → u ≡ having_emitted s (counted c h i s)
 stays-so c h i s u p q ds low live has stays fell alone e =
     let same : q ≡ p = all-once ds p q p alone (subst (λ (xs : List Deed). AllAlone xs p p) (fell-once c h i s p stays.deeds ds low stays.fell fell) stays.alone) in
@@ -407,12 +407,12 @@ one-way c g h i s t u low live agree (untouched stays not' e) (goes_on p q ds ha
 one-way c g h i s t u low live agree (untouched stays not' e) (begins none left b) =
     absurd (not' u (begins-same c h g i s u (free-back c g h i (subst (λ (o : Option Peering). Agree c i o g h) none agree)) b))
 one-way c g h i s t u low live agree (goes_on p q ds has fell alone e) (untouched stays not' f) =
-    let k : Fell h i s p c ds = fell-same c g h i s p ds (subst (λ (o : Option Peering). Agree c i o g h) has agree) fell in
+    let k : Fell h (record { number = i; slot = s; peer = p }) c ds = fell-same c g h i s p ds (subst (λ (o : Option Peering). Agree c i o g h) has agree) fell in
     stays-so c h i s t p q ds low live has (stays p has) k alone (e ∙ counting c g h i s (with_peer s q) agree) ∙ sym f
 one-way c g h i s t u low live agree (goes_on p q ds has fell alone e) (goes_on p' q' es has' fell' alone' f) =
     let same : p' ≡ p = same-some p' p (sym has' ∙ has) in
-    let k : Fell h i s p c ds = fell-same c g h i s p ds (subst (λ (o : Option Peering). Agree c i o g h) has agree) fell in
-    let deeds : es ≡ ds = fell-once c h i s p es ds low (subst (λ (x : Peering). Fell h i s x c es) same fell') k in
+    let k : Fell h (record { number = i; slot = s; peer = p }) c ds = fell-same c g h i s p ds (subst (λ (o : Option Peering). Agree c i o g h) has agree) fell in
+    let deeds : es ≡ ds = fell-once c h i s p es ds low (subst (λ (x : Peering). Fell h (record { number = i; slot = s; peer = x }) c es) same fell') k in
     let left : AllAlone ds p q' = subst (λ (xs : List Deed). AllAlone xs p q') deeds (subst (λ (x : Peering). AllAlone es x q') same alone') in
     e ∙ counting c g h i s (with_peer s q) agree ∙ ap (λ (x : Peering). having_emitted (with_peer s x) (counted c h i s)) (all-once ds p q q' alone left) ∙ sym f
 one-way c g h i s t u low live agree (goes_on p q ds has fell alone e) (begins none left b) = none-some s.peer p none has

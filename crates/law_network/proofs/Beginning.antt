@@ -98,8 +98,8 @@ sound-goes c old new acts sound = record {
 }
 
 -- the life of a peer that was there before a call and did alone what fell to it
-lived-on : (c : Call) (cs : List Call) (old new : Host) (steps : Steps (c ∷ cs) old new) (name : PeerRef) (p r q : Peering) (ds es : List Deed) (x : IsThere old.slots name p) → Fell (common_of old) name.slot x.slot p c ds → AllAlone ds p r
-    → FellAll name cs steps.0 new steps.2 es → AllAlone es r q → Lived name (c ∷ cs) old new steps q
+lived-on : (c : Call) (cs : List Call) (old new : Host) (steps : Steps (c ∷ cs) old new) (name : PeerRef) (p r q : Peering) (ds es : List Deed) (x : IsThere old.slots name p) → Fell (common_of old) (record { number = name.slot; slot = x.slot; peer = p }) c ds → AllAlone ds p r
+    → FellAll name cs (record { before = steps.0; after = new; steps = steps.2 }) es → AllAlone es r q → Lived name (c ∷ cs) (record { before = old; after = new; steps = steps }) q
 lived-on c cs old new steps name p r q ds es x fell alone later more = record {
   first = p;
   deeds = ds ++ es;
@@ -109,14 +109,14 @@ lived-on c cs old new steps name p r q ds es x fell alone later more = record {
 
 -- the life of a peer that was there after a call
 lived-since : (c : Call) (cs : List Call) (old new : Host) (steps : Steps (c ∷ cs) old new) (name : PeerRef) (s : SlotState) → slice_get old.slots name.slot ≡ Some s → (first q : Peering) (es : List Deed) (x : IsThere steps.0.slots name first)
-    → Fares c (common_of old) name.slot s x.slot → FellAll name cs steps.0 new steps.2 es → AllAlone es first q → Lived name (c ∷ cs) old new steps q
+    → Fares c (common_of old) name.slot s x.slot → FellAll name cs (record { before = steps.0; after = new; steps = steps.2 }) es → AllAlone es first q → Lived name (c ∷ cs) (record { before = old; after = new; steps = steps }) q
 lived-since c cs old new steps name s there first q es x (untouched stays not' e) later more =
     let has : s.peer ≡ Some first = ap (λ (y : SlotState). y.peer) (sym e) ∙ x.peer in
     let k : Stays c (common_of old) name.slot s first = stays first has in
     lived-on c cs old new steps name first first q k.deeds es (record { slot = s; there = there; same = ap (λ (y : SlotState). y.generation) (sym e) ∙ x.same; peer = has }) k.fell k.alone later more
 lived-since c cs old new steps name s there first q es x (goes_on p r ds was fell alone e) later more = by (went s x.slot r (counted c (common_of old) name.slot s) e)
   where
-    by : WentOn s x.slot r ⊎ WentOut s x.slot r → Lived name (c ∷ cs) old new steps q
+    by : WentOn s x.slot r ⊎ WentOut s x.slot r → Lived name (c ∷ cs) (record { before = old; after = new; steps = steps }) q
     by (inl on) =
         lived-on c cs old new steps name p r q ds es (record { slot = s; there = there; same = sym on.generation ∙ x.same; peer = was }) fell alone later
         (subst (λ (y : Peering). AllAlone es y q) (one-peer x.slot.peer first r x.peer on.peer) more)
@@ -137,10 +137,10 @@ lived-since c cs old new steps name s there first q es x (begins none left b) la
   alone = more;
 }
 
-lived-before : (c : Call) (cs : List Call) (old new : Host) (steps : Steps (c ∷ cs) old new) (name : PeerRef) (q : Peering) → Lived name cs steps.0 new steps.2 q → Lived name (c ∷ cs) old new steps q
+lived-before : (c : Call) (cs : List Call) (old new : Host) (steps : Steps (c ∷ cs) old new) (name : PeerRef) (q : Peering) → Lived name cs (record { before = steps.0; after = new; steps = steps.2 }) q → Lived name (c ∷ cs) (record { before = old; after = new; steps = steps }) q
 lived-before c cs old new steps name q life = by life.began
   where
-    by : WasThere name cs steps.0 new steps.2 life.first life.deeds ⊎ BeganBy name cs steps.0 new steps.2 life.first life.deeds → Lived name (c ∷ cs) old new steps q
+    by : WasThere name cs (record { before = steps.0; after = new; steps = steps.2 }) life.first life.deeds ⊎ BeganBy name cs (record { before = steps.0; after = new; steps = steps.2 }) life.first life.deeds → Lived name (c ∷ cs) (record { before = old; after = new; steps = steps }) q
     by (inl was) =
         let x : IsThere steps.0.slots name life.first = named-there steps.0.slots name life.first was.0 in
         let s : (s : SlotState) × (slice_get old.slots name.slot ≡ Some s) × Fares c (common_of old) name.slot s x.slot = fares-back c old steps.0 steps.1 name.slot x.slot x.there in
@@ -150,9 +150,9 @@ lived-before c cs old new steps name q life = by life.began
 -- a slot has the sessions that it had, or those of a peer that ended since
 abbrev HasSessions : ℕ → (cs : List Call) (old new : Host) → Steps cs old new → SlotState → SlotState → Type 0
 HasSessions i cs old new steps s t =
-    ((t.generation ≡ s.generation) × (t.incoming_session ≡ s.incoming_session) × (t.outgoing_session ≡ s.outgoing_session)) ⊎ IsAfter i cs old new steps t
+    ((t.generation ≡ s.generation) × (t.incoming_session ≡ s.incoming_session) × (t.outgoing_session ≡ s.outgoing_session)) ⊎ IsAfter i cs (record { before = old; after = new; steps = steps }) t
 
-after-before : (c : Call) (cs : List Call) (old new : Host) (steps : Steps (c ∷ cs) old new) (i : ℕ) (t : SlotState) → IsAfter i cs steps.0 new steps.2 t → IsAfter i (c ∷ cs) old new steps t
+after-before : (c : Call) (cs : List Call) (old new : Host) (steps : Steps (c ∷ cs) old new) (i : ℕ) (t : SlotState) → IsAfter i cs (record { before = steps.0; after = new; steps = steps.2 }) t → IsAfter i (c ∷ cs) (record { before = old; after = new; steps = steps }) t
 after-before c cs old new steps i t k = record {
   generation = k.generation;
   next = k.next;
@@ -214,7 +214,7 @@ sessions-all (c ∷ cs) old new steps sound i t there =
       ],
     )
 
-pub lived-all : (cs : List Call) (old new : Host) (steps : Steps cs old new) (name : PeerRef) (p : Peering) → named new.slots name ≡ Some p → Lived name cs old new steps p
+pub lived-all : (cs : List Call) (old new : Host) (steps : Steps cs old new) (name : PeerRef) (p : Peering) → named new.slots name ≡ Some p → Lived name cs (record { before = old; after = new; steps = steps }) p
 lived-all [] old new steps name p is = record { first = p; deeds = []; began = inl (ap (λ (h : Host). named h.slots name) steps ∙ is, refl); alone = refl }
 lived-all (c ∷ cs) old new steps name p is = lived-before c cs old new steps name p (lived-all cs steps.0 new steps.2 name p is)
 

@@ -11,7 +11,7 @@ use Rattle.law_network.specs.Falling as falling
 -- what commands came to a peer, as its deeds
 pub record Came (now : ℕ) (sent : Option ℕ) (before : ℕ) (bytes : List ℕ) (p : Peering) (answer : Received) (q : Peering) : Type 0 where
   pub deeds : List Deed
-  pub falls : Falls now sent before bytes answer deeds
+  pub falls : Falls (record { now = now; sent = sent }) before bytes answer deeds
   pub alone : AllAlone deeds p q
 
 pub came : (now : ℕ) (sent : Option ℕ) (before : ℕ) (bytes : List ℕ) (p : Peering) (answer : Received) (q : Peering) → Handles (record { now = now; sent = sent }) before bytes p answer q → Came now sent before bytes p answer q

@@ -12,6 +12,7 @@ use Rattle.enet_slot.specs.Slot.{SlotState, name_of}
 use Rattle.enet_host.specs.Host.{Host, named}
 use Rattle.enet_host.specs.Calls.{TakesOne}
 use Rattle.enet_host.specs.Opening.{available}
+use Rattle.enet_host.specs.Serving.{served_of}
 use Rattle.law_network.specs.Calls.{Call}
 use Rattle.law_network.specs.Calls as call
 use Rattle.law_network.specs.Log.{Logged}
@@ -61,9 +62,9 @@ grows-one old new change name n c e = record {
 called : (next : ℕ) (c : Call) (old new : Site) → Called next c old new → ends_after next old c ≡ old.ends → Grows old new []
 called next c old new x same = grows-none old new (ap (λ (s : Site). s.ends) x.1 ∙ same)
 
-served : (b : Bool) (far : ℕ → List ℕ) (gave : PeerRef × Addr × ℕ) (buf : List ℕ) (old new : Site) → LogsIf b far gave buf old new → Grows old new []
+served : (b : Bool) (far : ℕ → List ℕ) (gave : PeerRef × Addr × ℕ) (buf : List ℕ) (old new : Site) → LogsIf b far (served_of gave buf) old new → Grows old new []
 served true far gave buf old new l =
-    let logs : Logs far gave buf old new = l in
+    let logs : Logs far (served_of gave buf) old new = l in
     grows-one old new (λ (y : HostEnd). record y { greatest = logs.greatest }) gave.0 (λ e. refl) (λ e. refl) (ap (λ (s : Site). s.ends) logs.rest)
 served false far gave buf old new l = grows-none old new (let rest : new ≡ record old { host = new.host } = l in ap (λ (s : Site). s.ends) rest)
 

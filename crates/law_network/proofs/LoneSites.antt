@@ -199,7 +199,7 @@ pub puts-out : (w : Around) (from : Site) (side : Side) (far : Site) (x : Lone) 
     → HappensAmong w from (Calls (call.Service (Some (first_name, address_of (other side), length (text_of x.peer m))) (text_of x.peer m))) (site side x) (site side (after_putting side far x m))
 puts-out w from side far x m host numbers k = (
   (record { slot = old; there = refl; named = refl; addressed = refl; slots = in-turn; count = refl }, refl),
-  subst (λ (b : Bool). LogsIf b w.numbers (first_name, address_of (other side), length text) text (site side x) (site side (after_putting side far x m))) (sym host) logs,
+  subst (λ (b : Bool). LogsIf b w.numbers (served_of (first_name, address_of (other side), length text) text) (site side x) (site side (after_putting side far x m))) (sym host) logs,
 )
   where
     text : List ℕ
@@ -238,7 +238,7 @@ puts-out w from side far x m host numbers k = (
     }
     in-turn (suc i) s u a b = absurd (let e : ◌≡◌ {A = Option SlotState} None (Some s) = a in cc)
 
-    logs : Logs w.numbers (first_name, address_of (other side), length text) text (site side x) (site side (after_putting side far x m))
+    logs : Logs w.numbers (served_of (first_name, address_of (other side), length text) text) (site side x) (site side (after_putting side far x m))
     logs = record {
       own = end_of x;
       there = inl refl;

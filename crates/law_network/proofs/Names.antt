@@ -11,7 +11,7 @@ use Rattle.enet_host.specs.Host.{Host, with_generation, slot_named, peer_in, nam
 use Rattle.law_network.specs.Calls.{Call, Acts}
 use Rattle.law_network.specs.Calls as call
 use Rattle.law_network.specs.Common.{common_of}
-use Rattle.law_network.specs.Falling.{fell_in, fell_to, Begins, asks, answers, counted}
+use Rattle.law_network.specs.Falling.{occupied_in, fell_in, fell_to, Begins, asks, answers, counted}
 use Rattle.law_network.specs.IsolationLaw.{Fares, untouched, goes_on, begins, having_emitted}
 use Rattle.law_network.proofs.Slots.{held, freed-in}
 use Rattle.law_network.proofs.OneCall.{one-call}
@@ -131,7 +131,7 @@ empty-if h name s (inl past) t = absurd (let e : s.generation ≡ name.generatio
 empty-if h name s (inr over) t = over.1
 
 fell-if : (h : Host) (i : ℕ) (s : SlotState) (c : Call) (b : Bool) → (b ≡ true → s.peer ≡ None) → fell_to (common_of h) i (cond b (Some s) None) c []
-fell-if h i s c true none = subst (λ (o : Option Peering). fell_in (common_of h) i s o c []) (sym (none refl)) refl
+fell-if h i s c true none = subst (λ (o : Option Peering). fell_in (common_of h) (occupied_in i s o) c []) (sym (none refl)) refl
 fell-if h i s c false none = refl
 
 nobody-if : (s : SlotState) (b : Bool) → (b ≡ true → s.peer ≡ None) → peer_in (cond b (Some s) None) ≡ None

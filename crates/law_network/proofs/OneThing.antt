@@ -13,6 +13,7 @@ use Rattle.law_connection.specs.Law.{mtu_in}
 use Rattle.enet_slot.specs.Slot.{name_of, greatest}
 use Rattle.enet_host.specs.Host.{Host, Keeps, named}
 use Rattle.enet_slot.specs.Calls.{event_of}
+use Rattle.enet_host.specs.Serving.{served_of}
 use Rattle.law_network.specs.Calls.{Call, Acts}
 use Rattle.law_network.specs.Calls as call
 use Rattle.law_network.specs.Log.{Logged}
@@ -72,10 +73,10 @@ quiet next c old new e own far q (inr same) called low h k =
     on-same own far new e old.ends (ap (λ (s : Site). s.ends) called.1 ∙ same) h (goes-quiet c old new e own far q low called.0 (same-log old new e.connection (ap (λ (s : Site). s.log) called.1)) k)
 
 -- a datagram that was given to a host, or to a stranger
-serving : (w : Around) (b : Bool) (gave : PeerRef × Addr × ℕ) (buf : List ℕ) (old new : Site) → LogsIf b w.numbers gave buf old new → w.is_host gave.1 ≡ b → Acts (call.Service (Some gave) buf) old.host new.host → old.host.config.generations ≤ greatest
+serving : (w : Around) (b : Bool) (gave : PeerRef × Addr × ℕ) (buf : List ℕ) (old new : Site) → LogsIf b w.numbers (served_of gave buf) old new → w.is_host gave.1 ≡ b → Acts (call.Service (Some gave) buf) old.host new.host → old.host.config.generations ≤ greatest
     → (from : Site) (what : Happening) (e : HostEnd) → Has old.ends e → IsApart old.ends e → (own far : End) → Shows old e own → Faces w from what old e far → GoesOn own far new e
 serving w true gave buf old new l is acts low from what e h apart own far k faces =
-    let logs : Logs w.numbers gave buf old new = l in
+    let logs : Logs w.numbers (served_of gave buf) old new = l in
     on-changed own far new e old.ends (λ (y : HostEnd). record y { greatest = logs.greatest }) gave.0 (ap (λ (s : Site). s.ends) logs.rest) h refl refl
     (goes-served w.numbers gave buf old new e own far low acts logs apart faces.numbers k)
 serving w false gave buf old new l is acts low from what e h apart own far k faces =

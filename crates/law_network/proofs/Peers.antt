@@ -60,7 +60,7 @@ shows-after c old new name p q x t n low same there e = by (free-or q.state)
 -- one call: the peer is gone, or does alone what falls to it
 pub data Moved (c : Call) (old new : Host) (name : PeerRef) (p : Peering) : Type 0 where
   is_gone : ShowsPeer new name p → ((q : Peering) → IsThere old.slots name q → ⊥) → Moved c old new name p
-  goes : (x : IsThere old.slots name p) (ds : List Deed) (q : Peering) → Fell (common_of old) name.slot x.slot p c ds → AllAlone ds p q → ShowsPeer new name q → Moved c old new name p
+  goes : (x : IsThere old.slots name p) (ds : List Deed) (q : Peering) → Fell (common_of old) (record { number = name.slot; slot = x.slot; peer = p }) c ds → AllAlone ds p q → ShowsPeer new name q → Moved c old new name p
 
 moved-there : (c : Call) (old new : Host) (name : PeerRef) (p : Peering) → old.config.generations ≤ greatest → new.config.generations ≡ old.config.generations → p.state ≢ state.Free → (x : IsThere old.slots name p)
     → (t : SlotState) → slice_get new.slots name.slot ≡ Some t → Fares c (common_of old) name.slot x.slot t → Moved c old new name p
@@ -74,7 +74,7 @@ moved-there c old new name p low same live x t there (untouched none not' e) =
     }))
 moved-there c old new name p low same live x t there (goes_on r q ds has fell alone e) =
     let is : r ≡ p = (let y : ◌≡◌ {A = Option Peering} (Some r) (Some p) = sym has ∙ x.peer in cc) in
-    goes x ds q (subst (λ (y : Peering). Fell (common_of old) name.slot x.slot y c ds) is fell) (subst (λ (y : Peering). AllAlone ds y q) is alone) (shows-after c old new name p q x t (counted c (common_of old) name.slot x.slot) low same there e)
+    goes x ds q (subst (λ (y : Peering). Fell (common_of old) (record { number = name.slot; slot = x.slot; peer = y }) c ds) is fell) (subst (λ (y : Peering). AllAlone ds y q) is alone) (shows-after c old new name p q x t (counted c (common_of old) name.slot x.slot) low same there e)
 moved-there c old new name p low same live x t there (begins none left b) = absurd (let y : ◌≡◌ {A = Option Peering} None (Some p) = sym none ∙ x.peer in cc)
 
 some-none : (h : Host) (name : PeerRef) (q : Peering) → named h.slots name ≡ None → IsThere h.slots name q → ⊥

@@ -109,7 +109,7 @@ quiet-if false d h = tt
 quiet-is : (ds es : List Deed) → ds ≡ es → AreQuiet es → AreQuiet ds
 quiet-is ds es e h = subst AreQuiet (sym e) h
 
-fell-quiet : (c : Call) (h : Common) (i : ℕ) (s : SlotState) (p : Peering) (ds : List Deed) → is_quiet_call c ≡ true → Fell h i s p c ds → AreQuiet ds
+fell-quiet : (c : Call) (h : Common) (i : ℕ) (s : SlotState) (p : Peering) (ds : List Deed) → is_quiet_call c ≡ true → Fell h (record { number = i; slot = s; peer = p }) c ds → AreQuiet ds
 unfolding is_quiet
 fell-quiet (call.Connect address channels info word answer) h i s p ds quiet fell = quiet-is ds _ fell tt
 fell-quiet (call.Submit name channel q (Ok done)) h i s p ds quiet fell = absurd (cc)

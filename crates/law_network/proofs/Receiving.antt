@@ -161,7 +161,7 @@ each-offered h from bytes commands header o answer slots after same read e offer
 turned : (h : Host) (from : Addr) (bytes commands : List ℕ) (header : Header) (why : Stop) → IsRead bytes header commands → header.peer ≢ no_peer → refused_by h.slots from header ≡ Some why → (i : ℕ) → StaysAt (call.Receive from bytes (stopped why)) h i
 turned h from bytes commands header why read known refused i s p there held = idle (call.Receive from bytes (stopped why)) (common_of h) i s p (by (same-or header.peer i))
   where
-    by : (header.peer ≡ i) ⊎ (header.peer ≢ i) → Fell (common_of h) i s p (call.Receive from bytes (stopped why)) []
+    by : (header.peer ≡ i) ⊎ (header.peer ≢ i) → Fell (common_of h) (record { number = i; slot = s; peer = p }) (call.Receive from bytes (stopped why)) []
     by (inl e) = turned_away header commands why read known e (ap (λ (o : Option SlotState). refused_by_slot from header.session o) (sym (ap (λ (k : ℕ). slice_get h.slots k) e ∙ there)) ∙ refused) refl
     by (inr n) = elsewhere header commands read (inr n)
 

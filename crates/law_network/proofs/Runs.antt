@@ -15,6 +15,7 @@ use Rattle.law_connection.proofs.Words.{word-none, word-asking, word-joined}
 use Rattle.law_connection.specs.LinkSteps.{Has}
 use Rattle.enet_slot.specs.Giving.{limits_of, unused_slot, joined_terms, given}
 use Rattle.enet_slot.specs.Slot.{SlotState, greatest}
+use Rattle.enet_host.specs.Serving.{served_of}
 use Rattle.law_network.specs.Calls as call
 use Rattle.law_network.proofs.Lists.{get-set}
 use Rattle.law_network.specs.declared.event.Answer.{Answer}
@@ -75,8 +76,8 @@ stays-put w from old new (Calls (call.Receive address bytes answer)) x = ap (λ 
 stays-put w from old new (Calls (call.Service None buf)) x = ap (λ (s : Site). s.address) x.1
 stays-put w from old new (Calls (call.Service (Some gave) buf)) x = served (w.is_host gave.1) x.1
   where
-    served : (b : Bool) → LogsIf b w.numbers gave buf old new → new.address ≡ old.address
-    served true y = (let l : Logs w.numbers gave buf old new = y in ap (λ (s : Site). s.address) l.rest)
+    served : (b : Bool) → LogsIf b w.numbers (served_of gave buf) old new → new.address ≡ old.address
+    served true y = (let l : Logs w.numbers (served_of gave buf) old new = y in ap (λ (s : Site). s.address) l.rest)
     served false y = (let rest : new ≡ record old { host = new.host } = y in ap (λ (s : Site). s.address) rest)
 stays-put w from old new (Calls c) x = ap (λ (s : Site). s.address) x.1
 stays-put w from old new (Hears k answer) x = by (slice_get from.log k) x

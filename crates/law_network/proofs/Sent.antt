@@ -25,7 +25,7 @@ same-log : (place : ℕ → Addr) (old new : Site) → new.log ≡ old.log → A
 same-log place old new same k d h = k d (subst (λ (l : List Logged). Has l d) same h)
 
 -- the slot that gave a datagram is that of the end of which it is logged
-served : (place : ℕ → Addr) (far : ℕ → List ℕ) (gave : PeerRef × Addr × ℕ) (buf : List ℕ) (old new : Site) → (logs : Logs far gave buf old new) → Acts (call.Service (Some gave) buf) old.host new.host → AreAt place old → AreSent place old
+served : (place : ℕ → Addr) (far : ℕ → List ℕ) (gave : PeerRef × Addr × ℕ) (buf : List ℕ) (old new : Site) → (logs : Logs far (served_of gave buf) old new) → Acts (call.Service (Some gave) buf) old.host new.host → AreAt place old → AreSent place old
     → AreSent place new
 served place far gave buf old new logs acts at k d h = elim (Has-push_cases old.log one d (subst (λ (xs : List Logged). Has xs d) (ap (λ (s : Site). s.log) logs.rest) h)) [
   | inl before ↦ k d before
@@ -52,7 +52,7 @@ served place far gave buf old new logs acts at k d h = elim (Has-push_cases old.
       peer = g.held;
     }
 
-served-if : (place : ℕ → Addr) (b : Bool) (far : ℕ → List ℕ) (gave : PeerRef × Addr × ℕ) (buf : List ℕ) (old new : Site) → LogsIf b far gave buf old new → Acts (call.Service (Some gave) buf) old.host new.host → AreAt place old → AreSent place old
+served-if : (place : ℕ → Addr) (b : Bool) (far : ℕ → List ℕ) (gave : PeerRef × Addr × ℕ) (buf : List ℕ) (old new : Site) → LogsIf b far (served_of gave buf) old new → Acts (call.Service (Some gave) buf) old.host new.host → AreAt place old → AreSent place old
     → AreSent place new
 served-if place true far gave buf old new l acts at k = served place far gave buf old new l acts at k
 served-if place false far gave buf old new l acts at k = same-log place old new (let rest : new ≡ record old { host = new.host } = l in ap (λ (s : Site). s.log) rest) k

@@ -380,7 +380,7 @@ goes-turned gave buf old new e own far f low acts others k served = by (there-or
 
 -- an end whose host gave a datagram that is logged
 pub goes-served : (fars : ℕ → List ℕ) (gave : PeerRef × Addr × ℕ) (buf : List ℕ) (old new : Site) (e : HostEnd) (own far : End) → old.host.config.generations ≤ greatest
-    → Acts (call.Service (Some gave) buf) old.host new.host → (l : Logs fars gave buf old new) → IsApart old.ends e
+    → Acts (call.Service (Some gave) buf) old.host new.host → (l : Logs fars (served_of gave buf) old new) → IsApart old.ends e
     → ((channel : ℕ) → channel < 255 → greatest_at (fars e.connection) channel ≡ sent_on channel far) → Shows old e own
     → Went own far new (cond (is_same_name e.name gave.0) (record e { greatest = l.greatest }) e)
 goes-served fars gave buf old new e own far low acts l apart theirs k = goes-turned gave buf old new e own far (record e { greatest = l.greatest }) low acts others k served

@@ -29,7 +29,7 @@ abbrev pub StaysAt : Call → Host → ℕ → Type 0
 StaysAt c h i = (s : SlotState) (p : Peering) → slice_get h.slots i ≡ Some s → s.peer ≡ Some p → Stays c (common_of h) i s p
 
 -- where nothing falls to it
-pub idle : (c : Call) (h : Common) (i : ℕ) (s : SlotState) (p : Peering) → Fell h i s p c [] → Stays c h i s p
+pub idle : (c : Call) (h : Common) (i : ℕ) (s : SlotState) (p : Peering) → Fell h (record { number = i; slot = s; peer = p }) c [] → Stays c h i s p
 idle c h i s p none = record { deeds = []; fell = none; alone = refl }
 
 -- by this call no connection begins in slot i
@@ -128,7 +128,7 @@ meant-slot slots name i s e there =
 
 -- a call on a name that isn't refused is one deed of its peer
 pub each-named : (c : Call) (h : Host) (name : PeerRef) (call : Peering → Result Peering Refusal) (d : Deed) (after : List SlotState) → on_named h.slots name call ≡ Ok after
-    → ((p q : Peering) → call p ≡ Ok q → Alone d p q) → ((i : ℕ) (s : SlotState) (p : Peering) (ds : List Deed) → ds ≡ deeds_if (is_meant name i s) d → Fell (common_of h) i s p c ds) → IsQuiet c h → may_begin c ≡ false → Each c h after
+    → ((p q : Peering) → call p ≡ Ok q → Alone d p q) → ((i : ℕ) (s : SlotState) (p : Peering) (ds : List Deed) → ds ≡ deeds_if (is_meant name i s) d → Fell (common_of h) (record { number = i; slot = s; peer = p }) c ds) → IsQuiet c h → may_begin c ≡ false → Each c h after
 each-named c h name call d after e alone fell quiet later =
     subst (λ (xs : List SlotState). Each c h xs) (sym x.set)
     (each-set c h name.slot x.slot (with_peer x.slot x.left) x.there
@@ -143,7 +143,7 @@ each-named c h name call d after e alone fell quiet later =
 
 -- one that is refused is one deed of its peer too, which it leaves as it is
 pub each-refused : (c : Call) (h : Host) (name : PeerRef) (d : Deed) (after : List SlotState) → after ≡ h.slots → ((s : SlotState) (p : Peering) → slot_named h.slots name ≡ Some s → s.peer ≡ Some p → Alone d p p)
-    → ((i : ℕ) (s : SlotState) (p : Peering) (ds : List Deed) → ds ≡ deeds_if (is_meant name i s) d → Fell (common_of h) i s p c ds) → IsQuiet c h → may_begin c ≡ false → Each c h after
+    → ((i : ℕ) (s : SlotState) (p : Peering) (ds : List Deed) → ds ≡ deeds_if (is_meant name i s) d → Fell (common_of h) (record { number = i; slot = s; peer = p }) c ds) → IsQuiet c h → may_begin c ≡ false → Each c h after
 each-refused c h name d after same alone fell quiet later = each-none c h after quiet same (λ i s p there held. by i s p there held (is_meant name i s) refl) (λ i. begins-not c h i later)
   where
     by : (i : ℕ) (s : SlotState) (p : Peering) → slice_get h.slots i ≡ Some s → s.peer ≡ Some p → (b : Bool) → is_meant name i s ≡ b → Stays c (common_of h) i s p

@@ -22,7 +22,7 @@ use Rattle.law_network.proofs.Slots.{held, freed-in, counted-same}
 use Rattle.law_network.proofs.Single.{Each, IsQuiet, may_begin, begins-not}
 
 -- a change of every peer
-pub each-changed : (c : Call) (h : Host) (f : Peering → Peering) (d : Deed) → ((p : Peering) → Alone d p (f p)) → ((i : ℕ) (s : SlotState) (p : Peering) → Fell (common_of h) i s p c (d ∷ [])) → IsQuiet c h
+pub each-changed : (c : Call) (h : Host) (f : Peering → Peering) (d : Deed) → ((p : Peering) → Alone d p (f p)) → ((i : ℕ) (s : SlotState) (p : Peering) → Fell (common_of h) (record { number = i; slot = s; peer = p }) c (d ∷ [])) → IsQuiet c h
     → may_begin c ≡ false → Each c h (map (changed f) h.slots)
 each-changed c h f d alone fell quiet later i s e = (changed f s, get-map (changed f) h.slots i s e, by s.peer refl)
   where

@@ -21,6 +21,7 @@ use Rattle.law_connection.proofs.Words.{IsWord, word-happens}
 use Rattle.enet_slot.specs.Slot.{SlotState, name_of, greatest}
 use Rattle.enet_host.specs.Host.{Host}
 use Rattle.enet_host.specs.Opening.{host_basis, Connects, no_channel, no_slot, no_memory, asks}
+use Rattle.enet_host.specs.Serving.{served_of}
 use Rattle.law_network.specs.Calls.{Call, Acts}
 use Rattle.law_network.specs.Calls as call
 use Rattle.law_network.proofs.Lists.{same-or}
@@ -264,9 +265,9 @@ record LogsOne (old new : Site) : Type 0 where
 same-read : (text : List ℕ) (g h : Header) (c d : List ℕ) → IsRead text g c → IsRead text h d → g ≡ h
 same-read text g h c d r s = let one = one_header r.front s.front c d g h r.spelled s.spelled (sym r.split ∙ s.split) in one.1
 
-served-log : (b : Bool) (far : ℕ → List ℕ) (gave : PeerRef × Addr × ℕ) (buf : List ℕ) (old new : Site) → LogsIf b far gave buf old new → (new.log ≡ old.log) ⊎ LogsOne old new
+served-log : (b : Bool) (far : ℕ → List ℕ) (gave : PeerRef × Addr × ℕ) (buf : List ℕ) (old new : Site) → LogsIf b far (served_of gave buf) old new → (new.log ≡ old.log) ⊎ LogsOne old new
 served-log true far gave buf old new x =
-    let l : Logs far gave buf old new = x in
+    let l : Logs far (served_of gave buf) old new = x in
     inr (record {
       d = record { connection = l.own.connection; to = gave.1; peer = l.header.peer; text = take gave.2 buf; marks = l.marks };
       logs = ap (λ (s : Site). s.log) l.rest;

@@ -16,7 +16,7 @@ pub record LiveAlone (most : ℕ) (old new : Host) : Type 0 where
   pub calls : List Call
   pub few : length calls ≤ most
   pub steps : Steps calls old new
-  pub lived : (name : PeerRef) (p : Peering) → named new.slots name ≡ Some p → Lived name calls old new steps p
+  pub lived : (name : PeerRef) (p : Peering) → named new.slots name ≡ Some p → Lived name calls (record { before = old; after = new; steps = steps }) p
 
 -- so it is of both hosts of a world and any list of its events, each of which makes one call at most
 abbrev pub EachAlone : Type 0

@@ -11,7 +11,7 @@ use Rattle.enet_slot.specs.Slot.{SlotState}
 use Rattle.enet_slot.specs.Giving.{limits_of, joined_terms}
 use Rattle.enet_host.specs.Host.{Host, slot_named, named}
 use Rattle.enet_host.specs.Opening as opening
-use Rattle.law_network.specs.Calls.{Call, Steps}
+use Rattle.law_network.specs.Calls.{Call, Steps, Series, later}
 use Rattle.law_network.specs.Common.{common_of}
 use Rattle.law_network.specs.Deeds.{Deed, AllAlone}
 use Rattle.law_network.specs.Falling.{Begins, FellAll}
@@ -25,28 +25,28 @@ pub record BeginsAs (c : Call) (h : Host) (name : PeerRef) (first : Peering) : T
   pub peer : given.peer ≡ Some first
 
 -- the peer of this name began so by one of these calls, and these deeds fell to it since
-abbrev pub BeganBy : PeerRef → (cs : List Call) (old new : Host) → Steps cs old new → Peering → List Deed → Type 0
-BeganBy name [] old new steps first ds = ⊥
-BeganBy name (c ∷ cs) old new steps first ds =
-    (BeginsAs c old name first × FellAll name cs steps.0 new steps.2 ds) ⊎ BeganBy name cs steps.0 new steps.2 first ds
+abbrev pub BeganBy : PeerRef → (cs : List Call) → Series cs → Peering → List Deed → Type 0
+BeganBy name [] series first ds = ⊥
+BeganBy name (c ∷ cs) series first ds =
+    (BeginsAs c series.before name first × FellAll name cs (later series) ds) ⊎ BeganBy name cs (later series) first ds
 
 -- or it was there before them
-abbrev pub WasThere : PeerRef → (cs : List Call) (old new : Host) → Steps cs old new → Peering → List Deed → Type 0
-WasThere name cs old new steps first ds = (named old.slots name ≡ Some first) × FellAll name cs old new steps ds
+abbrev pub WasThere : PeerRef → (cs : List Call) → Series cs → Peering → List Deed → Type 0
+WasThere name cs series first ds = (named series.before.slots name ≡ Some first) × FellAll name cs series ds
 
 -- where the peer of this name is after these calls, or where it ended: where one peer alone is, from its beginning on
-pub record Lived (name : PeerRef) (cs : List Call) (old new : Host) (steps : Steps cs old new) (p : Peering) : Type 0 where
+pub record Lived (name : PeerRef) (cs : List Call) (series : Series cs) (p : Peering) : Type 0 where
   pub first : Peering
   pub deeds : List Deed
-  pub began : WasThere name cs old new steps first deeds ⊎ BeganBy name cs old new steps first deeds
+  pub began : WasThere name cs series first deeds ⊎ BeganBy name cs series first deeds
   pub alone : AllAlone deeds first p
 
 -- the sessions of slot i, which is s, are those of the peer of the generation before, as it ended
-pub record IsAfter (i : ℕ) (cs : List Call) (old new : Host) (steps : Steps cs old new) (s : SlotState) : Type 0 where
+pub record IsAfter (i : ℕ) (cs : List Call) (series : Series cs) (s : SlotState) : Type 0 where
   pub generation : ℕ
   pub next : s.generation ≡ generation + 1
   pub last : Peering
-  pub lived : Lived (record { slot = i; generation = generation }) cs old new steps last
+  pub lived : Lived (record { slot = i; generation = generation }) cs series last
   pub ended : last.state ≡ state.Free
   pub incoming : s.incoming_session ≡ last.terms.incoming_session
   pub outgoing : s.outgoing_session ≡ last.terms.outgoing_session
@@ -59,8 +59,8 @@ pub record IsFirst (s : SlotState) : Type 0 where
 
 -- whatever is called on this host: each peer of a name lived from its beginning on, and each slot has the sessions of its last peer
 pub record IsBeginning (old : Host) : Type 0 where
-  pub lived : (cs : List Call) (new : Host) (steps : Steps cs old new) (name : PeerRef) (p : Peering) → named new.slots name ≡ Some p → Lived name cs old new steps p
-  pub sessions : (cs : List Call) (new : Host) (steps : Steps cs old new) (i : ℕ) (s : SlotState) → slice_get new.slots i ≡ Some s → IsFirst s ⊎ IsAfter i cs old new steps s
+  pub lived : (cs : List Call) (new : Host) (steps : Steps cs old new) (name : PeerRef) (p : Peering) → named new.slots name ≡ Some p → Lived name cs (record { before = old; after = new; steps = steps }) p
+  pub sessions : (cs : List Call) (new : Host) (steps : Steps cs old new) (i : ℕ) (s : SlotState) → slice_get new.slots i ≡ Some s → IsFirst s ⊎ IsAfter i cs (record { before = old; after = new; steps = steps }) s
 
 -- so it is of each host that was opened: nobody was there before, or the one peer of a host that is joined from the start
 pub record Beginnings : Type 0 where

@@ -68,3 +68,13 @@ Acts (NextEvent answer) old new = Takes answer old new
 abbrev pub Steps : List Call → Host → Host → Type 0
 Steps [] old new = old ≡ new
 Steps (c ∷ cs) old new = (next : Host) × Acts c old next × Steps cs next new
+
+-- these calls were made: the host before them, the host after them, and each step between
+pub record Series (calls : List Call) : Type 0 where
+  pub before : Host
+  pub after : Host
+  pub steps : Steps calls before after
+
+-- all but the first of them
+abbrev pub later : {c : Call} {cs : List Call} → Series (c ∷ cs) → Series cs
+later series = record { before = series.steps.0; after = series.after; steps = series.steps.2 }

@@ -17,20 +17,20 @@ use Rattle.enet_peer.specs.declared.parts.PeerEvent.TheVariants as told
 use Rattle.enet_peer.specs.Peering.{Peering}
 use Rattle.enet_peer.specs.Calls.{is_connected}
 use Rattle.enet_peer.specs.Calls as peers
-use Rattle.enet_peer.specs.Handling.{SpellsNone, one_more}
+use Rattle.enet_peer.specs.Handling.{Arrival, SpellsNone, one_more}
 use Rattle.enet_peer.specs.Handling as handling
 use Rattle.enet_peer.specs.Heading.{IsUnreadable, IsRead, IsOffer}
 use Rattle.enet_slot.specs.Slot.{SlotState, name_of, greatest}
 use Rattle.enet_slot.specs.Giving.{asking, answering}
 use Rattle.enet_slot.specs.Hearing.{no_peer, refused_by_slot, stopped}
 use Rattle.enet_slot.specs.Sharing.{limit_for}
-use Rattle.enet_host.specs.Host.{Host, slot_named}
+use Rattle.enet_host.specs.Host.{slot_named}
 use Rattle.enet_host.specs.Receiving.{handled_one, offer_refused}
 use Rattle.enet_host.specs.Ticking.{clock_after}
 use Rattle.law_connection.specs.Steps.{Way, Asking, Now, Later}
 use Rattle.law_connection.specs.Steps as setting
 use Rattle.law_network.specs.Calls as call
-use Rattle.law_network.specs.Calls.{Call, Steps}
+use Rattle.law_network.specs.Calls.{Call, Series, later}
 use Rattle.law_network.specs.Common.{Common, common_of, common_basis}
 use Rattle.law_network.specs.Deeds.{Deed, Submit, Emit, Come, Tick, Take, Disconnect, Set}
 
@@ -43,13 +43,13 @@ is_meant name i s = name.slot == i && s.generation == name.generation
 
 -- the commands that bytes spell come to a peer, `handled` having counted before: each is a deed, until none is left or one stops
 -- them, and this is answered of all. The count stops at its greatest number, for which a datagram must have more than 16 GiB
-pub data Falls (now : ℕ) (sent : Option ℕ) : ℕ → List ℕ → Received → List Deed → Type 0 where
-  nothing_left : (handled : ℕ) → Falls now sent handled [] (record { handled = handled; stop = None }) []
-  no_command : (handled : ℕ) (bytes : List ℕ) → bytes ≢ [] → SpellsNone bytes → Falls now sent handled bytes (record { handled = handled; stop = Some stop.BadCommand }) []
+pub data Falls (a : Arrival) : ℕ → List ℕ → Received → List Deed → Type 0 where
+  nothing_left : (handled : ℕ) → Falls a handled [] (record { handled = handled; stop = None }) []
+  no_command : (handled : ℕ) (bytes : List ℕ) → bytes ≢ [] → SpellsNone bytes → Falls a handled bytes (record { handled = handled; stop = Some stop.BadCommand }) []
   stops : (handled : ℕ) (text rest : List ℕ) (m : Message) (why : Stop) → Spells text m
-      → Falls now sent handled (text ++ rest) (record { handled = handling.counted handled why; stop = Some why }) (Come now sent m (Err why) ∷ [])
+      → Falls a handled (text ++ rest) (record { handled = handling.counted handled why; stop = Some why }) (Come a.now a.sent m (Err why) ∷ [])
   goes_on : (handled : ℕ) (text rest : List ℕ) (m : Message) (answer : Received) (ds : List Deed) → Spells text m
-      → Falls now sent (one_more handled) rest answer ds → Falls now sent handled (text ++ rest) answer (Come now sent m (Ok tt) ∷ ds)
+      → Falls a (one_more handled) rest answer ds → Falls a handled (text ++ rest) answer (Come a.now a.sent m (Ok tt) ∷ ds)
 
 -- a call of receive: the clock then, in milliseconds, the address that the datagram came from, its bytes, and what was answered
 pub record Receipt : Type 0 where
@@ -66,7 +66,7 @@ pub data Reaches (i : ℕ) (s : SlotState) (r : Receipt) : List Deed → Type 0 
   turned_away : (header : Header) (commands : List ℕ) (why : Stop) → IsRead r.bytes header commands → header.peer ≢ no_peer → header.peer ≡ i
       → refused_by_slot r.from header.session (Some s) ≡ Some why → r.answer ≡ stopped why → Reaches i s r []
   here : (header : Header) (commands : List ℕ) (ds : List Deed) → IsRead r.bytes header commands → header.peer ≢ no_peer → header.peer ≡ i
-      → refused_by_slot r.from header.session (Some s) ≡ None → Falls r.now header.sent 0 commands r.answer ds → Reaches i s r ds
+      → refused_by_slot r.from header.session (Some s) ≡ None → Falls (record { now = r.now; sent = header.sent }) 0 commands r.answer ds → Reaches i s r ds
 
 -- slots are asked in turn, up to slot j: this falls to slot j, and that to each before it
 abbrev pub up_to : (turn : ℕ → ℕ) (j i : ℕ) (gives passes : Deed) → List Deed
@@ -98,35 +98,46 @@ taken_from h i (Some (event.Receive name packet)) = taken_up_to h i name (told.R
 taken_from h i (Some (event.Disconnect name info)) = taken_up_to h i name (told.Disconnect info)
 taken_from h i (Some (event.Refused seat number why)) = []
 
--- the deeds by which a call on a host fell to the peer p of its slot i, which is s. A refused call of the whole host falls to nobody: the
--- memory that it wanted may be another peer's
-abbrev pub Fell : Common → ℕ → SlotState → Peering → Call → List Deed → Type 0
-Fell h i s p (call.Connect address channels info word answer) ds = ds ≡ []
-Fell h i s p (call.Submit name channel q answer) ds =
-    ds ≡ deeds_if (is_meant name i s) (Submit (record { channel = channel; flags = q.flags; body = q.body }) answer)
-Fell h i s p (call.Receive from bytes answer) ds =
-    Reaches i s (record { now = h.clock; from = from; bytes = bytes; answer = answer }) ds
-Fell h i s p (call.Service answer buf) ds = ds ≡ asked_for h i answer buf
-Fell h i s p (call.Tick ms) ds =
-    ds ≡ Tick (clock_after h.clock ms) ∷ share_of h (clock_after h.clock ms) s.emitted (peers.ticked p (clock_after h.clock ms))
-Fell h i s p (call.Disconnect mode name info answer) ds = ds ≡ deeds_if (is_meant name i s) (Disconnect (way_of mode) info answer)
-Fell h i s p (call.SetBandwidth incoming outgoing (Ok done)) ds = ds ≡ Set (setting.Bandwidth incoming outgoing) (Ok done) ∷ []
-Fell h i s p (call.SetBandwidth incoming outgoing (Err why)) ds = ds ≡ []
-Fell h i s p (call.ConfigureThrottle name interval acceleration deceleration answer) ds =
-    ds ≡ deeds_if (is_meant name i s) (Set (setting.Throttle interval acceleration deceleration) answer)
-Fell h i s p (call.SetPingInterval name ms answer) ds = ds ≡ deeds_if (is_meant name i s) (Set (setting.PingInterval ms) answer)
-Fell h i s p (call.SetTimeout name limit minimum maximum answer) ds =
-    ds ≡ deeds_if (is_meant name i s) (Set (setting.Timeout limit minimum maximum) answer)
-Fell h i s p (call.NextEvent answer) ds = ds ≡ taken_from h i answer
+-- a slot that holds a peer: its number, what stands in it, and the peer
+pub record Occupied : Type 0 where
+  pub number : ℕ
+  pub slot : SlotState
+  pub peer : Peering
+
+-- the deeds by which a call on a host fell to the peer of a slot. A refused call of the whole host falls to nobody: the memory that it
+-- wanted may be another peer's
+abbrev pub Fell : Common → Occupied → Call → List Deed → Type 0
+Fell h x (call.Connect address channels info word answer) ds = ds ≡ []
+Fell h x (call.Submit name channel q answer) ds =
+    ds ≡ deeds_if (is_meant name x.number x.slot) (Submit (record { channel = channel; flags = q.flags; body = q.body }) answer)
+Fell h x (call.Receive from bytes answer) ds =
+    Reaches x.number x.slot (record { now = h.clock; from = from; bytes = bytes; answer = answer }) ds
+Fell h x (call.Service answer buf) ds = ds ≡ asked_for h x.number answer buf
+Fell h x (call.Tick ms) ds =
+    ds ≡ Tick (clock_after h.clock ms) ∷ share_of h (clock_after h.clock ms) x.slot.emitted (peers.ticked x.peer (clock_after h.clock ms))
+Fell h x (call.Disconnect mode name info answer) ds = ds ≡ deeds_if (is_meant name x.number x.slot) (Disconnect (way_of mode) info answer)
+Fell h x (call.SetBandwidth incoming outgoing (Ok done)) ds = ds ≡ Set (setting.Bandwidth incoming outgoing) (Ok done) ∷ []
+Fell h x (call.SetBandwidth incoming outgoing (Err why)) ds = ds ≡ []
+Fell h x (call.ConfigureThrottle name interval acceleration deceleration answer) ds =
+    ds ≡ deeds_if (is_meant name x.number x.slot) (Set (setting.Throttle interval acceleration deceleration) answer)
+Fell h x (call.SetPingInterval name ms answer) ds = ds ≡ deeds_if (is_meant name x.number x.slot) (Set (setting.PingInterval ms) answer)
+Fell h x (call.SetTimeout name limit minimum maximum answer) ds =
+    ds ≡ deeds_if (is_meant name x.number x.slot) (Set (setting.Timeout limit minimum maximum) answer)
+Fell h x (call.NextEvent answer) ds = ds ≡ taken_from h x.number answer
+
+-- slot i, which is s, where it holds this peer or is free
+abbrev pub occupied_in : ℕ → SlotState → Option Peering → Option Occupied
+occupied_in i s None = None
+occupied_in i s (Some p) = Some (record { number = i; slot = s; peer = p })
 
 -- the same for a slot that may be free
-abbrev pub fell_in : Common → ℕ → SlotState → Option Peering → Call → List Deed → Type 0
-fell_in h i s None c ds = ds ≡ []
-fell_in h i s (Some p) c ds = Fell h i s p c ds
+abbrev pub fell_in : Common → Option Occupied → Call → List Deed → Type 0
+fell_in h None c ds = ds ≡ []
+fell_in h (Some x) c ds = Fell h x c ds
 
 abbrev pub fell_to : Common → ℕ → Option SlotState → Call → List Deed → Type 0
 fell_to h i None c ds = ds ≡ []
-fell_to h i (Some s) c ds = fell_in h i s s.peer c ds
+fell_to h i (Some s) c ds = fell_in h (occupied_in i s s.peer) c ds
 
 -- how many bytes slot i, which is s, counts after a call for its next share of bandwidth: a datagram that it gave is added, and
 -- once the bandwidth is shared out the count begins anew
@@ -146,7 +157,8 @@ pub data Begins (c : Call) (h : Common) (i : ℕ) (s : SlotState) : SlotState �
       → h.available ≡ Some i → Begins c h i s (answering (common_basis h) i s from o)
 
 -- the deeds by which a list of calls fell to the peer of this name, one call after another; none once the name is spent
-abbrev pub FellAll : PeerRef → (cs : List Call) (old new : Host) → Steps cs old new → List Deed → Type 0
-FellAll name [] old new steps ds = ds ≡ []
-FellAll name (c ∷ cs) old new steps ds =
-    (first rest : List Deed) × (ds ≡ first ++ rest) × fell_to (common_of old) name.slot (slot_named old.slots name) c first × FellAll name cs steps.0 new steps.2 rest
+abbrev pub FellAll : PeerRef → (cs : List Call) → Series cs → List Deed → Type 0
+FellAll name [] series ds = ds ≡ []
+FellAll name (c ∷ cs) series ds =
+    (first rest : List Deed) × (ds ≡ first ++ rest) × fell_to (common_of series.before) name.slot (slot_named series.before.slots name) c first
+    × FellAll name cs (later series) rest

@@ -10,7 +10,7 @@ use Rattle.enet_peer.specs.Peering.{Peering}
 use Rattle.enet_slot.specs.Slot.{SlotState, with_peer}
 use Rattle.enet_host.specs.Host.{Host, Keeps, named}
 use Rattle.enet_host.specs.Opening as opening
-use Rattle.law_network.specs.Calls.{Call, Acts, Steps}
+use Rattle.law_network.specs.Calls.{Call, Acts, Steps, Series}
 use Rattle.law_network.specs.Common.{Common, common_of}
 use Rattle.law_network.specs.Deeds.{Deed, AllAlone}
 use Rattle.law_network.specs.Falling.{Fell, FellAll, Begins, counted}
@@ -23,7 +23,7 @@ having_emitted s n = record s { emitted = n }
 -- which nothing was due, an emission of nothing
 pub record Stays (c : Call) (h : Common) (i : ℕ) (s : SlotState) (p : Peering) : Type 0 where
   pub deeds : List Deed
-  pub fell : Fell h i s p c deeds
+  pub fell : Fell h (record { number = i; slot = s; peer = p }) c deeds
   pub alone : AllAlone deeds p p
 
 -- what one call made of slot i, which was s: of the host this sees only what its connections share
@@ -31,7 +31,7 @@ pub data Fares (c : Call) (h : Common) (i : ℕ) (s t : SlotState) : Type 0 wher
   -- its peer stays as it was, or it was free and stays so; its bytes may be counted anew
   untouched : ((p : Peering) → s.peer ≡ Some p → Stays c h i s p) → ((u : SlotState) → Begins c h i s u → ⊥) → t ≡ having_emitted s (counted c h i s) → Fares c h i s t
   -- its peer did alone what fell to it; where that leaves it free, so is the slot
-  goes_on : (p q : Peering) (ds : List Deed) → s.peer ≡ Some p → Fell h i s p c ds → AllAlone ds p q → t ≡ having_emitted (with_peer s q) (counted c h i s) → Fares c h i s t
+  goes_on : (p q : Peering) (ds : List Deed) → s.peer ≡ Some p → Fell h (record { number = i; slot = s; peer = p }) c ds → AllAlone ds p q → t ≡ having_emitted (with_peer s q) (counted c h i s) → Fares c h i s t
   -- it was free, and a connection begins in it
   begins : s.peer ≡ None → s.generation < h.config.generations → Begins c h i s t → Fares c h i s t
 
@@ -50,15 +50,16 @@ IsAt h name q = named h.slots name ≡ held_if q.state q
 
 -- a list of calls: the peer of a name is where one peer alone would be after what fell to its slot, and a name that is spent means
 -- nobody again
-pub record IsIsolated (cs : List Call) (old new : Host) (steps : Steps cs old new) (name : PeerRef) (p : Peering) : Type 0 where
+pub record IsIsolated (cs : List Call) (series : Series cs) (name : PeerRef) (p : Peering) : Type 0 where
   pub deeds : List Deed
-  pub fell : FellAll name cs old new steps deeds
+  pub fell : FellAll name cs series deeds
   pub after : Peering
   pub alone : AllAlone deeds p after
-  pub is : IsAt new name after
+  pub is : IsAt series.after name after
 
 abbrev pub AreIsolated : Host → Type 0
-AreIsolated old = (cs : List Call) (new : Host) (steps : Steps cs old new) (name : PeerRef) (p : Peering) → named old.slots name ≡ Some p → IsIsolated cs old new steps name p
+AreIsolated old = (cs : List Call) (new : Host) (steps : Steps cs old new) (name : PeerRef) (p : Peering) → named old.slots name ≡ Some p
+    → IsIsolated cs (record { before = old; after = new; steps = steps }) name p
 
 -- so it is on each host that keeps what every host keeps
 abbrev pub Isolation : Type 0

@@ -3,7 +3,6 @@ use Rattle.std.specs.Prelude.{◌≡◌, ℕ, ◌+◌, Bool, true, false, List, 
 use Rattle.enet_codec.specs.declared.address.Addr.{Addr}
 use Rattle.enet_codec.specs.declared.event.Event.{Event}
 use Rattle.enet_codec.specs.declared.event.Event.TheVariants as events
-use Rattle.enet_codec.specs.declared.event.PeerRef.{PeerRef}
 use Rattle.enet_codec.specs.declared.event.Received.{Received}
 use Rattle.enet_codec.specs.declared.packet.Packet.{Packet}
 use Rattle.enet_codec.specs.declared.header.Header.{Header}
@@ -14,6 +13,7 @@ use Rattle.law_connection.specs.Law.{mtu_in}
 use Rattle.enet_slot.specs.Slot.{SlotState, name_of}
 use Rattle.enet_host.specs.Host.{Host, named}
 use Rattle.enet_host.specs.Opening.{available}
+use Rattle.enet_host.specs.Serving.{Served, served_of}
 use Rattle.law_network.specs.Calls.{Call, Acts}
 use Rattle.law_network.specs.Calls as call
 use Rattle.law_network.specs.declared.mark.Mark.{Mark}
@@ -58,20 +58,20 @@ Called next c old new = Acts c old.host new.host × (new ≡ record old { host =
 
 -- a call of service that gave a datagram: it is logged last, as one of the connection whose peer it names, and its commands are counted;
 -- `far` has the greatest numbers that the other end of a connection sent
-pub record Logs (far : ℕ → List ℕ) (gave : PeerRef × Addr × ℕ) (buf : List ℕ) (old new : Site) : Type 0 where
+pub record Logs (far : ℕ → List ℕ) (gave : Served) (old new : Site) : Type 0 where
   pub own : HostEnd
   pub there : Has old.ends own
-  pub name : own.name ≡ gave.0
+  pub name : own.name ≡ gave.name
   pub header : Header
   pub commands : List ℕ
-  pub read : IsRead (take gave.2 buf) header commands
+  pub read : IsRead (take gave.len gave.buf) header commands
   pub greatest : List ℕ
   pub marks : List Mark
-  pub counts : Counts (take gave.2 buf) own.greatest greatest (far own.connection) marks
+  pub counts : Counts (take gave.len gave.buf) own.greatest greatest (far own.connection) marks
   pub rest : new ≡ record old {
     host = new.host;
-    log = old.log ++ (record { connection = own.connection; to = gave.1; peer = header.peer; text = take gave.2 buf; marks = marks }) ∷ [];
-    ends = with_end (λ (e : HostEnd). record e { greatest = greatest }) gave.0 old.ends;
+    log = old.log ++ (record { connection = own.connection; to = gave.address; peer = header.peer; text = take gave.len gave.buf; marks = marks }) ∷ [];
+    ends = with_end (λ (e : HostEnd). record e { greatest = greatest }) gave.name old.ends;
   }
 
 -- the end that begins where a host gave the slot i, which was free, to a peer
@@ -108,9 +108,9 @@ pub record Around : Type 0 where
   pub numbers : ℕ → List ℕ  -- the greatest numbers that the other end of a connection sent
 
 -- a call of service that gave a datagram to an address: to a host it is logged, to a stranger it is of no connection
-abbrev pub LogsIf : Bool → (ℕ → List ℕ) → PeerRef × Addr × ℕ → List ℕ → Site → Site → Type 0
-LogsIf true far gave buf old new = Logs far gave buf old new
-LogsIf false far gave buf old new = new ≡ record old { host = new.host }
+abbrev pub LogsIf : Bool → (ℕ → List ℕ) → Served → Site → Site → Type 0
+LogsIf true far gave old new = Logs far gave old new
+LogsIf false far gave old new = new ≡ record old { host = new.host }
 
 -- one call of a host; its user asks the host `from` alone for a connection, and what comes otherwise than through the network's log
 -- comes of a stranger
@@ -119,7 +119,7 @@ CallsAmong w from (call.Connect address channels info word answer) old new =
     (address ≡ from.address) × Called w.count (call.Connect address channels info word answer) old new
 CallsAmong w from (call.Receive address bytes answer) old new = (w.is_host address ≡ false) × Called w.count (call.Receive address bytes answer) old new
 CallsAmong w from (call.Service (Some gave) buf) old new =
-    Acts (call.Service (Some gave) buf) old.host new.host × LogsIf (w.is_host gave.1) w.numbers gave buf old new
+    Acts (call.Service (Some gave) buf) old.host new.host × LogsIf (w.is_host gave.1) w.numbers (served_of gave buf) old new
 CallsAmong w from c old new = Called w.count c old new
 
 -- one thing at a host among others: a call, or the network brings it a datagram of the host `from`

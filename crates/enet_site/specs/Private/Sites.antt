@@ -19,9 +19,14 @@ with_ends host ends = record { address = no_address; host = host; log = []; ends
 abbrev pub unread : ℕ → Addr → ℕ → Logged
 unread connection from peer = record { connection = connection; to = from; peer = peer; text = []; marks = [] }
 
+-- a host and what is kept of its connections
+pub record Recorded : Type 0 where
+  pub host : Host
+  pub records : Records
+
 -- one call of a host of which this is kept, where there have been so many connections
-abbrev pub CallsOn : ℕ → Call → Host → Records → Host → Records → Type 0
-CallsOn next c old was new is = (address : Addr) → Called next c (site address old was) (site address new is)
+abbrev pub CallsOn : ℕ → Call → Recorded → Recorded → Type 0
+CallsOn next c old new = (address : Addr) → Called next c (site address old.host old.records) (site address new.host new.records)
 
 -- what its user took is kept at an end
 abbrev pub told : Option Event → HostEnd → HostEnd

@@ -5,9 +5,10 @@ use Rattle.enet_codec.specs.declared.event.PeerRef.{PeerRef}
 use Rattle.enet_host.specs.Host.{Host}
 use Rattle.enet_host.specs.Serving.{Serves}
 use Rattle.law_network.specs.Log.{Logged}
-use Rattle.enet_records.specs.Records.{Records, Given, Notes}
+use Rattle.enet_records.specs.Records.{Given, Notes}
 use Rattle.enet_site.specs.declared.put_out.Turned.{Turned}
 use Rattle.enet_site.specs.declared.put_out.Turned.TheVariants.{Sent, Away}
+use Rattle.enet_site.specs.Private.Sites.{Recorded}
 
 -- it has none
 abbrev pub Rests : Host → Host → Type 0
@@ -19,11 +20,6 @@ pub record Gives (old : Host) (given : Given) (new : Host) : Type 0 where
   pub buf : List ℕ
   pub serves : Serves old (Some (given.name, given.to, len)) buf new
   pub text_is : given.text ≡ take len buf
-
--- a host and what is kept of its connections
-pub record Recorded : Type 0 where
-  pub host : Host
-  pub records : Records
 
 -- the datagram is a host's, and is logged last; `far` has the greatest numbers that the other end of a connection sent
 pub record Puts (hosts : Addr → Bool) (far : ℕ → List ℕ) (old new : Recorded) : Type 0 where
