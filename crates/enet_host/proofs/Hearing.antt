@@ -25,7 +25,7 @@ not-vacant s from session (Some p) h = refl
 
 pub heard-at : (basis : Basis) (xs : List Slot) (from : Addr) (bytes : List ℕ) (header : Header) (commands : List ℕ) (n : ℕ) (x y : Slot) (answer : Received)
     → IsRead bytes header commands → header.peer ≢ no_peer → refused_by (all_shown xs) from header ≡ None → n ≡ header.peer → n < length xs → x ≡ get_or xs n x
-    → (is_vacant (shown x).peer ≡ false → Hears basis.clock header.sent commands (shown x) answer (shown y))
+    → (is_vacant (shown x).peer ≡ false → Hears (record { now = basis.clock; sent = header.sent }) commands (shown x) answer (shown y))
     → Arrives basis (all_shown xs) from bytes answer (all_shown (slice_set xs n y))
 heard-at basis xs from bytes header commands n x y answer read known fine e inside is hears =
     let there : slice_get (all_shown xs) header.peer ≡ Some (shown x) =

@@ -53,7 +53,7 @@ pub data Arrives (basis : Basis) (slots : List SlotState) (from : Addr) (bytes :
   turned_away : (header : Header) (commands : List ℕ) (why : Stop) → IsRead bytes header commands → header.peer ≢ no_peer
       → refused_by slots from header ≡ Some why → Arrives basis slots from bytes (stopped why) slots
   heard : (header : Header) (commands : List ℕ) (s t : SlotState) (answer : Received) → IsRead bytes header commands → header.peer ≢ no_peer
-      → refused_by slots from header ≡ None → slice_get slots header.peer ≡ Some s → Hears basis.clock header.sent commands s answer t
+      → refused_by slots from header ≡ None → slice_get slots header.peer ≡ Some s → Hears (record { now = basis.clock; sent = header.sent }) commands s answer t
       → Arrives basis slots from bytes answer (slice_set slots header.peer t)
 
 -- the greatest number of 64 bits, where totals stop

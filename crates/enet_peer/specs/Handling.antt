@@ -25,22 +25,29 @@ pub record Arrival : Type 0 where
   pub now : ℕ
   pub sent : Option ℕ
 
--- the commands that bytes spell come to a peer in a datagram, `handled` having counted before: what is answered, and the peer
--- after them
-pub data Handles (a : Arrival) : ℕ → List ℕ → Peering → Received → Peering → Type 0 where
-  nothing_left : (handled : ℕ) (p : Peering) → Handles a handled [] p (record { handled = handled; stop = None }) p
-  no_command : (handled : ℕ) (bytes : List ℕ) (p : Peering) → bytes ≢ [] → SpellsNone bytes
-      → Handles a handled bytes p (record { handled = handled; stop = Some stop.BadCommand }) p
-  stops : (handled : ℕ) (text rest : List ℕ) (m : Message) (why : Stop) (p q : Peering) → Spells text m
-      → Obeys {T = Unit {0}} (Err why) (wants_memory p a.now a.sent m) (obeyed p a.now a.sent m) p q
-      → Handles a handled (text ++ rest) p (record { handled = counted handled why; stop = Some why }) q
-  goes_on : (handled : ℕ) (text rest : List ℕ) (m : Message) (answer : Received) (p q r : Peering) → Spells text m
-      → Obeys {T = Unit {0}} (Ok tt) (wants_memory p a.now a.sent m) (obeyed p a.now a.sent m) p q → Handles a (one_more handled) rest q answer r
-      → Handles a handled (text ++ rest) p answer r
+-- how far the commands of a datagram have come: how many counted, and the peer after them
+pub record SoFar : Type 0 where
+  pub handled : ℕ
+  pub peer : Peering
+
+-- the commands that bytes spell come to a peer in a datagram, once others have come: what is answered of all, and the peer after
+-- them
+pub data Handles (a : Arrival) : SoFar → List ℕ → Received → Peering → Type 0 where
+  nothing_left : (old : SoFar) → Handles a old [] (record { handled = old.handled; stop = None }) old.peer
+  no_command : (old : SoFar) (bytes : List ℕ) → bytes ≢ [] → SpellsNone bytes
+      → Handles a old bytes (record { handled = old.handled; stop = Some stop.BadCommand }) old.peer
+  stops : (old : SoFar) (text rest : List ℕ) (m : Message) (why : Stop) (q : Peering) → Spells text m
+      → Obeys {T = Unit {0}} (Err why) (wants_memory old.peer a.now a.sent m) (obeyed old.peer a.now a.sent m) old.peer q
+      → Handles a old (text ++ rest) (record { handled = counted old.handled why; stop = Some why }) q
+  goes_on : (old : SoFar) (text rest : List ℕ) (m : Message) (answer : Received) (q r : Peering) → Spells text m
+      → Obeys {T = Unit {0}} (Ok tt) (wants_memory old.peer a.now a.sent m) (obeyed old.peer a.now a.sent m) old.peer q
+      → Handles a (record { handled = one_more old.handled; peer = q }) rest answer r → Handles a old (text ++ rest) answer r
 
 -- the commands of a list come to a peer in the same way, until none is left or one stops them
-abbrev pub HandlesEach : Arrival → ℕ → List Message → Peering → Received → Peering → Type 0
-HandlesEach a handled [] p answer q = (answer ≡ record { handled = handled; stop = None }) × (q ≡ p)
-HandlesEach a handled (m ∷ ms) p answer q =
-    ((why : Stop) × Obeys {T = Unit {0}} (Err why) (wants_memory p a.now a.sent m) (obeyed p a.now a.sent m) p q × (answer ≡ record { handled = counted handled why; stop = Some why }))
-    ⊎ ((between : Peering) × Obeys {T = Unit {0}} (Ok tt) (wants_memory p a.now a.sent m) (obeyed p a.now a.sent m) p between × HandlesEach a (one_more handled) ms between answer q)
+abbrev pub HandlesEach : Arrival → SoFar → List Message → Received → Peering → Type 0
+HandlesEach a old [] answer q = (answer ≡ record { handled = old.handled; stop = None }) × (q ≡ old.peer)
+HandlesEach a old (m ∷ ms) answer q =
+    ((why : Stop) × Obeys {T = Unit {0}} (Err why) (wants_memory old.peer a.now a.sent m) (obeyed old.peer a.now a.sent m) old.peer q
+    × (answer ≡ record { handled = counted old.handled why; stop = Some why }))
+    ⊎ ((between : Peering) × Obeys {T = Unit {0}} (Ok tt) (wants_memory old.peer a.now a.sent m) (obeyed old.peer a.now a.sent m) old.peer between
+    × HandlesEach a (record { handled = one_more old.handled; peer = between }) ms answer q)

@@ -11,7 +11,7 @@ ghost use Rattle.enet_codec.specs.declared.event.Received.{Received};
 ghost use Rattle.enet_codec.specs.Message.{Message};
 ghost use Rattle.enet_codec.specs.Datagram.{SpellsAll};
 ghost use Rattle.enet_peer.specs.Peering.{Peering};
-ghost use Rattle.enet_peer.specs.Handling.{Arrival, Handles, HandlesEach, counted};
+ghost use Rattle.enet_peer.specs.Handling.{Arrival, SoFar, Handles, HandlesEach, counted};
 
 use crate::Peer;
 use enet_codec::{Received, Stop, read_command};
@@ -24,7 +24,7 @@ use enet_codec::{Received, Stop, read_command};
 /// taken effect, and none after it is looked at. `handled` counts the commands that took effect or were passed over, and that
 /// of S12, which took effect too; it stops at 4,294,967,295.
 pub fn obey(peer: &mut Peer, now: u32, sent: Option<u16>, commands: &[u8]) -> Received
-    ensures { Handles (record { now = now; sent = sent }) 0 commands.now peer.old.peer result peer.new.peer }
+    ensures { Handles (record { now = now; sent = sent }) (record { handled = 0; peer = peer.old.peer }) commands.now result peer.new.peer }
 {
     let mut handled: u32 = 0;
     let mut rest = commands;
@@ -52,8 +52,8 @@ pub fn obey(peer: &mut Peer, now: u32, sent: Option<u16>, commands: &[u8]) -> Re
 
 /// A law, with no code: where bytes spell a list of commands, just these come to the peer, in their order.
 pub fn what_was_put_out_comes()
-    ensures { (arrival : Arrival) (handled : ℕ) (bytes : List ℕ) (ms : List Message) (p q : Peering) (answer : Received)
-        → SpellsAll bytes ms → Handles arrival handled bytes p answer q → HandlesEach arrival handled ms p answer q }
+    ensures { (arrival : Arrival) (old : SoFar) (bytes : List ℕ) (ms : List Message) (answer : Received) (q : Peering)
+        → SpellsAll bytes ms → Handles arrival old bytes answer q → HandlesEach arrival old ms answer q }
 {}
 
 /// How many commands count once one has stopped the datagram: that of S12 took effect.

@@ -7,7 +7,7 @@ use Rattle.enet_peer.specs.declared.parts.PeerState.TheVariants as state
 use Rattle.enet_peer.specs.declared.parts.PeerEvent.{PeerEvent}
 use Rattle.enet_peer.specs.Peering.{Peering}
 use Rattle.enet_peer.specs.Calls.{PutsOut, next_event}
-use Rattle.enet_peer.specs.Handling.{Handles}
+use Rattle.enet_peer.specs.Handling.{Arrival, Handles}
 use Rattle.enet_slot.specs.Slot.{SlotState, greatest, with_peer, with_peer_in, name_of}
 use Rattle.enet_slot.specs.Hearing.{Hears}
 use Rattle.enet_slot.specs.Serving.{with_emitted, Gives, passes_by, Passes}
@@ -29,10 +29,10 @@ with-peer-over : (s : SlotState) (q : Option Peering) (p : Peering) → with_pee
 with-peer-over s q p = over-in p.state s q p
 
 -- `v` is what was seen of the slot before
-pub hears-of : (now : ℕ) (sent : Option ℕ) (commands : List ℕ) (v s t : SlotState) (p q : Peering) (answer : Received) → v ≡ s → v.peer ≡ Some p
-    → Handles (record { now = now; sent = sent }) 0 commands p answer q → t ≡ with_peer (record v { peer = Some q }) q → Hears now sent commands s answer t
-hears-of now sent commands v s t p q answer same held handled left =
-    subst (λ (u : SlotState). Hears now sent commands u answer t) same
+pub hears-of : (a : Arrival) (commands : List ℕ) (v s t : SlotState) (p q : Peering) (answer : Received) → v ≡ s → v.peer ≡ Some p
+    → Handles a (record { handled = 0; peer = p }) commands answer q → t ≡ with_peer (record v { peer = Some q }) q → Hears a commands s answer t
+hears-of a commands v s t p q answer same held handled left =
+    subst (λ (u : SlotState). Hears a commands u answer t) same
     (record { peer = p; after = q; held = held; handled = handled; left = left ∙ with-peer-over v (Some q) q })
 
 pub passes-of : (now : ℕ) (buf : List ℕ) (v s t : SlotState) (p q : Peering) → v ≡ s → v.peer ≡ Some p → PutsOut now None p q buf

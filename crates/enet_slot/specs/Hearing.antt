@@ -7,7 +7,7 @@ use Rattle.enet_codec.specs.declared.stop.Stop.TheVariants as stop
 use Rattle.enet_peer.specs.declared.parts.PeerState.{PeerState}
 use Rattle.enet_peer.specs.declared.parts.PeerState.TheVariants as state
 use Rattle.enet_peer.specs.Peering.{Peering}
-use Rattle.enet_peer.specs.Handling.{Handles}
+use Rattle.enet_peer.specs.Handling.{Arrival, Handles}
 use Rattle.enet_slot.specs.Slot.{SlotState, with_peer}
 
 abbrev pub is_same_address : Addr → Addr → Bool
@@ -42,11 +42,11 @@ refused_by_slot from session None = Some stop.UnknownPeer
 refused_by_slot from session (Some s) = refused_by_peer s from session s.peer
 
 -- the commands of a datagram come to the peer of a slot
-pub record Hears (now : ℕ) (sent : Option ℕ) (commands : List ℕ) (s : SlotState) (answer : Received) (t : SlotState) : Type 0 where
+pub record Hears (a : Arrival) (commands : List ℕ) (s : SlotState) (answer : Received) (t : SlotState) : Type 0 where
   pub peer : Peering
   pub after : Peering
   pub held : s.peer ≡ Some peer
-  pub handled : Handles (record { now = now; sent = sent }) 0 commands peer answer after
+  pub handled : Handles a (record { handled = 0; peer = peer }) commands answer after
   pub left : t ≡ with_peer s after
 
 -- whether a slot holds the connection of an offer from this address with this connect id already

@@ -55,7 +55,7 @@ impl Slot {
     /// bears. It answers how many took effect, and the stop of the first that the peer stops; S3, with nothing changed, where
     /// the slot is free.
     pub fn hear(&mut self, now: u32, sent: Option<u16>, commands: &[u8]) -> Received
-        ensures hears { is_vacant self.old.slot.peer ≡ false → Hears now sent commands.now self.old.slot result self.new.slot }
+        ensures hears { is_vacant self.old.slot.peer ≡ false → Hears (record { now = now; sent = sent }) commands.now self.old.slot result self.new.slot }
         ensures vacant { is_vacant self.old.slot.peer ≡ true → (result ≡ stopped Stop.UnknownPeer) × (self.new.slot ≡ self.old.slot) }
     {
         let Some(peer) = &mut self.peer else {

@@ -112,7 +112,7 @@ AllInTime : End → End → List Put → Type 0
 AllInTime own far ps = (x : Put) → Has ps x → InTime own far x
 
 comes : (now : ℕ) (sent : Option ℕ) (ps : List Put) (handled : ℕ) (p : Peering) (answer : Received) (q : Peering) (own far : End) → own.peer ≡ Some p → AllInTime own far ps
-    → HandlesEach (record { now = now; sent = sent }) handled (messages_of ps) p answer q → (es : List Event) × RunsAt es own far (with_peer own q)
+    → HandlesEach (record { now = now; sent = sent }) (record { handled = handled; peer = p }) (messages_of ps) answer q → (es : List Event) × RunsAt es own far (with_peer own q)
 unfolding AllInTime
 comes now sent [] handled p answer q own far is times h = ([], same-peer own p is ∙ ap (with_peer own) (sym h.1))
 comes now sent (x ∷ ps) handled p answer q own far is times (inl s) = elim (stopped s.0 (wants_memory p now sent x.message) (obeyed p now sent x.message) p q s.1) [
@@ -195,7 +195,7 @@ heard-there : (from : Site) (i : ℕ) (d : Logged) (answer : Received) (old new 
     → Acts (call.Receive from.address d.text answer) old.host new.host → KeepsLog old new e.connection → slice_get from.log i ≡ Some d → Has old.ends e → IsApart old.ends e → ShowsFar from e.connection far
     → is_earlier old from.address d ≡ false → is_late from old d ≡ false
     → (header : Header) (commands : List ℕ) (s t : SlotState) → IsRead d.text header commands → header.peer ≢ no_peer → header.peer ≡ e.name.slot → refused_by_slot from.address header.session (Some s) ≡ None
-    → slice_get old.host.slots e.name.slot ≡ Some s → (x : IsThere old.host.slots e.name k.peer) → Hears old.host.clock header.sent commands s answer t → slice_get new.host.slots e.name.slot ≡ Some t → d.connection ≡ e.connection → Went own far new e
+    → slice_get old.host.slots e.name.slot ≡ Some s → (x : IsThere old.host.slots e.name k.peer) → Hears (record { now = old.host.clock; sent = header.sent }) commands s answer t → slice_get new.host.slots e.name.slot ≡ Some t → d.connection ≡ e.connection → Went own far new e
 unfolding AllInTime
 heard-there from i d answer old new e own far k low acts same sent has apart shown earlier late header commands s t read n here taken there x hears there' of = record {
   new = with_peer own hears.after;
@@ -223,8 +223,8 @@ heard-there from i d answer old new e own far k low acts same sent has apart sho
 
     run : (es : List Event) × RunsAt es own far (with_peer own hears.after)
     run = comes old.host.clock header.sent l.puts 0 k.peer answer hears.after own far k.has (in-time (numbers_of from e.connection) e.greatest own far d l shown.greatest k.greatest not-late)
-        (handles-each (record { now = old.host.clock; sent = header.sent }) 0 commands (messages_of l.puts) k.peer hears.after answer (behind d.text l.header header read.front commands (messages_of l.puts) read.split read.spelled l.spelled)
-        (subst (λ (y : Peering). Rattle.enet_peer.specs.Handling.Handles (record { now = old.host.clock; sent = header.sent }) 0 commands y answer hears.after) p hears.handled))
+        (handles-each (record { now = old.host.clock; sent = header.sent }) (record { handled = 0; peer = k.peer }) commands (messages_of l.puts) answer hears.after (behind d.text l.header header read.front commands (messages_of l.puts) read.split read.spelled l.spelled)
+        (subst (λ (y : Peering). Rattle.enet_peer.specs.Handling.Handles (record { now = old.host.clock; sent = header.sent }) (record { handled = 0; peer = y }) commands answer hears.after) p hears.handled))
 
 -- a datagram comes
 
@@ -240,7 +240,7 @@ pub record IsHeard (from : Addr) (text : List ℕ) (answer : Received) (old new 
   pub taken : refused_by_slot from header.session (Some slot) ≡ None
   pub was : slice_get old.host.slots e.name.slot ≡ Some slot
   pub there : IsThere old.host.slots e.name p
-  pub hears : Hears old.host.clock header.sent commands slot answer after
+  pub hears : Hears (record { now = old.host.clock; sent = header.sent }) commands slot answer after
   pub is : slice_get new.host.slots e.name.slot ≡ Some after
 
 -- the slot in which a datagram is heard is at its sender's address
@@ -282,7 +282,7 @@ goes-received from text answer old new e own far low acts same k heard-here = by
         ∙ ap (λ (xs : List SlotState). slice_get xs e.name.slot) was ∙ x.there)
 
     heard-at : (header : Header) (commands : List ℕ) (s t : SlotState) → IsRead text header commands → header.peer ≢ no_peer → refused_by_slot from header.session (Some s) ≡ None
-        → slice_get old.host.slots header.peer ≡ Some s → Hears old.host.clock header.sent commands s answer t → new.host.slots ≡ slice_set old.host.slots header.peer t → header.peer ≡ e.name.slot
+        → slice_get old.host.slots header.peer ≡ Some s → Hears (record { now = old.host.clock; sent = header.sent }) commands s answer t → new.host.slots ≡ slice_set old.host.slots header.peer t → header.peer ≡ e.name.slot
         → ((k.peer.state ≢ state.Free) × IsThere old.host.slots e.name k.peer) ⊎ ((k.peer.state ≡ state.Free) × IsSpent old.host e.name) → Went own far new e
     heard-at header commands s t read n taken there hears set here (inr gone) = goes-still old new e own far k same (shows-gone new.host e.name k.peer gone.0 (spent-step c old.host new.host e.name low acts gone.1))
     heard-at header commands s t read n taken there hears set here (inl live) = heard-here (record {
@@ -312,7 +312,7 @@ goes-received from text answer old new e own far low acts same k heard-here = by
         at (inl here) =
             let old-there : slice_get old.host.slots header.peer ≡ Some s = ap (λ (xs : List SlotState). slice_get xs header.peer) (sym was) ∙ there in
             let taken : refused_by_slot from header.session (Some s) ≡ None = ap (λ (o : Option SlotState). refused_by_slot from header.session o) (sym there) ∙ open' in
-            heard-at header commands s t read n taken old-there (subst (λ (r : Received). Hears old.host.clock header.sent commands s r t) as-said hears) (sym is ∙ ap (λ (xs : List SlotState). slice_set xs header.peer t) was) here (there-or old.host e.name k.peer k.shows)
+            heard-at header commands s t read n taken old-there (subst (λ (r : Received). Hears (record { now = old.host.clock; sent = header.sent }) commands s r t) as-said hears) (sym is ∙ ap (λ (xs : List SlotState). slice_set xs header.peer t) was) here (there-or old.host e.name k.peer k.shows)
 
 -- a datagram of the host that has the other end
 pub goes-brought : (from : Site) (i : ℕ) (d : Logged) (answer : Received) (old new : Site) (e : HostEnd) (own far : End) → old.host.config.generations ≤ greatest

@@ -303,11 +303,11 @@ hears next side from x k session sent d m q b o =
     s : SpellsDatagram d.text (record { peer = 0; session = session; compressed = false; sent = sent }) (m ∷ [])
     s = b.spelled
 
-    handles : Handles (record { now = 0; sent = sent }) 0 s.commands x.peer handled_one q
-    handles = subst (λ (l : List ℕ). Handles (record { now = 0; sent = sent }) 0 l x.peer handled_one q) (sym (s.messages.2 ∙ ap (λ (l : List ℕ). s.messages.0 ++ l) s.messages.4))
-        (goes_on 0 s.messages.0 [] m handled_one x.peer q q s.messages.3 (o.goes, o.after) (nothing_left 1 q))
+    handles : Handles (record { now = 0; sent = sent }) (record { handled = 0; peer = x.peer }) s.commands handled_one q
+    handles = subst (λ (l : List ℕ). Handles (record { now = 0; sent = sent }) (record { handled = 0; peer = x.peer }) l handled_one q) (sym (s.messages.2 ∙ ap (λ (l : List ℕ). s.messages.0 ++ l) s.messages.4))
+        (goes_on (record { handled = 0; peer = x.peer }) s.messages.0 [] m handled_one q q s.messages.3 (o.goes, o.after) (nothing_left (record { handled = 1; peer = q })))
 
-    hears-it : Hears 0 sent s.commands old handled_one new
+    hears-it : Hears (record { now = 0; sent = sent }) s.commands old handled_one new
     hears-it = record { peer = x.peer; after = q; held = refl; handled = handles; left = sym (held old q o.live) }
 
     arrives : Arrives (record { config = example_config; clock = 0 }) (old ∷ []) from.address d.text handled_one (new ∷ [])

@@ -8,7 +8,7 @@ use Rattle.enet_peer.proofs.datagram.obey.Goals as goal
 pub returns-in_default : goal.returns-in_default
 returns-in_default c =
     let some : c.loop-rest.rest.now ≢ [] = search rules in
-    c.loop-rest.invariant _ _ (no_command c.loop-rest.handled c.loop-rest.rest.now c.loop-rest.peer.peer some (search rules))
+    c.loop-rest.invariant _ _ (no_command (record { handled = c.loop-rest.handled; peer = c.loop-rest.peer.peer }) c.loop-rest.rest.now some (search rules))
 
 pub returns-in-Err : goal.returns-in-Err
 returns-in-Err c =
