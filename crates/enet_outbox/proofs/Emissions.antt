@@ -88,9 +88,9 @@ none-from : (ms : List Message) → [] ≡ flat_map canonical ms → ms ≡ []
 none-from [] e = refl
 none-from (m ∷ ms) e = absurd (let l = ap (λ (xs : List ℕ). length xs) e in omega arith)
 
-pub emits-none : (pace : Pace) (to : Destination) (old new : Outbox) (p : Progress) (buf : List ℕ) → Leads (filled pace old) new p buf → p.at ≡ 4 → Emits pace to None old new buf
+pub emits-none : (pace : Pace) (to : Destination) (old new : Outbox) (p : Progress) (buf : List ℕ) → Leads (filled pace old) new p buf → p.at ≡ 4 → Emits pace to old None buf
 emits-none pace to old new p buf l e =
-    (none-from (filled pace old).messages (ap (slice_range buf 4) (sym e) ∙ l.holds.text), sym l.outbox)
+    none-from (filled pace old).messages (ap (slice_range buf 4) (sym e) ∙ l.holds.text)
 
 some-from : (ms : List Message) → 0 < length (flat_map canonical ms) → 0 < length ms
 some-from [] h = absurd (omega arith)
@@ -98,7 +98,7 @@ some-from (m ∷ ms) h = omega arith
 
 -- the header and the commands are the datagram
 pub emits-some : (pace : Pace) (to : Destination) (old new : Outbox) (p : Progress) (buf after : List ℕ) (len : ℕ) (header : Header) → Leads (filled pace old) new p buf → (p.at ≡ 4 → ⊥) →
-    header ≡ header_asking pace.now to p.asks → take len after ≡ header_text header ++ slice_range buf 4 p.at → len ≡ length (header_text header) + (p.at - 4) → Emits pace to (Some len) old new after
+    header ≡ header_asking pace.now to p.asks → take len after ≡ header_text header ++ slice_range buf 4 p.at → len ≡ length (header_text header) + (p.at - 4) → Emits pace to old (Some len) after
 emits-some pace to old new p buf after len header l more is text ends =
     let ms : List Message = (filled pace old).messages in
     let h = l.holds in
@@ -108,18 +108,15 @@ emits-some pace to old new p buf after len header l more is text ends =
     let same : length (flat_map canonical ms) ≡ p.at - 4 = ap (λ (xs : List ℕ). length xs) (sym h.text) ∙ size in
     let made : header ≡ header_asking pace.now to (list_any asks ms) = is ∙ ap (header_asking pace.now to) (sym h.is_asking) in
     let bytes : header_text header ++ slice_range buf 4 p.at ≡ datagram pace.now to ms = ap (λ (xs : List ℕ). header_text header ++ xs) h.text ∙ ap (λ (h : Header). header_text h ++ flat_map canonical ms) made in
-    let count : len ≡ length (header_text header ++ slice_range buf 4 p.at) = omega (arith, length-append (header_text header) (slice_range buf 4 p.at)) in (
-      sym l.outbox,
-      record { some = some-from ms (omega arith); few = omega (arith, h.few); ranges = h.messages; ends = count ∙ ap (λ (xs : List ℕ). length xs) bytes; text = text ∙ bytes },
-    )
+    let count : len ≡ length (header_text header ++ slice_range buf 4 p.at) = omega (arith, length-append (header_text header) (slice_range buf 4 p.at)) in
+    record { some = some-from ms (omega arith); few = omega (arith, h.few); ranges = h.messages; ends = count ∙ ap (λ (xs : List ℕ). length xs) bytes; text = text ∙ bytes }
   where
     length-range : (xs : List ℕ) (from to : ℕ) → from ≤ to → to ≤ length xs → length (slice_range xs from to) ≡ to - from
     length-range xs from to low high = omega (arith, length-take (to - from) (Rattle.std.proofs.Common.drop from xs), Rattle.std.proofs.lemmas.List.length-drop from xs)
 
 -- what stands behind the written front is none of it
-pub emits-longer : (pace : Pace) (to : Destination) (r : Option ℕ) (old new : Outbox) (buf rest : List ℕ) → Emits pace to r old new buf → Emits pace to r old new (buf ++ rest)
-emits-longer pace to None old new buf rest e = e
-emits-longer pace to (Some len) old new buf rest e =
-    let d = e.1 in
+pub emits-longer : (pace : Pace) (to : Destination) (old : Outbox) (r : Option ℕ) (buf rest : List ℕ) → Emits pace to old r buf → Emits pace to old r (buf ++ rest)
+emits-longer pace to old None buf rest d = d
+emits-longer pace to old (Some len) buf rest d =
     let fits : len ≤ length buf = omega (arith, d.ends, ap (λ (xs : List ℕ). length xs) d.text, length-take len buf) in
-    (e.0, record { some = d.some; few = d.few; ranges = d.ranges; ends = d.ends; text = take-append-le len buf rest fits ∙ d.text })
+    record { some = d.some; few = d.few; ranges = d.ranges; ends = d.ends; text = take-append-le len buf rest fits ∙ d.text }

@@ -206,7 +206,7 @@ pub record HasDatagram (now : ℕ) (to : Destination) (messages : List Message) 
   pub ends : len ≡ length (datagram now to messages)
   pub text : take len buf ≡ datagram now to messages
 
--- what a call of emit wrote at the front of the buffer, and left: nothing where no command goes
-abbrev pub Emits : Pace → Destination → Option ℕ → Outbox → Outbox → List ℕ → Type 0
-Emits pace to None old new buf = ((filled pace old).messages ≡ []) × (new ≡ (filled pace old).outbox)
-Emits pace to (Some len) old new buf = (new ≡ (filled pace old).outbox) × HasDatagram pace.now to (filled pace old).messages len buf
+-- what a call of emit wrote at the front of the buffer: nothing where no command goes
+abbrev pub Emits : Pace → Destination → Outbox → Option ℕ → List ℕ → Type 0
+Emits pace to old None buf = (filled pace old).messages ≡ []
+Emits pace to old (Some len) buf = HasDatagram pace.now to (filled pace old).messages len buf

@@ -405,7 +405,8 @@ impl Outbox {
         requires long { 4 ≤ pace.mtu }
         requires short { pace.mtu ≤ 4096 }
         requires whole { length buf.old ≡ pace.mtu }
-        ensures emits { Emits pace to result self.old.outbox self.new.outbox buf.new }
+        ensures emits { Emits pace to self.old.outbox result buf.new }
+        ensures left { self.new.outbox ≡ (filled pace self.old.outbox).outbox }
         ensures acknowledgement_room { self.old.acknowledgement_room ≤ self.new.acknowledgement_room }
         ensures control_room { self.old.control_room ≤ self.new.control_room }
     {
@@ -430,7 +431,8 @@ impl Outbox {
     /// not known (ENet 1.3). Behind the datagram anything may stand in the buffer. It takes no memory.
     pub fn emit(&mut self, pace: Pace, to: Destination, buf: &mut [u8; 4096]) -> Option<usize>
         requires { (576 ≤ pace.mtu) × (pace.mtu ≤ 4096) }
-        ensures emits { Emits pace to result self.old.outbox self.new.outbox buf.new }
+        ensures emits { Emits pace to self.old.outbox result buf.new }
+        ensures left { self.new.outbox ≡ (filled pace self.old.outbox).outbox }
         ensures acknowledgement_room { self.old.acknowledgement_room ≤ self.new.acknowledgement_room }
         ensures control_room { self.old.control_room ≤ self.new.control_room }
     {

@@ -134,10 +134,10 @@ ticked-waits a p now h w =
 
 -- ---- a datagram goes
 
-some-goes : (pace : Pace) (to : Destination) (len : Option ℕ) (old new : Outbox) (buf : List ℕ) (m : Message) (more : List Message) → (filled pace old).messages ≡ m ∷ more → Emits pace to len old new buf
+some-goes : (pace : Pace) (to : Destination) (len : Option ℕ) (old : Outbox) (buf : List ℕ) (m : Message) (more : List Message) → (filled pace old).messages ≡ m ∷ more → Emits pace to old len buf
     → is_some len ≡ true
-some-goes pace to None old new buf m more first e = absurd (let both : [] ≡ m ∷ more = sym e.0 ∙ first in cc)
-some-goes pace to (Some len) old new buf m more first e = refl
+some-goes pace to None old buf m more first e = absurd (let both : [] ≡ m ∷ more = sym e ∙ first in cc)
+some-goes pace to (Some len) old buf m more first e = refl
 
 long-enough : (n : ℕ) → 12 ≤ max 576 n
 long-enough n = omega arith
@@ -146,8 +146,8 @@ pub answer-goes : (a : Acknowledgement) (now : ℕ) (len : Option ℕ) (p q : Pe
 answer-goes a now len p q buf w out =
     let first = oldest-first (pace_of p now) p.outbox a w.1 (long-enough (min p.terms.mtu 4096)) w.2 in
     record {
-      goes = some-goes (pace_of p now) (destination_of p) len p.outbox out.outbox buf (acknowledgement_of a) first.0 first.1 out.emits;
+      goes = some-goes (pace_of p now) (destination_of p) len p.outbox buf (acknowledgement_of a) first.0 first.1 out.emits;
       more = first.0;
       first = first.1;
-      ends = ap (λ (x : Peering). x.state) out.after ∙ ap (λ (s : PeerState). (gone_on_in s (record p { outbox = out.outbox })).state) w.0;
+      ends = ap (λ (x : Peering). x.state) out.after ∙ ap (λ (s : PeerState). (gone_on_in s (record p { outbox = (filled (pace_of p now) p.outbox).outbox })).state) w.0;
     }

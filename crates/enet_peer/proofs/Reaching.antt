@@ -42,10 +42,9 @@ use Rattle.enet_outbox.specs.declared.parts.Unsequenced.{Unsequenced}
 use Rattle.enet_outbox.specs.declared.parts.Matched.{Matched}
 use Rattle.enet_outbox.specs.declared.parts.Matched.TheVariants as matched
 use Rattle.enet_outbox.specs.declared.parts.Pace.{Pace}
-use Rattle.enet_outbox.specs.declared.parts.Destination.{Destination}
 use Rattle.enet_outbox.specs.Outbox.{Outbox, cleared_sender, marked_sender, with_control, after_acknowledgement, acknowledged_on, is_done, is_unsequenced, with_unsequenced, with_sequenced, matched_by, lateness}
 use Rattle.enet_outbox.specs.Outbox as outbox
-use Rattle.enet_outbox.specs.Emission.{Filling, filled, Emits}
+use Rattle.enet_outbox.specs.Emission.{Filling, filled}
 use Rattle.enet_outbox.proofs.Filled.{by-filling}
 use Rattle.enet_peer.specs.Peering.{Peering, joined, connecting, answering}
 use Rattle.enet_peer.specs.declared.parts.PeerState.{PeerState}
@@ -55,7 +54,7 @@ use Rattle.enet_peer.specs.declared.parts.PeerEvent.{PeerEvent}
 use Rattle.enet_peer.specs.declared.parts.PeerEvent.TheVariants as event
 use Rattle.enet_peer.specs.Endings.{ended, freed, disconnecting, parting, settled, is_later, cut_off_in}
 use Rattle.enet_peer.specs.CommandEffect.{Outcome, Obeys, wants_memory, answered, answered_at, is_answered_in, is_allowed, is_connect, obeyed, by_body, by_answer, by_arrival, on_data, stopped, sampled, with_answer, on_match, on_acknowledge, welcomed, on_verify_in, on_last_disconnect, on_disconnect_in}
-use Rattle.enet_peer.specs.Calls.{Leave, AtOnce, TellsOnce, Asks, AsksLater, Refused, Leaves, left, Submits, submitted, PutsOut, after_timeouts, after_timeouts_by, is_pinged, ticked, is_connected, pace_of, destination_of, gone_on, gone_on_in, Taken, Takes, next_event, event_after, packet_event, last_event, with_bandwidth, with_throttle}
+use Rattle.enet_peer.specs.Calls.{Leave, AtOnce, TellsOnce, Asks, AsksLater, Refused, Leaves, left, Submits, submitted, PutsOut, after_timeouts, after_timeouts_by, is_pinged, ticked, is_connected, pace_of, gone_on_in, Taken, Takes, next_event, event_after, packet_event, last_event, with_bandwidth, with_throttle}
 use Rattle.enet_peer.specs.Reachable.{IsReachable, IsStill, IsStillIn, Keeps, WaitsIn}
 use Rattle.enet_peer.proofs.Obeying.{obeys-holds}
 
@@ -512,14 +511,8 @@ went-keeps p pace s e h =
     let q : Peering = record p { outbox = (filled pace p.outbox).outbox } in
     settled-keeps q (plain-keeps s p q e (λ us vs c d ss ts k. tt) (λ xs ys ms ns k. tt) h (filled-places pace p.outbox h.places) h.handed_over)
 
-filled-is : (pace : Pace) (to : Destination) (len : Option ℕ) (old new : Outbox) (buf : List ℕ) → Emits pace to len old new buf → new ≡ (filled pace old).outbox
-filled-is pace to None old new buf e = e.1
-filled-is pace to (Some n) old new buf e = e.0
-
 pub put-out-keeps : (now : ℕ) (len : Option ℕ) (p q : Peering) (buf : List ℕ) → IsReachable p → PutsOut now len p q buf → IsReachable q
-put-out-keeps now len p q buf h out =
-    let is : out.outbox ≡ (filled (pace_of p now) p.outbox).outbox = filled-is (pace_of p now) (destination_of p) len p.outbox out.outbox buf out.emits in
-    subst IsReachable (sym (out.after ∙ ap (λ (o : Outbox). gone_on (record p { outbox = o })) is)) (went-keeps p (pace_of p now) p.state refl h)
+put-out-keeps now len p q buf h out = subst IsReachable (sym out.after) (went-keeps p (pace_of p now) p.state refl h)
 
 -- ---- the clock
 

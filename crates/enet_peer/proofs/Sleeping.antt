@@ -1,6 +1,6 @@
 -- A sleeping peer that is asked for a datagram puts nothing out and stays as it is.
 use Rattle.std.proofs.Common.{◌≡◌, ℕ, true, ◌&&◌, if◌then◌else◌, None, List, refl, sym, ap, ◌∙◌}
-use Rattle.enet_outbox.specs.Outbox.{is_done}
+use Rattle.enet_outbox.specs.Outbox.{Outbox, is_done}
 use Rattle.enet_outbox.proofs.Idle.{nothing-goes}
 use Rattle.enet_peer.specs.declared.parts.PeerState.{PeerState}
 use Rattle.enet_peer.specs.declared.parts.PeerState.TheVariants as state
@@ -20,8 +20,6 @@ stays p s =
     ∙ ap (λ (st : PeerState). if is_later st && is_done p.outbox then disconnecting p p.info else p) connected
 
 pub puts-nothing : (now : ℕ) (buf : List ℕ) (p : Peering) → Sleeps p → PutsOut now None p p buf
-puts-nothing now buf p s = record {
-  outbox = p.outbox;
-  emits = nothing-goes (pace_of p now) p.outbox s.empty;
-  after = sym (stays p s);
-}
+puts-nothing now buf p s =
+    let none = nothing-goes (pace_of p now) p.outbox s.empty in
+    record { emits = none.0; after = sym (stays p s) ∙ ap (λ (o : Outbox). gone_on (record p { outbox = o })) none.1 }

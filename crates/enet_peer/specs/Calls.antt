@@ -15,9 +15,9 @@ use Rattle.enet_fragment.specs.Cutting.{piece_count}
 use Rattle.enet_sender.specs.CommandChoice.{Packet, fragment_limit}
 use Rattle.enet_outbox.specs.declared.parts.Pace.{Pace}
 use Rattle.enet_outbox.specs.declared.parts.Destination.{Destination}
-use Rattle.enet_outbox.specs.Outbox.{Outbox, is_quiet, with_control, has_late, lateness, marked}
+use Rattle.enet_outbox.specs.Outbox.{is_quiet, with_control, has_late, lateness, marked}
 use Rattle.enet_outbox.specs.Outbox as outbox
-use Rattle.enet_outbox.specs.Emission.{Emits}
+use Rattle.enet_outbox.specs.Emission.{filled, Emits}
 use Rattle.enet_peer.specs.declared.parts.PeerState.{PeerState}
 use Rattle.enet_peer.specs.declared.parts.PeerState.TheVariants as state
 use Rattle.enet_peer.specs.declared.parts.PeerEvent.{PeerEvent}
@@ -67,11 +67,10 @@ gone_on_in _ p = settled p
 abbrev pub gone_on : Peering → Peering
 gone_on p = gone_on_in p.state p
 
--- what a call of emit did: what was put out, if anything, left the outbox so, and the peer goes on
+-- what a call of emit did: what was put out, if anything; the outbox is left so, and the peer goes on
 pub record PutsOut (now : ℕ) (len : Option ℕ) (old new : Peering) (buf : List ℕ) : Type 0 where
-  pub outbox : Outbox
-  pub emits : Emits (pace_of old now) (destination_of old) len old.outbox outbox buf
-  pub after : new ≡ gone_on (record old { outbox = outbox })
+  pub emits : Emits (pace_of old now) (destination_of old) old.outbox len buf
+  pub after : new ≡ gone_on (record old { outbox = (filled (pace_of old now) old.outbox).outbox })
 
 -- how a disconnect call goes in a state: at once, by one unsequenced DISCONNECT, by a reliable one, later, or not
 pub data Leave : Type 0 where

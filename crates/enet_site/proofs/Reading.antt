@@ -63,7 +63,7 @@ pub gave-read : (h new : Host) (name : PeerRef) (to : Addr) (len : ℕ) (buf : L
 gave-read h new name to len buf s =
     let gives = (gave-slot h new name to len buf s.0).1 in
     let puts = gives.puts in
-    let d : HasDatagram h.clock (destination_of gives.peer) _ len buf = puts.emits.1 in
+    let d : HasDatagram h.clock (destination_of gives.peer) _ len buf = puts.emits in
     spelled-read (take len buf) _ _ refl (datagram-spelled h.clock (destination_of gives.peer) _ len buf d)
 
 -- the peer that it is of stands where it goes

@@ -12,7 +12,7 @@ use Rattle.enet_peer.specs.declared.parts.PeerEvent.TheVariants as told
 use Rattle.enet_peer.specs.Peering.{Peering}
 use Rattle.enet_codec.specs.Message.{Message}
 use Rattle.enet_outbox.specs.Emission.{filled, HasDatagram}
-use Rattle.enet_peer.specs.Calls.{PutsOut, Taken, gone_on, pace_of, destination_of, next_event}
+use Rattle.enet_peer.specs.Calls.{PutsOut, Taken, pace_of, destination_of, next_event}
 use Rattle.enet_slot.specs.Slot.{SlotState, with_peer, name_of, greatest}
 use Rattle.enet_host.specs.Host.{Host}
 use Rattle.enet_host.specs.Turns.{turn_of, IsFirst, HoldsNowhere}
@@ -35,10 +35,10 @@ bytes-some p now [] len buf x = absurd (let n : 0 < 0 = x.some in omega arith)
 bytes-some p now (m ∷ ms) len buf x = ap (λ (b : List ℕ). Some b) x.text
 
 alone-some : (now len : ℕ) (p q : Peering) (buf : List ℕ) → PutsOut now (Some len) p q buf → Alone (Emit now (Some (take len buf))) p q
-alone-some now len p q buf x = (bytes-some p now (filled (pace_of p now) p.outbox).messages len buf x.emits.1, x.after ∙ ap (λ (o : _). gone_on (record p { outbox = o })) x.emits.0)
+alone-some now len p q buf x = (bytes-some p now (filled (pace_of p now) p.outbox).messages len buf x.emits, x.after)
 
 alone-none : (now : ℕ) (p q : Peering) (buf : List ℕ) → PutsOut now None p q buf → Alone (Emit now None) p q
-alone-none now p q buf x = (sym (ap (λ (ms : List Message). bytes_of p now ms) x.emits.0), x.after ∙ ap (λ (o : _). gone_on (record p { outbox = o })) x.emits.1)
+alone-none now p q buf x = (sym (ap (λ (ms : List Message). bytes_of p now ms) x.emits), x.after)
 
 -- a slot that was asked in vain
 passed : (h : Host) (i : ℕ) (s t : SlotState) (answer : Option (PeerRef × Addr × ℕ)) (buf : List ℕ) → asked_for (common_of h) i answer buf ≡ Emit h.clock None ∷ [] → counted (call.Service answer buf) (common_of h) i s ≡ s.emitted → Passes h.clock s t

@@ -223,8 +223,7 @@ puts-out w from side far x m host numbers k = (
       after = put_out x.peer;
       held = refl;
       puts = record {
-        outbox = (filling x.peer).outbox;
-        emits = (refl, subst (λ (l : List Message). HasDatagram 0 (destination_of x.peer) l (length text) text) (sym k.messages) (fills x.peer m k));
+        emits = subst (λ (l : List Message). HasDatagram 0 (destination_of x.peer) l (length text) text) (sym k.messages) (fills x.peer m k);
         after = refl;
       };
       left = sym (held (with_emitted old (length text)) (put_out x.peer) k.live);

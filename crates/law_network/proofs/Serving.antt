@@ -14,12 +14,11 @@ use Rattle.enet_peer.specs.Heading.{IsRead}
 use Rattle.enet_codec.specs.Message.{Message, Body, acknowledge, connect, verify_connect, disconnect, ping, send_reliable, send_unreliable, send_fragment, send_unsequenced, bandwidth_limit, throttle_configure, send_unreliable_fragment}
 use Rattle.enet_fragment.specs.declared.data.DataCommand.{DataCommand}
 use Rattle.enet_fragment.specs.DataCommand.{data_of}
-use Rattle.enet_outbox.specs.Outbox.{Outbox}
 use Rattle.enet_outbox.specs.Emission.{header_for, filled, HasDatagram}
 use Rattle.enet_outbox.proofs.Spelled.{datagram-spelled}
 use Rattle.enet_peer.specs.declared.parts.PeerState.TheVariants as state
 use Rattle.enet_peer.specs.Peering.{Peering}
-use Rattle.enet_peer.specs.Calls.{PutsOut, pace_of, destination_of, gone_on}
+use Rattle.enet_peer.specs.Calls.{PutsOut, pace_of, destination_of}
 use Rattle.law_connection.specs.LinkSteps.{Has}
 use Rattle.law_connection.specs.Connection.{Put, End, messages_of, sent_on, put_by}
 use Rattle.law_connection.specs.Connection as connection
@@ -145,7 +144,7 @@ goes-unlogged old new e own far now q buf k out same shows = record {
     long = k.long;
     numbers = k.numbers;
     log = λ n d there of. still-logged own.log (map put ms) d (k.log n d (same n d there of) of);
-    greatest = λ channel low. k.greatest channel low ∙ sym (reached-none channel (sent_on channel own)) ∙ ap (connection.reached channel (sent_on channel own)) (sym out.emits.0) ∙ sym (sent-with channel own put ms (λ m. refl));
+    greatest = λ channel low. k.greatest channel low ∙ sym (reached-none channel (sent_on channel own)) ∙ ap (connection.reached channel (sent_on channel own)) (sym out.emits) ∙ sym (sent-with channel own put ms (λ m. refl));
     submitted = k.submitted;
     mtu = mtu-stays e.mtu (Emit now ∷ []) own far (with_emission own far k.peer now) k.peer q k.has runs has refl k.mtu;
     taken = k.taken;
@@ -157,7 +156,7 @@ goes-unlogged old new e own far now q buf k out same shows = record {
     runs = (with_emission own far k.peer now, (k.peer, k.has, refl), refl)
 
     has : (with_emission own far k.peer now).peer ≡ Some q
-    has = ap (λ (x : Peering). Some x) (ap (λ (x : Outbox). gone_on (record k.peer { outbox = x })) (sym out.emits.1) ∙ sym out.after)
+    has = ap (λ (x : Peering). Some x) (sym out.after)
 
     ms : List Message
     ms = (filled (pace_of k.peer now) k.peer.outbox).messages
@@ -196,7 +195,7 @@ goes-logged old new e own far now len q buf k out shows numbers others noted' d 
     runs = (with_emission own far k.peer now, (k.peer, k.has, refl), refl)
 
     has : (with_emission own far k.peer now).peer ≡ Some q
-    has = ap (λ (x : Peering). Some x) (ap (λ (x : Outbox). gone_on (record k.peer { outbox = x })) (sym out.emits.0) ∙ sym out.after)
+    has = ap (λ (x : Peering). Some x) (sym out.after)
 
     ms : List Message
     ms = (filled (pace_of k.peer now) k.peer.outbox).messages
@@ -208,7 +207,7 @@ goes-logged old new e own far now len q buf k out shows numbers others noted' d 
     put = put_by marking far
 
     datagram : HasDatagram now (destination_of k.peer) ms len buf
-    datagram = out.emits.1
+    datagram = out.emits
 
     header : Header
     header = masked (header_for now (destination_of k.peer) ms)
