@@ -171,10 +171,10 @@ walk_none n s e = ap (λ o. walk_with (walk n None s.held s.waiting) None s.wait
 
 -- how many packets are dispatched in all
 pub all_count : (n : ℕ) (s : Receiver) → s.front < 65536 → AllNear s.front s.held
-    → length (flushed (released wire (suc n) s)).dispatched ≡ length s.dispatched + walked (suc n) None s.held s.waiting s.front s.unreliable
+    → length (flushed (released wire (suc n) s)).dispatched ≡ length s.dispatched + walked (suc n) None s
 all_count n s low near =
     elim (next_whole (get s.held (after s.front 1))) as (λ o. next_whole (get s.held (after s.front 1)) ≡ o
-    → length (flushed (released wire (suc n) s)).dispatched ≡ length s.dispatched + walked (suc n) None s.held s.waiting s.front s.unreliable) [
+    → length (flushed (released wire (suc n) s)).dispatched ≡ length s.dispatched + walked (suc n) None s) [
       | None ↦ λ e.
           ap (λ (x : Receiver). length (flushed x).dispatched) (released-none wire (suc n) s e)
           ∙ length-append s.dispatched (fresh (s.unreliable + 1) (entries (front_line s)))

@@ -188,10 +188,10 @@ same_walk (suc n) o r s sees front =
     go rest None = refl
     go rest (Some k) = ap (λ x. 1 + x + walk n o r.held r.waiting (after front k)) (sees.line (after front k) 0) ∙ ap (λ x. 1 + fresh_at None s.waiting (after front k) 0 + x) (rest (after front k))
 
-pub same_walked : (n : ℕ) (o : Option Completed) (r s : Receiver) (front unreliable : ℕ) → SeesAs o r s → walked n o r.held r.waiting front unreliable ≡ walked n None s.held s.waiting front unreliable
-same_walked n o r s front unreliable sees =
-    ap (λ w. chain_or_line w (fresh_at o r.waiting front (unreliable + 1))) (same_walk n o r s sees front)
-    ∙ ap (chain_or_line (walk n None s.held s.waiting front)) (sees.line front (unreliable + 1))
+pub same_walked : (n : ℕ) (o : Option Completed) (r s : Receiver) → SeesAs o r s → walked n o r ≡ walked n None (record s { front = r.front; unreliable = r.unreliable })
+same_walked n o r s sees =
+    ap (λ w. chain_or_line w (fresh_at o r.waiting r.front (r.unreliable + 1))) (same_walk n o r s sees r.front)
+    ∙ ap (chain_or_line (walk n None s.held s.waiting r.front)) (sees.line r.front (r.unreliable + 1))
 
 -- what is held stands near the front
 all_near : (most : ℕ) (r : Receiver) → Keeps most r → AllNear r.front r.held
@@ -202,7 +202,7 @@ all_near most r k = record {
 }
 
 -- any number of turns above those that are needed
-pub counted : (n most : ℕ) (s : Receiver) → Keeps most s → 65534 ≤ suc n → length (all_released wire s).dispatched ≡ length s.dispatched + walked (suc n) None s.held s.waiting s.front s.unreliable
+pub counted : (n most : ℕ) (s : Receiver) → Keeps most s → 65534 ≤ suc n → length (all_released wire s).dispatched ≡ length s.dispatched + walked (suc n) None s
 counted n most s k enough =
     let few = held_fit most s k in
     ap (λ (x : Receiver). length (flushed x).dispatched) (released-enough wire (len s.held) (suc n) s wire_begins (pieces_of_kept most s k) (omega arith) (omega arith))
@@ -213,13 +213,13 @@ minus a b c e = omega arith
 
 -- how many packets a command dispatches that is taken in
 pub dispatches-is : (n most : ℕ) (o : Option Completed) (r : Receiver) (c : DataCommand) (full : Bool) (place : ℕ) → Keeps most r → IsInside r.front place → c.unreliable < 65536 → Admitted most r c place → Completes o r c place
-    → outcome wire most r c full ≡ Held → 65534 ≤ suc n → walked (suc n) o r.held r.waiting r.front r.unreliable ≡ dispatch_count wire most r c full
+    → outcome wire most r c full ≡ Held → 65534 ≤ suc n → walked (suc n) o r ≡ dispatch_count wire most r c full
 dispatches-is n most o r c full place k inside count a made held enough =
     let s : Receiver = with_stored r c place in
     let after_it : received wire most r c full ≡ all_released wire (with_stored r c place) =
     ap (λ t. received_with t wire r c) held ∙ ap (added_at wire r c) a.read in
-    same_walked (suc n) o r s r.front r.unreliable (sees_as o most r c place a made)
-    ∙ sym (minus (length (received wire most r c full).dispatched) (length r.dispatched) (walked (suc n) None s.held s.waiting r.front r.unreliable)
+    same_walked (suc n) o r s (sees_as o most r c place a made)
+    ∙ sym (minus (length (received wire most r c full).dispatched) (length r.dispatched) (walked (suc n) None s)
     (ap (λ (x : Receiver). length x.dispatched) after_it ∙ counted n most s (Keeps-stored most r c place k inside count a) enough))
 
 pub dispatches-none : (most : ℕ) (r : Receiver) (c : DataCommand) (full : Bool) (t : Took) → outcome wire most r c full ≡ t → t ≢ Held → dispatch_count wire most r c full ≡ 0

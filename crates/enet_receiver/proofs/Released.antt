@@ -10,7 +10,7 @@ use Rattle.enet_packets.specs.declared.incoming_packet.IncomingPacket.{IncomingP
 use Rattle.enet_packets.specs.declared.incoming_packet.Dispatched.{Dispatched}
 use Rattle.enet_packets.specs.Packets.{handed_out, fresh}
 use Rattle.enet_receiver.specs.Receiver.{Receiver, with_passed, with_dispatched, next_whole, released_with, released, all_released, flushed_from, flushed, front_line}
-use Rattle.enet_receiver.specs.DataOutcome.{outcome, received_with, place_read, came_at, with_added, with_more, earlier_or_new, added_at}
+use Rattle.enet_receiver.specs.DataOutcome.{outcome, received, received_with, place_read, came_at, with_added, with_more, earlier_or_new, added_at}
 use Rattle.enet_receiver.specs.declared.took.Took.{Took}
 use Rattle.enet_receiver.specs.declared.took.Took.TheVariants.{Held, Again, Outside, Bad, Waiting, Memory}
 use Rattle.enet_receiver.specs.Laws.{HavePieces, NothingIsDue, with_earlier, DoesTheSame}
@@ -146,5 +146,5 @@ received_with-earlier g r c xs Bad = refl
 received_with-earlier g r c xs Waiting = refl
 received_with-earlier g r c xs Memory = refl
 
-pub does_the_same : (g : Numbering) (most : ℕ) (r : Receiver) (c : DataCommand) (full : Bool) (xs : List Dispatched) → DoesTheSame g most r c full xs
+pub does_the_same : (g : Numbering) (most : ℕ) (r : Receiver) (c : DataCommand) (full : Bool) (xs : List Dispatched) → DoesTheSame (λ s. received g most s c full) r xs
 does_the_same g most r c full xs = received_with-earlier g r c xs (outcome g most r c full)

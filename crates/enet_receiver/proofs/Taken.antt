@@ -33,7 +33,7 @@ pub taken_is : (most : ℕ) (r : Receiver) (c : DataCommand) (full : Bool) (plac
 taken_is most r c full place held read = ap (λ t. received_with t wire r c) held ∙ ap (added_at wire r c) read
 
 pub dispatches-at : (turns most : ℕ) (o : Option Completed) (r : Receiver) (c : DataCommand) (full : Bool) (place : ℕ) → turns ≡ 65534 → Keeps most r → IsInside r.front place → c.unreliable < 65536 → Admitted most r c place → Completes o r c place
-    → outcome wire most r c full ≡ Held → walked turns o r.held r.waiting r.front r.unreliable ≡ dispatch_count wire most r c full
+    → outcome wire most r c full ≡ Held → walked turns o r ≡ dispatch_count wire most r c full
 dispatches-at zero most o r c full place e k inside count a made held = absurd (omega arith)
 dispatches-at (suc n) most o r c full place e k inside count a made held = dispatches-is n most o r c full place k inside count a made held (omega arith)
 

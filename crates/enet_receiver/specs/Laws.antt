@@ -1,13 +1,11 @@
 -- What holds of every receiver.
-use Rattle.std.specs.Prelude.{◌≡◌, ℕ, ◌≤◌, ◌++◌, Bool, List, Some, None}
+use Rattle.std.specs.Prelude.{◌≡◌, ℕ, ◌≤◌, ◌++◌, List, Some, None}
 use Rattle.std.specs.FinMap.{get}
 use Rattle.enet_seq.specs.Numbering.{Numbering}
 use Rattle.enet_fragment.specs.PartialPacket.{count_of}
-use Rattle.enet_fragment.specs.declared.data.DataCommand.{DataCommand}
 use Rattle.enet_packets.specs.declared.incoming_packet.IncomingPacket.{IncomingPacket}
 use Rattle.enet_packets.specs.declared.incoming_packet.Dispatched.{Dispatched}
 use Rattle.enet_receiver.specs.Receiver.{Receiver, next_whole, all_released}
-use Rattle.enet_receiver.specs.DataOutcome.{received}
 
 -- each packet that is held has a piece
 abbrev pub HavePieces : Receiver → Type 0
@@ -21,6 +19,6 @@ NothingIsDue g r = next_whole (get (all_released g r).held (g.after (all_release
 abbrev pub with_earlier : List Dispatched → Receiver → Receiver
 with_earlier earlier r = record r { dispatched = earlier ++ r.dispatched }
 
--- a command does the same whatever was dispatched earlier
-abbrev pub DoesTheSame : Numbering → ℕ → Receiver → DataCommand → Bool → List Dispatched → Type 0
-DoesTheSame g most r c full earlier = received g most (with_earlier earlier r) c full ≡ with_earlier earlier (received g most r c full)
+-- a step does the same whatever was dispatched earlier
+abbrev pub DoesTheSame : (Receiver → Receiver) → Receiver → List Dispatched → Type 0
+DoesTheSame step r earlier = step (with_earlier earlier r) ≡ with_earlier earlier (step r)

@@ -1,6 +1,7 @@
 //! How many packets a command would dispatch.
 
-ghost use Rattle.std.specs.Prelude.{◌≡◌, ◌≤◌};
+ghost use Rattle.std.specs.Prelude.{◌≡◌, ◌≤◌, []};
+ghost use Rattle.enet_receiver.specs.ReceiverParts.{receiver_of};
 ghost use Rattle.enet_receiver.specs.Private.Walk.{pieces_at, is_fresh, fresh_at, walk, walked};
 
 use crate::held::Held;
@@ -85,7 +86,7 @@ pub(crate) fn dispatches(
     front: u16,
     unreliable: u16,
 ) -> u32
-    ensures { result ≡ walked MOST_TURNS completed held.now waiting.now front unreliable }
+    ensures { result ≡ walked MOST_TURNS completed (receiver_of front unreliable held.now waiting.now []) }
 {
     let chain = chain_count(completed, held, waiting, front);
     if chain > 0 {

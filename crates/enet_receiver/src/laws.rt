@@ -21,7 +21,7 @@ pub fn turns_suffice()
 /// What was dispatched before, taken or not, makes no difference to what a command does.
 pub fn earlier_dispatches_do_not_matter()
     ensures { (g : Numbering) (most : ℕ) (r : Receiver) (c : DataCommand) (full : Bool) (earlier : List Dispatched)
-        → DoesTheSame g most r c full earlier }
+        → DoesTheSame (λ s. received g most s c full) r earlier }
 {}
 
 /// No packet that comes in sequence has the flags 2, which are those of an unsequenced packet: a receiver has none at first

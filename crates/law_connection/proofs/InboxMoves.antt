@@ -60,7 +60,7 @@ abbrev Moves : ℕ → List Dispatched → Inbox → ReceivingEnd → DataComman
 Moves channel taken b r c t = shown_in channel taken (by_took t b channel r c).after ≡ received_with t wire (shown_in channel taken b) c
 
 moves-by : (channel : ℕ) (taken : List Dispatched) (b : Inbox) (r : ReceivingEnd) (c : DataCommand) (t : Took) → slice_get b.receivers channel ≡ Some r → r.receiver.dispatched ≡ []
-    → DoesTheSame wire r.max_packet r.receiver c (is_full b) (taken ++ in_sequence channel b.untaken)
+    → DoesTheSame (λ s. received wire r.max_packet s c (is_full b)) r.receiver (taken ++ in_sequence channel b.untaken)
     → AreSequenced (received wire r.max_packet r.receiver c (is_full b)).dispatched
     → outcome wire r.max_packet r.receiver c (is_full b) ≡ t → Moves channel taken b r c t
 moves-by channel taken b r c Bad there none same flags e = refl
@@ -88,7 +88,7 @@ moves-by channel taken b r c Held there none same flags e =
 
 -- on the channel of the command
 pub arrival-own : (channel : ℕ) (taken : List Dispatched) (b : Inbox) (r : ReceivingEnd) (c : DataCommand) → slice_get b.receivers channel ≡ Some r → r.receiver.dispatched ≡ []
-    → DoesTheSame wire r.max_packet r.receiver c (is_full b) (taken ++ in_sequence channel b.untaken)
+    → DoesTheSame (λ s. received wire r.max_packet s c (is_full b)) r.receiver (taken ++ in_sequence channel b.untaken)
     → AreSequenced (received wire r.max_packet r.receiver c (is_full b)).dispatched
     → shown_in channel taken (sequenced_on b channel c (slice_get b.receivers channel)).after ≡ received wire r.max_packet (shown_in channel taken b) c (is_full b)
 arrival-own channel taken b r c there none same flags =

@@ -53,9 +53,9 @@ chain_or_line zero line = line
 chain_or_line (suc chain) line = suc chain
 
 -- all that is dispatched
-abbrev pub walked : ℕ → Option Completed → FinMap nat_cmp IncomingPacket → Lines → ℕ → ℕ → ℕ
-walked turns completed held waiting front unreliable =
-    chain_or_line (walk turns completed held waiting front) (fresh_at completed waiting front (unreliable + 1))
+abbrev pub walked : ℕ → Option Completed → Receiver → ℕ
+walked turns completed r =
+    chain_or_line (walk turns completed r.held r.waiting r.front) (fresh_at completed r.waiting r.front (r.unreliable + 1))
 
 -- the packet that a command makes whole, if it does
 abbrev pub Completes : Option Completed → Receiver → DataCommand → ℕ → Type 0

@@ -1,7 +1,5 @@
 -- The seats that a token knows to be finished.
 use Rattle.std.specs.Prelude.{List, []}
-use mathlib.Core.Option.{some}
-use lib.ListN.{get_elem?}
 use Rattle.enet_submit.specs.declared.rule.SeatLog.{SeatLog}
 use Rattle.enet_submit.specs.declared.rule.View.{View}
 use Rattle.enet_submit.specs.declared.rule.View.TheVariants.{Draining, Sending, Spent}
