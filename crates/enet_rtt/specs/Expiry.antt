@@ -4,16 +4,17 @@ use Rattle.enet_rtt.specs.Clock.{elapsed_time}
 use Rattle.enet_rtt.specs.declared.expiry.Patience.{Patience}
 use Rattle.enet_rtt.specs.declared.expiry.Expiry.{Expiry}
 use Rattle.enet_rtt.specs.declared.expiry.Expiry.TheVariants.{No, Resend, End}
+use Rattle.enet_rtt.specs.declared.transmission.Transmission.{Transmission}
 
 -- The peer has timed out: the maximum has passed, or the minimum has and 2^(attempts - 1) is the limit or more.
 abbrev pub gives_up : Patience → ℕ → ℕ → Bool
 gives_up p age attempts = nat_le p.maximum age || (nat_le p.minimum age && nat_le p.limit (2 ^ (attempts - 1)))
 
 -- Nothing before the timeout has passed since the last send. The age counts from the first send.
-abbrev pub expiry : Patience → ℕ → ℕ → ℕ → ℕ → ℕ → Expiry
-expiry p now first last timeout attempts =
-    if nat_lt (elapsed_time now last) timeout then No
-    else (if gives_up p (elapsed_time now first) attempts then End else Resend)
+abbrev pub expiry : Patience → ℕ → Transmission → Expiry
+expiry p now t =
+    if nat_lt (elapsed_time now t.last) t.timeout then No
+    else (if gives_up p (elapsed_time now t.first) t.attempts then End else Resend)
 
 -- ENet's default numbers.
 abbrev pub standard_patience : Patience

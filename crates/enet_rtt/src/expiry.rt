@@ -1,6 +1,6 @@
 //! When a sent command is due for resending, and when its peer has timed out.
 
-ghost use Rattle.std.specs.Prelude.{◌≡◌, ◌-◌, ◌^◌, nat_le};
+ghost use Rattle.std.specs.Prelude.{◌≡◌, ◌-◌, ◌^◌, false, nat_le};
 ghost use Rattle.enet_rtt.specs.Expiry.{expiry, standard_patience, patience_with_defaults, or_default_number};
 
 use crate::clock::elapsed;
@@ -65,7 +65,7 @@ pub fn expired(
     timeout: u32,
     attempts: u8,
 ) -> Expiry
-    ensures { result ≡ expiry patience.now now first last timeout attempts }
+    ensures { result ≡ expiry patience.now now (record { first = first; last = last; timeout = timeout; attempts = attempts; due = false }) }
 {
     if elapsed(now, last) < timeout {
         return Expiry::No;

@@ -29,19 +29,24 @@ piece_of_body size body i = take size (drop (i * size) body)
 abbrev pub fragment_at : ℕ → ChosenPacket → ℕ → ℕ → Fragment
 fragment_at size c start i = record { start = start; count = c.pieces; number = i; total = length c.packet.body; offset = i * size }
 
--- command i of a packet, the last reliable number and the unreliable number before it being given. A reliable piece has a
--- number of its own, the pieces of an unreliable packet share theirs
-abbrev pub command_at : Numbering → ℕ → ℕ → ℕ → ChosenPacket → ℕ → DataCommand
-command_at g mtu number count c i = record {
+-- the last reliable number, and the last unreliable number since
+pub record LastNumbers : Type 0 where
+  pub number : ℕ
+  pub unreliable : ℕ
+
+-- command i of a packet, the numbers before it being given. A reliable piece has a number of its own, the pieces of an unreliable
+-- packet share theirs
+abbrev pub command_at : Numbering → ℕ → LastNumbers → ChosenPacket → ℕ → DataCommand
+command_at g mtu last c i = record {
   reliable = c.reliable;
-  number = if c.reliable then g.after number (i + 1) else number;
-  unreliable = if c.reliable then 0 else count + 1;
-  fragment = if is_long mtu c.packet then Some (fragment_at (piece_length mtu) c (if c.reliable then g.after number 1 else count + 1) i) else None;
+  number = if c.reliable then g.after last.number (i + 1) else last.number;
+  unreliable = if c.reliable then 0 else last.unreliable + 1;
+  fragment = if is_long mtu c.packet then Some (fragment_at (piece_length mtu) c (if c.reliable then g.after last.number 1 else last.unreliable + 1) i) else None;
   body = piece_of_body (piece_length mtu) c.packet.body i;
 }
 
 abbrev pub commands_of : Numbering → ℕ → ℕ → ℕ → ChosenPacket → List DataCommand
-commands_of g mtu number count c = map (command_at g mtu number count c) (range_with_len 0 c.pieces)
+commands_of g mtu number count c = map (command_at g mtu (record { number = number; unreliable = count }) c) (range_with_len 0 c.pieces)
 
 abbrev pub with_queued : Numbering → ℕ → Sender → ChosenPacket → Sender
 with_queued g mtu s c = record {

@@ -32,7 +32,7 @@ pub record Says (mtu : ℕ) (d : DataCommand) (c : ChosenPacket) (number count i
   pub body : (wired d).body ≡ piece_of_body (piece_length mtu) c.packet.body index
   pub single : is_none (wired d).fragment ≡ true → c.pieces ≡ 1
 
-Says-command : (mtu : ℕ) (c : ChosenPacket) (number count index : ℕ) → index < c.pieces → IsPlain mtu c → Says mtu (command_at unbounded mtu number count c index) c number count index
+Says-command : (mtu : ℕ) (c : ChosenPacket) (number count index : ℕ) → index < c.pieces → IsPlain mtu c → Says mtu (command_at unbounded mtu (record { number = number; unreliable = count }) c index) c number count index
 Says-command mtu c number count index inside plain =
     elim (is_long mtu c.packet) as (λ b. is_long mtu c.packet ≡ b → Says mtu (record {
       reliable = c.reliable;

@@ -58,10 +58,10 @@ wired-kind mtu number count c i false =
     let f = wired-fragment mtu (count + 1) (count + 1) c i false (is_long mtu c.packet) refl in
     (λ j. raw false (number % 65536) (count + 1) (f j) (piece_of_body (piece_length mtu) c.packet.body i))
 
-wired-command : (mtu number count : ℕ) (c : ChosenPacket) (i : ℕ) → command_at wire mtu (number % 65536) count c i ≡ wired (command_at unbounded mtu number count c i)
+wired-command : (mtu number count : ℕ) (c : ChosenPacket) (i : ℕ) → command_at wire mtu (record { number = number % 65536; unreliable = count }) c i ≡ wired (command_at unbounded mtu (record { number = number; unreliable = count }) c i)
 wired-command mtu number count c i = wired-kind mtu number count c i c.reliable
 
-wired-range : (mtu number count : ℕ) (c : ChosenPacket) (is : List ℕ) → map (command_at wire mtu (number % 65536) count c) is ≡ map wired (map (command_at unbounded mtu number count c) is)
+wired-range : (mtu number count : ℕ) (c : ChosenPacket) (is : List ℕ) → map (command_at wire mtu (record { number = number % 65536; unreliable = count }) c) is ≡ map wired (map (command_at unbounded mtu (record { number = number; unreliable = count }) c) is)
 wired-range mtu number count c [] = refl
 wired-range mtu number count c (i ∷ is) = λ j. wired-command mtu number count c i j ∷ wired-range mtu number count c is j
 
@@ -69,13 +69,13 @@ pub wired-commands : (mtu number count : ℕ) (c : ChosenPacket) → commands_of
 wired-commands mtu number count c = wired-range mtu number count c (range_with_len 0 c.pieces)
 
 abbrev range : ℕ → ℕ → ℕ → ChosenPacket → ℕ → ℕ → List DataCommand
-range mtu number count c from len = map (command_at unbounded mtu number count c) (range_with_len from len)
+range mtu number count c from len = map (command_at unbounded mtu (record { number = number; unreliable = count }) c) (range_with_len from len)
 
 -- the command behind `before` is one of the range, or stands behind it
 record Inside (mtu number count : ℕ) (c : ChosenPacket) (from len : ℕ) (before : List DataCommand) (d : DataCommand) : Type 0 where
   place : ℕ
   low : place < len
-  command : d ≡ command_at unbounded mtu number count c (from + place)
+  command : d ≡ command_at unbounded mtu (record { number = number; unreliable = count }) c (from + place)
   reliable : reliable_count before ≡ cond c.reliable place 0
 
 record Beyond (part before : List DataCommand) (d : DataCommand) (behind rest : List DataCommand) : Type 0 where
@@ -95,10 +95,10 @@ in_range : (mtu number count : ℕ) (c : ChosenPacket) (from len : ℕ) (before 
     → Inside mtu number count c from len before d ⊎ Beyond (range mtu number count c from len) before d behind rest
 in_range mtu number count c from zero before d behind rest e = inr (record { more = before; before_is = refl; rest_is = e })
 in_range mtu number count c from (suc len) [] d behind rest e =
-    let same : command_at unbounded mtu number count c from ≡ d = cc in
-    inl (record { place = 0; low = omega arith; command = sym same ∙ ap (command_at unbounded mtu number count c) (let z : from ≡ from + 0 = omega arith in z); reliable = none_of c.reliable })
+    let same : command_at unbounded mtu (record { number = number; unreliable = count }) c from ≡ d = cc in
+    inl (record { place = 0; low = omega arith; command = sym same ∙ ap (command_at unbounded mtu (record { number = number; unreliable = count }) c) (let z : from ≡ from + 0 = omega arith in z); reliable = none_of c.reliable })
 in_range mtu number count c from (suc len) (x ∷ before) d behind rest e =
-    let same : command_at unbounded mtu number count c from ≡ x = cc in
+    let same : command_at unbounded mtu (record { number = number; unreliable = count }) c from ≡ x = cc in
     let tail : range mtu number count c (from + 1) len ++ rest ≡ before ++ d ∷ behind = cc in
     elim (in_range mtu number count c (from + 1) len before d behind rest tail) [
       | inl w ↦
@@ -107,7 +107,7 @@ in_range mtu number count c from (suc len) (x ∷ before) d behind rest e =
           inl (record {
             place = w.place + 1;
             low = omega arith;
-            command = w.command ∙ ap (command_at unbounded mtu number count c) (let z : from + 1 + w.place ≡ from + (w.place + 1) = omega arith in z);
+            command = w.command ∙ ap (command_at unbounded mtu (record { number = number; unreliable = count }) c) (let z : from + 1 + w.place ≡ from + (w.place + 1) = omega arith in z);
             reliable = ap (λ r. cond r (reliable_count before + 1) (reliable_count before)) kind ∙ ap (λ k. cond c.reliable (k + 1) k) w.reliable ∙ one_more_of c.reliable w.place;
           })
       | inr w ↦ inr (record { more = w.more; before_is = (λ j. sym same j ∷ w.before_is j); rest_is = w.rest_is })
@@ -135,7 +135,7 @@ all_next mtu gone (c ∷ left) before d behind plain e =
     let rest : List DataCommand = all_from mtu (cond c.reliable (number + c.pieces) number) (cond c.reliable 0 (count + 1)) left in
     elim (in_range mtu number count c 0 c.pieces before d behind rest e) [
       | inl w ↦
-          let at : d ≡ command_at unbounded mtu number count c w.place = w.command ∙ ap (command_at unbounded mtu number count c) (let z : 0 + w.place ≡ w.place = omega arith in z) in (
+          let at : d ≡ command_at unbounded mtu (record { number = number; unreliable = count }) c w.place = w.command ∙ ap (command_at unbounded mtu (record { number = number; unreliable = count }) c) (let z : 0 + w.place ≡ w.place = omega arith in z) in (
             record {
               packet = c;
               number = number;
@@ -159,7 +159,7 @@ all_next mtu gone (c ∷ left) before d behind plain e =
           (subst (λ l. IsPieceOf mtu l d) (append_assoc gone (c ∷ []) left) next.0, next.1 ∙ ap (λ k. cond d.reliable (k + 1) k) sum)
     ]
   where
-    numbers : (r : Bool) (i : ℕ) → d ≡ command_at unbounded mtu (command_count gone) (count_after 0 gone) c i → reliable_count before ≡ cond c.reliable i 0 → d.number ≡ cond d.reliable (command_count gone + reliable_count before + 1) (command_count gone + reliable_count before)
+    numbers : (r : Bool) (i : ℕ) → d ≡ command_at unbounded mtu (record { number = command_count gone; unreliable = count_after 0 gone }) c i → reliable_count before ≡ cond c.reliable i 0 → d.number ≡ cond d.reliable (command_count gone + reliable_count before + 1) (command_count gone + reliable_count before)
     numbers r i at n =
         let kind : d.reliable ≡ c.reliable = ap (λ (y : DataCommand). y.reliable) at in
         ap (λ (y : DataCommand). y.number) at

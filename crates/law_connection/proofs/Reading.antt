@@ -22,7 +22,7 @@ on_wire mtu number count c i r l = record {
   body = piece_of_body (piece_length mtu) c.packet.body i;
 }
 
-reads-command : (mtu number count : ℕ) (c : ChosenPacket) (i : ℕ) → IsReadAsItself (wired (command_at unbounded mtu number count c i))
+reads-command : (mtu number count : ℕ) (c : ChosenPacket) (i : ℕ) → IsReadAsItself (wired (command_at unbounded mtu (record { number = number; unreliable = count }) c i))
 reads-command mtu number count c i channel = go c.reliable (is_long mtu c.packet)
   where
     go : (r l : Bool) → data_of (message_of channel (on_wire mtu number count c i r l)) ≡ Some (on_wire mtu number count c i r l)
@@ -35,7 +35,7 @@ reads-command mtu number count c i channel = go c.reliable (is_long mtu c.packet
 pub reads-commands : (mtu number count : ℕ) (c : ChosenPacket) (d : DataCommand) → Has (commands_of unbounded mtu number count c) d → IsReadAsItself (wired d)
 reads-commands mtu number count c d h = go (range_with_len 0 c.pieces) h
   where
-    go : (is : List ℕ) → Has (map (command_at unbounded mtu number count c) is) d → IsReadAsItself (wired d)
+    go : (is : List ℕ) → Has (map (command_at unbounded mtu (record { number = number; unreliable = count }) c) is) d → IsReadAsItself (wired d)
     go [] h = absurd h
     go (i ∷ is) (inl e) = subst (λ (x : DataCommand). IsReadAsItself (wired x)) e (reads-command mtu number count c i)
     go (i ∷ is) (inr h) = go is h

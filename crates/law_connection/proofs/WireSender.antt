@@ -40,12 +40,12 @@ row-append : (before middle last : ℕ) (a b : List DataCommand) → IsRow befor
 row-append before middle last [] b r s = subst (λ n. IsRow n b last) (sym r) s
 row-append before middle last (c ∷ a) b r s = (r.0, row-append (cond c.reliable (before + 1) before) middle last a b r.1 s)
 
-row-range : (mtu number count : ℕ) (c : ChosenPacket) (from len : ℕ) → IsRow (cond c.reliable (number + from) number) (map (command_at unbounded mtu number count c) (range_with_len from len)) (cond c.reliable (number + (from + len)) number)
+row-range : (mtu number count : ℕ) (c : ChosenPacket) (from len : ℕ) → IsRow (cond c.reliable (number + from) number) (map (command_at unbounded mtu (record { number = number; unreliable = count }) c) (range_with_len from len)) (cond c.reliable (number + (from + len)) number)
 row-range mtu number count c from zero = ap (λ n. cond c.reliable (number + n) number) (let e : from ≡ from + 0 = omega arith in e)
 row-range mtu number count c from (suc len) = (
   (λ t. ap (λ b. cond b (number + (from + 1)) number) t ∙ one ∙ sym (ap (λ b. cond b (number + from) number + 1) t)),
-  subst (λ n. IsRow n (map (command_at unbounded mtu number count c) (range_with_len (from + 1) len)) (cond c.reliable (number + (from + suc len)) number)) (sym (further c.reliable))
-      (subst (λ n. IsRow (cond c.reliable (number + (from + 1)) number) (map (command_at unbounded mtu number count c) (range_with_len (from + 1) len)) (cond c.reliable (number + n) number)) sum
+  subst (λ n. IsRow n (map (command_at unbounded mtu (record { number = number; unreliable = count }) c) (range_with_len (from + 1) len)) (cond c.reliable (number + (from + suc len)) number)) (sym (further c.reliable))
+      (subst (λ n. IsRow (cond c.reliable (number + (from + 1)) number) (map (command_at unbounded mtu (record { number = number; unreliable = count }) c) (range_with_len (from + 1) len)) (cond c.reliable (number + n) number)) sum
       (row-range mtu number count c (from + 1) len)),
 )
   where

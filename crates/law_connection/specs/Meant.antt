@@ -62,7 +62,7 @@ pub record IsPieceOf (mtu : ℕ) (cs : List ChosenPacket) (d : DataCommand) : Ty
   pub stands : Stands cs number count packet
   pub inside : index < packet.pieces
   pub plain : IsPlain mtu packet
-  pub command : d ≡ command_at unbounded mtu number count packet index
+  pub command : d ≡ command_at unbounded mtu (record { number = number; unreliable = count }) packet index
 
 -- the place of the packet of a command of the list
 abbrev pub place_meant : {mtu : ℕ} {cs : List ChosenPacket} {d : DataCommand} → IsPieceOf mtu cs d → ℕ
