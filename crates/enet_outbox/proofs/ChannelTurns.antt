@@ -89,7 +89,7 @@ turn-drop {pace} {channel} {old} {first} {w0} {p0} {from0} {now} {later} {after}
 abbrev pub Packed : Pace → ℕ → List SendingEnd → SendingEnd → Flow → Progress → List ℕ → List SendingEnd → Flow → Progress → List ℕ → Type 0
 Packed pace channel old first w0 p0 from0 later w p to =
     (t : SendingEnd) × ((later ≡ slice_set old channel t)
-    × PacksChannel pace channel (record { sender = first; flow = w0 }) (record { sender = t; flow = w }) (record { progress = p0; buf = from0 }) (record { progress = p; buf = to }))
+    × PacksChannel pace (record { channel = channel; sender = first; flow = w0 }) (record { channel = channel; sender = t; flow = w }) (record { progress = p0; buf = from0 }) (record { progress = p; buf = to }))
 
 pub turn-full : {pace : Pace} {channel : ℕ} {old : List SendingEnd} {first : SendingEnd} {w0 : Flow} {p0 : Progress} {from0 : List ℕ} {now later : List SendingEnd} {w : Flow} {p : Progress} {from to : List ℕ}
     → TurnAt pace channel old first w0 p0 from0 now w p from → Called pace channel w p now later from to due.NoRoom → Packed pace channel old first w0 p0 from0 later w (record p { closed = true }) to

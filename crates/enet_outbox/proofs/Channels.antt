@@ -42,7 +42,7 @@ channels-begin {pace} {first} {n} {f} {senders} {w} {p} {buf} h is e = record {
 }
 
 pub channels-turn : {pace : Pace} {first n k : ℕ} {f : Filling} {senders : List SendingEnd} {w v : Flow} {p q : Progress} {from to : List ℕ} (i : ℕ) (s t : SendingEnd) → ChannelsAt pace first n k f senders w p from →
-    k < n → i ≡ (first + k) % n → slice_get senders i ≡ Some s → p.closed ≡ false → PacksChannel pace i (record { sender = s; flow = w }) (record { sender = t; flow = v }) (record { progress = p; buf = from }) (record { progress = q; buf = to }) → ChannelsAt pace first n (k + 1) f (slice_set senders i t) v q to
+    k < n → i ≡ (first + k) % n → slice_get senders i ≡ Some s → p.closed ≡ false → PacksChannel pace (record { channel = i; sender = s; flow = w }) (record { channel = i; sender = t; flow = v }) (record { progress = p; buf = from }) (record { progress = q; buf = to }) → ChannelsAt pace first n (k + 1) f (slice_set senders i t) v q to
 channels-turn {pace} {first} {n} {k} {f} {senders} {w} {v} {p} {q} {from} {to} i s t a low is there opened packs =
     let g2 : Filling = with_channel pace a.g i in
     let at : slice_get a.g.outbox.senders i ≡ Some s = ap (λ (o : Outbox). slice_get o.senders i) a.outbox ∙ there in

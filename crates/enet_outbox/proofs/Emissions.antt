@@ -58,7 +58,7 @@ pub filled-leads : (pace : Pace) (o : Outbox) (first transit : ℕ) (b0 : List �
     4 ≤ pace.mtu → length b0 ≡ pace.mtu → first ≡ unwrap_or (option_map (λ channel. channel + 1) o.last) 0 → transit_of o ≡ transit →
     PacksAcknowledgements o.acknowledgements acknowledgements (record { progress = start; buf = b0 }) d1 → PacksControls pace o.control control d1 d2 →
     PacksUnsequenced (record { packets = o.unsequenced; throttle = o.throttle; last = o.last }) (record { packets = unsequenced; throttle = throttle; last = last }) d2 d3 →
-    PacksChannels pace first (record { senders = o.senders; flow = record { throttle = throttle; transit = transit; last = last } }) (record { senders = senders; flow = w }) d3 d4 →
+    PacksChannels pace (record { first = first; senders = o.senders; flow = record { throttle = throttle; transit = transit; last = last } }) (record { first = first; senders = senders; flow = w }) d3 d4 →
     Leads (filled pace o) (left_by o acknowledgements control unsequenced senders w) d4.progress d4.buf × (transit_of (left_by o acknowledgements control unsequenced senders w) ≡ w.transit)
 filled-leads pace o first transit b0 d1 d2 d3 d4 acknowledgements control unsequenced throttle last senders w long whole is counted pa pc pu ps =
     let f0 : Filling = empty_datagram pace o in

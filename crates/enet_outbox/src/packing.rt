@@ -249,7 +249,7 @@ fn pack_channel(
 ) -> Progress
     requires { channel < length senders.old }
     ensures { (s : SendingEnd) → slice_get senders.old channel ≡ Some s → (t : SendingEnd) × ((senders.new ≡ slice_set senders.old channel t)
-        × PacksChannel pace channel (record { sender = s; flow = flow.old }) (record { sender = t; flow = flow.new })
+        × PacksChannel pace (record { channel = channel; sender = s; flow = flow.old }) (record { channel = channel; sender = t; flow = flow.new })
         (record { progress = from; buf = buf.old }) (record { progress = result; buf = buf.new })) }
 {
     let mut progress = from;
@@ -292,7 +292,7 @@ pub(crate) fn pack_channels(
 ) -> Progress
     requires few { length senders.old ≤ 255 }
     requires first { first ≤ 256 }
-    ensures packs { PacksChannels pace first (record { senders = senders.old; flow = flow.old }) (record { senders = senders.new; flow = flow.new })
+    ensures packs { PacksChannels pace (record { first = first; senders = senders.old; flow = flow.old }) (record { first = first; senders = senders.new; flow = flow.new })
         (record { progress = from; buf = buf.old }) (record { progress = result; buf = buf.new }) }
     ensures kept { length senders.new ≡ length senders.old }
 {

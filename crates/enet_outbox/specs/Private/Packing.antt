@@ -92,34 +92,36 @@ with_flow o senders w = record o { senders = senders; throttle = w.throttle; las
 abbrev pub Shares : Outbox → Flow → Type 0
 Shares o w = (o.throttle ≡ w.throttle) × (o.last ≡ w.last) × (transit_of o ≡ w.transit)
 
--- one channel: its sender, and what it shares
+-- one channel: its place among the senders, its sender, and what it shares
 pub record ChannelSource : Type 0 where
+  pub channel : ℕ
   pub sender : SendingEnd
   pub flow : Flow
 
-abbrev pub with_channel_left : Outbox → ℕ → ChannelSource → Outbox
-with_channel_left o channel left = with_flow o (slice_set o.senders channel left.sender) left.flow
+abbrev pub with_channel_left : Outbox → ChannelSource → Outbox
+with_channel_left o left = with_flow o (slice_set o.senders left.channel left.sender) left.flow
 
 -- into a datagram that is open
-abbrev pub PacksChannel : Pace → ℕ → ChannelSource → ChannelSource → Page → Page → Type 0
-PacksChannel pace channel old new from to =
-    (f : Filling) → Holds f from.progress from.buf → f.closed ≡ false → slice_get f.outbox.senders channel ≡ Some old.sender → Shares f.outbox old.flow
-    → Leads (with_channel pace f channel) (with_channel_left f.outbox channel new) to.progress to.buf
-    × (transit_of (with_channel_left f.outbox channel new) ≡ new.flow.transit)
+abbrev pub PacksChannel : Pace → ChannelSource → ChannelSource → Page → Page → Type 0
+PacksChannel pace old new from to =
+    (f : Filling) → Holds f from.progress from.buf → f.closed ≡ false → slice_get f.outbox.senders old.channel ≡ Some old.sender → Shares f.outbox old.flow
+    → Leads (with_channel pace f old.channel) (with_channel_left f.outbox new) to.progress to.buf
+    × (transit_of (with_channel_left f.outbox new) ≡ new.flow.transit)
 
 -- all n channels from turn k on, cyclically, beginning with the first
 abbrev pub turns : ℕ → ℕ → ℕ → List ℕ
 turns first n k = map (λ turn. (first + turn) % n) (range_with_len k (n - k))
 
--- the channels: their senders, and what they share
+-- the channels: which is asked first, their senders, and what they share
 pub record ChannelsSource : Type 0 where
+  pub first : ℕ
   pub senders : List SendingEnd
   pub flow : Flow
 
-abbrev pub PacksChannels : Pace → ℕ → ChannelsSource → ChannelsSource → Page → Page → Type 0
-PacksChannels pace first old new from to =
+abbrev pub PacksChannels : Pace → ChannelsSource → ChannelsSource → Page → Page → Type 0
+PacksChannels pace old new from to =
     (f : Filling) → Holds f from.progress from.buf → f.outbox.senders ≡ old.senders → Shares f.outbox old.flow
-    → Leads (with_channels pace (turns first (length old.senders) 0) f) (with_flow f.outbox new.senders new.flow) to.progress to.buf
+    → Leads (with_channels pace (turns old.first (length old.senders) 0) f) (with_flow f.outbox new.senders new.flow) to.progress to.buf
     × (transit_of (with_flow f.outbox new.senders new.flow) ≡ new.flow.transit)
 
 -- the header, where a command asks for an acknowledgement and where none does
