@@ -106,7 +106,7 @@ all-pass now n from k old new f count same past asked = record {
 in-turn : (now n from k i number : ℕ) (gave : Served) (old new after : List SlotState) (s t slot left : SlotState) → from < n → length old ≡ n → number < n
     → turn_of n from number ≡ k → AllAsked now n from k old new → slice_get new number ≡ Some slot → Gives now gave.len gave.buf slot left → gave.name.slot ≡ number → number < length new
     → after ≡ slice_set new number left → slice_get old i ≡ Some s → slice_get after i ≡ Some t → (b : Bool) → nat_eq i number ≡ b
-    → InTurn now (turn_of n from) gave i s t
+    → InTurn (record { now = now; turn = turn_of n from; gave = gave }) i s t
 in-turn now n from k i number gave old new after s t slot left f count inside place asked there gives slot_is within is a b true e =
     let same : i ≡ number = grind (arith, nat_tests, e) in
     let turn : turn_of n from i ≡ turn_of n from number = ap (λ (j : ℕ). turn_of n from j) same in
@@ -142,7 +142,7 @@ gives-in-turn now n from k number gave old new after f count inside place asked 
   named = g.named ∙ ap (λ (j : ℕ). record { slot = j; generation = g.slot.generation }) (sym slot_is);
   addressed = g.addressed;
   slots = λ i s t a b.
-      subst (λ (m : ℕ). InTurn now (turn_of m from) gave i s t) (sym count)
+      subst (λ (m : ℕ). InTurn (record { now = now; turn = turn_of m from; gave = gave }) i s t) (sym count)
       (in-turn now n from k i number gave old new after s t g.slot g.left f count inside place asked g.there g.gives slot_is (slice_get_within new number g.slot g.there) g.after a b
       (nat_eq i number) refl);
   count = same;

@@ -26,7 +26,7 @@ not-vacant s from session (Some p) h = refl
 pub heard-at : (basis : Basis) (xs : List Slot) (from : Addr) (bytes : List ℕ) (header : Header) (commands : List ℕ) (n : ℕ) (x y : Slot) (answer : Received)
     → IsRead bytes header commands → header.peer ≢ no_peer → refused_by (all_shown xs) from header ≡ None → n ≡ header.peer → n < length xs → x ≡ get_or xs n x
     → (is_vacant (shown x).peer ≡ false → Hears (record { now = basis.clock; sent = header.sent }) commands (shown x) answer (shown y))
-    → Arrives basis (all_shown xs) from bytes answer (all_shown (slice_set xs n y))
+    → Arrives (record { basis = basis; slots = all_shown xs }) from bytes answer (all_shown (slice_set xs n y))
 heard-at basis xs from bytes header commands n x y answer read known fine e inside is hears =
     let there : slice_get (all_shown xs) header.peer ≡ Some (shown x) =
     subst (λ (i : ℕ). slice_get (all_shown xs) i ≡ Some (shown x)) e (get-shown xs n x inside is) in
@@ -35,5 +35,5 @@ heard-at basis xs from bytes header commands n x y answer read known fine e insi
     let hears_it = hears (not-vacant (shown x) from header.session (shown x).peer fine_here) in
     let after : slice_set (all_shown xs) header.peer (shown y) ≡ all_shown (slice_set xs n y) =
     ap (λ (i : ℕ). slice_set (all_shown xs) i (shown y)) (sym e) ∙ sym (set-shown xs n y) in
-    subst (λ (ss : List SlotState). Arrives basis (all_shown xs) from bytes answer ss) after
+    subst (λ (ss : List SlotState). Arrives (record { basis = basis; slots = all_shown xs }) from bytes answer ss) after
     (heard header commands (shown x) (shown y) answer read known fine there hears_it)

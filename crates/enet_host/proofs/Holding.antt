@@ -178,7 +178,7 @@ connects-held basis slots new question r old (asks i s some at there) =
     set-held slots i (asking basis i s question) old
     (given-held s question.address (peers.connecting basis.clock (offer_from basis.config i s question) (limits_of basis.config)) (λ e. absurd (cc)))
 
-offers-held : (basis : Basis) (slots new : List SlotState) (from : Addr) (o : Offer) (answer : Received) → HoldsNoFree slots → Offers basis slots from o answer new → HoldsNoFree new
+offers-held : (basis : Basis) (slots new : List SlotState) (from : Addr) (o : Offer) (answer : Received) → HoldsNoFree slots → Offers (record { basis = basis; slots = slots }) from o answer new → HoldsNoFree new
 offers-held basis slots new from o answer old (receiving.refused why is) = old
 offers-held basis slots new from o answer old (receiving.repeated is known) = old
 offers-held basis slots new from o answer old (receiving.no_slot is known none) = old
@@ -187,7 +187,7 @@ offers-held basis slots new from o answer old (receiving.answers i s is known at
     set-held slots i (answering basis i s from o) old (given-held s from (peers.answering basis.clock o (server_from basis.config i s) (limits_of basis.config)) (λ e. absurd (cc)))
 
 -- a datagram comes
-pub arrives-held : (basis : Basis) (slots new : List SlotState) (from : Addr) (bytes : List ℕ) (answer : Received) → HoldsNoFree slots → Arrives basis slots from bytes answer new → HoldsNoFree new
+pub arrives-held : (basis : Basis) (slots new : List SlotState) (from : Addr) (bytes : List ℕ) (answer : Received) → HoldsNoFree slots → Arrives (record { basis = basis; slots = slots }) from bytes answer new → HoldsNoFree new
 arrives-held basis slots new from bytes answer old (receiving.unreadable why is) = old
 arrives-held basis slots new from bytes answer old (receiving.no_offer header commands read stranger none) = old
 arrives-held basis slots new from bytes answer old (receiving.offered header commands o a after read stranger offer offers) = offers-held basis slots new from o answer old offers
@@ -207,7 +207,7 @@ passes-held now s t (Some p) old n = subst IsHeld (sym n.left) (peer-held s n.af
 pub turns-apart : (n from i j : ℕ) → i < n → j < n → turn_of n from i ≡ turn_of n from j → i ≡ j
 turns-apart n from i j a b e = grind (arith, nat_tests)
 
-turned-held : (now from count : ℕ) (gave : Served) (i : ℕ) (s t : SlotState) → i < count → gave.name.slot < count → IsHeld s → InTurn now (turn_of count from) gave i s t → IsHeld t
+turned-held : (now from count : ℕ) (gave : Served) (i : ℕ) (s t : SlotState) → i < count → gave.name.slot < count → IsHeld s → InTurn (record { now = now; turn = turn_of count from; gave = gave }) i s t → IsHeld t
 turned-held now from count gave i s t within given old x = by (nat_lt (turn i) (turn gave.name.slot)) (nat_lt (turn gave.name.slot) (turn i)) refl refl
   where
     turn : ℕ → ℕ
@@ -271,13 +271,13 @@ shared-if-held due outgoing slots new e old =
     subst HoldsNoFree (sym e) (held-if due (map (shared outgoing (count_by is_standing slots)) slots) slots (shared-held outgoing (count_by is_standing slots) slots old) old)
 
 -- what a host keeps once its slots and turns have changed
-pub keeps-after : (peers generations from event first last : ℕ) (skips later : Skips) (xs ys : List Slot) → KeepsHost peers generations from event skips xs → length ys ≡ length xs
-    → first < peers → last < peers → IsKept peers later (all_shown ys) → KeepsHost peers generations first last later ys
+pub keeps-after : (peers generations from event first last : ℕ) (skips later : Skips) (xs ys : List Slot) → KeepsHost (record { peers = peers; generations = generations; service_from = from; event_from = event }) skips xs → length ys ≡ length xs
+    → first < peers → last < peers → IsKept peers later (all_shown ys) → KeepsHost (record { peers = peers; generations = generations; service_from = first; event_from = last }) later ys
 keeps-after peers generations from event first last skips later xs ys k e a b after =
     record { count = e ∙ k.count; many = k.many; service = a; event = b; few = k.few; held = after.0; resting = after.1 }
 
 -- and once a slot was woken
-pub woken-kept : (peers generations from event : ℕ) (skips later : Skips) (xs : List Slot) → KeepsHost peers generations from event skips xs
+pub woken-kept : (peers generations from event : ℕ) (skips later : Skips) (xs : List Slot) → KeepsHost (record { peers = peers; generations = generations; service_from = from; event_from = event }) skips xs
     → ((n : ℕ) (slots : List SlotState) → KeepsSkips n skips slots → KeepsSkips n later slots) → IsKept peers later (all_shown xs)
 woken-kept peers generations from event skips later xs k woken = (k.held, woken peers (all_shown xs) k.resting)
 
@@ -286,7 +286,7 @@ in-range : (c : Config) → is_in_range c ≡ true → (0 < c.peers) × (c.peers
 in-range c h = (grind (arith, nat_tests), grind (arith, nat_tests), grind (arith, nat_tests))
 
 keeps-fresh : (c : Config) (r : Bool) (skips : Skips) (xs : List Slot) (slots : List SlotState) → r ≡ is_in_range c → r ≡ true → skips.next.items ≡ replicate c.peers 0 → all_shown xs ≡ slots
-    → length slots ≡ c.peers → HoldsNoFree slots → KeepsHost c.peers c.generations 0 0 skips xs
+    → length slots ≡ c.peers → HoldsNoFree slots → KeepsHost (record { peers = c.peers; generations = c.generations; service_from = 0; event_from = 0 }) skips xs
 keeps-fresh c r skips xs slots is go awake e count held =
     let h : (0 < c.peers) × (c.peers ≤ 4095) × (c.generations ≤ greatest) = in-range c (sym is ∙ go) in
     record {
@@ -300,11 +300,11 @@ keeps-fresh c r skips xs slots is go awake e count held =
     }
 
 pub keeps-opened : (c : Config) (r : Bool) (skips : Skips) (xs : List Slot) → r ≡ is_in_range c → r ≡ true → skips.next.items ≡ replicate c.peers 0 → all_shown xs ≡ replicate c.peers unused_slot
-    → KeepsHost c.peers c.generations 0 0 skips xs
+    → KeepsHost (record { peers = c.peers; generations = c.generations; service_from = 0; event_from = 0 }) skips xs
 keeps-opened c r skips xs is go awake e = keeps-fresh c r skips xs (replicate c.peers unused_slot) is go awake e (length-replicate c.peers unused_slot) (unused-held c.peers)
 
 pub keeps-joined : (c : Config) (address : Addr) (r : Bool) (skips : Skips) (xs : List Slot) → r ≡ is_in_range c → r ≡ true → skips.next.items ≡ replicate c.peers 0
-    → all_shown xs ≡ joined_slots c address → KeepsHost c.peers c.generations 0 0 skips xs
+    → all_shown xs ≡ joined_slots c address → KeepsHost (record { peers = c.peers; generations = c.generations; service_from = 0; event_from = 0 }) skips xs
 keeps-joined c address r skips xs is go awake e =
     keeps-fresh c r skips xs (joined_slots c address) is go awake e
     (length-set (replicate c.peers unused_slot) 0 (given unused_slot address (peers.joined c.clock (joined_terms c) (limits_of c))) ∙ length-replicate c.peers unused_slot)

@@ -42,17 +42,17 @@ connects-at basis xs question i x y (Err e) some found inside read asked named s
 
 pub answers-at : (basis : Basis) (xs : List Slot) (from : Addr) (o : Offer) (i : ℕ) (x y : Slot)
     → offer_refused o ≡ None → is_known (all_shown xs) from o ≡ false → available basis.config (all_shown xs) ≡ Some i → i < length xs → x ≡ get_or xs i x
-    → shown y ≡ answering basis i (shown x) from o → Offers basis (all_shown xs) from o handled_one (all_shown (slice_set xs i y))
+    → shown y ≡ answering basis i (shown x) from o → Offers (record { basis = basis; slots = all_shown xs }) from o handled_one (all_shown (slice_set xs i y))
 answers-at basis xs from o i x y fine unknown found inside read answered =
-    subst (λ (ss : List SlotState). Offers basis (all_shown xs) from o handled_one ss) (given-at xs i y (answering basis i (shown x) from o) answered)
+    subst (λ (ss : List SlotState). Offers (record { basis = basis; slots = all_shown xs }) from o handled_one ss) (given-at xs i y (answering basis i (shown x) from o) answered)
     (receiving.answers i (shown x) fine unknown found (get-shown xs i x inside read))
 
 pub no-memory-at : (basis : Basis) (xs : List Slot) (from : Addr) (o : Offer) (i : ℕ) (x y : Slot) (answer : Received)
     → offer_refused o ≡ None → is_known (all_shown xs) from o ≡ false → available basis.config (all_shown xs) ≡ Some i → x ≡ get_or xs i x
-    → shown y ≡ shown x → answer ≡ stopped stop.Memory → Offers basis (all_shown xs) from o answer (all_shown (slice_set xs i y))
+    → shown y ≡ shown x → answer ≡ stopped stop.Memory → Offers (record { basis = basis; slots = all_shown xs }) from o answer (all_shown (slice_set xs i y))
 no-memory-at basis xs from o i x y answer fine unknown found read same is =
-    subst (λ (ss : List SlotState). Offers basis (all_shown xs) from o answer ss) (sym (same-shown xs i x y read same))
-    (subst (λ (a : Received). Offers basis (all_shown xs) from o a (all_shown xs)) (sym is) (receiving.no_memory i fine unknown found))
+    subst (λ (ss : List SlotState). Offers (record { basis = basis; slots = all_shown xs }) from o answer ss) (sym (same-shown xs i x y read same))
+    (subst (λ (a : Received). Offers (record { basis = basis; slots = all_shown xs }) from o a (all_shown xs)) (sym is) (receiving.no_memory i fine unknown found))
 
 pub known-in : (xs ys : List Slot) (from : Addr) (o : Offer) (r b : Bool) → r ≡ is_known (all_shown ys) from o → ys ≡ xs → r ≡ b → is_known (all_shown xs) from o ≡ b
 known-in xs ys from o r b e same is = sym (subst (λ (zs : List Slot). r ≡ is_known (all_shown zs) from o) same e) ∙ is

@@ -33,28 +33,33 @@ is_known slots from o = list_any (is_connection from o.connect_id) slots
 abbrev pub handled_one : Received
 handled_one = record { handled = 1; stop = None }
 
+-- a host where a datagram comes: what it goes by, and its slots
+pub record Standing : Type 0 where
+  pub basis : Basis
+  pub slots : List SlotState
+
 -- what comes of an offer from an address: the answer, and the slots after it. A repeated one has no effect; memory may be
 -- refused where nothing else is
-pub data Offers (basis : Basis) (slots : List SlotState) (from : Addr) (o : Offer) : Received → List SlotState → Type 0 where
-  refused : (why : Stop) → offer_refused o ≡ Some why → Offers basis slots from o (stopped why) slots
-  repeated : offer_refused o ≡ None → is_known slots from o ≡ true → Offers basis slots from o handled_one slots
-  no_slot : offer_refused o ≡ None → is_known slots from o ≡ false → available basis.config slots ≡ None → Offers basis slots from o (stopped stop.NoSlot) slots
-  no_memory : (i : ℕ) → offer_refused o ≡ None → is_known slots from o ≡ false → available basis.config slots ≡ Some i → Offers basis slots from o (stopped stop.Memory) slots
-  answers : (i : ℕ) (s : SlotState) → offer_refused o ≡ None → is_known slots from o ≡ false → available basis.config slots ≡ Some i → slice_get slots i ≡ Some s
-      → Offers basis slots from o handled_one (slice_set slots i (answering basis i s from o))
+pub data Offers (h : Standing) (from : Addr) (o : Offer) : Received → List SlotState → Type 0 where
+  refused : (why : Stop) → offer_refused o ≡ Some why → Offers h from o (stopped why) h.slots
+  repeated : offer_refused o ≡ None → is_known h.slots from o ≡ true → Offers h from o handled_one h.slots
+  no_slot : offer_refused o ≡ None → is_known h.slots from o ≡ false → available h.basis.config h.slots ≡ None → Offers h from o (stopped stop.NoSlot) h.slots
+  no_memory : (i : ℕ) → offer_refused o ≡ None → is_known h.slots from o ≡ false → available h.basis.config h.slots ≡ Some i → Offers h from o (stopped stop.Memory) h.slots
+  answers : (i : ℕ) (s : SlotState) → offer_refused o ≡ None → is_known h.slots from o ≡ false → available h.basis.config h.slots ≡ Some i → slice_get h.slots i ≡ Some s
+      → Offers h from o handled_one (slice_set h.slots i (answering h.basis i s from o))
 
 -- what comes of a datagram from an address: the answer, and the slots after it
-pub data Arrives (basis : Basis) (slots : List SlotState) (from : Addr) (bytes : List ℕ) : Received → List SlotState → Type 0 where
-  unreadable : (why : Stop) → IsUnreadable bytes why → Arrives basis slots from bytes (stopped why) slots
+pub data Arrives (h : Standing) (from : Addr) (bytes : List ℕ) : Received → List SlotState → Type 0 where
+  unreadable : (why : Stop) → IsUnreadable bytes why → Arrives h from bytes (stopped why) h.slots
   no_offer : (header : Header) (commands : List ℕ) → IsRead bytes header commands → header.peer ≡ no_peer → IsNoOffer commands
-      → Arrives basis slots from bytes (stopped stop.UnknownPeer) slots
+      → Arrives h from bytes (stopped stop.UnknownPeer) h.slots
   offered : (header : Header) (commands : List ℕ) (o : Offer) (answer : Received) (after : List SlotState) → IsRead bytes header commands
-      → header.peer ≡ no_peer → IsOffer commands o → Offers basis slots from o answer after → Arrives basis slots from bytes answer after
+      → header.peer ≡ no_peer → IsOffer commands o → Offers h from o answer after → Arrives h from bytes answer after
   turned_away : (header : Header) (commands : List ℕ) (why : Stop) → IsRead bytes header commands → header.peer ≢ no_peer
-      → refused_by slots from header ≡ Some why → Arrives basis slots from bytes (stopped why) slots
+      → refused_by h.slots from header ≡ Some why → Arrives h from bytes (stopped why) h.slots
   heard : (header : Header) (commands : List ℕ) (s t : SlotState) (answer : Received) → IsRead bytes header commands → header.peer ≢ no_peer
-      → refused_by slots from header ≡ None → slice_get slots header.peer ≡ Some s → Hears (record { now = basis.clock; sent = header.sent }) commands s answer t
-      → Arrives basis slots from bytes answer (slice_set slots header.peer t)
+      → refused_by h.slots from header ≡ None → slice_get h.slots header.peer ≡ Some s → Hears (record { now = h.basis.clock; sent = header.sent }) commands s answer t
+      → Arrives h from bytes answer (slice_set h.slots header.peer t)
 
 -- the greatest number of 64 bits, where totals stop
 abbrev pub greatest_total : ℕ
@@ -68,5 +73,5 @@ with_datagram_in t len = record t { datagrams_in = added t.datagrams_in 1; bytes
 
 -- a call of receive: each datagram counts in the totals
 pub record Receives (old : Host) (from : Addr) (bytes : List ℕ) (answer : Received) (new : Host) : Type 0 where
-  pub arrives : Arrives (host_basis old) old.slots from bytes answer new.slots
+  pub arrives : Arrives (record { basis = host_basis old; slots = old.slots }) from bytes answer new.slots
   pub rest : new ≡ record old { slots = new.slots; totals = with_datagram_in old.totals (length bytes) }

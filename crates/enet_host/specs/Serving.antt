@@ -19,12 +19,17 @@ pub record Served : Type 0 where
 abbrev pub served_of : PeerRef × Addr × ℕ → List ℕ → Served
 served_of gave buf = record { name = gave.0; address = gave.1; len = gave.2; buf = buf }
 
--- what became of slot i, where this datagram was put out and `turn` says how many slots come before one: those before the slot that
--- gave it were asked in vain, those after it are as they were
-pub record InTurn (now : ℕ) (turn : ℕ → ℕ) (gave : Served) (i : ℕ) (s t : SlotState) : Type 0 where
-  pub before : turn i < turn gave.name.slot → Passes now s t
-  pub here : i ≡ gave.name.slot → Gives now gave.len gave.buf s t
-  pub after : turn gave.name.slot < turn i → t ≡ s
+-- a call that put a datagram out: when, in milliseconds, how many slots come before one in turn, and the datagram
+pub record Round : Type 0 where
+  pub now : ℕ
+  pub turn : ℕ → ℕ
+  pub gave : Served
+
+-- what became of slot i: those before the slot that gave the datagram were asked in vain, those after it are as they were
+pub record InTurn (round : Round) (i : ℕ) (s t : SlotState) : Type 0 where
+  pub before : round.turn i < round.turn round.gave.name.slot → Passes round.now s t
+  pub here : i ≡ round.gave.name.slot → Gives round.now round.gave.len round.gave.buf s t
+  pub after : round.turn round.gave.name.slot < round.turn i → t ≡ s
 
 -- the first slot in turn that has something to put out gave a datagram, and is named as it was before
 pub record GivesInTurn (now from : ℕ) (old : List SlotState) (gave : Served) (new : List SlotState) : Type 0 where
@@ -32,7 +37,8 @@ pub record GivesInTurn (now from : ℕ) (old : List SlotState) (gave : Served) (
   pub there : slice_get old gave.name.slot ≡ Some slot
   pub named : gave.name ≡ name_of gave.name.slot slot
   pub addressed : gave.address ≡ slot.address
-  pub slots : (i : ℕ) (s t : SlotState) → slice_get old i ≡ Some s → slice_get new i ≡ Some t → InTurn now (turn_of (length old) from) gave i s t
+  pub slots : (i : ℕ) (s t : SlotState) → slice_get old i ≡ Some s → slice_get new i ≡ Some t
+      → InTurn (record { now = now; turn = turn_of (length old) from; gave = gave }) i s t
   pub count : length new ≡ length old
 
 -- each slot was asked in vain

@@ -74,7 +74,7 @@ impl Model for HostCore {
       slots = all_shown h.slots.items;
     } };
 
-    ghost invariant = { λ h. KeepsHost h.start.config.peers h.start.config.generations h.service_from h.event_from h.skips h.slots.items };
+    ghost invariant = { λ h. KeepsHost (record { peers = h.start.config.peers; generations = h.start.config.generations; service_from = h.service_from; event_from = h.event_from }) h.skips h.slots.items };
 }
 
 impl HostCore {
@@ -114,7 +114,7 @@ impl HostCore {
 
     /// A host with these settings and slots, to which nothing has happened.
     fn with_slots(alloc: Global, config: Config, slots: Vec<Slot>, skips: Skips) -> HostCore
-        requires { KeepsHost config.peers config.generations 0 0 skips slots.items }
+        requires { KeepsHost (record { peers = config.peers; generations = config.generations; service_from = 0; event_from = 0 }) skips slots.items }
         ensures { result ≡ record (opened config) { slots = all_shown slots.items } }
     {
         HostCore {

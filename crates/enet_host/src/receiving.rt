@@ -66,7 +66,7 @@ fn take_offer(
     requires skips { KeepsSkips start.now.config.peers skips.old (all_shown slots.old.items) }
     ensures count { length slots.new.items ≡ length slots.old.items }
     ensures skips { KeepsSkips start.now.config.peers skips.new (all_shown slots.new.items) }
-    ensures offers { Offers (basis_of start.now) (all_shown slots.old.items) from offer result (all_shown slots.new.items) }
+    ensures offers { Offers (record { basis = basis_of start.now; slots = all_shown slots.old.items }) from offer result (all_shown slots.new.items) }
 {
     if let Some(why) = offer_refused(&offer) {
         return stopped(why);
@@ -97,7 +97,7 @@ pub(crate) fn receive(
     requires skips { KeepsSkips start.now.config.peers skips.old (all_shown slots.old.items) }
     ensures count { length slots.new.items ≡ length slots.old.items }
     ensures skips { KeepsSkips start.now.config.peers skips.new (all_shown slots.new.items) }
-    ensures arrives { Arrives (basis_of start.now) (all_shown slots.old.items) from bytes.now result (all_shown slots.new.items) }
+    ensures arrives { Arrives (record { basis = basis_of start.now; slots = all_shown slots.old.items }) from bytes.now result (all_shown slots.new.items) }
 {
     let (header, commands) = match read_heading(bytes) {
         Ok(found) => found,

@@ -173,7 +173,7 @@ begins from k d old new f far commands header o j s sent shown none read offer f
         one-of (inr e) = absurd e
 
 brought : (from : Site) (k : ℕ) (d : Logged) (answer : Received) (old new : Site) (f : HostEnd) (far : End) → slice_get from.log k ≡ Some d → ShowsFar from d.connection far → HasNothingOf d.connection new
-    → (slots after : List SlotState) → slots ≡ old.host.slots → after ≡ new.host.slots → Arrives (host_basis old.host) slots from.address d.text answer after
+    → (slots after : List SlotState) → slots ≡ old.host.slots → after ≡ new.host.slots → Arrives (record { basis = host_basis old.host; slots = slots }) from.address d.text answer after
     → (i : ℕ) → available old.host.config old.host.slots ≡ Some i → Has (begun_in d.connection (Some i) new.host) f → Begins far new f
 brought from k d answer old new f far sent shown none slots after was is arrives i free h = by answer after is arrives
   where
@@ -187,7 +187,7 @@ brought from k d answer old new f far sent shown none slots after was is arrives
     unchanged xs now same = absurd (none-in d.connection i new.host there.0 f (ap (λ (ys : List SlotState). slice_get ys i) (sym now) ∙ same ∙ there.1) vacant h)
 
     offered : (reply : Received) (header : Header) (commands : List ℕ) (o : Offer) (xs : List SlotState) → IsRead d.text header commands → IsOffer commands o → xs ≡ new.host.slots
-        → Offers (host_basis old.host) slots from.address o reply xs → Begins far new f
+        → Offers (record { basis = host_basis old.host; slots = slots }) from.address o reply xs → Begins far new f
     offered reply header commands o xs read offer now (receiving.refused why r) = unchanged xs now (ap (λ (ys : List SlotState). slice_get ys i) was)
     offered reply header commands o xs read offer now (receiving.repeated r known) = unchanged xs now (ap (λ (ys : List SlotState). slice_get ys i) was)
     offered reply header commands o xs read offer now (receiving.no_slot r known full) = unchanged xs now (ap (λ (ys : List SlotState). slice_get ys i) was)
@@ -198,7 +198,7 @@ brought from k d answer old new f far sent shown none slots after was is arrives
         (sym now ∙ ap (λ (ys : List SlotState). slice_set ys j (answering (host_basis old.host) j s from.address o)) was)
         (subst (λ (n : ℕ). Has (begun_in d.connection (Some n) new.host) f) same h)
 
-    by : (reply : Received) (xs : List SlotState) → xs ≡ new.host.slots → Arrives (host_basis old.host) slots from.address d.text reply xs → Begins far new f
+    by : (reply : Received) (xs : List SlotState) → xs ≡ new.host.slots → Arrives (record { basis = host_basis old.host; slots = slots }) from.address d.text reply xs → Begins far new f
     by reply xs now (receiving.unreadable why u) = unchanged xs now (ap (λ (ys : List SlotState). slice_get ys i) was)
     by reply xs now (receiving.no_offer header commands read nobody offer) = unchanged xs now (ap (λ (ys : List SlotState). slice_get ys i) was)
     by reply xs now (receiving.offered header commands o said left read nobody offer comes) = offered said header commands o left read offer now comes

@@ -34,14 +34,14 @@ count-connects h address channels info word answer slots after (no_slot some non
 count-connects h address channels info word answer slots after (no_memory i some free) = refl
 count-connects h address channels info word answer slots after (asks i s some free there) = length-set slots i (asking (host_basis h) i s (record { address = address; channels = channels; info = info; word = word }))
 
-count-offers : (h : Host) (from : Addr) (o : Offer) (reply : Received) (slots after : List SlotState) → Offers (host_basis h) slots from o reply after → length after ≡ length slots
+count-offers : (h : Host) (from : Addr) (o : Offer) (reply : Received) (slots after : List SlotState) → Offers (record { basis = host_basis h; slots = slots }) from o reply after → length after ≡ length slots
 count-offers h from o reply slots after (receiving.refused why r) = refl
 count-offers h from o reply slots after (receiving.repeated r known) = refl
 count-offers h from o reply slots after (receiving.no_slot r known full) = refl
 count-offers h from o reply slots after (receiving.no_memory j r known open') = refl
 count-offers h from o reply slots after (receiving.answers j s r known open' at) = length-set slots j (answering (host_basis h) j s from o)
 
-count-arrives : (h : Host) (from : Addr) (bytes : List ℕ) (reply : Received) (slots after : List SlotState) → Arrives (host_basis h) slots from bytes reply after → length after ≡ length slots
+count-arrives : (h : Host) (from : Addr) (bytes : List ℕ) (reply : Received) (slots after : List SlotState) → Arrives (record { basis = host_basis h; slots = slots }) from bytes reply after → length after ≡ length slots
 count-arrives h from bytes reply slots after (receiving.unreadable why u) = refl
 count-arrives h from bytes reply slots after (receiving.no_offer header commands read nobody offer) = refl
 count-arrives h from bytes reply slots after (receiving.offered header commands o said left read nobody offer comes) = count-offers h from o said slots left comes

@@ -268,7 +268,7 @@ goes-received from text answer old new e own far low acts same k heard-here = by
     elsewhere : (slots after : List SlotState) (j : ℕ) (t : SlotState) → slots ≡ old.host.slots → after ≡ new.host.slots → after ≡ slice_set slots j t → j ≢ e.name.slot → Went own far new e
     elsewhere slots after j t was is set n = apart-by (λ x. ap (λ (xs : List SlotState). slice_get xs e.name.slot) (sym is ∙ set) ∙ get-set_other slots j e.name.slot t n ∙ ap (λ (xs : List SlotState). slice_get xs e.name.slot) was ∙ x.there)
 
-    offered : (slots : List SlotState) (reply : Received) (o : Offer) (after : List SlotState) → slots ≡ old.host.slots → after ≡ new.host.slots → Offers (host_basis old.host) slots from o reply after → Went own far new e
+    offered : (slots : List SlotState) (reply : Received) (o : Offer) (after : List SlotState) → slots ≡ old.host.slots → after ≡ new.host.slots → Offers (record { basis = host_basis old.host; slots = slots }) from o reply after → Went own far new e
     offered slots reply o after was is (receiving.refused why r) = unchanged slots after was is refl
     offered slots reply o after was is (receiving.repeated r known) = unchanged slots after was is refl
     offered slots reply o after was is (receiving.no_slot r known none) = unchanged slots after was is refl
@@ -300,7 +300,7 @@ goes-received from text answer old new e own far low acts same k heard-here = by
       is = ap (λ (xs : List SlotState). slice_get xs e.name.slot) set ∙ ap (λ (l : ℕ). slice_get (slice_set old.host.slots header.peer t) l) (sym here) ∙ get-set old.host.slots header.peer s t there;
     })
 
-    by : (slots : List SlotState) (said : Received) (after : List SlotState) → slots ≡ old.host.slots → after ≡ new.host.slots → said ≡ answer → Arrives (host_basis old.host) slots from text said after → Went own far new e
+    by : (slots : List SlotState) (said : Received) (after : List SlotState) → slots ≡ old.host.slots → after ≡ new.host.slots → said ≡ answer → Arrives (record { basis = host_basis old.host; slots = slots }) from text said after → Went own far new e
     by slots said after was is as-said (receiving.unreadable why u) = unchanged slots after was is refl
     by slots said after was is as-said (receiving.no_offer header commands read none never) = unchanged slots after was is refl
     by slots said after was is as-said (receiving.offered header commands o reply left read none offer comes') = offered slots reply o left was is comes'

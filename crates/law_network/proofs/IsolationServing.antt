@@ -78,7 +78,7 @@ each-given h name address len buf after x i s e = (there.0, there.1, by (order (
     there : (t : SlotState) × (slice_get after i ≡ Some t)
     there = get-within after i (let small : i < length h.slots = low in let same : length after ≡ length h.slots = x.count in omega arith)
 
-    turned : InTurn h.clock (turn_of (length h.slots) h.service_from) (served_of (name, address, len) buf) i s there.0
+    turned : InTurn (record { now = h.clock; turn = turn_of (length h.slots) h.service_from; gave = served_of (name, address, len) buf }) i s there.0
     turned = x.slots i s there.0 e there.1
 
     order : (a b : ℕ) → (a < b) ⊎ ((a ≡ b) ⊎ (b < a))

@@ -229,7 +229,7 @@ puts-out w from side far x m host numbers k = (
       left = sym (held (with_emitted old (length text)) (put_out x.peer) k.live);
     }
 
-    in-turn : (i : ℕ) (s u : SlotState) → slice_get (old ∷ []) i ≡ Some s → slice_get (new ∷ []) i ≡ Some u → InTurn 0 (turn_of 1 0) (served_of (first_name, address_of (other side), length text) text) i s u
+    in-turn : (i : ℕ) (s u : SlotState) → slice_get (old ∷ []) i ≡ Some s → slice_get (new ∷ []) i ≡ Some u → InTurn (record { now = 0; turn = turn_of 1 0; gave = served_of (first_name, address_of (other side), length text) text }) i s u
     in-turn zero s u a b = record {
       before = λ less. absurd (omega arith);
       here = λ e. subst (λ (z : SlotState). Gives 0 (length text) text z u) (same-some old s a) (subst (λ (z : SlotState). Gives 0 (length text) text old z) (same-some new u b) gives);
@@ -309,8 +309,8 @@ hears next side from x k session sent d m q b o =
     hears-it : Hears (record { now = 0; sent = sent }) s.commands old handled_one new
     hears-it = record { peer = x.peer; after = q; held = refl; handled = handles; left = sym (held old q o.live) }
 
-    arrives : Arrives (record { config = example_config; clock = 0 }) (old ∷ []) from.address d.text handled_one (new ∷ [])
-    arrives = subst (λ (a : Addr). Arrives (record { config = example_config; clock = 0 }) (old ∷ []) a d.text handled_one (new ∷ [])) (sym b.at)
+    arrives : Arrives (record { basis = record { config = example_config; clock = 0 }; slots = old ∷ [] }) from.address d.text handled_one (new ∷ [])
+    arrives = subst (λ (a : Addr). Arrives (record { basis = record { config = example_config; clock = 0 }; slots = old ∷ [] }) a d.text handled_one (new ∷ [])) (sym b.at)
         (heard (record { peer = 0; session = session; compressed = false; sent = sent }) s.commands old new handled_one (read-of from (site side x) side k 0 session sent d m b) (λ e. omega arith) o.let_in refl hears-it)
 
 -- a stranger's datagram without a byte
@@ -358,8 +358,8 @@ answers-first side from k session sent d head o fits b =
     offer : IsOffer s.commands o
     offer = (head, subst (λ (l : List ℕ). Spells l (record { head = head; body = connect o })) (sym alone) s.messages.3)
 
-    arrives : Arrives (record { config = example_config; clock = 0 }) (unused_slot ∷ []) from.address d.text handled_one (slot_of side new ∷ [])
-    arrives = subst (λ (a : Addr). Arrives (record { config = example_config; clock = 0 }) (unused_slot ∷ []) a d.text handled_one (slot_of side new ∷ [])) (sym b.at)
+    arrives : Arrives (record { basis = record { config = example_config; clock = 0 }; slots = unused_slot ∷ [] }) from.address d.text handled_one (slot_of side new ∷ [])
+    arrives = subst (λ (a : Addr). Arrives (record { basis = record { config = example_config; clock = 0 }; slots = unused_slot ∷ [] }) a d.text handled_one (slot_of side new ∷ [])) (sym b.at)
         (offered (record { peer = no_peer; session = session; compressed = false; sent = sent }) s.commands o handled_one (slot_of side new ∷ [])
         (read-of from (free_site side) side k no_peer session sent d (record { head = head; body = connect o }) b) refl offer (answers 0 unused_slot fits refl refl refl))
 

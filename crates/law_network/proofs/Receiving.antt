@@ -141,7 +141,7 @@ each-stopped : (h : Host) (from : Addr) (bytes : List ℕ) (why : Stop) (slots :
 each-stopped h from bytes why slots same stays = each-none (call.Receive from bytes (stopped why)) h slots (λ i s. refl) same stays (stopped-begins h from bytes why)
 
 each-offered : (h : Host) (from : Addr) (bytes commands : List ℕ) (header : Header) (o : Offer) (answer : Received) (slots after : List SlotState) → slots ≡ h.slots → IsRead bytes header commands → header.peer ≡ no_peer → IsOffer commands o
-    → Offers (host_basis h) slots from o answer after → Each (call.Receive from bytes answer) h after
+    → Offers (record { basis = host_basis h; slots = slots }) from o answer after → Each (call.Receive from bytes answer) h after
 each-offered h from bytes commands header o answer slots after same read e offer (receiving.refused why r) = each-stopped h from bytes why slots same (λ i. away h from bytes (stopped why) header commands i read (inl e))
 each-offered h from bytes commands header o answer slots after same read e offer (receiving.repeated r k) =
     each-none (call.Receive from bytes handled_one) h slots (λ i s. refl) same (λ i. away h from bytes handled_one header commands i read (inl e))
@@ -165,7 +165,7 @@ turned h from bytes commands header why read known refused i s p there held = id
     by (inl e) = turned_away header commands why read known e (ap (λ (o : Option SlotState). refused_by_slot from header.session o) (sym (ap (λ (k : ℕ). slice_get h.slots k) e ∙ there)) ∙ refused) refl
     by (inr n) = elsewhere header commands read (inr n)
 
-pub each-arrives : (h : Host) (from : Addr) (bytes : List ℕ) (answer : Received) (slots after : List SlotState) → slots ≡ h.slots → Arrives (host_basis h) slots from bytes answer after → Each (call.Receive from bytes answer) h after
+pub each-arrives : (h : Host) (from : Addr) (bytes : List ℕ) (answer : Received) (slots after : List SlotState) → slots ≡ h.slots → Arrives (record { basis = host_basis h; slots = slots }) from bytes answer after → Each (call.Receive from bytes answer) h after
 each-arrives h from bytes answer slots after same (receiving.unreadable why u) = each-stopped h from bytes why slots same (unread h from bytes (stopped why) why u)
 each-arrives h from bytes answer slots after same (receiving.no_offer header commands read e none) = each-stopped h from bytes stop.UnknownPeer slots same (λ i. away h from bytes (stopped stop.UnknownPeer) header commands i read (inl e))
 each-arrives h from bytes answer slots after same (receiving.offered header commands o reply left read e offer comes) = each-offered h from bytes commands header o reply slots left same read e offer comes

@@ -352,7 +352,7 @@ goes-turned gave buf old new e own far f low acts others k served = by (there-or
         t : (t : SlotState) × (slice_get new.host.slots e.name.slot ≡ Some t)
         t = there-now gave buf old new given e.name.slot x.slot x.there
 
-        turned : InTurn old.host.clock (turn_of (length old.host.slots) old.host.service_from) (served_of gave buf) e.name.slot x.slot t.0
+        turned : InTurn (record { now = old.host.clock; turn = turn_of (length old.host.slots) old.host.service_from; gave = served_of gave buf }) e.name.slot x.slot t.0
         turned = given.slots e.name.slot x.slot t.0 x.there t.1
 
         at : Order (turn e.name.slot) (turn gave.0.slot) → Went own far new (cond (is_same_name e.name gave.0) f e)

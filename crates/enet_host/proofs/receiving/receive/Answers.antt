@@ -10,7 +10,7 @@ use Rattle.enet_host.proofs.receiving.receive.Goals as goal
 
 pub returns-in-Err-clause-arrives : goal.returns-in-Err-clause-arrives
 returns-in-Err-clause-arrives c =
-    subst (λ (a : Received). Arrives (basis_of c.args.start.now) (all_shown c.args.slots.now.items) c.args.from c.args.bytes.now a (all_shown c.args.slots.now.items)) (sym c.stopped.ensures)
+    subst (λ (a : Received). Arrives (record { basis = basis_of c.args.start.now; slots = all_shown c.args.slots.now.items }) c.args.from c.args.bytes.now a (all_shown c.args.slots.now.items)) (sym c.stopped.ensures)
     (unreadable c.in-Err.why c.in-Err.ensures.refused)
 
 pub returns-in-Some-clause-arrives : goal.returns-in-Some-clause-arrives
@@ -20,12 +20,12 @@ returns-in-Some-clause-arrives c =
 
 pub returns-in-None-clause-arrives : goal.returns-in-None-clause-arrives
 returns-in-None-clause-arrives c =
-    subst (λ (a : Received). Arrives (basis_of c.args.start.now) (all_shown c.args.slots.now.items) c.args.from c.args.bytes.now a (all_shown c.args.slots.now.items)) (sym c.stopped-in-None.ensures)
+    subst (λ (a : Received). Arrives (record { basis = basis_of c.args.start.now; slots = all_shown c.args.slots.now.items }) c.args.from c.args.bytes.now a (all_shown c.args.slots.now.items)) (sym c.stopped-in-None.ensures)
     (no_offer c.in-Ok.found.0 c.in-Ok.found.1.now c.in-Ok.ensures.read c.if-header-eq-NO_PEER.true c.in-None.ensures.none)
 
 pub returns-in-Some-refused_by-clause-arrives : goal.returns-in-Some-refused_by-clause-arrives
 returns-in-Some-refused_by-clause-arrives c =
-    subst (λ (a : Received). Arrives (basis_of c.args.start.now) (all_shown c.args.slots.now.items) c.args.from c.args.bytes.now a (all_shown c.args.slots.now.items)) (sym c.stopped-in-Some-refused_by.ensures)
+    subst (λ (a : Received). Arrives (record { basis = basis_of c.args.start.now; slots = all_shown c.args.slots.now.items }) c.args.from c.args.bytes.now a (all_shown c.args.slots.now.items)) (sym c.stopped-in-Some-refused_by.ensures)
     (turned_away c.in-Ok.found.0 c.in-Ok.found.1.now c.in-Some-refused_by.why c.in-Ok.ensures.read c.if-header-eq-NO_PEER.false
     (refused-in c.args.slots.now.items c.deref.result.now c.args.from c.in-Ok.found.0 _ _ c.refused_by.ensures.stop c.deref.ensures.value c.in-Some-refused_by.is))
 

@@ -9,7 +9,7 @@ use Rattle.enet_host.proofs.receiving.take_offer.Goals as goal
 
 pub returns-in-Some-clause-offers : goal.returns-in-Some-clause-offers
 returns-in-Some-clause-offers c =
-    subst (λ (a : Received). Offers (basis_of c.args.start.now) (all_shown c.args.slots.now.items) c.args.from c.args.offer a (all_shown c.args.slots.now.items)) (sym c.stopped.ensures)
+    subst (λ (a : Received). Offers (record { basis = basis_of c.args.start.now; slots = all_shown c.args.slots.now.items }) c.args.from c.args.offer a (all_shown c.args.slots.now.items)) (sym c.stopped.ensures)
     (refused c.in-Some.why (sym c.offer_refused.ensures ∙ c.in-Some.is))
 
 pub returns-then-any_is_connection-clause-offers : goal.returns-then-any_is_connection-clause-offers
@@ -19,7 +19,7 @@ returns-then-any_is_connection-clause-offers c =
 
 pub returns-in_default-first_available-clause-offers : goal.returns-in_default-first_available-clause-offers
 returns-in_default-first_available-clause-offers c =
-    subst (λ (a : Received). Offers (basis_of c.args.start.now) (all_shown c.args.slots.now.items) c.args.from c.args.offer a (all_shown c.args.slots.now.items)) (sym c.stopped-in_default-first_available.ensures)
+    subst (λ (a : Received). Offers (record { basis = basis_of c.args.start.now; slots = all_shown c.args.slots.now.items }) c.args.from c.args.offer a (all_shown c.args.slots.now.items)) (sym c.stopped-in_default-first_available.ensures)
     (no_slot (sym c.offer_refused.ensures ∙ c.in_default.is)
     (known-in c.args.slots.now.items c.deref.result.now c.args.from c.args.offer _ _ c.any_is_connection.ensures c.deref.ensures.value c.if-any_is_connection.false)
     (found-in c.args.start.now.config c.args.slots.now.items c.deref-2.result.now _ _ c.first_available.ensures.first c.deref-2.ensures.value c.in_default-first_available.is))
