@@ -40,19 +40,35 @@ WaitsIn state.Free acknowledgements queued = (acknowledgements ≡ []) × (queue
 WaitsIn state.Ended acknowledgements queued = (acknowledgements ≡ []) × (queued ≡ [])
 WaitsIn _ acknowledgements queued = Unit {0}
 
--- by the parts of a peer
-pub record Keeps (state : PeerState) (receivers : List ReceivingEnd) (acknowledgements : List Acknowledgement) (unsequenced : List Unsequenced) (control : Commands)
-    (senders : List SendingEnd) : Type 0 where
-  pub still : IsStillIn state unsequenced control senders
-  pub waits : WaitsIn state acknowledgements control.queued
+-- what a peer holds for the other end, and the receivers of its channels
+pub record Holdings : Type 0 where
+  pub receivers : List ReceivingEnd
+  pub acknowledgements : List Acknowledgement
+  pub unsequenced : List Unsequenced
+  pub control : Commands
+  pub senders : List SendingEnd
+
+abbrev pub holdings_of : Peering → Holdings
+holdings_of p = record {
+  receivers = p.inbox.receivers;
+  acknowledgements = p.outbox.acknowledgements;
+  unsequenced = p.outbox.unsequenced;
+  control = p.outbox.control;
+  senders = p.outbox.senders;
+}
+
+-- by its state
+pub record Keeps (state : PeerState) (has : Holdings) : Type 0 where
+  pub still : IsStillIn state has.unsequenced has.control has.senders
+  pub waits : WaitsIn state has.acknowledgements has.control.queued
   -- a sender's channel is its place
-  pub places : (i : ℕ) (s : SendingEnd) → slice_get senders i ≡ Some s → s.channel ≡ i
+  pub places : (i : ℕ) (s : SendingEnd) → slice_get has.senders i ≡ Some s → s.channel ≡ i
   -- what was dispatched has been handed over
-  pub handed_over : (i : ℕ) (r : ReceivingEnd) → slice_get receivers i ≡ Some r → r.receiver.dispatched ≡ []
+  pub handed_over : (i : ℕ) (r : ReceivingEnd) → slice_get has.receivers i ≡ Some r → r.receiver.dispatched ≡ []
 
 -- a peer as it can be reached
 abbrev pub IsReachable : Peering → Type 0
-IsReachable p = Keeps p.state p.inbox.receivers p.outbox.acknowledgements p.outbox.unsequenced p.outbox.control p.outbox.senders
+IsReachable p = Keeps p.state (holdings_of p)
 
 -- a peer that is to acknowledge a DISCONNECT by this acknowledgement, which waits before all others
 abbrev pub IsAnswering : Acknowledgement → Peering → Type 0

@@ -74,7 +74,7 @@ quiet next c old new e own far q (inr same) called low h k =
 
 -- a datagram that was given to a host, or to a stranger
 serving : (w : Around) (b : Bool) (gave : PeerRef × Addr × ℕ) (buf : List ℕ) (old new : Site) → LogsIf b w.numbers (served_of gave buf) old new → w.is_host gave.1 ≡ b → Acts (call.Service (Some gave) buf) old.host new.host → old.host.config.generations ≤ greatest
-    → (from : Site) (what : Happening) (e : HostEnd) → Has old.ends e → IsApart old.ends e → (own far : End) → Shows old e own → Faces w from what old e far → GoesOn own far new e
+    → (from : Site) (what : Happening) (e : HostEnd) → Has old.ends e → IsApart old.ends e → (own far : End) → Shows old e own → Faces w old e far → GoesOn own far new e
 serving w true gave buf old new l is acts low from what e h apart own far k faces =
     let logs : Logs w.numbers (served_of gave buf) old new = l in
     on-changed own far new e old.ends (λ (y : HostEnd). record y { greatest = logs.greatest }) gave.0 (ap (λ (s : Site). s.ends) logs.rest) h refl refl
@@ -83,7 +83,7 @@ serving w false gave buf old new l is acts low from what e h apart own far k fac
     let rest : new ≡ record old { host = new.host } = l in
     on-same own far new e old.ends (ap (λ (s : Site). s.ends) rest) h (goes-unserved gave buf old new e own far low acts (same-log old new e.connection (ap (λ (s : Site). s.log) rest)) (faces.strangers gave.1 is) k)
 
-calling : (w : Around) (from old new : Site) (c : Call) → CallsAmong w from c old new → old.host.config.generations ≤ greatest → (e : HostEnd) → Has old.ends e → IsApart old.ends e → (own far : End) → Shows old e own → Faces w from (Calls c) old e far
+calling : (w : Around) (from old new : Site) (c : Call) → CallsAmong w from c old new → old.host.config.generations ≤ greatest → (e : HostEnd) → Has old.ends e → IsApart old.ends e → (own far : End) → Shows old e own → Faces w old e far
     → GoesOn own far new e
 calling w from old new (call.Connect address channels info word (Ok name)) x low e h apart own far k faces = quiet w.count (call.Connect address channels info word (Ok name)) old new e own far refl (inl (_, refl)) x.1 low h k
 calling w from old new (call.Connect address channels info word (Err why)) x low e h apart own far k faces = quiet w.count (call.Connect address channels info word (Err why)) old new e own far refl (inr refl) x.1 low h k
@@ -138,8 +138,8 @@ bringing k answer from old new (Some d) is x low named' e h apart own far shows 
     by (inr away) = goes-elsewhere from.address d.text answer old new e own far low b.0 log away shows
 
 pub one-thing : OneThing
-one-thing old low w from new (Calls c) x named' e h apart own far k faces = calling w from old new c x low e h apart own far k faces
-one-thing old low w from new (Hears i answer) x named' e h apart own far k faces = bringing i answer from old new (slice_get from.log i) refl x low named' e h apart own far k faces.sender
+one-thing old low w from new (Calls c) x named' e h apart own far k faces sender = calling w from old new c x low e h apart own far k faces
+one-thing old low w from new (Hears i answer) x named' e h apart own far k faces sender = bringing i answer from old new (slice_get from.log i) refl x low named' e h apart own far k sender
 
 pub go-on-at : (h : Host) → Keeps h → GoOnAt h
 go-on-at h keeps old is = one-thing old (subst (λ (x : Host). x.config.generations ≤ greatest) (sym is) keeps.generations)

@@ -173,16 +173,15 @@ begins-by w from old new (Hears i answer) x other two happens k ko comes none lo
         answered i answer d from old new brings is (subst (λ (n : ℕ). HasNothingOf n old) (sym same) (nothing-of old w.count x k none)) f y two (subst (λ (s : Site). ShowsFar s d.connection two) (sym (comes d is same)) shown)
 
 -- what is around an end whose other end this host shows
-faces : (w : Around) (from : Site) (what : Happening) (s other : Site) (e : HostEnd) (far : End) → IsJoined w from what s other e.connection → Has s.ends e → ShowsFar other e.connection far → Faces w from what s e far
+faces : (w : Around) (from : Site) (what : Happening) (s other : Site) (e : HostEnd) (far : End) → IsJoined w from what s other e.connection → Has s.ends e → ShowsFar other e.connection far → Faces w s e far
 faces w from what s other e far joins h shown = record {
   numbers = λ channel low. ap (λ (l : List ℕ). greatest_at l channel) joins.numbers ∙ shown.greatest channel low;
   strangers = joins.strangers e h refl;
-  sender = by what;
 }
-  where
-    by : (what : Happening) → IsBetween from what s e far
-    by (Hears k answer) = elim joins.sender [ inl same ↦ inl (subst (λ (z : Site). ShowsFar z e.connection far) (sym same) shown) | inr away ↦ inr (away e h refl) ]
-    by (Calls c) = tt
+
+between : (w : Around) (from : Site) (what : Happening) (s other : Site) (e : HostEnd) (far : End) → IsJoined w from what s other e.connection → Has s.ends e → ShowsFar other e.connection far → IsBetween from what s e far
+between w from (Hears k answer) s other e far joins h shown = elim joins.sender [ inl same ↦ inl (subst (λ (z : Site). ShowsFar z e.connection far) (sym same) shown) | inr away ↦ inr (away e h refl) ]
+between w from (Calls c) s other e far joins h shown = tt
 
 pub pair-goes : (j : Bool) (w : Around) (from old new : Site) (what : Happening) (other : Site) (x : ℕ) → HappensAmong w from what old new → IsHost old w.count → IsHost other w.count → AreNamed from.log → IsJoined w from what old other x → x < w.count
     → Pair j old other x → Pair j new other x
@@ -212,7 +211,9 @@ pair-goes j w from old new what other x happens k ko named joins low p = by p.he
     by : ShowsAt old x p.one → Pair j new other x
     by (inl shown) =
         let far : ShowsFar other shown.0.connection p.two = subst (λ (n : ℕ). ShowsFar other n p.two) (sym shown.2) (far-shown other w.count x p.two ko p.there) in
-        let goes : GoesOn p.one p.two new shown.0 = one-thing old k.few w from new what happens named shown.0 shown.1 (k.apart shown.0 shown.1) p.one p.two shown.3 (faces w from what old other shown.0 p.two (subst (IsJoined w from what old other) (sym shown.2) joins) shown.1 far) in
+        let joined : IsJoined w from what old other shown.0.connection = subst (IsJoined w from what old other) (sym shown.2) joins in
+        let goes : GoesOn p.one p.two new shown.0 =
+        one-thing old k.few w from new what happens named shown.0 shown.1 (k.apart shown.0 shown.1) p.one p.two shown.3 (faces w from what old other shown.0 p.two joined shown.1 far) (between w from what old other shown.0 p.two joined shown.1 far) in
         record {
           one = goes.went.new;
           two = p.two;

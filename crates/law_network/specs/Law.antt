@@ -43,22 +43,21 @@ pub record GoesOn (own far : End) (new : Site) (e : HostEnd) : Type 0 where
 abbrev pub IsElsewhere : Site → HostEnd → Addr → Type 0
 IsElsewhere s e address = is_at address (address_named s.host.slots e.name) ≡ false
 
--- the host whose datagram is brought has the other end of a connection, or the end's peer is elsewhere
+-- a datagram that is brought is of the host that has the other end of a connection, or of one at another address
 abbrev pub IsBetween : Site → Happening → Site → HostEnd → End → Type 0
 IsBetween from (Hears k answer) s e far = ShowsFar from e.connection far ⊎ IsElsewhere s e from.address
 IsBetween from (Calls c) s e far = Unit {0}
 
--- what is around an end of a host, whose other end is `far`, where something happens: how far the other's numbers have come; no stranger is at the
--- address of its peer; and a datagram that is brought is of the host that has the other end, or of one at another address
-pub record Faces (w : Around) (from : Site) (what : Happening) (s : Site) (e : HostEnd) (far : End) : Type 0 where
+-- what is around an end of a host, whose other end is `far`: how far the other's numbers have come, and no stranger is at the address of its peer
+pub record Faces (w : Around) (s : Site) (e : HostEnd) (far : End) : Type 0 where
   pub numbers : (channel : ℕ) → channel < 255 → greatest_at (w.numbers e.connection) channel ≡ sent_on channel far
   pub strangers : (address : Addr) → w.is_host address ≡ false → IsElsewhere s e address
-  pub sender : IsBetween from what s e far
 
 -- by one thing that happens at a host each end of a connection there that is shown goes on
 abbrev pub GoOn : Site → Type 0
 GoOn old = (w : Around) (from new : Site) (what : Happening) → HappensAmong w from what old new → AreNamed from.log
-    → (e : HostEnd) → Has old.ends e → IsApart old.ends e → (own far : End) → Shows old e own → Faces w from what old e far → GoesOn own far new e
+    → (e : HostEnd) → Has old.ends e → IsApart old.ends e → (own far : End) → Shows old e own → Faces w old e far → IsBetween from what old e far
+    → GoesOn own far new e
 
 -- so it is at each host that has no more than 2 ^ 32 - 1 generations
 abbrev pub OneThing : Type 0
