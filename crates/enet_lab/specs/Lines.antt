@@ -64,11 +64,11 @@ fleet_text event outcome new = text_with (length new.clients) (node_of event) (s
 abbrev pub FleetSteps : Fleet → FleetEvent → Result Answer Refusal → Fleet → Type 0
 FleetSteps = fleet.Steps
 
--- An event happens in a network that steps so and of which that is told: the text of what is answered to it.
-pub record StepsTo {N E : Type 0} (Steps : N → E → Result Answer Refusal → N → Type 0) (told : E → Result Answer Refusal → N → List ℕ) (old : N) (event : E) (text : List ℕ) (new : N) : Type 0 where
+-- An event happens by which a network steps so and of which that is told: the text of what is answered to it.
+pub record StepsTo {N : Type 0} (Steps : Result Answer Refusal → N → Type 0) (told : Result Answer Refusal → N → List ℕ) (text : List ℕ) (new : N) : Type 0 where
   pub outcome : Result Answer Refusal
-  pub steps : Steps old event outcome new
-  pub text_is : text ≡ told event outcome new
+  pub steps : Steps outcome new
+  pub text_is : text ≡ told outcome new
 
 -- The network that a first line makes: E8 exactly where a number is out of its range, else memory may be wanting.
 abbrev pub Makes : Bool → Stage → Result Stage Refusal → Type 0
@@ -104,10 +104,10 @@ Does old (spelled.Open peers_a channels_a peers_b channels_b) text new =
 Does old (spelled.Fleet clients peers channels) text new =
     Opens old (MakesFleet (standard_config peers channels) (replicate clients (standard_config 1 channels))) text new
 Does (InWorld old) (spelled.InWorld event) text new =
-    (w : Begun) × (bytes : List ℕ) × StepsTo WorldSteps world_text old event bytes w × (text ≡ Some bytes) × (new ≡ InWorld w)
+    (w : Begun) × (bytes : List ℕ) × StepsTo (WorldSteps old event) (world_text event) bytes w × (text ≡ Some bytes) × (new ≡ InWorld w)
 Does old (spelled.InWorld event) text new = ⊥
 Does (InFleet old) (spelled.InFleet event) text new =
-    (f : Fleet) × (bytes : List ℕ) × StepsTo FleetSteps fleet_text old event bytes f × (text ≡ Some bytes) × (new ≡ InFleet f)
+    (f : Fleet) × (bytes : List ℕ) × StepsTo (FleetSteps old event) (fleet_text event) bytes f × (text ≡ Some bytes) × (new ≡ InFleet f)
 Does old (spelled.InFleet event) text new = ⊥
 
 -- Whether nothing was made yet.

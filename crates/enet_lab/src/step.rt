@@ -18,7 +18,7 @@ pub(crate) fn world_step(
     world: &mut World,
     event: WorldEvent,
 ) -> Result<String, AllocError>
-    ensures { IfOk result (λ text. StepsTo WorldSteps world_text world.old event (string_bytes text) world.new) }
+    ensures { IfOk result (λ text. StepsTo (WorldSteps world.old event) (world_text event) (string_bytes text) world.new) }
 {
     let side = side_of(&event);
     let outcome = world.step(event);
@@ -42,7 +42,7 @@ pub(crate) fn fleet_step(
     fleet: &mut Fleet,
     event: FleetEvent,
 ) -> Result<String, AllocError>
-    ensures { IfOk result (λ text. StepsTo FleetSteps fleet_text fleet.old event (string_bytes text) fleet.new) }
+    ensures { IfOk result (λ text. StepsTo (FleetSteps fleet.old event) (fleet_text event) (string_bytes text) fleet.new) }
 {
     let node = node_of(&event);
     let outcome = fleet.step(event);
