@@ -67,12 +67,18 @@ abbrev pub EachFrom : ℕ → (ℕ → Seat → Type 0) → List Seat → Type 0
 EachFrom k P [] = Unit {0}
 EachFrom k P (s ∷ ss) = P k s × EachFrom (k + 1) P ss
 
+-- how many places a queue has, how many seats, and how many orders each seat may submit
+pub record Sizes : Type 0 where
+  pub capacity : ℕ
+  pub seats : ℕ
+  pub per_seat : ℕ
+
 -- a queue with these numbers, one new seat for each number, in order, and a drain that took nothing
-pub record IsOpened (capacity seats per_seat : ℕ) (queue : SubmitQueue) (all : List Seat) (drain : Drain) : Type 0 where
-  pub capacity_is : capacity_of queue ≡ capacity
-  pub seats_are : seats_of queue ≡ seats
-  pub limit_is : limit_of queue ≡ per_seat
-  pub one_for_each : length all ≡ seats
+pub record IsOpened (sizes : Sizes) (queue : SubmitQueue) (all : List Seat) (drain : Drain) : Type 0 where
+  pub capacity_is : capacity_of queue ≡ sizes.capacity
+  pub seats_are : seats_of queue ≡ sizes.seats
+  pub limit_is : limit_of queue ≡ sizes.per_seat
+  pub one_for_each : length all ≡ sizes.seats
   pub in_order : EachFrom 0 IsNew all
   pub all_of_queue : All (IsSeatOf queue) all
   pub drain_of_queue : IsDrainOf queue drain

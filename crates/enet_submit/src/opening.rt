@@ -30,7 +30,7 @@ pub(crate) fn opened(
     per_seat: u32,
 ) -> Result<(SubmitQueue, Vec<Seat>, Drain), AllocError>
     requires { IsInRange capacity seats per_seat }
-    ensures { IfOk result (λ r. IsOpened capacity seats per_seat r.0 r.1.items r.2) }
+    ensures { IfOk result (λ r. IsOpened (record { capacity = capacity; seats = seats; per_seat = per_seat }) r.0 r.1.items r.2) }
 {
     let all = Vec::with_capacity(alloc, usize::from(seats))?;
     let (ring, mut pass) = Ring::ruled(alloc, capacity)?;

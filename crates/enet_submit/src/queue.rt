@@ -42,7 +42,7 @@ impl SubmitQueue {
         seats: u32,
         per_seat: u32,
     ) -> Result<(SubmitQueue, Vec<Seat>, Drain), Refusal>
-        ensures ok { IfOk result (λ r. IsOpened capacity seats per_seat r.0 r.1.items r.2) }
+        ensures ok { IfOk result (λ r. IsOpened (record { capacity = capacity; seats = seats; per_seat = per_seat }) r.0 r.1.items r.2) }
         ensures bad_config { IsErrOf result Refusal.BadConfig ↔ ¬ (IsInRange capacity seats per_seat) }
         ensures else_memory { IfErr result (λ e. (e ≡ Refusal.BadConfig) ⊎ (e ≡ Refusal.Memory)) }
     {
