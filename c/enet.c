@@ -6,6 +6,7 @@
 #include <errno.h>
 #include <fcntl.h>
 #include <netdb.h>
+#include <netinet/udp.h>
 #include <poll.h>
 #include <stdio.h>
 #include <string.h>
@@ -15,11 +16,29 @@
 
 enum { DATAGRAM = 4096, BATCH = 256, REFRESH_MS = 100 };
 
+/* How many datagrams are gathered before they are sent, in how many bytes; and how many of them, of how many bytes in all, one call of
+ * the system's takes at most. */
+enum { GATHERED = 256, GATHERED_BYTES = 1 << 18, TRAIN = 64, TRAIN_BYTES = 65000 };
+
+#ifndef UDP_SEGMENT
+#define UDP_SEGMENT 103
+#endif
+
+/* A datagram that the core gave and that isn't sent yet. */
+typedef struct {
+    gofnjerta_address to;
+    uint32_t at, length; /* where it is among the gathered bytes */
+    uint16_t slot, next; /* the next one of the same slot; 0 where it is the last */
+    bool leads;          /* it is its slot's first */
+} Parcel;
+
 /* A slot as the program sees it. */
 typedef struct {
     gofnjerta_peer name;
     bool known; /* the name is a peer's */
     bool told;  /* its Connect event was handed out, and no end */
+    bool sends; /* some of its datagrams are gathered, up to the parcel `last` */
+    uint16_t last;
 } Slot;
 
 /* A host; the program sees its first member alone. */
@@ -38,7 +57,11 @@ typedef struct {
     gofnjerta_event told;
     ENetEvent *ahead;          /* events that enet_peer_receive passed over; they come first */
     size_t ahead_count, ahead_room;
-    uint8_t datagram[DATAGRAM];
+    bool has_trains;           /* the system cuts a train into datagrams (UDP_SEGMENT) */
+    size_t parcel_count, gathered_bytes;
+    uint8_t datagram[DATAGRAM]; /* that came */
+    Parcel parcels[GATHERED];
+    uint8_t gathered[GATHERED_BYTES + DATAGRAM];
 } Layer;
 
 static uint64_t clock_base;
@@ -295,6 +318,8 @@ ENetHost *enet_host_create(const ENetAddress *address, size_t peers, size_t chan
         enet_host_destroy(&layer->host);
         return NULL;
     }
+    int none = 0;
+    layer->has_trains = setsockopt(layer->host.socket, IPPROTO_UDP, UDP_SEGMENT, &none, sizeof none) == 0;
     layer->config = config;
     show_host(&layer->host, address, &config);
     return &layer->host;
@@ -445,15 +470,79 @@ static void go_on(Layer *layer) {
         if (layer->slots[i].known) show_peer(layer, &layer->host.peers[i]);
 }
 
-/* Sends all that the core gives. What the socket doesn't take is lost, as by the network. */
+/* Keeps a datagram that the core has put at the end of the gathered bytes. */
+static void gather(Layer *layer, const gofnjerta_datagram *gave) {
+    size_t i = layer->parcel_count++;
+    Slot *slot = &layer->slots[gave->peer.slot];
+    layer->parcels[i] = (Parcel){gave->to, (uint32_t)layer->gathered_bytes, gave->length, gave->peer.slot, 0, !slot->sends};
+    if (slot->sends) layer->parcels[slot->last].next = (uint16_t)i;
+    slot->sends = true;
+    slot->last = (uint16_t)i;
+    layer->gathered_bytes += (gave->length + 15) / 16 * 16;
+    layer->host.totalSentData += gave->length;
+    layer->host.totalSentPackets++;
+}
+
+/* Sends some parts of one length, of which the last may be shorter, as a datagram each. */
+static bool send_parts(const Layer *layer, gofnjerta_address to, struct iovec *parts, size_t count) {
+    struct sockaddr_in at = {.sin_family = AF_INET, .sin_port = htons(to.port), .sin_addr.s_addr = htonl(to.ip)};
+    if (count == 1) return sendto(layer->host.socket, parts->iov_base, parts->iov_len, MSG_NOSIGNAL, (struct sockaddr *)&at, sizeof at) >= 0;
+    union {
+        struct cmsghdr head;
+        char bytes[CMSG_SPACE(sizeof(uint16_t))];
+    } control = {.head = {.cmsg_level = IPPROTO_UDP, .cmsg_type = UDP_SEGMENT, .cmsg_len = CMSG_LEN(sizeof(uint16_t))}};
+    uint16_t length = (uint16_t)parts->iov_len;
+    memcpy(CMSG_DATA(&control.head), &length, sizeof length);
+    struct msghdr message = {.msg_name = &at, .msg_namelen = sizeof at, .msg_iov = parts, .msg_iovlen = count,
+                             .msg_control = &control, .msg_controllen = sizeof control};
+    return sendmsg(layer->host.socket, &message, MSG_NOSIGNAL) >= 0;
+}
+
+/* Whether the parcel may follow so many others of so many bytes in a train that this one leads. */
+static bool may_follow(const Layer *layer, const Parcel *lead, const Parcel *next, size_t count, size_t bytes) {
+    return layer->has_trains && count < TRAIN && bytes + next->length <= TRAIN_BYTES && next->length <= lead->length &&
+           next->to.ip == lead->to.ip && next->to.port == lead->to.port;
+}
+
+/* Sends a train, from this parcel on, and tells which parcel of its slot comes after it, 0 where none does. What the socket doesn't take
+ * is lost, as by the network; where it refuses a train, the datagrams go one by one. */
+static size_t send_train(Layer *layer, size_t i) {
+    struct iovec parts[TRAIN];
+    const Parcel *lead = &layer->parcels[i], *next = lead;
+    size_t count = 0, bytes = 0;
+    do {
+        parts[count++] = (struct iovec){layer->gathered + next->at, next->length};
+        bytes += next->length;
+        i = next->next;
+        if (next->length < lead->length) break;
+        next = &layer->parcels[i];
+    } while (i && may_follow(layer, lead, next, count, bytes));
+    if (send_parts(layer, lead->to, parts, count) || count == 1) return i;
+    layer->has_trains = errno == EAGAIN || errno == EWOULDBLOCK || errno == ENOBUFS || errno == ENOMEM;
+    for (size_t k = 0; k < count; k++) send_parts(layer, lead->to, &parts[k], 1);
+    return i;
+}
+
+/* Sends what was gathered, slot by slot. */
+static void send_gathered(Layer *layer) {
+    for (size_t i = 0; i < layer->parcel_count; i++) {
+        if (!layer->parcels[i].leads) continue;
+        layer->slots[layer->parcels[i].slot].sends = false;
+        size_t next = i;
+        do next = send_train(layer, next);
+        while (next);
+    }
+    layer->parcel_count = layer->gathered_bytes = 0;
+}
+
+/* Sends all that the core gives. */
 static void put_out(Layer *layer) {
     gofnjerta_datagram gave;
-    while (gofnjerta_service(&layer->core, layer->datagram, sizeof layer->datagram, &gave) == GOFNJERTA_OK && gave.length) {
-        struct sockaddr_in to = {.sin_family = AF_INET, .sin_port = htons(gave.to.port), .sin_addr.s_addr = htonl(gave.to.ip)};
-        sendto(layer->host.socket, layer->datagram, gave.length, MSG_NOSIGNAL, (struct sockaddr *)&to, sizeof to);
-        layer->host.totalSentData += gave.length;
-        layer->host.totalSentPackets++;
+    while (gofnjerta_service(&layer->core, layer->gathered + layer->gathered_bytes, DATAGRAM, &gave) == GOFNJERTA_OK && gave.length) {
+        gather(layer, &gave);
+        if (layer->parcel_count == GATHERED || layer->gathered_bytes > GATHERED_BYTES) send_gathered(layer);
     }
+    send_gathered(layer);
 }
 
 /* Takes in what came, at most so many datagrams, and tells how many. */
