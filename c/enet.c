@@ -52,7 +52,9 @@ typedef struct {
     uint64_t clock, refreshed; /* milliseconds */
     ENetPacket **sent;         /* packets that the program gave away since the last service, each with one reference */
     size_t sent_count, sent_room;
-    ENetPacket *staged;        /* the last of them, whose bytes the core holds */
+    ENetPacket *given, *staged; /* the last of them, and the one whose bytes the core holds for several peers */
+    size_t orders;             /* how many peers the last one went to */
+    bool shares;               /* the one before it went to several */
     bool pending;              /* the event `told`, whose packet the core keeps, isn't handed out */
     gofnjerta_event told;
     ENetEvent *ahead;          /* events that enet_peer_receive passed over; they come first */
@@ -335,7 +337,7 @@ static void release(Layer *layer) {
         }
     }
     layer->sent_count = 0;
-    layer->staged = NULL;
+    layer->given = layer->staged = NULL;
 }
 
 void enet_host_destroy(ENetHost *host) {
@@ -363,8 +365,12 @@ static gofnjerta_config config_wanted(const Layer *layer) {
     return config;
 }
 
-static bool is_same(const gofnjerta_config *one, const gofnjerta_config *other) {
-    return one->mtu == other->mtu && one->channels == other->channels && one->max_packet == other->max_packet && one->max_waiting == other->max_waiting;
+/* Whether the program's fields still ask for the settings as they are. */
+static bool is_as_set(const Layer *layer) {
+    const ENetHost *host = &layer->host;
+    const gofnjerta_config *set = &layer->config;
+    return host->mtu == set->mtu && host->channelLimit == set->channels && ENET_MIN(host->maximumPacketSize, UINT32_MAX) == set->max_packet &&
+           ENET_MIN(host->maximumWaitingData, UINT32_MAX) == set->max_waiting;
 }
 
 /* Whether the program asks for nothing that isn't offered. The settings may be written until the first connect, service or flush, at
@@ -373,8 +379,8 @@ static bool is_ready(Layer *layer) {
     const ENetHost *host = &layer->host;
     if (layer->refused || host->checksum || host->compressor.context || host->intercept) return false;
     if (host->duplicatePeers != ENET_PROTOCOL_MAXIMUM_PEER_ID || host->channelLimit > ENET_PROTOCOL_MAXIMUM_CHANNEL_COUNT) return false;
-    gofnjerta_config wanted = config_wanted(layer);
-    if (!is_same(&wanted, &layer->config)) {
+    if (!is_as_set(layer)) {
+        gofnjerta_config wanted = config_wanted(layer);
         gofnjerta_host core = {0};
         if (layer->begun || gofnjerta_open(&core, &wanted)) return false;
         gofnjerta_close(&layer->core);
@@ -724,40 +730,45 @@ ENetPacket *enet_peer_receive(ENetPeer *peer, enet_uint8 *channel) {
     }
 }
 
-/* Holds a packet until the next service. */
-static bool keep(Layer *layer, ENetPacket *packet) {
-    if (layer->sent_count == layer->sent_room) {
-        size_t room = layer->sent_room ? layer->sent_room * 2 : 16;
-        ENetPacket **sent = realloc(layer->sent, room * sizeof *sent);
-        if (!sent) return false;
-        layer->sent = sent;
-        layer->sent_room = room;
-    }
-    layer->sent[layer->sent_count++] = packet;
-    packet->referenceCount++;
+static bool make_room_sent(Layer *layer) {
+    if (layer->sent_count < layer->sent_room) return true;
+    size_t room = layer->sent_room ? layer->sent_room * 2 : 16;
+    ENetPacket **sent = realloc(layer->sent, room * sizeof *sent);
+    if (!sent) return false;
+    layer->sent = sent;
+    layer->sent_room = room;
     return true;
 }
 
-/* Gives the core a copy of the packet's bytes, which it shares among the peers to which the packet goes in a row. */
-static bool stage(Layer *layer, ENetPacket *packet) {
-    static const uint8_t none;
-    if (layer->staged == packet) return true;
-    layer->staged = NULL;
-    return gofnjerta_stage(&layer->core, packet->dataLength ? packet->data : &none, packet->dataLength) == GOFNJERTA_OK;
+/* Gives the core a packet for one more peer in a row. The core copies the bytes: with the first order where the packet before this one
+ * went to one peer alone, else apart from the orders, which share them. */
+static bool give(Layer *layer, ENetPeer *peer, enet_uint8 channel, ENetPacket *packet) {
+    gofnjerta_peer name = slot_of(peer)->name;
+    uint8_t flags = (uint8_t)packet->flags;
+    const void *body = packet->dataLength ? packet->data : NULL;
+    if (layer->given != packet && !layer->shares) return !gofnjerta_submit(&layer->core, name, channel, flags, body, packet->dataLength);
+    if (layer->staged != packet) {
+        layer->staged = NULL;
+        if (gofnjerta_stage(&layer->core, body, packet->dataLength)) return false;
+    }
+    if (gofnjerta_submit_staged(&layer->core, name, channel, flags)) return false;
+    layer->staged = packet;
+    return true;
 }
 
+/* A packet that was given is held until the next service. */
 int enet_peer_send(ENetPeer *peer, enet_uint8 channel, ENetPacket *packet) {
     Layer *layer = layer_of(peer->host);
-    if (peer->state != ENET_PEER_STATE_CONNECTED || !stage(layer, packet)) return -1;
-    if (layer->staged != packet && !keep(layer, packet)) return -1;
-    if (gofnjerta_submit_staged(&layer->core, slot_of(peer)->name, channel, (uint8_t)packet->flags)) {
-        if (layer->staged != packet) {
-            layer->sent_count--;
-            packet->referenceCount--;
-        }
-        return -1;
+    bool again = layer->given == packet;
+    if (peer->state != ENET_PEER_STATE_CONNECTED || (!again && !make_room_sent(layer))) return -1;
+    if (!again) layer->shares = layer->orders > 1;
+    if (!give(layer, peer, channel, packet)) return -1;
+    if (!again) {
+        layer->sent[layer->sent_count++] = layer->given = packet;
+        packet->referenceCount++;
+        layer->orders = 0;
     }
-    layer->staged = packet;
+    layer->orders++;
     return 0;
 }
 
