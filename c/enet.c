@@ -652,9 +652,9 @@ int enet_host_service(ENetHost *host, ENetEvent *event, enet_uint32 timeout) {
     }
     go_on(layer);
     uint64_t end = layer->clock + timeout;
-    for (;;) {
+    for (int ready = 1;;) {
         put_out(layer);
-        int came = take_in(layer);
+        int came = ready ? take_in(layer) : 0;
         if (came < 0) return -1;
         if (came) put_out(layer);
         if (event) {
@@ -663,7 +663,8 @@ int enet_host_service(ENetHost *host, ENetEvent *event, enet_uint32 timeout) {
         }
         if (layer->clock >= end) return 0;
         struct pollfd asked = {.fd = host->socket, .events = POLLIN};
-        if (poll(&asked, 1, idle_ms(layer, end)) < 0 && errno != EINTR) return -1;
+        ready = poll(&asked, 1, idle_ms(layer, end));
+        if (ready < 0 && errno != EINTR) return -1;
         go_on(layer);
     }
 }
