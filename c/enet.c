@@ -1,8 +1,8 @@
 /* The API of ENet 1.3 over gofnjerta.h: socket, clock, packets and the fields that programs read. The proved host does the protocol;
- * nothing here is proved. */
+ * nothing here is proved. What goes with each packet or datagram calls the proved functions themselves (core.h). */
 #define _GNU_SOURCE
+#include "core.h"
 #include "enet/enet.h"
-#include "gofnjerta.h"
 #include <errno.h>
 #include <fcntl.h>
 #include <netdb.h>
@@ -53,8 +53,7 @@ typedef struct {
     ENetPacket **sent;         /* packets that the program gave away since the last service, each with one reference */
     size_t sent_count, sent_room;
     ENetPacket *given, *staged; /* the last of them, and the one whose bytes the core holds for several peers */
-    size_t orders;             /* how many peers the last one went to */
-    bool shares;               /* the one before it went to several */
+    size_t orders;             /* for how many peers the last one was */
     bool pending;              /* the event `told`, whose packet the core keeps, isn't handed out */
     gofnjerta_event told;
     ENetEvent *ahead;          /* events that enet_peer_receive passed over; they come first */
@@ -365,22 +364,17 @@ static gofnjerta_config config_wanted(const Layer *layer) {
     return config;
 }
 
-/* Whether the program's fields still ask for the settings as they are. */
-static bool is_as_set(const Layer *layer) {
-    const ENetHost *host = &layer->host;
-    const gofnjerta_config *set = &layer->config;
-    return host->mtu == set->mtu && host->channelLimit == set->channels && ENET_MIN(host->maximumPacketSize, UINT32_MAX) == set->max_packet &&
-           ENET_MIN(host->maximumWaitingData, UINT32_MAX) == set->max_waiting;
+static bool is_same(const gofnjerta_config *one, const gofnjerta_config *other) {
+    return one->mtu == other->mtu && one->channels == other->channels && one->max_packet == other->max_packet && one->max_waiting == other->max_waiting;
 }
 
-/* Whether the program asks for nothing that isn't offered. The settings may be written until the first connect, service or flush, at
- * which the core is opened anew with them; from then on they stand. */
-static bool is_ready(Layer *layer) {
+/* Makes the core as the program's fields ask, if that is offered: it is opened anew where they changed before it began. */
+static bool make_ready(Layer *layer) {
     const ENetHost *host = &layer->host;
     if (layer->refused || host->checksum || host->compressor.context || host->intercept) return false;
     if (host->duplicatePeers != ENET_PROTOCOL_MAXIMUM_PEER_ID || host->channelLimit > ENET_PROTOCOL_MAXIMUM_CHANNEL_COUNT) return false;
-    if (!is_as_set(layer)) {
-        gofnjerta_config wanted = config_wanted(layer);
+    gofnjerta_config wanted = config_wanted(layer);
+    if (!is_same(&wanted, &layer->config)) {
         gofnjerta_host core = {0};
         if (layer->begun || gofnjerta_open(&core, &wanted)) return false;
         gofnjerta_close(&layer->core);
@@ -388,6 +382,17 @@ static bool is_ready(Layer *layer) {
         layer->config = wanted;
     }
     return layer->begun = true;
+}
+
+/* Whether the program asks for nothing that isn't offered. The settings may be written until the first connect, service or flush, at
+ * which the core is opened anew with them; from then on they stand. */
+static inline bool is_ready(Layer *layer) {
+    const ENetHost *host = &layer->host;
+    const gofnjerta_config *set = &layer->config;
+    bool is_plain = !layer->refused && !host->checksum && !host->compressor.context && !host->intercept;
+    bool is_as_set = host->duplicatePeers == ENET_PROTOCOL_MAXIMUM_PEER_ID && host->mtu == set->mtu && host->channelLimit == set->channels &&
+                     host->maximumPacketSize == set->max_packet && host->maximumWaitingData == set->max_waiting;
+    return (layer->begun && is_plain && is_as_set) || make_ready(layer);
 }
 
 static ENetPeerState state_shown(uint32_t state, bool told) {
@@ -544,7 +549,7 @@ static void send_gathered(Layer *layer) {
 /* Sends all that the core gives. */
 static void put_out(Layer *layer) {
     gofnjerta_datagram gave;
-    while (gofnjerta_service(&layer->core, layer->gathered + layer->gathered_bytes, DATAGRAM, &gave) == GOFNJERTA_OK && gave.length) {
+    while (gofnjerta_core_service(&layer->core, layer->gathered + layer->gathered_bytes, DATAGRAM, &gave) == GOFNJERTA_OK && gave.length) {
         gather(layer, &gave);
         if (layer->parcel_count == GATHERED || layer->gathered_bytes > GATHERED_BYTES) send_gathered(layer);
     }
@@ -567,7 +572,7 @@ static int take_in(Layer *layer) {
         layer->host.totalReceivedData += (enet_uint32)length;
         layer->host.totalReceivedPackets++;
         gofnjerta_address from = {ntohl(at.sin_addr.s_addr), ntohs(at.sin_port)};
-        gofnjerta_receive(&layer->core, from, layer->datagram, (size_t)length, NULL);
+        gofnjerta_core_receive(&layer->core, &from, layer->datagram, (size_t)length);
         count++;
     }
     return count;
@@ -575,14 +580,14 @@ static int take_in(Layer *layer) {
 
 /* Takes the core's next event, unless one waits to be handed out. */
 static bool hear(Layer *layer) {
-    if (!layer->pending) layer->pending = gofnjerta_next_event(&layer->core, &layer->told) == GOFNJERTA_OK && layer->told.kind != GOFNJERTA_NONE;
+    if (!layer->pending) layer->pending = gofnjerta_core_next_event(&layer->core, &layer->told) == GOFNJERTA_OK && layer->told.kind != GOFNJERTA_NONE;
     return layer->pending;
 }
 
 /* The packet of the event that was heard; NULL where there is no memory for it. */
 static ENetPacket *packet_heard(Layer *layer) {
     ENetPacket *packet = enet_packet_create(NULL, layer->told.length, layer->told.flags);
-    if (packet) gofnjerta_body(&layer->core, packet->data, packet->dataLength);
+    if (packet && packet->data) gofnjerta_core_body(&layer->core, packet->data, packet->dataLength);
     return packet;
 }
 
@@ -741,36 +746,40 @@ static bool make_room_sent(Layer *layer) {
     return true;
 }
 
-/* Gives the core a packet for one more peer in a row. The core copies the bytes: with the first order where the packet before this one
- * went to one peer alone, else apart from the orders, which share them. */
-static bool give(Layer *layer, ENetPeer *peer, enet_uint8 channel, ENetPacket *packet) {
-    gofnjerta_peer name = slot_of(peer)->name;
-    uint8_t flags = (uint8_t)packet->flags;
+/* An order for the packet whose bytes the core holds. */
+static bool share(Layer *layer, const ENetPeer *peer, enet_uint8 channel, const ENetPacket *packet) {
+    if (gofnjerta_core_submit_staged(&layer->core, &layer->slots[peer->incomingPeerID].name, channel, (uint8_t)packet->flags)) return false;
+    layer->orders++;
+    return true;
+}
+
+/* An order for another packet. The core copies its bytes: with this first order where the packet before it went to one peer alone, else
+ * apart from the orders, which share them. */
+static bool give(Layer *layer, const ENetPeer *peer, enet_uint8 channel, ENetPacket *packet, bool shares) {
     const void *body = packet->dataLength ? packet->data : NULL;
-    if (layer->given != packet && !layer->shares) return !gofnjerta_submit(&layer->core, name, channel, flags, body, packet->dataLength);
-    if (layer->staged != packet) {
-        layer->staged = NULL;
-        if (gofnjerta_stage(&layer->core, body, packet->dataLength)) return false;
-    }
-    if (gofnjerta_submit_staged(&layer->core, name, channel, flags)) return false;
+    gofnjerta_peer name = layer->slots[peer->incomingPeerID].name;
+    if (!shares) return !gofnjerta_submit(&layer->core, name, channel, (uint8_t)packet->flags, body, packet->dataLength);
+    layer->staged = NULL;
+    if (gofnjerta_stage(&layer->core, body, packet->dataLength) || !share(layer, peer, channel, packet)) return false;
     layer->staged = packet;
     return true;
 }
 
-/* A packet that was given is held until the next service. */
+/* A packet of which the core doesn't hold the bytes for several peers. It is held until the next service. */
+static int send_anew(Layer *layer, const ENetPeer *peer, enet_uint8 channel, ENetPacket *packet) {
+    if (layer->given == packet) return give(layer, peer, channel, packet, true) ? 0 : -1;
+    if (!make_room_sent(layer) || !give(layer, peer, channel, packet, layer->orders > 1)) return -1;
+    layer->sent[layer->sent_count++] = layer->given = packet;
+    packet->referenceCount++;
+    layer->orders = 1;
+    return 0;
+}
+
 int enet_peer_send(ENetPeer *peer, enet_uint8 channel, ENetPacket *packet) {
     Layer *layer = layer_of(peer->host);
-    bool again = layer->given == packet;
-    if (peer->state != ENET_PEER_STATE_CONNECTED || (!again && !make_room_sent(layer))) return -1;
-    if (!again) layer->shares = layer->orders > 1;
-    if (!give(layer, peer, channel, packet)) return -1;
-    if (!again) {
-        layer->sent[layer->sent_count++] = layer->given = packet;
-        packet->referenceCount++;
-        layer->orders = 0;
-    }
-    layer->orders++;
-    return 0;
+    if (peer->state != ENET_PEER_STATE_CONNECTED) return -1;
+    if (layer->staged != packet) return send_anew(layer, peer, channel, packet);
+    return share(layer, peer, channel, packet) ? 0 : -1;
 }
 
 void enet_host_broadcast(ENetHost *host, enet_uint8 channel, ENetPacket *packet) {
