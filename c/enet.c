@@ -1,11 +1,12 @@
 /* The API of ENet 1.3 over gofnjerta.h: socket, clock, packets and the fields that programs read. The proved host does the protocol;
- * nothing here is proved. */
+ * nothing here is proved. What goes with each packet or datagram calls the proved functions themselves (core.h). */
 #define _GNU_SOURCE
+#include "core.h"
 #include "enet/enet.h"
-#include "gofnjerta.h"
 #include <errno.h>
 #include <fcntl.h>
 #include <netdb.h>
+#include <netinet/udp.h>
 #include <poll.h>
 #include <stdio.h>
 #include <string.h>
@@ -15,11 +16,29 @@
 
 enum { DATAGRAM = 4096, BATCH = 256, REFRESH_MS = 100 };
 
+/* How many datagrams are gathered before they are sent, in how many bytes; and how many of them, of how many bytes in all, one call of
+ * the system's takes at most. */
+enum { GATHERED = 256, GATHERED_BYTES = 1 << 18, TRAIN = 64, TRAIN_BYTES = 65000 };
+
+#ifndef UDP_SEGMENT
+#define UDP_SEGMENT 103
+#endif
+
+/* A datagram that the core gave and that isn't sent yet. */
+typedef struct {
+    gofnjerta_address to;
+    uint32_t at, length; /* where it is among the gathered bytes */
+    uint16_t slot, next; /* the next one of the same slot; 0 where it is the last */
+    bool leads;          /* it is its slot's first */
+} Parcel;
+
 /* A slot as the program sees it. */
 typedef struct {
     gofnjerta_peer name;
     bool known; /* the name is a peer's */
     bool told;  /* its Connect event was handed out, and no end */
+    bool sends; /* some of its datagrams are gathered, up to the parcel `last` */
+    uint16_t last;
 } Slot;
 
 /* A host; the program sees its first member alone. */
@@ -33,12 +52,17 @@ typedef struct {
     uint64_t clock, refreshed; /* milliseconds */
     ENetPacket **sent;         /* packets that the program gave away since the last service, each with one reference */
     size_t sent_count, sent_room;
-    ENetPacket *staged;        /* the last of them, whose bytes the core holds */
+    ENetPacket *given, *staged; /* the last of them, and the one whose bytes the core holds for several peers */
+    size_t orders;             /* for how many peers the last one was */
     bool pending;              /* the event `told`, whose packet the core keeps, isn't handed out */
     gofnjerta_event told;
     ENetEvent *ahead;          /* events that enet_peer_receive passed over; they come first */
     size_t ahead_count, ahead_room;
-    uint8_t datagram[DATAGRAM];
+    bool has_trains;           /* the system cuts a train into datagrams (UDP_SEGMENT) */
+    size_t parcel_count, gathered_bytes;
+    uint8_t datagram[DATAGRAM]; /* that came */
+    Parcel parcels[GATHERED];
+    uint8_t gathered[GATHERED_BYTES + DATAGRAM];
 } Layer;
 
 static uint64_t clock_base;
@@ -295,6 +319,8 @@ ENetHost *enet_host_create(const ENetAddress *address, size_t peers, size_t chan
         enet_host_destroy(&layer->host);
         return NULL;
     }
+    int none = 0;
+    layer->has_trains = setsockopt(layer->host.socket, IPPROTO_UDP, UDP_SEGMENT, &none, sizeof none) == 0;
     layer->config = config;
     show_host(&layer->host, address, &config);
     return &layer->host;
@@ -310,7 +336,7 @@ static void release(Layer *layer) {
         }
     }
     layer->sent_count = 0;
-    layer->staged = NULL;
+    layer->given = layer->staged = NULL;
 }
 
 void enet_host_destroy(ENetHost *host) {
@@ -342,9 +368,8 @@ static bool is_same(const gofnjerta_config *one, const gofnjerta_config *other) 
     return one->mtu == other->mtu && one->channels == other->channels && one->max_packet == other->max_packet && one->max_waiting == other->max_waiting;
 }
 
-/* Whether the program asks for nothing that isn't offered. The settings may be written until the first connect, service or flush, at
- * which the core is opened anew with them; from then on they stand. */
-static bool is_ready(Layer *layer) {
+/* Makes the core as the program's fields ask, if that is offered: it is opened anew where they changed before it began. */
+static bool make_ready(Layer *layer) {
     const ENetHost *host = &layer->host;
     if (layer->refused || host->checksum || host->compressor.context || host->intercept) return false;
     if (host->duplicatePeers != ENET_PROTOCOL_MAXIMUM_PEER_ID || host->channelLimit > ENET_PROTOCOL_MAXIMUM_CHANNEL_COUNT) return false;
@@ -357,6 +382,17 @@ static bool is_ready(Layer *layer) {
         layer->config = wanted;
     }
     return layer->begun = true;
+}
+
+/* Whether the program asks for nothing that isn't offered. The settings may be written until the first connect, service or flush, at
+ * which the core is opened anew with them; from then on they stand. */
+static inline bool is_ready(Layer *layer) {
+    const ENetHost *host = &layer->host;
+    const gofnjerta_config *set = &layer->config;
+    bool is_plain = !layer->refused && !host->checksum && !host->compressor.context && !host->intercept;
+    bool is_as_set = host->duplicatePeers == ENET_PROTOCOL_MAXIMUM_PEER_ID && host->mtu == set->mtu && host->channelLimit == set->channels &&
+                     host->maximumPacketSize == set->max_packet && host->maximumWaitingData == set->max_waiting;
+    return (layer->begun && is_plain && is_as_set) || make_ready(layer);
 }
 
 static ENetPeerState state_shown(uint32_t state, bool told) {
@@ -445,15 +481,79 @@ static void go_on(Layer *layer) {
         if (layer->slots[i].known) show_peer(layer, &layer->host.peers[i]);
 }
 
-/* Sends all that the core gives. What the socket doesn't take is lost, as by the network. */
+/* Keeps a datagram that the core has put at the end of the gathered bytes. */
+static void gather(Layer *layer, const gofnjerta_datagram *gave) {
+    size_t i = layer->parcel_count++;
+    Slot *slot = &layer->slots[gave->peer.slot];
+    layer->parcels[i] = (Parcel){gave->to, (uint32_t)layer->gathered_bytes, gave->length, gave->peer.slot, 0, !slot->sends};
+    if (slot->sends) layer->parcels[slot->last].next = (uint16_t)i;
+    slot->sends = true;
+    slot->last = (uint16_t)i;
+    layer->gathered_bytes += (gave->length + 15) / 16 * 16;
+    layer->host.totalSentData += gave->length;
+    layer->host.totalSentPackets++;
+}
+
+/* Sends some parts of one length, of which the last may be shorter, as a datagram each. */
+static bool send_parts(const Layer *layer, gofnjerta_address to, struct iovec *parts, size_t count) {
+    struct sockaddr_in at = {.sin_family = AF_INET, .sin_port = htons(to.port), .sin_addr.s_addr = htonl(to.ip)};
+    if (count == 1) return sendto(layer->host.socket, parts->iov_base, parts->iov_len, MSG_NOSIGNAL, (struct sockaddr *)&at, sizeof at) >= 0;
+    union {
+        struct cmsghdr head;
+        char bytes[CMSG_SPACE(sizeof(uint16_t))];
+    } control = {.head = {.cmsg_level = IPPROTO_UDP, .cmsg_type = UDP_SEGMENT, .cmsg_len = CMSG_LEN(sizeof(uint16_t))}};
+    uint16_t length = (uint16_t)parts->iov_len;
+    memcpy(CMSG_DATA(&control.head), &length, sizeof length);
+    struct msghdr message = {.msg_name = &at, .msg_namelen = sizeof at, .msg_iov = parts, .msg_iovlen = count,
+                             .msg_control = &control, .msg_controllen = sizeof control};
+    return sendmsg(layer->host.socket, &message, MSG_NOSIGNAL) >= 0;
+}
+
+/* Whether the parcel may follow so many others of so many bytes in a train that this one leads. */
+static bool may_follow(const Layer *layer, const Parcel *lead, const Parcel *next, size_t count, size_t bytes) {
+    return layer->has_trains && count < TRAIN && bytes + next->length <= TRAIN_BYTES && next->length <= lead->length &&
+           next->to.ip == lead->to.ip && next->to.port == lead->to.port;
+}
+
+/* Sends a train, from this parcel on, and tells which parcel of its slot comes after it, 0 where none does. What the socket doesn't take
+ * is lost, as by the network; where it refuses a train, the datagrams go one by one. */
+static size_t send_train(Layer *layer, size_t i) {
+    struct iovec parts[TRAIN];
+    const Parcel *lead = &layer->parcels[i], *next = lead;
+    size_t count = 0, bytes = 0;
+    do {
+        parts[count++] = (struct iovec){layer->gathered + next->at, next->length};
+        bytes += next->length;
+        i = next->next;
+        if (next->length < lead->length) break;
+        next = &layer->parcels[i];
+    } while (i && may_follow(layer, lead, next, count, bytes));
+    if (send_parts(layer, lead->to, parts, count) || count == 1) return i;
+    layer->has_trains = errno == EAGAIN || errno == EWOULDBLOCK || errno == ENOBUFS || errno == ENOMEM;
+    for (size_t k = 0; k < count; k++) send_parts(layer, lead->to, &parts[k], 1);
+    return i;
+}
+
+/* Sends what was gathered, slot by slot. */
+static void send_gathered(Layer *layer) {
+    for (size_t i = 0; i < layer->parcel_count; i++) {
+        if (!layer->parcels[i].leads) continue;
+        layer->slots[layer->parcels[i].slot].sends = false;
+        size_t next = i;
+        do next = send_train(layer, next);
+        while (next);
+    }
+    layer->parcel_count = layer->gathered_bytes = 0;
+}
+
+/* Sends all that the core gives. */
 static void put_out(Layer *layer) {
     gofnjerta_datagram gave;
-    while (gofnjerta_service(&layer->core, layer->datagram, sizeof layer->datagram, &gave) == GOFNJERTA_OK && gave.length) {
-        struct sockaddr_in to = {.sin_family = AF_INET, .sin_port = htons(gave.to.port), .sin_addr.s_addr = htonl(gave.to.ip)};
-        sendto(layer->host.socket, layer->datagram, gave.length, MSG_NOSIGNAL, (struct sockaddr *)&to, sizeof to);
-        layer->host.totalSentData += gave.length;
-        layer->host.totalSentPackets++;
+    while (gofnjerta_core_service(&layer->core, layer->gathered + layer->gathered_bytes, DATAGRAM, &gave) == GOFNJERTA_OK && gave.length) {
+        gather(layer, &gave);
+        if (layer->parcel_count == GATHERED || layer->gathered_bytes > GATHERED_BYTES) send_gathered(layer);
     }
+    send_gathered(layer);
 }
 
 /* Takes in what came, at most so many datagrams, and tells how many. */
@@ -472,7 +572,7 @@ static int take_in(Layer *layer) {
         layer->host.totalReceivedData += (enet_uint32)length;
         layer->host.totalReceivedPackets++;
         gofnjerta_address from = {ntohl(at.sin_addr.s_addr), ntohs(at.sin_port)};
-        gofnjerta_receive(&layer->core, from, layer->datagram, (size_t)length, NULL);
+        gofnjerta_core_receive(&layer->core, &from, layer->datagram, (size_t)length);
         count++;
     }
     return count;
@@ -480,14 +580,14 @@ static int take_in(Layer *layer) {
 
 /* Takes the core's next event, unless one waits to be handed out. */
 static bool hear(Layer *layer) {
-    if (!layer->pending) layer->pending = gofnjerta_next_event(&layer->core, &layer->told) == GOFNJERTA_OK && layer->told.kind != GOFNJERTA_NONE;
+    if (!layer->pending) layer->pending = gofnjerta_core_next_event(&layer->core, &layer->told) == GOFNJERTA_OK && layer->told.kind != GOFNJERTA_NONE;
     return layer->pending;
 }
 
 /* The packet of the event that was heard; NULL where there is no memory for it. */
 static ENetPacket *packet_heard(Layer *layer) {
     ENetPacket *packet = enet_packet_create(NULL, layer->told.length, layer->told.flags);
-    if (packet) gofnjerta_body(&layer->core, packet->data, packet->dataLength);
+    if (packet && packet->data) gofnjerta_core_body(&layer->core, packet->data, packet->dataLength);
     return packet;
 }
 
@@ -557,9 +657,9 @@ int enet_host_service(ENetHost *host, ENetEvent *event, enet_uint32 timeout) {
     }
     go_on(layer);
     uint64_t end = layer->clock + timeout;
-    for (;;) {
+    for (int ready = 1;;) {
         put_out(layer);
-        int came = take_in(layer);
+        int came = ready ? take_in(layer) : 0;
         if (came < 0) return -1;
         if (came) put_out(layer);
         if (event) {
@@ -568,7 +668,8 @@ int enet_host_service(ENetHost *host, ENetEvent *event, enet_uint32 timeout) {
         }
         if (layer->clock >= end) return 0;
         struct pollfd asked = {.fd = host->socket, .events = POLLIN};
-        if (poll(&asked, 1, idle_ms(layer, end)) < 0 && errno != EINTR) return -1;
+        ready = poll(&asked, 1, idle_ms(layer, end));
+        if (ready < 0 && errno != EINTR) return -1;
         go_on(layer);
     }
 }
@@ -635,41 +736,50 @@ ENetPacket *enet_peer_receive(ENetPeer *peer, enet_uint8 *channel) {
     }
 }
 
-/* Holds a packet until the next service. */
-static bool keep(Layer *layer, ENetPacket *packet) {
-    if (layer->sent_count == layer->sent_room) {
-        size_t room = layer->sent_room ? layer->sent_room * 2 : 16;
-        ENetPacket **sent = realloc(layer->sent, room * sizeof *sent);
-        if (!sent) return false;
-        layer->sent = sent;
-        layer->sent_room = room;
-    }
-    layer->sent[layer->sent_count++] = packet;
-    packet->referenceCount++;
+static bool make_room_sent(Layer *layer) {
+    if (layer->sent_count < layer->sent_room) return true;
+    size_t room = layer->sent_room ? layer->sent_room * 2 : 16;
+    ENetPacket **sent = realloc(layer->sent, room * sizeof *sent);
+    if (!sent) return false;
+    layer->sent = sent;
+    layer->sent_room = room;
     return true;
 }
 
-/* Gives the core a copy of the packet's bytes, which it shares among the peers to which the packet goes in a row. */
-static bool stage(Layer *layer, ENetPacket *packet) {
-    static const uint8_t none;
-    if (layer->staged == packet) return true;
+/* An order for the packet whose bytes the core holds. */
+static bool share(Layer *layer, const ENetPeer *peer, enet_uint8 channel, const ENetPacket *packet) {
+    if (gofnjerta_core_submit_staged(&layer->core, &layer->slots[peer->incomingPeerID].name, channel, (uint8_t)packet->flags)) return false;
+    layer->orders++;
+    return true;
+}
+
+/* An order for another packet. The core copies its bytes: with this first order where the packet before it went to one peer alone, else
+ * apart from the orders, which share them. */
+static bool give(Layer *layer, const ENetPeer *peer, enet_uint8 channel, ENetPacket *packet, bool shares) {
+    const void *body = packet->dataLength ? packet->data : NULL;
+    gofnjerta_peer name = layer->slots[peer->incomingPeerID].name;
+    if (!shares) return !gofnjerta_submit(&layer->core, name, channel, (uint8_t)packet->flags, body, packet->dataLength);
     layer->staged = NULL;
-    return gofnjerta_stage(&layer->core, packet->dataLength ? packet->data : &none, packet->dataLength) == GOFNJERTA_OK;
+    if (gofnjerta_stage(&layer->core, body, packet->dataLength) || !share(layer, peer, channel, packet)) return false;
+    layer->staged = packet;
+    return true;
+}
+
+/* A packet of which the core doesn't hold the bytes for several peers. It is held until the next service. */
+static int send_anew(Layer *layer, const ENetPeer *peer, enet_uint8 channel, ENetPacket *packet) {
+    if (layer->given == packet) return give(layer, peer, channel, packet, true) ? 0 : -1;
+    if (!make_room_sent(layer) || !give(layer, peer, channel, packet, layer->orders > 1)) return -1;
+    layer->sent[layer->sent_count++] = layer->given = packet;
+    packet->referenceCount++;
+    layer->orders = 1;
+    return 0;
 }
 
 int enet_peer_send(ENetPeer *peer, enet_uint8 channel, ENetPacket *packet) {
     Layer *layer = layer_of(peer->host);
-    if (peer->state != ENET_PEER_STATE_CONNECTED || !stage(layer, packet)) return -1;
-    if (layer->staged != packet && !keep(layer, packet)) return -1;
-    if (gofnjerta_submit_staged(&layer->core, slot_of(peer)->name, channel, (uint8_t)packet->flags)) {
-        if (layer->staged != packet) {
-            layer->sent_count--;
-            packet->referenceCount--;
-        }
-        return -1;
-    }
-    layer->staged = packet;
-    return 0;
+    if (peer->state != ENET_PEER_STATE_CONNECTED) return -1;
+    if (layer->staged != packet) return send_anew(layer, peer, channel, packet);
+    return share(layer, peer, channel, packet) ? 0 : -1;
 }
 
 void enet_host_broadcast(ENetHost *host, enet_uint8 channel, ENetPacket *packet) {

@@ -71,12 +71,12 @@ impl Held {
         let Some(staged) = &self.staged else {
             return UNSTAGED;
         };
-        if let Some(why) = self.host.submission_refusal(name, channel, staged.len()) {
-            return number_of(why);
+        if let Ok(body) = staged.clone() {
+            return self.give(name, channel, flags, body);
         }
-        match staged.clone() {
-            Ok(body) => self.give(name, channel, flags, body),
-            Err(_) => number_of(Refusal::Memory),
+        match self.host.submission_refusal(name, channel, staged.len()) {
+            Some(why) => number_of(why),
+            None => number_of(Refusal::Memory),
         }
     }
 

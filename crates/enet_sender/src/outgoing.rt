@@ -421,6 +421,7 @@ impl Outgoing {
     }
 
     /// Queues a command, numbered; there must be room for it.
+    #[inline(always)]
     fn queue(&mut self, pending: &mut Pending, command: DataCommand)
         requires kept { KeepsIn pending.old self.old }
         requires room { HasRoomFor pending.old.slab 1 }
@@ -454,6 +455,7 @@ impl Outgoing {
     }
 
     /// Makes room for so many commands more, and for all that is queued then to be sent; whether there is.
+    #[inline(always)]
     fn make_room(&mut self, pending: &mut Pending, more: usize) -> bool
         requires { more ≤ 16384 }
         ensures rings { rings_of self.new ≡ rings_of self.old }
