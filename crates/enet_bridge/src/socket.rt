@@ -10,12 +10,12 @@ use libc::net as c;
 use mio::net::UdpSocket;
 use mio::{Events, Interest, Poll, Token};
 use std::alloc::Global;
+use std::io;
 use std::io::ErrorKind;
 use std::net::{IpAddr, Ipv4Addr, Net, SocketAddr};
 use std::os::fd::AsRawFd;
 use std::sync::{Arc, Wait};
 use std::time::{Clock, Duration, Instant};
-use std::{io, thread};
 
 const SOCKET: Token = Token(0);
 
@@ -24,10 +24,6 @@ const LONGEST: u64 = 5;
 
 /// The longest wait while a datagram would have blocked, in milliseconds.
 const LONGEST_BLOCKED: u64 = 1;
-
-/// Where a datagram came or went since the last sleep, whoever takes the events may have orders soon: so often it is looked for them
-/// before the next sleep.
-const LOOKS: u32 = 5;
 
 /// How many bytes of datagrams the system is asked to keep until they are received, and as many until they are sent.
 const BUFFER: u32 = 4_194_304;
@@ -72,8 +68,10 @@ pub struct MioWire {
     lost: bool,
     // Datagrams sent since the last wait.
     sent: u32,
-    // A datagram came or went since the last sleep.
-    busy: bool,
+    // The last reception found the socket empty.
+    empty: bool,
+    // And the last sleep was told of no datagram: the next reception needn't be tried.
+    quiet: bool,
 }
 
 impl MioWire {
@@ -122,7 +120,8 @@ impl MioWire {
             blocked: false,
             lost: false,
             sent: 0,
-            busy: false,
+            empty: false,
+            quiet: false,
         })
     }
 
@@ -171,20 +170,7 @@ impl MioWire {
         let more = !self.drained || self.lost || self.sent >= MOST_PER_TURN;
         self.lost = false;
         self.sent = 0;
-        if more || self.bell.hear() {
-            return true;
-        }
-        self.busy && self.hears_soon()
-    }
-
-    fn hears_soon(&self) -> bool {
-        for _ in 0..LOOKS {
-            thread::yield_now();
-            if self.bell.hear() {
-                return true;
-            }
-        }
-        false
+        more || self.bell.hear()
     }
 
     // Sleeps until a datagram comes, the bell is rung or the time is over. An error where the system can't wait.
@@ -196,7 +182,6 @@ impl MioWire {
         } else {
             LONGEST
         };
-        self.busy = false;
         self.blocked = false;
         let limit = if self.bell.lie_down() { 0 } else { longest };
         let limit = Some(Duration::from_millis(limit));
@@ -204,8 +189,22 @@ impl MioWire {
         self.bell.get_up();
         match polled {
             Err(why) if why.kind() == ErrorKind::Interrupted => Ok(()),
-            polled => polled,
+            Err(why) => Err(why),
+            Ok(()) => {
+                self.quiet = self.empty && !self.is_told_of_datagrams();
+                Ok(())
+            }
         }
+    }
+
+    // Whether the last sleep was told that there may be a datagram.
+    fn is_told_of_datagrams(&self) -> bool {
+        for event in self.events.iter() {
+            if event.token() == SOCKET {
+                return true;
+            }
+        }
+        false
     }
 
     // Whole milliseconds since those that were told before; the rest counts for the next time.
@@ -338,15 +337,20 @@ impl Wire for MioWire {
     ghost faults = { λ w. failures_of w };
 
     /// None, too, where the reception failed in a way that need not come again: that is no fault. The next wait sleeps then as
-    /// after an empty socket, so that it isn't tried without a pause.
+    /// after an empty socket, so that it isn't tried without a pause. The system isn't asked where the last call found the socket
+    /// empty and a sleep since then was told of no datagram.
     fn recv(&mut self, buf: &mut [u8; 4096]) -> Result<Option<(Addr, usize)>, Refusal> {
         if self.failures == u64::MAX {
+            return Ok(None);
+        }
+        if self.quiet {
+            self.quiet = false;
             return Ok(None);
         }
         match self.socket.recv_from(buf) {
             Ok((len, from)) => {
                 self.drained = false;
-                self.busy = true;
+                self.empty = false;
                 match plain_addr(from) {
                     Some(from) => Ok(Some((from, len))),
                     None => Ok(None),
@@ -354,6 +358,7 @@ impl Wire for MioWire {
             }
             Err(why) if can_be_repeated(&why) => {
                 self.drained = true;
+                self.empty = why.kind() == ErrorKind::WouldBlock;
                 Ok(None)
             }
             Err(why) => self.fault(why),
@@ -369,7 +374,6 @@ impl Wire for MioWire {
         let why = match self.socket.send_to(bytes, socket_addr(to)) {
             Ok(_) => {
                 self.sent = self.sent.saturating_add(1);
-                self.busy = true;
                 return Ok(true);
             }
             Err(why) => why,

@@ -29,7 +29,8 @@ const MANY_PEERS: usize = 16;
 /// So many kept events are enough to be expanded together.
 const ENOUGH: usize = 32;
 
-/// With so many events expanded since the last rest it pays to look a few times before the next.
+/// With so many events expanded since the last rest, and some kept, it pays to look a few times before the next: the service is at work,
+/// and its turn is soon over. Where no event is kept a sleep costs less.
 const BUSY: u64 = 4;
 
 const LOOKS: u32 = 5;
@@ -56,7 +57,7 @@ pub struct Relay<'a> {
 /// What a relay counts.
 #[derive(Drop)]
 struct Tally {
-    // Orders since the service was last told.
+    // Orders submitted since the service was last told.
     untold: usize,
     // Events expanded and orders asked for, by it and those that showed themselves at the same gauge before.
     expanded: u64,
@@ -65,7 +66,6 @@ struct Tally {
 
 impl Tally {
     fn add(&mut self, events: usize, orders: usize) {
-        self.untold = self.untold.saturating_add(orders);
         self.expanded = self.expanded.saturating_add(events as u64);
         self.orders = self.orders.saturating_add(orders as u64);
     }
@@ -222,7 +222,7 @@ impl<'a> Relay<'a> {
                 Ok(true)
             }
             Found::Nothing => {
-                self.tell();
+                self.tell_new();
                 self.show(gauge);
                 pace.rest(rt, bell);
                 Ok(false)
@@ -234,9 +234,9 @@ impl<'a> Relay<'a> {
     fn rest_with_some<R: Wait>(&mut self, rt: &R, bell: &TakerBell, pace: &mut Pace)
         ensures relays { Relays self.old self.new }
     {
-        self.tell();
+        self.tell_new();
         bell.want();
-        if !self.sender.is_service_idle() {
+        if !self.sender.is_service_idle() && !pace.looks_again() {
             pace.rest(rt, bell);
         }
     }
@@ -290,7 +290,10 @@ impl<'a> Relay<'a> {
         ensures relays { Relays self.old self.new }
         ensures full { result ≡ Pumped.Full → 0 < length (waiting_at (sender_of self.new)) }
     {
+        let before = self.sender.len();
         let pumped = self.sender.submit(rt);
+        let submitted = before.saturating_sub(self.sender.len());
+        self.tally.untold = self.tally.untold.saturating_add(submitted);
         if pumped == Pumped::Full || self.tally.untold >= MOST_PER_TURN as usize {
             self.tell();
             return pumped;
@@ -390,6 +393,16 @@ impl<'a> Relay<'a> {
         gauge.show(self.table.len(), self.tally.expanded, self.tally.orders);
     }
 
+    // Tells the service of the orders that were submitted since it was last told, if there are some: each ring gives it a turn.
+    fn tell_new(&mut self)
+        ensures relays { Relays self.old self.new }
+        ensures same { sender_of self.new ≡ sender_of self.old }
+    {
+        if self.tally.untold > 0 {
+            self.tell();
+        }
+    }
+
     // Tells the service that there are orders.
     fn tell(&mut self)
         ensures relays { Relays self.old self.new }
@@ -420,11 +433,12 @@ fn relay_event(
     Ok(count)
 }
 
-/// How the thread rests: after much work it looks a few times before it sleeps.
+/// What was done since the thread last rested.
 #[derive(Drop)]
 struct Pace {
-    // Events expanded since the last rest.
+    // Events expanded since then.
     done: u64,
+    // Looks since the last of them.
     looks: u32,
 }
 
@@ -441,12 +455,17 @@ impl Pace {
         self.done / BETWEEN_SHOWS != before
     }
 
-    fn rest<R: Wait>(&mut self, rt: &R, bell: &TakerBell) {
-        if self.done >= BUSY && self.looks < LOOKS {
+    // True where it pays to look again, after other threads had a moment.
+    fn looks_again(&mut self) -> bool {
+        let again = self.done >= BUSY && self.looks < LOOKS;
+        if again {
             self.looks += 1;
             thread::yield_now();
-            return;
         }
+        again
+    }
+
+    fn rest<R: Wait>(&mut self, rt: &R, bell: &TakerBell) {
         *self = Pace::new();
         bell.wait(rt);
     }

@@ -32,7 +32,7 @@ impl Model for EventQueue {
 }
 
 impl EventQueue {
-    ghost use Rattle.std.specs.Prelude.{◌≡◌, ◌<◌, ◌≤◌, ◌++◌, ◌∷◌, [], List, length, OnOk, IfOk, IfErr, IfSome, IfNone};
+    ghost use Rattle.std.specs.Prelude.{◌≡◌, ◌<◌, ◌≤◌, ◌++◌, ◌∷◌, [], List, length, OnOk, OnErr, IfOk, IfErr, IfSome, IfNone};
     ghost use Rattle.std.specs.List.{All};
     ghost use Rattle.crossbeam_queue.specs.Fifo.{Held};
     ghost use Rattle.enet_events.specs.Words.{IsInRange, IsNotOpened, new_takers, next, PosterFits, TakerFits, IsNotPosted};
@@ -111,17 +111,14 @@ impl EventQueue {
         poster: &mut Poster,
         event: Event,
     ) -> Result<u64, (Refusal, Event)>
-        requires { poster.old.queue ≡ self.now.id }
+        requires { (poster.old.queue ≡ self.now.id) × (length poster.old.posted < 4294967295) }
         ensures own { poster.new.queue ≡ poster.old.queue }
-        ensures number { IfOk result (λ n. (n ≡ length poster.old.posted) × (n < 4294967295)) }
+        ensures number { IfOk result (λ n. n ≡ length poster.old.posted) }
         ensures posted { OnOk result (poster.new.posted ≡ poster.old.posted ++ next poster.old event ∷ []) }
         ensures moment { OnOk result ((held : List _) × PosterFits poster.new (held ++ next poster.old event ∷ [])) }
-        ensures refused { IfErr result (λ e. IsNotPosted self.now poster.old e.0) }
-        ensures back { IfErr result (λ e. (e.1 ≡ event) × (poster.new.posted ≡ poster.old.posted)) }
+        ensures back { IfErr result (λ e. (e.1 ≡ event) × (poster.new.posted ≡ poster.old.posted) × (e.0 ≡ Refusal.Full)) }
+        ensures full { OnErr result (Held self.now.capacity (PosterFits poster.old)) }
     {
-        if poster.count >= 4_294_967_295 {
-            return Err((Refusal::SeatSpent, event));
-        }
         let number = poster.count;
         let item = Numbered { number, event };
         match self.ring.push_as::<Posts, R>(rt, &mut poster.pass, item) {

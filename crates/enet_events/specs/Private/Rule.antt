@@ -1,7 +1,5 @@
 -- How many takers a pass knows to be made.
 use Rattle.std.specs.Prelude.{ℕ}
-use mathlib.Core.Option.{some}
-use lib.ListN.{get_elem?}
 use Rattle.enet_events.specs.declared.rule.View.{View}
 use Rattle.enet_events.specs.declared.rule.View.TheVariants.{Posting, Taking, Spent}
 
