@@ -33,14 +33,14 @@ is_known slots from o = list_any (is_connection from o.connect_id) slots
 abbrev pub handled_one : Received
 handled_one = record { handled = 1; stop = None }
 
--- a host where a datagram comes: what it goes by, and its slots
-pub record Standing : Type 0 where
+-- a host to which a datagram comes: what it goes by, and its slots
+pub record Listener : Type 0 where
   pub basis : Basis
   pub slots : List SlotState
 
 -- what comes of an offer from an address: the answer, and the slots after it. A repeated one has no effect; memory may be
 -- refused where nothing else is
-pub data Offers (h : Standing) (from : Addr) (o : Offer) : Received → List SlotState → Type 0 where
+pub data Offers (h : Listener) (from : Addr) (o : Offer) : Received → List SlotState → Type 0 where
   refused : (why : Stop) → offer_refused o ≡ Some why → Offers h from o (stopped why) h.slots
   repeated : offer_refused o ≡ None → is_known h.slots from o ≡ true → Offers h from o handled_one h.slots
   no_slot : offer_refused o ≡ None → is_known h.slots from o ≡ false → available h.basis.config h.slots ≡ None → Offers h from o (stopped stop.NoSlot) h.slots
@@ -49,7 +49,7 @@ pub data Offers (h : Standing) (from : Addr) (o : Offer) : Received → List Slo
       → Offers h from o handled_one (slice_set h.slots i (answering h.basis i s from o))
 
 -- what comes of a datagram from an address: the answer, and the slots after it
-pub data Arrives (h : Standing) (from : Addr) (bytes : List ℕ) : Received → List SlotState → Type 0 where
+pub data Arrives (h : Listener) (from : Addr) (bytes : List ℕ) : Received → List SlotState → Type 0 where
   unreadable : (why : Stop) → IsUnreadable bytes why → Arrives h from bytes (stopped why) h.slots
   no_offer : (header : Header) (commands : List ℕ) → IsRead bytes header commands → header.peer ≡ no_peer → IsNoOffer commands
       → Arrives h from bytes (stopped stop.UnknownPeer) h.slots

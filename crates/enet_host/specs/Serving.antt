@@ -19,17 +19,17 @@ pub record Served : Type 0 where
 abbrev pub served_of : PeerRef × Addr × ℕ → List ℕ → Served
 served_of gave buf = record { name = gave.0; address = gave.1; len = gave.2; buf = buf }
 
--- a call that put a datagram out: when, in milliseconds, how many slots come before one in turn, and the datagram
-pub record Round : Type 0 where
+-- a call of `service` that put a datagram out: when, in milliseconds, how many slots come before one in turn, and the datagram
+pub record ServiceCall : Type 0 where
   pub now : ℕ
   pub turn : ℕ → ℕ
   pub gave : Served
 
 -- what became of slot i: those before the slot that gave the datagram were asked in vain, those after it are as they were
-pub record InTurn (round : Round) (i : ℕ) (s t : SlotState) : Type 0 where
-  pub before : round.turn i < round.turn round.gave.name.slot → Passes round.now s t
-  pub here : i ≡ round.gave.name.slot → Gives round.now round.gave.len round.gave.buf s t
-  pub after : round.turn round.gave.name.slot < round.turn i → t ≡ s
+pub record InTurn (asked : ServiceCall) (i : ℕ) (s t : SlotState) : Type 0 where
+  pub before : asked.turn i < asked.turn asked.gave.name.slot → Passes asked.now s t
+  pub here : i ≡ asked.gave.name.slot → Gives asked.now asked.gave.len asked.gave.buf s t
+  pub after : asked.turn asked.gave.name.slot < asked.turn i → t ≡ s
 
 -- the first slot in turn that has something to put out gave a datagram, and is named as it was before
 pub record GivesInTurn (now from : ℕ) (old : List SlotState) (gave : Served) (new : List SlotState) : Type 0 where

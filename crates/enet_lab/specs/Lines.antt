@@ -64,7 +64,7 @@ fleet_text event outcome new = text_with (length new.clients) (node_of event) (s
 abbrev pub FleetSteps : Fleet → FleetEvent → Result Answer Refusal → Fleet → Type 0
 FleetSteps = fleet.Steps
 
--- An event happens by which a network steps so and of which that is told: the text of what is answered to it.
+-- A network steps so, by an event of which that is told: the text of what is answered to it.
 pub record StepsTo {N : Type 0} (Steps : Result Answer Refusal → N → Type 0) (told : Result Answer Refusal → N → List ℕ) (text : List ℕ) (new : N) : Type 0 where
   pub outcome : Result Answer Refusal
   pub steps : Steps outcome new

@@ -67,7 +67,7 @@ gone_on_in _ p = settled p
 abbrev pub gone_on : Peering → Peering
 gone_on p = gone_on_in p.state p
 
--- what a call of emit did: what was put out, if anything; the outbox is left so, and the peer goes on
+-- what a call of emit did: what was put out, if anything; the outbox is left as the filling leaves it, and the peer goes on
 pub record PutsOut (now : ℕ) (len : Option ℕ) (old new : Peering) (buf : List ℕ) : Type 0 where
   pub emits : Emits (pace_of old now) (destination_of old) old.outbox len buf
   pub after : new ≡ gone_on (record old { outbox = (filled (pace_of old now) old.outbox).outbox })

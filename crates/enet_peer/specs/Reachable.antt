@@ -57,7 +57,7 @@ holdings_of p = record {
   senders = p.outbox.senders;
 }
 
--- by its state
+-- what a peer keeps, by its state and what it holds
 pub record Keeps (state : PeerState) (has : Holdings) : Type 0 where
   pub still : IsStillIn state has.unsequenced has.control has.senders
   pub waits : WaitsIn state has.acknowledgements has.control.queued

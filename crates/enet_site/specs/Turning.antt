@@ -9,7 +9,7 @@ use Rattle.law_network.specs.Steps.{Calls, HappensAmong}
 use Rattle.enet_site.specs.declared.put_out.Turned.{Turned}
 use Rattle.enet_site.specs.declared.put_out.Turned.TheVariants.{Sent, Away}
 
--- one call of a host with these hosts around it, however many connections there are
+-- a call of a host that begins no connection, with these hosts around it, however many connections there are
 abbrev pub CallsAround : (Addr → Bool) → (ℕ → List ℕ) → Call → Site → Site → Type 0
 CallsAround hosts far c old new =
     (count : ℕ) (from : Site) → HappensAmong (record { count = count; is_host = hosts; numbers = far }) from (Calls c) old new

@@ -59,7 +59,7 @@ pub record Comes (command : PutOut) (v : WireLink) : Type 0 where
   pub logged : Has v.commands command
   pub in_time : is_late v.greatest command.sent_then command.command.number ≡ false
 
--- it is not acknowledged
+-- such a command comes, and is not acknowledged
 pub record Arrives (command : PutOut) (max_packet : ℕ) (full : Bool) (v w : WireLink) : Type 0 where
   pub comes : Comes command v
   pub after : w ≡ arrives v max_packet command.command full false

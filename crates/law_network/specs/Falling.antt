@@ -125,12 +125,12 @@ Fell h x (call.SetTimeout name limit minimum maximum answer) ds =
     ds ≡ deeds_if (is_meant name x.number x.slot) (Set (setting.Timeout limit minimum maximum) answer)
 Fell h x (call.NextEvent answer) ds = ds ≡ taken_from h x.number answer
 
--- slot i, which is s, where it holds this peer or is free
+-- slot i, which is s, if it holds a peer
 abbrev pub occupied_in : ℕ → SlotState → Option Peering → Option Occupied
 occupied_in i s None = None
 occupied_in i s (Some p) = Some (record { number = i; slot = s; peer = p })
 
--- the same for a slot that may be free
+-- the deeds that fell to a slot that may be free
 abbrev pub fell_in : Common → Option Occupied → Call → List Deed → Type 0
 fell_in h None c ds = ds ≡ []
 fell_in h (Some x) c ds = Fell h x c ds
