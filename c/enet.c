@@ -332,6 +332,7 @@ static void release(Layer *layer) {
         ENetPacket *packet = layer->sent[i];
         if (--packet->referenceCount == 0) {
             packet->flags |= ENET_PACKET_FLAG_SENT;
+            layer->given = layer->staged = NULL; /* its callback may send, and memory may be had anew */
             enet_packet_destroy(packet);
         }
     }
@@ -529,7 +530,8 @@ static size_t send_train(Layer *layer, size_t i) {
         next = &layer->parcels[i];
     } while (i && may_follow(layer, lead, next, count, bytes));
     if (send_parts(layer, lead->to, parts, count) || count == 1) return i;
-    layer->has_trains = errno == EAGAIN || errno == EWOULDBLOCK || errno == ENOBUFS || errno == ENOMEM;
+    /* Any other error is this destination's or this moment's. */
+    layer->has_trains = errno != EIO && errno != EINVAL && errno != EOPNOTSUPP;
     for (size_t k = 0; k < count; k++) send_parts(layer, lead->to, &parts[k], 1);
     return i;
 }

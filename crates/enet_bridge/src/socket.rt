@@ -361,7 +361,10 @@ impl Wire for MioWire {
                 self.empty = why.kind() == ErrorKind::WouldBlock;
                 Ok(None)
             }
-            Err(why) => self.fault(why),
+            Err(why) => {
+                self.empty = false;
+                self.fault(why)
+            }
         }
     }
 

@@ -222,7 +222,7 @@ impl<'a> Relay<'a> {
                 Ok(true)
             }
             Found::Nothing => {
-                self.tell_new();
+                self.tell_new(bell);
                 self.show(gauge);
                 pace.rest(rt, bell);
                 Ok(false)
@@ -234,7 +234,7 @@ impl<'a> Relay<'a> {
     fn rest_with_some<R: Wait>(&mut self, rt: &R, bell: &TakerBell, pace: &mut Pace)
         ensures relays { Relays self.old self.new }
     {
-        self.tell_new();
+        self.tell_new(bell);
         bell.want();
         if !self.sender.is_service_idle() && !pace.looks_again() {
             pace.rest(rt, bell);
@@ -393,12 +393,13 @@ impl<'a> Relay<'a> {
         gauge.show(self.table.len(), self.tally.expanded, self.tally.orders);
     }
 
-    // Tells the service of the orders that were submitted since it was last told, if there are some: each ring gives it a turn.
-    fn tell_new(&mut self)
+    // Tells the service of the orders that were submitted since it was last told, if there are some, or that there is room for the event
+    // that it holds back: each ring gives it a turn.
+    fn tell_new(&mut self, bell: &TakerBell)
         ensures relays { Relays self.old self.new }
         ensures same { sender_of self.new ≡ sender_of self.old }
     {
-        if self.tally.untold > 0 {
+        if self.tally.untold > 0 || bell.hears_of_one_held_back() {
             self.tell();
         }
     }
