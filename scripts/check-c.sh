@@ -3,7 +3,8 @@
 # which `rt lib` makes there, or after `rt ci` scripts/archive-c.sh. Builds both (scripts/build-c.sh) and runs
 # - the tests of c/tests: the header against the library and bad use (border), two hosts in memory over a lossy net (lossy), and each
 #   allocation failing in turn (memory); plain, with AddressSanitizer and UndefinedBehaviorSanitizer, and under valgrind;
-# - the layer: its structures lie as the reference library's header says (layout), and what isn't offered is refused (refusals);
+# - the layer: its structures lie as the reference library's header says (layout), what isn't offered is refused, and packets that are sent
+#   while others are let go come as they are (refusals);
 # - conversations of the programs in clients/ that use no more than what is offered, compiled unchanged against c/enet/enet.h, with the
 #   reference library at the other end, both ways round, straight and through clients/proxy.c; one runs a program that was built for
 #   libenet on our shared library;

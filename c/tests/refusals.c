@@ -1,4 +1,5 @@
-/* What the layer doesn't offer is refused loudly, and an end that is not there is told. */
+/* What the layer doesn't offer is refused loudly, an end that is not there is told, and packets that go to several peers, or from a
+ * callback, come as they were sent. */
 #include <enet/enet.h>
 #include <stdbool.h>
 #include <stdio.h>
@@ -132,11 +133,65 @@ static void conversation(void) {
     enet_host_destroy(client);
 }
 
+static ENetPeer *next_to;
+static int sent_on;
+
+/* Where a packet is let go, sends one more. */
+static void ENET_CALLBACK send_on(ENetPacket *packet) {
+    (void)packet;
+    ENetPacket *more = enet_packet_create("more", 4, ENET_PACKET_FLAG_RELIABLE);
+    more->freeCallback = count_free;
+    sent_on += enet_peer_send(next_to, 0, more) == 0;
+}
+
+/* Serves the hosts until the first has so many peers and as many bytes have come to the second and the third, for at most 5 seconds. */
+static void serve(ENetHost *const *hosts, char (*texts)[32], size_t peers, size_t bytes) {
+    ENetEvent event;
+    enet_uint32 begun = enet_time_get();
+    while (enet_time_get() - begun < 5000 && (hosts[0]->connectedPeers < peers || strlen(texts[0]) + strlen(texts[1]) < bytes))
+        for (int i = 0; i < 3; i++)
+            while (enet_host_service(hosts[i], &event, 1) > 0)
+                if (event.type == ENET_EVENT_TYPE_RECEIVE) {
+                    if (i) strncat(texts[i - 1], (const char *)event.packet->data, event.packet->dataLength);
+                    enet_packet_destroy(event.packet);
+                }
+}
+
+static void give(ENetPeer *peer, ENetPacket *packet) {
+    CHECK(enet_peer_send(peer, 0, packet) == 0);
+}
+
+/* Packets to two peers, to one, and from a callback: each comes with its own bytes, in order. */
+static void letting_go(void) {
+    ENetHost *hosts[3] = {enet_host_create(&any, 2, 1, 0, 0), enet_host_create(NULL, 1, 1, 0, 0), enet_host_create(NULL, 1, 1, 0, 0)};
+    char texts[2][32] = {"", ""};
+    ENetAddress to = hosts[0]->address;
+    CHECK(enet_address_set_host_ip(&to, "127.0.0.1") == 0);
+    enet_host_connect(hosts[1], &to, 1, 0);
+    serve(hosts, texts, 1, 0);
+    enet_host_connect(hosts[2], &to, 1, 0);
+    serve(hosts, texts, 2, 0);
+    ENetPeer *first = next_to = &hosts[0]->peers[0], *second = &hosts[0]->peers[1];
+    ENetPacket *shared = enet_packet_create("both", 4, ENET_PACKET_FLAG_RELIABLE);
+    ENetPacket *last = enet_packet_create("last", 4, ENET_PACKET_FLAG_RELIABLE);
+    last->freeCallback = send_on;
+    freed = 0;
+    give(first, shared);
+    give(second, shared);
+    give(first, enet_packet_create("once", 4, ENET_PACKET_FLAG_RELIABLE));
+    give(first, last);
+    serve(hosts, texts, 2, 20);
+    CHECK(sent_on == 1 && freed == 1);
+    CHECK(!strcmp(texts[0], "bothoncelastmore") && !strcmp(texts[1], "both"));
+    for (int i = 0; i < 3; i++) enet_host_destroy(hosts[i]);
+}
+
 int main(void) {
     CHECK(enet_initialize() == 0 && enet_linked_version() == ENET_VERSION);
     settings();
     nobody();
     conversation();
+    letting_go();
     enet_deinitialize();
     printf("refusals: %ld checks held, %ld did not\n", passed, failed);
     return passed > 0 && failed == 0 ? 0 : 1;
