@@ -304,6 +304,18 @@ kept_after b waiting channel d new o full qs bytes was now k low at place is hel
     subst (λ n. KeepsInbox (record b { receivers = set b.receivers channel new; untaken = qs }) (waiting - was + n + bytes)) (sym holds)
     (subst (λ n. KeepsInbox (record b { receivers = set b.receivers channel new; untaken = qs }) (waiting - n + held_bytes new.receiver + bytes)) (sym held) kept)
 
+-- and where the receiver holds as much as before
+pub kept_passed : (b : Inbox) (waiting channel : ℕ) (d new : ReceivingEnd) (o : Option DataCommand) (full : Bool) (qs : List Packet) (bytes : ℕ) → KeepsInbox b waiting
+    → channel < length b.receivers → d ≡ get_or b.receivers channel d → IsInPlace b.max_packet channel d → new ≡ emptied (after_command d o full)
+    → held_bytes new.receiver ≡ held_bytes d.receiver → All IsShort qs → bytes_in qs ≡ bytes_in b.untaken + bytes
+    → KeepsInbox (record b { receivers = set b.receivers channel new; untaken = qs }) (waiting + bytes)
+kept_passed b waiting channel d new o full qs bytes k low at place is same short more =
+    let light = place.light in
+    let counted = held_counted b waiting channel d k low at in
+    let kept = kept_after b waiting channel d new o full qs bytes (held_bytes d.receiver) (held_bytes new.receiver) k low at place is refl refl (omega arith) short more in
+    let counter : waiting - held_bytes d.receiver + held_bytes new.receiver + bytes ≡ waiting + bytes = omega arith in
+    subst (λ n. KeepsInbox (record b { receivers = set b.receivers channel new; untaken = qs }) n) counter kept
+
 -- the inbox after it
 pub handed_at : (inside : Inbox) (own h : Head) (o : Option DataCommand) (f : Foresight) (d new : ReceivingEnd) (full : Bool) (qs : List Packet) → own ≡ h → Taken inside h.channel o f d full
     → IsInPlace inside.max_packet own.channel d → new ≡ emptied (after_command d o full) → qs ≡ inside.untaken ++ map (packet_of d.channel) (after_command d o full).receiver.dispatched

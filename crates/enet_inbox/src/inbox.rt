@@ -1,17 +1,18 @@
 //! All that comes to a peer.
 
-ghost use Rattle.std.specs.Prelude.{◌≡◌, ◌<◌, drop, IsTrue, IfOk, IfErr, OnOk, OnErr, Ok, true, false, slice_get};
+ghost use Rattle.std.specs.Prelude.{◌≡◌, ◌<◌, drop, IsTrue, IfOk, IfErr, OnOk, OnErr, Ok, Some, true, false, slice_get};
 ghost use Rattle.std.specs.Option.{option_copied};
 ghost use Rattle.enet_codec.specs.Message.{view};
 ghost use Rattle.enet_fragment.specs.DataCommand.{data_of};
 ghost use Rattle.enet_unsequenced.specs.Groups.{dispatches};
+ghost use Rattle.enet_receiver.specs.ArrivingData.{data_command};
 ghost use Rattle.enet_inbox.specs.Inbox.{empty_inbox, is_full, cleared, forgotten, narrowed};
 ghost use Rattle.enet_inbox.specs.DataEffect.{arrival, sequenced, unsequenced_taken, passed_over, passed_length, passed_sequenced, is_kept, Arrives};
 ghost use Rattle.enet_inbox.specs.InboxParts.{foresight_of, unsequenced_verdict, foreseen, foreseen_sequenced, told};
 
 use crate::arriving::{Foreseen, acknowledges, seen};
 use crate::receivers::{clear_all, held_in, open_all};
-use crate::taking::{append, take_in};
+use crate::taking::{append, pass_on, take_in};
 use enet_codec::{Command, Packet, Refusal, Stop};
 use enet_receiver::{ArrivingData, Foresight, Incoming};
 use enet_unsequenced::Groups;
@@ -235,6 +236,36 @@ impl Inbox {
         let Some(arriving) = ArrivingData::of(command) else {
             unreachable!()
         };
+        self.pass_on(arriving, what) || self.take_in_any(arriving, what)
+    }
+
+    /// Takes such a command in where its packet comes alone, and has that wait to be taken. False, with nothing changed, where it
+    /// doesn't come alone or memory is refused.
+    fn pass_on(&mut self, arriving: ArrivingData<'_>, what: Foreseen) -> bool
+        requires foreseen { foreseen_sequenced self.old arriving.head.channel (Some (data_command arriving)) ≡ Ok what }
+        requires kept { what.kept ≡ true }
+        ensures taken { IsTrue result → self.new ≡ (sequenced self.old arriving.entry.head.channel (Some (data_command arriving.entry))).after }
+        ensures unchanged { result ≡ false → self.new ≡ self.old }
+    {
+        if what.dispatches != 1 {
+            return false;
+        }
+        let receiver = &mut self.receivers[arriving.head.channel as usize];
+        let Some(bytes) = pass_on(receiver, &mut self.untaken, arriving) else {
+            return false;
+        };
+        self.waiting += bytes;
+        true
+    }
+
+    /// Takes any such command in. It stays a function of its own, so that its callers stay short enough to become part of theirs.
+    #[inline(never)]
+    fn take_in_any(&mut self, arriving: ArrivingData<'_>, what: Foreseen) -> bool
+        requires foreseen { foreseen_sequenced self.old arriving.head.channel (Some (data_command arriving)) ≡ Ok what }
+        requires kept { what.kept ≡ true }
+        ensures taken { IsTrue result → self.new ≡ (sequenced self.old arriving.entry.head.channel (Some (data_command arriving.entry))).after }
+        ensures unchanged { result ≡ false → self.new ≡ self.old }
+    {
         let full = self.is_full();
         let receiver = &mut self.receivers[arriving.head.channel as usize];
         let before = receiver.held();

@@ -1,11 +1,12 @@
 //! How what comes is put to the packets that wait to be taken.
 
-ghost use Rattle.std.specs.Prelude.{◌≡◌, ◌+◌, ◌++◌, ◌≤◌, [], ◌∷◌, All, IsTrue, IfSome, IfNone, Some, false, length, map};
+ghost use Rattle.std.specs.Prelude.{◌≡◌, ◌+◌, ◌++◌, ◌≤◌, [], ◌∷◌, All, Bool, IsTrue, IfSome, IfNone, Some, false, length, map};
 ghost use Rattle.std.specs.VecDeque.{deque_len, deque_capacity};
 ghost use Rattle.enet_codec.specs.declared.packet.Packet.{Packet};
 ghost use Rattle.enet_receiver.specs.ArrivingData.{data_command};
 ghost use Rattle.enet_receiver.specs.declared.took.Took.TheVariants.{Held};
-ghost use Rattle.enet_receiver.specs.Foresight.{outcome_for, after_command, foreseen};
+ghost use Rattle.enet_receiver.specs.Foresight.{outcome_for, after_command, foreseen, WouldBeHeld};
+ghost use Rattle.enet_receiver.specs.Receiver.{held_bytes};
 ghost use Rattle.enet_inbox.specs.DataEffect.{packet_of, emptied};
 ghost use Rattle.enet_inbox.specs.Invariant.{IsShort};
 ghost use Rattle.enet_inbox.specs.Private.Invariant.{bytes_in};
@@ -61,6 +62,36 @@ pub(crate) fn take_in(
         return None;
     }
     Some(hand_over(receiver, untaken))
+}
+
+/// Takes a command in that the receiver would take in, where its packet comes alone, and puts that to the untaken ones at once.
+/// Answers how many bytes it has; None, with nothing changed, where it doesn't come alone or memory is refused.
+pub(crate) fn pass_on(
+    receiver: &mut Incoming,
+    untaken: &mut VecDeque<Packet>,
+    arriving: ArrivingData<'_>,
+) -> Option<u128>
+    requires held { WouldBeHeld receiver.old (Some (data_command arriving)) }
+    requires short { All IsShort untaken.old.items }
+    ensures receiver { IfSome result (λ _. (full : Bool) → outcome_for receiver.old (Some (data_command arriving.entry)) full ≡ Held
+        → receiver.new ≡ emptied (after_command receiver.old (Some (data_command arriving.entry)) full)) }
+    ensures untaken { IfSome result (λ _. (full : Bool) → outcome_for receiver.old (Some (data_command arriving.entry)) full ≡ Held
+        → untaken.new.items ≡ untaken.old.items ++ map (packet_of receiver.old.channel) (after_command receiver.old (Some (data_command arriving.entry)) full).receiver.dispatched) }
+    ensures bytes { IfSome result (λ bytes. bytes_in untaken.new.items ≡ bytes_in untaken.old.items + bytes) }
+    ensures short { All IsShort untaken.new.items }
+    ensures as_much_held { held_bytes receiver.new.receiver ≡ held_bytes receiver.old.receiver }
+    ensures same_receiver { IfNone result (receiver.new ≡ receiver.old) }
+    ensures same_untaken { IfNone result (untaken.new.items ≡ untaken.old.items) }
+{
+    if untaken.reserve(1).is_err() {
+        return None;
+    }
+    let Some(packet) = receiver.pass_on(arriving) else {
+        return None;
+    };
+    let bytes = packet.body.len() as u128;
+    untaken.push_back_reserved(packet);
+    Some(bytes)
 }
 
 /// Adds an unsequenced packet, where memory is not refused.

@@ -1,5 +1,5 @@
 -- A whole packet that comes in its place is dispatched as if it had been held, or had waited.
-use Rattle.std.proofs.Common.{◌≡◌, ℕ, ◌+◌, ◌<◌, ◌&&◌, ◌||◌, ltb, leb, eqb, true, false, cond, [], ◌∷◌, ◌++◌, List, refl, sym, ap, subst, ◌∙◌, arith, Option, Some, None, unwrap_or, append-nil}
+use Rattle.std.proofs.Common.{◌≡◌, ℕ, ◌+◌, ◌<◌, ◌&&◌, ◌||◌, ltb, leb, eqb, true, false, cond, [], ◌∷◌, ◌++◌, refl, sym, ap, subst, ◌∙◌, arith, Option, Some, None, unwrap_or, append-nil}
 use Rattle.std.specs.Prelude.{nat_lt}
 use Rattle.std.specs.Ordering.{nat_cmp}
 use Rattle.std.specs.Cmp.{nat_cmp_total}
@@ -14,7 +14,6 @@ use Rattle.enet_fragment.specs.DataCommand.{piece_or_only, fragment_place}
 use Rattle.enet_fragment.proofs.Laws.{single-made, joined-whole_of}
 use Rattle.enet_fragment.specs.declared.data.DataCommand.{DataCommand}
 use Rattle.enet_packets.specs.declared.incoming_packet.IncomingPacket.{IncomingPacket}
-use Rattle.enet_packets.specs.declared.incoming_packet.Dispatched.{Dispatched}
 use Rattle.enet_packets.specs.Packets.{Lines, handed_out, line_at, with_line, fresh, last_fresh, still_ahead}
 use Rattle.enet_packets.proofs.Maps.{entries-empty, retained, retained-empty, remove-insert, remove-absent}
 use Rattle.enet_packets.proofs.LineLemmas.{with_line-some, with_line-none, len-insert_some, len_nothing}
@@ -23,11 +22,10 @@ use Rattle.enet_receiver.specs.Laws.{HavePieces}
 use Rattle.enet_receiver.specs.Invariant.{Keeps}
 use Rattle.enet_receiver.specs.DataOutcome.{came_at, is_behind, flags_of, earlier_or_new, with_more, with_added}
 use Rattle.enet_receiver.specs.ReceiverParts.{receiver_of}
-use Rattle.enet_receiver.specs.Private.ReceiverParts.{with_stored, with_kept}
-use Rattle.enet_receiver.specs.Foresight.{ReceivingEnd}
+use Rattle.enet_receiver.specs.Private.ReceiverParts.{with_stored}
 use Rattle.enet_receiver.specs.Private.Admitted.{Admitted, IsInside}
 use Rattle.enet_receiver.specs.Private.Next.{only_packet}
-use Rattle.enet_receiver.specs.Private.InPlace.{ComesAlone, with_handed_out}
+use Rattle.enet_receiver.specs.Private.InPlace.{ComesAlone}
 use Rattle.enet_receiver.proofs.LineLemmas.{Line, line_at-same}
 use Rattle.enet_receiver.proofs.Admission.{piece_sound, Keeps-stored}
 use Rattle.enet_receiver.proofs.Keeping.{Keeps-all_released}
@@ -157,11 +155,7 @@ handed_out_is most r c place a there =
       | false ↦ λ t at. ap (λ p. receiver_of p c.unreliable r.held r.waiting (r.dispatched ++ handed_out (only_packet c) ∷ [])) at ∙ unreliable_out most r c place a there t at
     ] refl there.at
 
--- what is dispatched at once is what would be kept
-pub in_place_kept : (e : ReceivingEnd) (c : DataCommand) (place : ℕ) → Admitted e.max_packet e.receiver c place → ComesAlone e.receiver c place → with_handed_out e c place ≡ with_kept e c place
-in_place_kept e c place a there = ap (λ (r : Receiver). record e { receiver = r }) (handed_out_is e.max_packet e.receiver c place a there)
-
--- and keeps what a receiver keeps
+-- it keeps what a receiver keeps
 pub in_place_keeps : (most : ℕ) (r : Receiver) (c : DataCommand) (place : ℕ) → Keeps most r → IsInside r.front place → c.unreliable < 65536 → Admitted most r c place → ComesAlone r c place
     → Keeps most (receiver_of place (cond c.reliable 0 c.unreliable) r.held r.waiting (r.dispatched ++ handed_out (only_packet c) ∷ []))
 in_place_keeps most r c place k inside count a there =
@@ -174,8 +168,3 @@ only_body c single =
     ap (λ (f : Option Fragment). let p : Fragment = piece_or_only f c.number c.body in with_piece (nothing_yet p.count p.total) (fragment_place p c.body) c.body) single
     ∙ single-made c.body in
     λ i. record { flags = flags_of c; body = (ap (λ (m : PartialPacket). joined m.pieces) alone ∙ joined-whole_of c.body 1 (Some 0) (omega arith)) i }
-
-pub out_is : (before room after : List Dispatched) (c : DataCommand) (flags : ℕ) (body : List ℕ) → room ≡ before → after ≡ room ++ record { flags = flags; body = body } ∷ []
-    → flags ≡ flags_of c → body ≡ c.body → c.fragment ≡ None → after ≡ before ++ handed_out (only_packet c) ∷ []
-out_is before room after c flags body same pushed flagged is single =
-    pushed ∙ (λ i. same i ++ (let d : Dispatched = record { flags = flagged i; body = is i } in d) ∷ []) ∙ ap (λ (d : Dispatched). before ++ d ∷ []) (sym (only_body c single))

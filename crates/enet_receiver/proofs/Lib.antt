@@ -16,5 +16,6 @@ pub mod Ordered
 pub mod InPlace
 pub mod AtOnce
 pub mod Taken
+pub mod PassedOn
 pub mod Answered
 pub mod Sequenced

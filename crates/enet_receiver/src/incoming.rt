@@ -1,6 +1,6 @@
 //! One channel's receiver.
 
-ghost use Rattle.std.specs.Prelude.{◌≡◌, ◌≢◌, ◌<◌, ◌^◌, ◌+◌, [], Bool, false, if◌then◌else◌, Ok, Some, None, IfOk, IfSome, IfErr, IsTrue, MatchOption, length};
+ghost use Rattle.std.specs.Prelude.{◌≡◌, ◌≢◌, ◌<◌, ◌^◌, ◌+◌, [], Bool, false, if◌then◌else◌, Ok, Some, None, IfOk, IfSome, IfNone, IfErr, IsTrue, MatchOption, length};
 ghost use Rattle.std.specs.Option.{option_copied};
 ghost use Rattle.enet_codec.specs.Message.{view};
 ghost use Rattle.enet_seq.specs.Numbering.{wire};
@@ -11,7 +11,7 @@ ghost use Rattle.enet_receiver.specs.ArrivingData.{data_command};
 ghost use Rattle.enet_receiver.specs.Private.Admitted.{Admitted, IsInside};
 ghost use Rattle.enet_receiver.specs.ReceiverParts.{with_first};
 ghost use Rattle.enet_receiver.specs.Private.ReceiverParts.{with_kept, grown_at, answered_with};
-ghost use Rattle.enet_receiver.specs.Private.InPlace.{ComesAlone, GoesAtOnce, with_handed_out};
+ghost use Rattle.enet_receiver.specs.Private.InPlace.{ComesAlone, GoesAtOnce, with_moved, only_packet_from};
 ghost use Rattle.enet_receiver.specs.Private.Walk.{Completes};
 ghost use Rattle.enet_receiver.specs.Receiver.{held_bytes, cleared};
 ghost use Rattle.enet_receiver.specs.DataOutcome.{outcome, outcome_of, place_read, came_at, came_before, is_behind, is_handled, dispatch_count};
@@ -248,6 +248,25 @@ impl Incoming {
         self.keep(arriving, arriving.own_place())
     }
 
+    /// Takes a command in of which `foresee_data` told that it would be held, and hands its packet out at once, where that comes
+    /// alone: the next one in order or an unreliable one of the front, whole, while nothing is held, waits or was dispatched and
+    /// not popped. It is the packet that `pop` would give after `take_in`, and none is left to pop. None, with nothing changed,
+    /// where it doesn't come alone or memory is refused.
+    pub fn pass_on(&mut self, arriving: ArrivingData<'_>) -> Option<Packet>
+        requires { WouldBeHeld self.old (Some (data_command arriving)) }
+        ensures taken { IfSome result (λ packet. (full : Bool) → outcome_for self.old (Some (data_command arriving.entry)) full ≡ Took.Held
+            → after_command self.old (Some (data_command arriving.entry)) full ≡ with_first self.new packet) }
+        ensures channel { IfSome result (λ packet. packet.channel ≡ self.old.channel) }
+        ensures none_left { IfSome result (λ _. self.new.receiver.dispatched ≡ []) }
+        ensures unchanged { IfNone result (self.new ≡ self.old) }
+        ensures bytes { held_bytes self.new.receiver ≡ held_bytes self.old.receiver }
+    {
+        if !self.dispatched.is_empty() || !self.comes_alone(arriving) {
+            return None;
+        }
+        self.hand_out(arriving)
+    }
+
     /// The bytes of the packets that are held or wait until those before them have come, each counted whole from its first
     /// piece on. Dispatched packets do not count, whether they were popped or not.
     pub fn held(&self) -> u64
@@ -293,25 +312,9 @@ impl Incoming {
         }
     }
 
-    /// Keeps a command that is taken in, and dispatches what that completes. Where nothing is held and nothing waits, the next
-    /// packet in order, where it comes whole, is dispatched without being held, and so is an unreliable one of the front. False,
-    /// with nothing changed, where memory is refused.
+    /// Keeps a command that is taken in, and dispatches what that completes. False, with nothing changed, where memory is
+    /// refused.
     fn keep(&mut self, arriving: ArrivingData<'_>, place: u16) -> bool
-        requires short { length arriving.payload.now < 2 ^ 32 }
-        requires admitted { Admitted self.old.max_packet self.old.receiver (data_command arriving) place }
-        requires inside { IsInside self.old.receiver.front place }
-        ensures kept { IsTrue result → self.new ≡ with_kept self.old (data_command arriving.entry) place }
-        ensures unchanged { result ≡ false → self.new ≡ self.old }
-    {
-        if self.comes_alone(arriving, place) {
-            return self.dispatch_in_place(arriving, place);
-        }
-        self.keep_in_full(arriving, place)
-    }
-
-    /// The same of any such command. It stays a function of its own, as `foresee_in_full` does.
-    #[inline(never)]
-    fn keep_in_full(&mut self, arriving: ArrivingData<'_>, place: u16) -> bool
         requires short { length arriving.payload.now < 2 ^ 32 }
         requires admitted { Admitted self.old.max_packet self.old.receiver (data_command arriving) place }
         requires inside { IsInside self.old.receiver.front place }
@@ -342,11 +345,11 @@ impl Incoming {
 
     /// Whether a command is a whole packet that is dispatched as it comes, while nothing is held and nothing waits: the next
     /// reliable one in order, or an unreliable one that goes with the front.
-    fn comes_alone(&self, arriving: ArrivingData<'_>, place: u16) -> bool
-        ensures { IsTrue result → ComesAlone self.now.receiver (data_command arriving.entry) place }
+    fn comes_alone(&self, arriving: ArrivingData<'_>) -> bool
+        ensures { IsTrue result → ComesAlone self.now.receiver (data_command arriving.entry) arriving.entry.head.number }
     {
         arriving.fragment.is_none()
-            && place == self.place_in_order(arriving.reliable)
+            && arriving.head.number == self.place_in_order(arriving.reliable)
             && self.held.len() == 0
             && self.waiting.is_empty()
     }
@@ -366,33 +369,30 @@ impl Incoming {
     fn goes_at_once(&self, arriving: ArrivingData<'_>) -> bool
         ensures { IsTrue result → GoesAtOnce self.now.max_packet self.now.receiver (data_command arriving.entry) }
     {
-        let place = arriving.head.number;
         arriving.payload.len() <= self.max_packet as usize
-            && self.comes_alone(arriving, place)
-            && !self.is_behind(arriving, place)
+            && self.comes_alone(arriving)
+            && !self.is_behind(arriving, arriving.head.number)
     }
 
-    /// Dispatches a packet of one command that comes in its place. False, with nothing changed, where memory is refused.
-    fn dispatch_in_place(&mut self, arriving: ArrivingData<'_>, place: u16) -> bool
-        requires admitted { Admitted self.old.max_packet self.old.receiver (data_command arriving) place }
-        requires inside { IsInside self.old.receiver.front place }
-        requires alone { ComesAlone self.old.receiver (data_command arriving) place }
-        ensures dispatched { IsTrue result → self.new ≡ with_handed_out self.old (data_command arriving.entry) place }
-        ensures unchanged { result ≡ false → self.new ≡ self.old }
+    /// Hands a packet of one command out that comes in its place. None, with nothing changed, where memory is refused.
+    fn hand_out(&mut self, arriving: ArrivingData<'_>) -> Option<Packet>
+        requires admitted { Admitted self.old.max_packet self.old.receiver (data_command arriving) arriving.head.number }
+        requires inside { IsInside self.old.receiver.front arriving.head.number }
+        requires alone { ComesAlone self.old.receiver (data_command arriving) arriving.head.number }
+        ensures moved { IfSome result (λ _. self.new ≡ with_moved self.old (data_command arriving.entry)) }
+        ensures packet { IfSome result (λ packet. packet ≡ only_packet_from self.old.channel (data_command arriving.entry)) }
+        ensures unchanged { IfNone result (self.new ≡ self.old) }
     {
-        if self.dispatched.reserve(1).is_err() {
-            return false;
-        }
         let Ok(body) = Bytes::copy_from_slice(self.alloc, arriving.payload) else {
-            return false;
+            return None;
         };
-        self.dispatched.push_back_reserved(Dispatched {
+        self.front = arriving.head.number;
+        self.unreliable = arriving.last_unreliable();
+        Some(Packet {
+            channel: self.channel,
             flags: arriving.flags(),
             body,
-        });
-        self.front = place;
-        self.unreliable = arriving.last_unreliable();
-        true
+        })
     }
 
     /// What is foreseen of a command of this outcome.

@@ -4,16 +4,17 @@
 //! Proved, each exactly by the definitions of specs/Receiver and specs/DataOutcome: `Incoming`'s four receptions (`reliable`,
 //! `unreliable`, `fragment`, `unreliable_fragment`: the first outcome that applies, `took`, and the receiver after it,
 //! `held`; every other outcome changes nothing, `unchanged`; Memory comes only where the command would be held, `memory`),
-//! `foresee`, `foresee_data` (outcome, whether the window lets it be acknowledged, how many packets it dispatches), `take_in` (what was
-//! foreseen to be held is, and is not looked at again), `held`, `pop`, `clear`, `open`; and `ArrivingData::of` (which sequenced
-//! data command a command is). Laws: as many turns as packets are held are enough to dispatch all that is due
-//! (`turns_suffice`), and what was dispatched before makes no difference (`earlier_dispatches_do_not_matter`); what comes in
-//! sequence never has the flags 2 of an unsequenced packet (`sequenced_has_other_flags`). Inside, by the invariants of `Held` and
-//! `Block`: a number is marked exactly where a packet is held under it.
+//! `foresee`, `foresee_data` (outcome, whether the window lets it be acknowledged, how many packets it dispatches), `take_in` (what
+//! was foreseen to be held is, and is not looked at again), `pass_on` (the same, where it hands the one packet out that `take_in`
+//! would dispatch), `held`, `pop`, `clear`, `open`; and `ArrivingData::of` (which sequenced data command a command is). Laws: as
+//! many turns as packets are held are enough to dispatch all that is due (`turns_suffice`), and what was dispatched before makes
+//! no difference (`earlier_dispatches_do_not_matter`); what comes in sequence never has the flags 2 of an unsequenced packet
+//! (`sequenced_has_other_flags`). Inside, by the invariants of `Held` and `Block`: a number is marked exactly where a packet is
+//! held under it.
 //! Only tested, in `check_numbers` and `check_peer`: that calls succeed with ample memory, and the worked scripts of one
-//! channel. Neither: that a block's marks go with the last number that is held of it, what look-ups the marks save, and that, while
-//! nothing is held and nothing waits, a whole packet is put into no map that is dispatched as it comes: the next one in order, or an
-//! unreliable one of the front.
+//! channel. Neither: that a block's marks go with the last number that is held of it, what look-ups the marks save, and that
+//! `pass_on` gives a packet, with ample memory, wherever one comes alone: the next one in order or an unreliable one of the front,
+//! whole, while nothing is held, waits or was dispatched and not popped.
 #![tactic(auto)]
 
 mod arriving_data;

@@ -1,0 +1,68 @@
+use Rattle.std.proofs.Common.{◌≡◌, ◌<◌, ◌+◌, ◌-◌, ◌^◌, length, refl, ap, ◌∙◌, arith, Some}
+use Rattle.std.specs.Prelude.{slice_set}
+use Rattle.enet_receiver.specs.ArrivingData.{data_command}
+use Rattle.enet_receiver.specs.Receiver.{held_bytes}
+use Rattle.enet_inbox.specs.Inbox.{Inbox}
+use Rattle.enet_inbox.specs.DataEffect.{sequenced}
+use Rattle.enet_inbox.specs.Invariant.{KeepsInbox}
+use Rattle.enet_inbox.specs.contracts.inbox.Inbox.{the_view}
+use Rattle.enet_inbox.proofs.Outcomes.{foresight_in}
+use Rattle.enet_inbox.proofs.Keeping.{Reached, taken_at, handed_at, kept_after, held_counted, bounded}
+use Rattle.enet_inbox.proofs.inbox.Inbox.take_in_any.Goals.{After-index_mut-receiver, After-from-2}
+use Rattle.enet_inbox.proofs.inbox.Inbox.take_in_any.Goals as goal
+
+reached : (c : After-index_mut-receiver) → Reached (the_view c.self.inside) c.args.arriving.head c.args.arriving.head (Some (data_command c.args.arriving)) c.args.what c.index_mut-receiver.result.now c.is_full-full.result
+reached c =
+    taken_at c.args.self.now (the_view c.self.inside) c.self.inside.waiting c.args.arriving.head c.args.arriving.head (Some (data_command c.args.arriving)) c.args.what c.index_mut-receiver.result.now c.is_full-full.result c.self.view_is c.self.invariant refl c.index_mut-receiver.ensures.value c.is_full-full.ensures c.requires.foreseen c.requires.kept
+
+-- the inbox keeps what it keeps, with what the receiver holds counted anew, and the counter fits
+kept : (c : After-from-2) → Reached (the_view c.self.inside) c.args.arriving.head c.args.arriving.head (Some (data_command c.args.arriving)) c.args.what c.index_mut-receiver.result.now c.is_full-full.result
+    → KeepsInbox (record (the_view c.self.inside) { receivers = slice_set c.self.inside.receivers.items c.args.arriving.head.channel c.take_in.new.receiver; untaken = c.take_in.new.untaken.items })
+    (c.self.inside.waiting - c.from.result + c.from-2.result + c.in-Some.bytes) × (c.self.inside.waiting - c.from.result + c.from-2.result + c.in-Some.bytes < 2 ^ 127)
+kept c t =
+    let new = c.take_in.new.receiver in
+    let qs = c.take_in.new.untaken.items in
+    let was : c.from.result ≡ held_bytes c.index_mut-receiver.result.now.receiver = c.from.ensures ∙ c.held-before.ensures in
+    let now : c.from-2.result ≡ held_bytes new.receiver = c.from-2.ensures ∙ c.held.ensures in
+    let k = kept_after (the_view c.self.inside) c.self.inside.waiting c.args.arriving.head.channel c.index_mut-receiver.result.now new (Some (data_command c.args.arriving)) c.is_full-full.result qs c.in-Some.bytes
+    c.from.result c.from-2.result c.self.invariant t.0 c.index_mut-receiver.ensures.value t.2 c.in-Some.ensures.receiver was now (omega arith) c.in-Some.ensures.short c.in-Some.ensures.bytes in
+    let few : length qs < 2 ^ 63 = omega (arith, c.take_in.new.untaken.ok.0, c.take_in.new.untaken.small.0, c.take_in.new.untaken.small.1) in
+    (k, bounded _ _ k few)
+
+pub take_in-requires-clause-held : goal.take_in-requires-clause-held
+take_in-requires-clause-held c = (reached (goal.at.take_in-requires-clause-held c).After-index_mut-receiver).1.outcome
+
+pub take_in-requires-clause-dispatches : goal.take_in-requires-clause-dispatches
+take_in-requires-clause-dispatches c = (reached (goal.at.take_in-requires-clause-dispatches c).After-index_mut-receiver).1.dispatches
+
+pub take_in-requires-clause-none_left : goal.take_in-requires-clause-none_left
+take_in-requires-clause-none_left c = (reached (goal.at.take_in-requires-clause-none_left c).After-index_mut-receiver).2.none_left
+
+pub overflow_sub-self : goal.overflow_sub-self
+overflow_sub-self c =
+    let d = c.index_mut-receiver.result.now in
+    let t = reached (goal.at.overflow_sub-self c).After-index_mut-receiver in
+    let was : c.from.result ≡ held_bytes d.receiver = c.from.ensures ∙ c.held-before.ensures in
+    let counted = held_counted (the_view c.self.inside) c.self.inside.waiting c.args.arriving.head.channel d c.self.invariant t.0 c.index_mut-receiver.ensures.value in
+    omega arith
+
+pub overflow_add-self : goal.overflow_add-self
+overflow_add-self c =
+    let at = goal.at.overflow_add-self c in
+    let most = (kept at.After-from-2 (reached at.After-index_mut-receiver)).1 in
+    omega arith
+
+pub overflow_add-self-2 : goal.overflow_add-self-2
+overflow_add-self-2 c =
+    let at = goal.at.overflow_add-self-2 c in
+    let most = (kept at.After-from-2 (reached at.After-index_mut-receiver)).1 in
+    omega arith
+
+pub invariant_of-self-2 : goal.invariant_of-self-2
+invariant_of-self-2 c = let at = goal.at.invariant_of-self-2 c in (kept at.After-from-2 (reached at.After-index_mut-receiver)).0
+
+pub returns-clause-taken : goal.returns-clause-taken
+returns-clause-taken c = λ _.
+    let t = reached (goal.at.returns-clause-taken c).After-index_mut-receiver in
+    handed_at (the_view c.self.inside) c.args.arriving.head c.args.arriving.head (Some (data_command c.args.arriving)) (foresight_in c.args.what) c.index_mut-receiver.result.now c.take_in.new.receiver c.is_full-full.result c.take_in.new.untaken.items refl t.1 t.2 c.in-Some.ensures.receiver c.in-Some.ensures.untaken
+    ∙ ap (λ (x : Inbox). (sequenced x c.args.arriving.head.channel (Some (data_command c.args.arriving))).after) c.self.view_is
