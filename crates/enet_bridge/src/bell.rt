@@ -17,6 +17,8 @@ pub struct Bell {
     asleep: AtomicBool,
     // The waiting thread found no order lately. It may still be true where orders were handed over while it looked.
     idle: AtomicBool,
+    // Orders are likely to come soon, since this was last asked.
+    expects: AtomicBool,
     waker: Waker,
 }
 
@@ -26,6 +28,7 @@ impl Bell {
             rung: AtomicBool::new(false),
             asleep: AtomicBool::new(false),
             idle: AtomicBool::new(true),
+            expects: AtomicBool::new(false),
             waker: Waker::new(registry, WAKER)?,
         })
     }
@@ -57,6 +60,15 @@ impl Bell {
     // Orders are about to be handed over, or none was found.
     pub(crate) fn set_idle(&self, idle: bool) {
         self.idle.store(idle, SeqCst);
+    }
+
+    pub(crate) fn expect(&self) {
+        self.expects.store(true, SeqCst);
+    }
+
+    // Whether orders were said to come soon, since this was last asked.
+    pub(crate) fn is_expecting(&self) -> bool {
+        self.expects.swap(false, SeqCst)
     }
 
     pub(crate) fn is_idle(&self) -> bool {

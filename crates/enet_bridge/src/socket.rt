@@ -10,12 +10,12 @@ use libc::net as c;
 use mio::net::UdpSocket;
 use mio::{Events, Interest, Poll, Token};
 use std::alloc::Global;
-use std::io;
 use std::io::ErrorKind;
 use std::net::{IpAddr, Ipv4Addr, Net, SocketAddr};
 use std::os::fd::AsRawFd;
 use std::sync::{Arc, Wait};
 use std::time::{Clock, Duration, Instant};
+use std::{io, thread};
 
 const SOCKET: Token = Token(0);
 
@@ -24,6 +24,12 @@ const LONGEST: u64 = 5;
 
 /// The longest wait while a datagram would have blocked, in milliseconds.
 const LONGEST_BLOCKED: u64 = 1;
+
+/// So many microseconds, and so many looks, the wire waits at most for orders that are expected before it sleeps: a thread that sleeps
+/// has to be woken.
+const MOMENT: u64 = 200;
+
+const LOOKS: u32 = 1000;
 
 /// How many bytes of datagrams the system is asked to keep until they are received, and as many until they are sent.
 const BUFFER: u32 = 4_194_304;
@@ -202,6 +208,24 @@ impl MioWire {
         for event in self.events.iter() {
             if event.token() == SOCKET {
                 return true;
+            }
+        }
+        false
+    }
+
+    // Whether the bell is rung within a moment, in which other threads go first.
+    fn hears_soon<R: Wait + Clock>(&self, rt: &R) -> bool {
+        let Ok(start) = Instant::now(rt) else {
+            return false;
+        };
+        for _ in 0..LOOKS {
+            thread::yield_now();
+            if self.bell.hear() {
+                return true;
+            }
+            match start.elapsed(rt) {
+                Ok(elapsed) if elapsed < Duration::from_micros(MOMENT) => {}
+                _ => return false,
             }
         }
         false
@@ -398,7 +422,8 @@ impl Wire for MioWire {
         if self.failures == u64::MAX {
             return Ok(0);
         }
-        if !self.is_wanted() {
+        let expects = self.bell.is_expecting();
+        if !self.is_wanted() && !(expects && self.hears_soon(rt)) {
             if let Err(why) = self.sleep() {
                 return self.fault(why);
             }

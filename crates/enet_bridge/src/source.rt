@@ -22,6 +22,9 @@ pub trait Source {
     /// The next order, or None where there is none at a moment of the call.
     fn next<R: Wait>(&mut self, rt: &R) -> Option<Submission>
         ensures { gives self.old result self.new };
+
+    /// The service calls it where orders are likely to come soon.
+    fn expect(&self);
 }
 
 /// A list of orders, given from its front. A contract sees those that are left.
@@ -58,6 +61,8 @@ impl Source for MemorySource {
     fn next<R: Wait>(&mut self, _rt: &R) -> Option<Submission> {
         self.left.pop_front()
     }
+
+    fn expect(&self) {}
 }
 
 /// The submit queue with its drain. After 256 orders in a row it rings the bell of the service's wire, so that the rest doesn't
@@ -117,5 +122,9 @@ impl<'a> Source for QueueSource<'a> {
             self.bell.ring();
         }
         item
+    }
+
+    fn expect(&self) {
+        self.bell.expect();
     }
 }

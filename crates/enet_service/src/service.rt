@@ -15,6 +15,9 @@ use enet_bridge::{Sink, Source, Wire};
 use enet_codec::{Event, Refusal};
 use std::sync::Wait;
 
+/// Where events come after so many milliseconds, whoever takes them has little else to do, and their orders are worth a wait.
+const CALM: u32 = 2;
+
 /// A host, and the event that waits for room in the sink, if there is one.
 #[derive(Drop)]
 pub struct Service<H> {
@@ -69,6 +72,9 @@ impl<H: Core> Service<H> {
         }
         let after = tell_all(rt, &mut self.host, &mut self.waiting, sink);
         sink.announce();
+        if ms >= CALM && after > 0 {
+            source.expect();
+        }
         let events = before.saturating_add(after);
         Ok(report_of(orders, heard.received, sent.sent, sent.lost, events))
     }
