@@ -27,19 +27,21 @@ compile() {
     "${CC:-cc}" -std=gnu11 -O2 -g -fPIC -Wall -Wextra ${given[@]+"${given[@]}"} "$@"
 }
 
-# The kit's part of the C library's calls (malloc and memcpy, by names of its own) goes into the library, so that nothing else is linked.
+# The kit's part that calls malloc goes into the library, so that nothing else is linked; where libenet's API is, c/pool.c in its place.
 compile -c c/gofnjerta.c -o "$room/gofnjerta.o"
-mkdir "$room/parts"
-(cd "$room/parts" && ar x "$archive" && ar x "$kit/c/liblibc_c.a")
+mkdir "$room/parts" "$room/memory"
+(cd "$room/parts" && ar x "$archive")
+(cd "$room/memory" && ar x "$kit/c/liblibc_c.a")
 rm -f "$folder/lib/libgofnjerta.a"
-ar rcs "$folder/lib/libgofnjerta.a" "$room/gofnjerta.o" "$room"/parts/*.o
+ar rcs "$folder/lib/libgofnjerta.a" "$room/gofnjerta.o" "$room"/parts/*.o "$room"/memory/*.o
 compile -shared -Wl,-soname,libgofnjerta.so -Wl,--version-script=c/gofnjerta.map -o "$folder/lib/libgofnjerta.so" "$room/gofnjerta.o" \
-    "$room"/parts/*.o
+    "$room"/parts/*.o "$room"/memory/*.o
 compile -Ic -c c/enet.c -o "$room/enet.o"
+compile -c c/pool.c -o "$room/pool.o"
 rm -f "$folder/lib/libgofnjerta_enet.a"
-ar rcs "$folder/lib/libgofnjerta_enet.a" "$room/enet.o" "$room/gofnjerta.o" "$room"/parts/*.o
+ar rcs "$folder/lib/libgofnjerta_enet.a" "$room/enet.o" "$room/gofnjerta.o" "$room/pool.o" "$room"/parts/*.o
 compile -shared -Wl,-soname,libenet.so.7 -Wl,--version-script=c/enet/enet.map -o "$folder/lib/gofnjerta/libenet.so.7" "$room/enet.o" \
-    "$room/gofnjerta.o" "$room"/parts/*.o
+    "$room/gofnjerta.o" "$room/pool.o" "$room"/parts/*.o
 cp c/gofnjerta.h "$folder/include/"
 cp c/enet/enet.h "$folder/include/gofnjerta/enet/"
 

@@ -1,8 +1,9 @@
 #!/usr/bin/env bash
 # The library for C and libenet's API over it: `check-c.sh [ARCHIVE]`. ARCHIVE is the proved part, by default crates/enet_c/out/libenet_c.a,
 # which `rt lib` makes there, or after `rt ci` scripts/archive-c.sh. Builds both (scripts/build-c.sh) and runs
-# - the tests of c/tests: the header against the library and bad use (border), two hosts in memory over a lossy net (lossy), and each
-#   allocation failing in turn (memory); plain, with AddressSanitizer and UndefinedBehaviorSanitizer, and under valgrind;
+# - the tests of c/tests: the header against the library and bad use (border), two hosts in memory over a lossy net (lossy), each
+#   allocation failing in turn (memory), and the blocks that the layer keeps (pool); plain, with AddressSanitizer and
+#   UndefinedBehaviorSanitizer, and under valgrind;
 # - the layer: its structures lie as the reference library's header says (layout), what isn't offered is refused, and packets that are sent
 #   while others are let go come as they are (refusals);
 # - conversations of the programs in clients/ that use no more than what is offered, compiled unchanged against c/enet/enet.h, with the
@@ -38,7 +39,8 @@ compile() {
 build_tests() {
     local made=$room/made wrap=-Wl,--wrap=malloc,--wrap=realloc,--wrap=free checked=(-fsanitize=address,undefined -fno-sanitize-recover=all)
     compile border border "$made/lib/libgofnjerta.a" && compile lossy lossy "$made/lib/libgofnjerta.a" &&
-        compile memory memory "$wrap" "$made/lib/libgofnjerta.a" && compile lossy lossy-shared -L"$made/lib" -lgofnjerta &&
+        compile memory memory "$wrap" "$made/lib/libgofnjerta.a" && compile pool pool -pthread "$wrap" c/pool.c &&
+        compile pool pool-checked -pthread "$wrap" "${checked[@]}" c/pool.c && compile lossy lossy-shared -L"$made/lib" -lgofnjerta &&
         compile refusals refusals "$made/lib/libgofnjerta_enet.a" && compile layout layout-ours &&
         cc c/tests/layout.c -o "$room/layout-theirs" &&
         compile tutorial our-tutorial "$made/lib/libgofnjerta_enet.a" && cc -Wall -Wextra c/tests/tutorial.c -o "$room/tutorial" -lenet &&
@@ -186,12 +188,13 @@ elif ! build_all > "$room/said" 2>&1; then
     fail build "$room/said"
 else
     grind=(valgrind -q --error-exitcode=9 --leak-check=full --errors-for-leak-kinds=definite)
-    for name in border lossy memory refusals border-checked lossy-checked refusals-checked; do
+    for name in border lossy memory pool refusals border-checked lossy-checked pool-checked refusals-checked; do
         try "$name" "$room/$name"
     done
     try lossy-shared env LD_LIBRARY_PATH="$room/made/lib" "$room/lossy-shared"
     try border-valgrind "${grind[@]}" "$room/border"
     try memory-valgrind "${grind[@]}" "$room/memory"
+    try pool-valgrind "${grind[@]}" "$room/pool"
     try refusals-valgrind "${grind[@]}" "$room/refusals"
     try layout diff <("$room/layout-ours") <("$room/layout-theirs")
     meetings

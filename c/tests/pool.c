@@ -1,0 +1,99 @@
+/* c/pool.c: blocks of every size, in bursts, let go by the thread that had them or by another, hold what is written to them, none is
+ * handed out twice, a thread keeps no more of a size than it may, and gives all of them back when it ends. malloc and free are counted
+ * (--wrap). Says what failed; the status is 1 then. */
+#include <pthread.h>
+#include <stdatomic.h>
+#include <stdint.h>
+#include <stdio.h>
+#include <stdlib.h>
+#include <string.h>
+
+enum { BURST = 2000, LONGEST = 200, KEPT = 512 };
+
+typedef struct {
+    size_t is_there;
+    void *at;
+} Tried;
+
+Tried rattle_alloc(size_t size, size_t align);
+Tried rattle_realloc(void *at, size_t before, size_t size, size_t align);
+void rattle_dealloc(void *at);
+
+static atomic_int out;
+
+void *__real_malloc(size_t size);
+void *__real_realloc(void *at, size_t size);
+void __real_free(void *at);
+void *__wrap_malloc(size_t size);
+void *__wrap_realloc(void *at, size_t size);
+void __wrap_free(void *at);
+
+void *__wrap_malloc(size_t size) {
+    out++;
+    return __real_malloc(size);
+}
+
+void *__wrap_realloc(void *at, size_t size) { return __real_realloc(at, size); }
+
+void __wrap_free(void *at) {
+    out -= at != NULL;
+    __real_free(at);
+}
+
+static void expect(int so, const char *what) {
+    if (so) return;
+    printf("pool: %s\n", what);
+    exit(1);
+}
+
+static void *blocks[2][BURST];
+
+static void take(int part, size_t size) {
+    for (int i = 0; i < BURST; i++) {
+        Tried tried = rattle_alloc(size, 8);
+        expect(tried.is_there && tried.at, "no memory");
+        memset(tried.at, (part + 1) * 16 + i % 13, size);
+        blocks[part][i] = tried.at;
+    }
+}
+
+static void give(int part, size_t size) {
+    for (int i = 0; i < BURST; i++) {
+        const uint8_t *block = blocks[part][i];
+        for (size_t k = 0; k < size; k++) expect(block[k] == (part + 1) * 16 + i % 13, "a block was overwritten");
+        rattle_dealloc(blocks[part][i]);
+    }
+}
+
+/* Bursts of each size, of which one part is left for the other thread to let go. */
+static void *work(void *part) {
+    for (size_t size = 0; size <= LONGEST; size++) {
+        take(*(int *)part, size);
+        if (size < LONGEST) give(*(int *)part, size);
+    }
+    return NULL;
+}
+
+int main(void) {
+    static int parts[2] = {0, 1};
+    pthread_t threads[2];
+    int before = out;
+    for (int i = 0; i < 2; i++) expect(pthread_create(&threads[i], NULL, work, &parts[i]) == 0, "no thread");
+    for (int i = 0; i < 2; i++) pthread_join(threads[i], NULL);
+    expect(out - before <= 2 * BURST + 16, "a thread that ended kept blocks");
+    give(0, LONGEST);
+    give(1, LONGEST);
+    take(0, 32);
+    before = out;
+    give(0, 32);
+    expect(before - out == BURST - KEPT, "a thread keeps as many blocks as it may");
+    take(0, 32);
+    expect(out == before, "kept blocks are handed out");
+    give(0, 32);
+    Tried small = rattle_alloc(24, 8);
+    memcpy(small.at, "as it was", 10);
+    Tried large = rattle_realloc(small.at, 24, 4000, 8);
+    expect(large.is_there && strcmp(large.at, "as it was") == 0, "a longer block has the bytes of the shorter one");
+    rattle_dealloc(large.at);
+    return 0;
+}
