@@ -326,9 +326,10 @@ ENetHost *enet_host_create(const ENetAddress *address, size_t peers, size_t chan
     return &layer->host;
 }
 
-/* Gives back the references to packets that were submitted. */
+/* Gives back the references to packets that were submitted. What their callbacks send stays until the next time. */
 static void release(Layer *layer) {
-    for (size_t i = 0; i < layer->sent_count; i++) {
+    size_t count = layer->sent_count;
+    for (size_t i = 0; i < count; i++) {
         ENetPacket *packet = layer->sent[i];
         if (--packet->referenceCount == 0) {
             packet->flags |= ENET_PACKET_FLAG_SENT;
@@ -336,13 +337,15 @@ static void release(Layer *layer) {
             enet_packet_destroy(packet);
         }
     }
-    layer->sent_count = 0;
+    layer->sent_count -= count;
+    if (layer->sent_count) memmove(layer->sent, layer->sent + count, layer->sent_count * sizeof *layer->sent);
     layer->given = layer->staged = NULL;
 }
 
 void enet_host_destroy(ENetHost *host) {
     if (!host) return;
     Layer *layer = layer_of(host);
+    for (size_t i = 0; host->peers && i < host->peerCount; i++) host->peers[i].state = ENET_PEER_STATE_DISCONNECTED; /* no callback sends */
     release(layer);
     for (size_t i = 0; i < layer->ahead_count; i++) enet_packet_destroy(layer->ahead[i].packet);
     enet_host_compress(host, NULL);

@@ -144,6 +144,21 @@ static void ENET_CALLBACK send_on(ENetPacket *packet) {
     sent_on += enet_peer_send(next_to, 0, more) == 0;
 }
 
+static int made, let_go;
+
+/* Where a packet is let go, sends another one of this kind, as long as that is taken. */
+static void ENET_CALLBACK send_again(ENetPacket *packet) {
+    (void)packet;
+    let_go++;
+    ENetPacket *more = enet_packet_create("again", 5, 0);
+    made++;
+    more->freeCallback = send_again;
+    if (enet_peer_send(next_to, 0, more) == 0) return;
+    more->freeCallback = NULL;
+    enet_packet_destroy(more);
+    let_go++;
+}
+
 /* Serves the hosts until the first has so many peers and as many bytes have come to the second and the third, for at most 5 seconds. */
 static void serve(ENetHost *const *hosts, char (*texts)[32], size_t peers, size_t bytes) {
     ENetEvent event;
@@ -181,9 +196,16 @@ static void letting_go(void) {
     give(first, enet_packet_create("once", 4, ENET_PACKET_FLAG_RELIABLE));
     give(first, last);
     serve(hosts, texts, 2, 20);
+    CHECK(enet_host_service(hosts[0], NULL, 0) == 0); /* what the callback sent is let go by the next service */
     CHECK(sent_on == 1 && freed == 1);
     CHECK(!strcmp(texts[0], "bothoncelastmore") && !strcmp(texts[1], "both"));
+    ENetPacket *again = enet_packet_create("again", 5, 0);
+    again->freeCallback = send_again;
+    give(first, again);
+    for (int i = 0; i < 5; i++) CHECK(enet_host_service(hosts[0], NULL, 0) == 0);
+    CHECK(made == 5 && let_go == 5);
     for (int i = 0; i < 3; i++) enet_host_destroy(hosts[i]);
+    CHECK(made == 6 && let_go == 7);
 }
 
 int main(void) {
