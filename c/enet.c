@@ -3,6 +3,7 @@
 #define _GNU_SOURCE
 #include "core.h"
 #include "enet/enet.h"
+#include "pool.h"
 #include <errno.h>
 #include <fcntl.h>
 #include <netdb.h>
@@ -223,9 +224,21 @@ int enet_socketset_select(ENetSocket most, ENetSocketSet *readable, ENetSocketSe
 
 /* -- packets: one block, with the bytes behind the header, until it is resized -- */
 
+/* A packet's block comes from the program's allocator, where it gave one. */
+static void *take_block(size_t size) {
+    if (callbacks.malloc != malloc) return callbacks.malloc(size);
+    Tried tried = rattle_alloc(size, _Alignof(max_align_t));
+    return tried.is_there ? tried.at : NULL;
+}
+
+static void give_block(ENetPacket *packet) {
+    if (callbacks.free == free) rattle_dealloc(packet);
+    else callbacks.free(packet);
+}
+
 ENetPacket *enet_packet_create(const void *data, size_t length, enet_uint32 flags) {
     size_t bytes = flags & ENET_PACKET_FLAG_NO_ALLOCATE ? 0 : length;
-    ENetPacket *packet = enet_malloc(sizeof *packet + bytes);
+    ENetPacket *packet = take_block(sizeof *packet + bytes);
     if (!packet) return NULL;
     *packet = (ENetPacket){.flags = flags, .dataLength = length};
     if (flags & ENET_PACKET_FLAG_NO_ALLOCATE) packet->data = (enet_uint8 *)(uintptr_t)data;
@@ -244,7 +257,7 @@ void enet_packet_destroy(ENetPacket *packet) {
     if (!packet) return;
     if (packet->freeCallback) packet->freeCallback(packet);
     if (has_own_block(packet)) enet_free(packet->data);
-    enet_free(packet);
+    give_block(packet);
 }
 
 int enet_packet_resize(ENetPacket *packet, size_t length) {

@@ -1,6 +1,7 @@
 /* c/pool.c: blocks of every size, in bursts, let go by the thread that had them or by another, hold what is written to them, none is
  * handed out twice, a thread keeps no more of a size than it may, and gives all of them back when it ends. malloc and free are counted
  * (--wrap). Says what failed; the status is 1 then. */
+#include "../pool.h"
 #include <pthread.h>
 #include <stdatomic.h>
 #include <stdint.h>
@@ -9,15 +10,6 @@
 #include <string.h>
 
 enum { BURST = 2000, LONGEST = 200, KEPT = 512 };
-
-typedef struct {
-    size_t is_there;
-    void *at;
-} Tried;
-
-Tried rattle_alloc(size_t size, size_t align);
-Tried rattle_realloc(void *at, size_t before, size_t size, size_t align);
-void rattle_dealloc(void *at);
 
 static atomic_int out;
 
