@@ -49,6 +49,7 @@ typedef struct {
     gofnjerta_config config;   /* the settings that it was opened with */
     bool begun;                /* they stand */
     bool refused;              /* the program asked for what isn't offered */
+    bool releases;             /* callbacks of packets that are let go are being called */
     Slot *slots;
     uint64_t clock, refreshed; /* milliseconds */
     ENetPacket **sent;         /* packets that the program gave away since the last service, each with one reference */
@@ -339,8 +340,11 @@ ENetHost *enet_host_create(const ENetAddress *address, size_t peers, size_t chan
     return &layer->host;
 }
 
-/* Gives back the references to packets that were submitted. What their callbacks send stays until the next time. */
+/* Gives back the references to packets that were submitted. What their callbacks send stays until the next time, also where they serve the
+ * host. */
 static void release(Layer *layer) {
+    if (layer->releases) return;
+    layer->releases = true;
     size_t count = layer->sent_count;
     for (size_t i = 0; i < count; i++) {
         ENetPacket *packet = layer->sent[i];
@@ -353,6 +357,7 @@ static void release(Layer *layer) {
     layer->sent_count -= count;
     if (layer->sent_count) memmove(layer->sent, layer->sent + count, layer->sent_count * sizeof *layer->sent);
     layer->given = layer->staged = NULL;
+    layer->releases = false;
 }
 
 void enet_host_destroy(ENetHost *host) {

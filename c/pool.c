@@ -1,7 +1,9 @@
 /* Memory for the core and for packets where libenet's API is served. A burst of packets takes and lets go more small blocks than the C
  * library has at hand, so each thread keeps those that were let go for the next ones of their size. Every block is one of malloc's. It
  * stands in the place of the kit's part that calls malloc; nothing here is proved. */
+#define _GNU_SOURCE
 #include "pool.h"
+#include <dlfcn.h>
 #include <malloc.h>
 #include <stdbool.h>
 #include <stdint.h>
@@ -40,10 +42,21 @@ static void empty(void *all) {
     }
 }
 
-static void make_ending(void) { has_ending = tss_create(&ending, empty) == thrd_success; }
+/* Blocks are kept only where what gives them tells their sizes too: a program may have a malloc of its own, and no more. */
+static void make_ending(void) {
+    Dl_info gives, tells;
+    bool is_one = dladdr((void *)(uintptr_t)malloc, &gives) && dladdr((void *)(uintptr_t)malloc_usable_size, &tells) &&
+                  gives.dli_fbase == tells.dli_fbase;
+    has_ending = is_one && tss_create(&ending, empty) == thrd_success;
+}
 
-/* The thread that ends the program. */
-__attribute__((destructor)) static void empty_last(void) { empty(shelves); }
+/* The thread that ends the program, or unloads what this is part of. Threads that end later call nothing here. */
+__attribute__((destructor)) static void empty_last(void) {
+    empty(shelves);
+    if (!has_ending) return;
+    has_ending = false;
+    tss_delete(ending);
+}
 
 __attribute__((noinline)) static Tried answer(void *at) {
     static Block nothing;
@@ -66,8 +79,9 @@ Tried rattle_realloc(void *at, size_t before, size_t size, size_t align) {
     return answer(realloc(at, size ? size : align));
 }
 
-/* Lets a block go that finds no room on its shelf. From the thread's first one on there is some. */
-__attribute__((noinline)) static void let_go(void *at) {
+/* Lets a block go that finds no room on its shelf. From the thread's first one on there is some. One that lies there was let go before. */
+__attribute__((noinline)) static void let_go(const Shelf *shelf, void *at) {
+    if (at == shelf->first) abort();
     if (!most) {
         call_once(&made, make_ending);
         if (has_ending && tss_set(ending, shelves) == thrd_success) most = MOST;
@@ -78,8 +92,8 @@ __attribute__((noinline)) static void let_go(void *at) {
 void rattle_dealloc(void *at) {
     size_t steps = malloc_usable_size(at) / STEP;
     Shelf *shelf = &shelves[steps < SIZES ? steps : 0];
-    if (shelf->count >= most || shelf == shelves) {
-        let_go(at);
+    if (shelf->count >= most || shelf == shelves || at == shelf->first) {
+        let_go(shelf, at);
         return;
     }
     Block *block = at;

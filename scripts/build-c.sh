@@ -40,8 +40,9 @@ compile -Ic -c c/enet.c -o "$room/enet.o"
 compile -c c/pool.c -o "$room/pool.o"
 rm -f "$folder/lib/libgofnjerta_enet.a"
 ar rcs "$folder/lib/libgofnjerta_enet.a" "$room/enet.o" "$room/gofnjerta.o" "$room/pool.o" "$room"/parts/*.o
-compile -shared -Wl,-soname,libenet.so.7 -Wl,--version-script=c/enet/enet.map -o "$folder/lib/gofnjerta/libenet.so.7" "$room/enet.o" \
-    "$room/gofnjerta.o" "$room/pool.o" "$room"/parts/*.o
+# It stays loaded, since a thread that ends later calls it (c/pool.c).
+compile -shared -Wl,-soname,libenet.so.7 -Wl,-z,nodelete -Wl,--version-script=c/enet/enet.map -o "$folder/lib/gofnjerta/libenet.so.7" \
+    "$room/enet.o" "$room/gofnjerta.o" "$room/pool.o" "$room"/parts/*.o
 cp c/gofnjerta.h "$folder/include/"
 cp c/enet/enet.h "$folder/include/gofnjerta/enet/"
 

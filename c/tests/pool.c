@@ -1,9 +1,10 @@
 /* c/pool.c: blocks of every size, in bursts, let go by the thread that had them or by another, hold what is written to them, none is
- * handed out twice, a thread keeps no more of a size than it may, and gives all of them back when it ends. malloc and free are counted
- * (--wrap). Says what failed; the status is 1 then. */
+ * handed out twice, a thread keeps no more of a size than it may, and gives all of them back when it ends; want of memory is told. malloc
+ * and free are counted, and malloc is refused once (--wrap). Says what failed; the status is 1 then. */
 #include "../pool.h"
 #include <pthread.h>
 #include <stdatomic.h>
+#include <stdbool.h>
 #include <stdint.h>
 #include <stdio.h>
 #include <stdlib.h>
@@ -12,18 +13,25 @@
 enum { BURST = 2000, LONGEST = 200, KEPT = 512 };
 
 static atomic_int out;
+static atomic_bool refuses;
 
 void *__real_malloc(size_t size);
 void *__real_realloc(void *at, size_t size);
 void __real_free(void *at);
+size_t __real_malloc_usable_size(void *at);
+size_t __wrap_malloc_usable_size(void *at);
 void *__wrap_malloc(size_t size);
 void *__wrap_realloc(void *at, size_t size);
 void __wrap_free(void *at);
 
 void *__wrap_malloc(size_t size) {
+    if (refuses) return NULL;
     out++;
     return __real_malloc(size);
 }
+
+/* Wrapped as malloc is, so that both are of one allocator. */
+size_t __wrap_malloc_usable_size(void *at) { return __real_malloc_usable_size(at); }
 
 void *__wrap_realloc(void *at, size_t size) { return __real_realloc(at, size); }
 
@@ -57,12 +65,13 @@ static void give(int part, size_t size) {
     }
 }
 
-/* Bursts of each size, of which one part is left for the other thread to let go. */
+/* Bursts of each size, and one that is left for another thread to let go. */
 static void *work(void *part) {
     for (size_t size = 0; size <= LONGEST; size++) {
         take(*(int *)part, size);
-        if (size < LONGEST) give(*(int *)part, size);
+        give(*(int *)part, size);
     }
+    take(*(int *)part, 96);
     return NULL;
 }
 
@@ -73,19 +82,26 @@ int main(void) {
     for (int i = 0; i < 2; i++) expect(pthread_create(&threads[i], NULL, work, &parts[i]) == 0, "no thread");
     for (int i = 0; i < 2; i++) pthread_join(threads[i], NULL);
     expect(out - before <= 2 * BURST + 16, "a thread that ended kept blocks");
-    give(0, LONGEST);
-    give(1, LONGEST);
+    give(0, 96);
+    give(1, 96);
+    take(0, 96);
+    take(1, 96);
+    give(1, 96);
+    give(0, 96);
     take(0, 32);
     before = out;
     give(0, 32);
-    expect(before - out == BURST - KEPT, "a thread keeps as many blocks as it may");
+    expect(before - out == BURST - KEPT, "a thread keeps too many blocks or too few");
     take(0, 32);
-    expect(out == before, "kept blocks are handed out");
+    expect(out == before, "kept blocks weren't handed out");
     give(0, 32);
+    refuses = true;
+    expect(!rattle_alloc(64, 8).is_there && !rattle_alloc(4000, 8).is_there, "a refusal isn't told");
+    refuses = false;
     Tried small = rattle_alloc(24, 8);
     memcpy(small.at, "as it was", 10);
     Tried large = rattle_realloc(small.at, 24, 4000, 8);
-    expect(large.is_there && strcmp(large.at, "as it was") == 0, "a longer block has the bytes of the shorter one");
+    expect(large.is_there && strcmp(large.at, "as it was") == 0, "a longer block lost the bytes of the shorter one");
     rattle_dealloc(large.at);
     return 0;
 }

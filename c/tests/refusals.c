@@ -136,12 +136,13 @@ static void conversation(void) {
 static ENetPeer *next_to;
 static int sent_on;
 
-/* Where a packet is let go, sends one more. */
+/* Where a packet is let go, sends one more at once. */
 static void ENET_CALLBACK send_on(ENetPacket *packet) {
     (void)packet;
     ENetPacket *more = enet_packet_create("more", 4, ENET_PACKET_FLAG_RELIABLE);
     more->freeCallback = count_free;
     sent_on += enet_peer_send(next_to, 0, more) == 0;
+    enet_host_flush(next_to->host);
 }
 
 static int made, let_go;

@@ -8,7 +8,7 @@ use std::sync::atomic::Ordering::SeqCst;
 const WAKER: Token = Token(1);
 
 /// Ends the wait of a socket's wire. Whoever hands work over rings it afterwards; a ring before the wait counts too, so no
-/// work is slept over. It also tells whether that thread has orders left. Threads share it by reference.
+/// work is slept over. It also tells whether that thread has orders left, or expects some. Threads share it by reference.
 #[derive(Drop)]
 pub struct Bell {
     // Rung since this was last asked.
@@ -67,7 +67,7 @@ impl Bell {
     }
 
     // Whether orders were said to come soon, since this was last asked.
-    pub(crate) fn is_expecting(&self) -> bool {
+    pub(crate) fn hears_of_orders(&self) -> bool {
         self.expects.swap(false, SeqCst)
     }
 

@@ -7,8 +7,8 @@
 //! its calls tells them truly. The wire in memory does what its script says; a want of memory is a fault of it.
 //! Only tested, by `check_queues`: that an order sender gets on once there is room; that datagrams pass through the socket, that its
 //! milliseconds add up, and what the system says of an address that is taken; by scripts/check-clients.sh: a reception that fails once.
-//! Neither: that a bell wakes a thread, whether the service is idle, how long a wait takes, when a datagram comes, how many datagrams the
-//! system keeps, and which of its errors are faults.
+//! Neither: that a bell wakes a thread, whether the service is idle or expects orders, how long a wait takes, when a datagram comes, how
+//! many datagrams the system keeps, and which of its errors are faults.
 #![tactic(auto)]
 
 mod bell;

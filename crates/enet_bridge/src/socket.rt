@@ -25,8 +25,8 @@ const LONGEST: u64 = 5;
 /// The longest wait while a datagram would have blocked, in milliseconds.
 const LONGEST_BLOCKED: u64 = 1;
 
-/// So many microseconds, and so many looks, the wire waits at most for orders that are expected before it sleeps: a thread that sleeps
-/// has to be woken.
+/// After so many microseconds, or so many looks, the wire no longer waits for orders that are expected, but sleeps: a thread that sleeps
+/// has to be woken. Where other work fills the processors a look may take longer, as that goes first.
 const MOMENT: u64 = 200;
 
 const LOOKS: u32 = 1000;
@@ -422,7 +422,7 @@ impl Wire for MioWire {
         if self.failures == u64::MAX {
             return Ok(0);
         }
-        let expects = self.bell.is_expecting();
+        let expects = self.bell.hears_of_orders();
         if !self.is_wanted() && !(expects && self.hears_soon(rt)) {
             if let Err(why) = self.sleep() {
                 return self.fault(why);

@@ -16,8 +16,8 @@
 //! Only tested, by `check_service`: turns and runs of a real host over memory, with each call of the wire failing and each send blocking in
 //! its turn; that a game thread submits and takes while the service is inside its wire; a connection's opening through a socket of
 //! 127.0.0.1. By scripts/check-rows.sh and scripts/check-clients.sh: that the queues settle (no E16), what is noted and shown to a
-//! [`Watch`], and that turns for a time end once the other thread has left. Neither: that a wait or a call of a queue returns, that two
-//! threads ran, and what a network gives, and when.
+//! [`Watch`], and that turns for a time end once the other thread has left. Neither: that a wait or a call of a queue returns, when the
+//! source is told to expect orders, that two threads ran, and what a network gives, and when.
 #![tactic(auto)]
 
 mod between;
