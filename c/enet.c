@@ -672,12 +672,12 @@ static int idle_ms(Layer *layer, uint64_t end) {
 
 int enet_host_service(ENetHost *host, ENetEvent *event, enet_uint32 timeout) {
     Layer *layer = layer_of(host);
-    if (!is_ready(layer)) return -1;
     release(layer);
     if (event) {
         int told = enet_host_check_events(host, event);
         if (told) return told;
     }
+    if (!is_ready(layer)) return -1;
     go_on(layer);
     uint64_t end = layer->clock + timeout;
     for (int ready = 1;;) {

@@ -1,18 +1,21 @@
 /* Memory for the core and for packets where libenet's API is served. A burst of packets takes and lets go more small blocks than the C
- * library has at hand, so each thread keeps those that were let go for the next ones of their size. Every block is one of malloc's. It
- * stands in the place of the kit's part that calls malloc; nothing here is proved. */
-#define _GNU_SOURCE
+ * library has at hand, so each thread keeps those that were let go for the next ones of their size. Each block is one of malloc's, with a
+ * head of 16 bytes that tells its size. It stands in the place of the kit's part that calls malloc; nothing here is proved. */
 #include "pool.h"
-#include <dlfcn.h>
-#include <malloc.h>
 #include <stdbool.h>
 #include <stdint.h>
 #include <stdlib.h>
 #include <threads.h>
 
 /* Sizes go by steps of 16 bytes, up to 128 bytes; of each a thread keeps at most so many blocks. */
-enum { STEP = 16, SIZES = 9, MOST = 512 };
+enum { STEP = 16, LONGEST = 128, MOST = 512 };
 
+/* What stands before a block. */
+typedef struct {
+    _Alignas(STEP) size_t steps; /* its size; 0 for a longer one, which isn't kept */
+} Head;
+
+/* A block that is kept. */
 typedef struct Block {
     struct Block *next;
 } Block;
@@ -23,32 +26,28 @@ typedef struct {
 } Shelf;
 
 #define OWN static _Thread_local __attribute__((tls_model("initial-exec")))
-OWN Shelf shelves[SIZES];
+OWN Shelf shelves[LONGEST / STEP + 1]; /* by steps; the first one stays empty */
 OWN size_t most; /* of a shelf's blocks: none until it is known that they are emptied where the thread ends */
 static once_flag made = ONCE_FLAG_INIT;
 static tss_t ending;
 static bool has_ending;
 
+static Head *head_of(void *at) { return (Head *)at - 1; }
+
 static void empty(void *all) {
     Shelf *shelf = all;
     most = 0;
-    for (size_t i = 0; i < SIZES; i++) {
+    for (size_t i = 1; i <= LONGEST / STEP; i++) {
         while (shelf[i].first) {
             Block *block = shelf[i].first;
             shelf[i].first = block->next;
-            free(block);
+            free(head_of(block));
         }
         shelf[i].count = 0;
     }
 }
 
-/* Blocks are kept only where what gives them tells their sizes too: a program may have a malloc of its own, and no more. */
-static void make_ending(void) {
-    Dl_info gives, tells;
-    bool is_one = dladdr((void *)(uintptr_t)malloc, &gives) && dladdr((void *)(uintptr_t)malloc_usable_size, &tells) &&
-                  gives.dli_fbase == tells.dli_fbase;
-    has_ending = is_one && tss_create(&ending, empty) == thrd_success;
-}
+static void make_ending(void) { has_ending = tss_create(&ending, empty) == thrd_success; }
 
 /* The thread that ends the program, or unloads what this is part of. Threads that end later call nothing here. */
 __attribute__((destructor)) static void empty_last(void) {
@@ -58,17 +57,26 @@ __attribute__((destructor)) static void empty_last(void) {
     tss_delete(ending);
 }
 
-__attribute__((noinline)) static Tried answer(void *at) {
-    static Block nothing;
-    return (Tried){at != NULL, at ? at : &nothing};
+/* A block behind this head, which malloc gave or refused. */
+static Tried begin(Head *head, size_t steps) {
+    static Head nothing;
+    if (!head) return (Tried){0, &nothing};
+    head->steps = steps;
+    return (Tried){1, head + 1};
+}
+
+__attribute__((noinline)) static Tried take_anew(size_t size, size_t steps) {
+    if (size > SIZE_MAX - sizeof(Head)) return begin(NULL, 0);
+    return begin(malloc(sizeof(Head) + size), steps);
 }
 
 Tried rattle_alloc(size_t size, size_t align) {
+    (void)align;
+    if (size > LONGEST) return take_anew(size, 0);
     size_t steps = (size + STEP - 1) / STEP;
-    if (steps == 0 || steps >= SIZES) return answer(malloc(size ? size : align));
     Shelf *shelf = &shelves[steps];
     Block *block = shelf->first;
-    if (!block) return answer(malloc(steps * STEP));
+    if (!block) return take_anew(steps * STEP, steps);
     shelf->first = block->next;
     shelf->count--;
     return (Tried){1, block};
@@ -76,7 +84,9 @@ Tried rattle_alloc(size_t size, size_t align) {
 
 Tried rattle_realloc(void *at, size_t before, size_t size, size_t align) {
     (void)before;
-    return answer(realloc(at, size ? size : align));
+    (void)align;
+    if (size > SIZE_MAX - sizeof(Head)) return begin(NULL, 0);
+    return begin(realloc(head_of(at), sizeof(Head) + size), 0);
 }
 
 /* Lets a block go that finds no room on its shelf. From the thread's first one on there is some. One that lies there was let go before. */
@@ -86,12 +96,11 @@ __attribute__((noinline)) static void let_go(const Shelf *shelf, void *at) {
         call_once(&made, make_ending);
         if (has_ending && tss_set(ending, shelves) == thrd_success) most = MOST;
     }
-    free(at);
+    free(head_of(at));
 }
 
 void rattle_dealloc(void *at) {
-    size_t steps = malloc_usable_size(at) / STEP;
-    Shelf *shelf = &shelves[steps < SIZES ? steps : 0];
+    Shelf *shelf = &shelves[head_of(at)->steps];
     if (shelf->count >= most || shelf == shelves || at == shelf->first) {
         let_go(shelf, at);
         return;

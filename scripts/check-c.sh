@@ -39,8 +39,8 @@ compile() {
 build_tests() {
     local made=$room/made wrap=-Wl,--wrap=malloc,--wrap=realloc,--wrap=free checked=(-fsanitize=address,undefined -fno-sanitize-recover=all)
     compile border border "$made/lib/libgofnjerta.a" && compile lossy lossy "$made/lib/libgofnjerta.a" &&
-        compile memory memory "$wrap" "$made/lib/libgofnjerta.a" && compile pool pool -pthread "$wrap,--wrap=malloc_usable_size" c/pool.c &&
-        compile pool pool-checked -pthread "$wrap,--wrap=malloc_usable_size" "${checked[@]}" c/pool.c && compile lossy lossy-shared -L"$made/lib" -lgofnjerta &&
+        compile memory memory "$wrap" "$made/lib/libgofnjerta.a" && compile pool pool -pthread "$wrap" c/pool.c &&
+        compile pool pool-checked -pthread "$wrap" "${checked[@]}" c/pool.c && compile lossy lossy-shared -L"$made/lib" -lgofnjerta &&
         compile refusals refusals "$made/lib/libgofnjerta_enet.a" && compile layout layout-ours &&
         cc c/tests/layout.c -o "$room/layout-theirs" &&
         compile tutorial our-tutorial "$made/lib/libgofnjerta_enet.a" && cc -Wall -Wextra c/tests/tutorial.c -o "$room/tutorial" -lenet &&

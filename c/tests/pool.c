@@ -18,8 +18,6 @@ static atomic_bool refuses;
 void *__real_malloc(size_t size);
 void *__real_realloc(void *at, size_t size);
 void __real_free(void *at);
-size_t __real_malloc_usable_size(void *at);
-size_t __wrap_malloc_usable_size(void *at);
 void *__wrap_malloc(size_t size);
 void *__wrap_realloc(void *at, size_t size);
 void __wrap_free(void *at);
@@ -29,9 +27,6 @@ void *__wrap_malloc(size_t size) {
     out++;
     return __real_malloc(size);
 }
-
-/* Wrapped as malloc is, so that both are of one allocator. */
-size_t __wrap_malloc_usable_size(void *at) { return __real_malloc_usable_size(at); }
 
 void *__wrap_realloc(void *at, size_t size) { return __real_realloc(at, size); }
 

@@ -13,6 +13,9 @@ use bytes::Bytes;
 use enet_host::{Addr, Event, PeerRef, Refusal};
 use std::alloc::Global;
 
+/// A body of no more bytes is copied before the host is asked whether it would refuse it, which it seldom does.
+const SHORT_BODY: usize = 4096;
+
 impl Held {
     /// Asks the host at an address for a connection. The peer is named where the answer is 0, and left as it was elsewhere.
     pub(crate) fn connect(
@@ -44,7 +47,7 @@ impl Held {
         }
     }
 
-    /// Submits a packet whose body is copied, unless the host would refuse it.
+    /// Submits a packet whose body is copied. A long body is copied only where the host wouldn't refuse it.
     pub(crate) fn submit(
         &mut self,
         alloc: Global,
@@ -55,12 +58,17 @@ impl Held {
     ) -> u32
         ensures { SettlesWithMemory (λ slots. on_named slots name (submission channel (record { flags = flags; body = body.now }))) (record { before = self.old; number = result; after = self.new }) }
     {
-        if let Some(why) = self.host.submission_refusal(name, channel, body.len()) {
-            return number_of(why);
+        if body.len() > SHORT_BODY {
+            if let Some(why) = self.host.submission_refusal(name, channel, body.len()) {
+                return number_of(why);
+            }
         }
-        match Bytes::copy_from_slice(alloc, body) {
-            Ok(body) => self.give(name, channel, flags, body),
-            Err(_) => number_of(Refusal::Memory),
+        if let Ok(body) = Bytes::copy_from_slice(alloc, body) {
+            return self.give(name, channel, flags, body);
+        }
+        match self.host.submission_refusal(name, channel, body.len()) {
+            Some(why) => number_of(why),
+            None => number_of(Refusal::Memory),
         }
     }
 
