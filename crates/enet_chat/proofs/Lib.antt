@@ -1,3 +1,4 @@
+pub mod Expansions
 pub mod GroupingLemmas
 pub mod PeersLemmas
 pub mod Relays

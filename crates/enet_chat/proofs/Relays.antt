@@ -13,19 +13,19 @@ use Rattle.enet_chat.specs.Relaying.{events, noted_all, relayed_all, is_for, tho
 use Rattle.enet_chat.specs.Private.Relaying.{ArePackets}
 use Rattle.enet_chat.proofs.GroupingLemmas.{packets_note}
 
-noted_more : (peers : List PeerRef) (es fs : List Event) → noted_all peers (es ++ fs) ≡ noted_all (noted_all peers es) fs
+pub noted_more : (peers : List PeerRef) (es fs : List Event) → noted_all peers (es ++ fs) ≡ noted_all (noted_all peers es) fs
 noted_more peers [] fs = refl
 noted_more peers (e ∷ es) fs = noted_more (noted peers e) es fs
 
-relayed_more : (peers : List PeerRef) (es fs : List Event) → relayed_all peers (es ++ fs) ≡ relayed_all peers es ++ relayed_all (noted_all peers es) fs
+pub relayed_more : (peers : List PeerRef) (es fs : List Event) → relayed_all peers (es ++ fs) ≡ relayed_all peers es ++ relayed_all (noted_all peers es) fs
 relayed_more peers [] fs = refl
 relayed_more peers (e ∷ es) fs =
     ap (λ (os : List Order). relayed (noted peers e) e ++ os) (relayed_more (noted peers e) es fs)
     ∙ sym (append_assoc (relayed (noted peers e) e) (relayed_all (noted peers e) es) (relayed_all (noted_all (noted peers e) es) fs))
 
-joined : (a b c p q x y : List Event) → a ++ p ≡ x ++ b → b ++ q ≡ y ++ c → a ++ (p ++ q) ≡ (x ++ y) ++ c
-joined a b c p q x y e f =
-    sym (append_assoc a p q) ∙ ap (λ (es : List Event). es ++ q) e ∙ append_assoc x b q ∙ ap (λ (es : List Event). x ++ es) f ∙ sym (append_assoc x y c)
+pub joined : {A : Type 0} (a b c p q x y : List A) → a ++ p ≡ x ++ b → b ++ q ≡ y ++ c → a ++ (p ++ q) ≡ (x ++ y) ++ c
+joined {A} a b c p q x y e f =
+    sym (append_assoc a p q) ∙ ap (λ es. es ++ q) e ∙ append_assoc x b q ∙ ap (λ es. x ++ es) f ∙ sym (append_assoc x y c)
 
 for_each_more : (os ps xs ys : List Order) → SameForEach os xs → SameForEach ps ys → SameForEach (os ++ ps) (xs ++ ys)
 for_each_more os ps xs ys f g peer =
@@ -34,7 +34,7 @@ for_each_more os ps xs ys f g peer =
     ∙ ap (λ (l : List Order). those_for peer xs ++ l) (g peer)
     ∙ sym (filter-append (is_for peer) xs ys)
 
-on_for_each : (os ps : List Order) (a b : List PeerRef) (es fs : List Event) → b ≡ noted_all a es → SameForEach os (relayed_all a es) → SameForEach ps (relayed_all b fs) → SameForEach (os ++ ps) (relayed_all a (es ++ fs))
+pub on_for_each : (os ps : List Order) (a b : List PeerRef) (es fs : List Event) → b ≡ noted_all a es → SameForEach os (relayed_all a es) → SameForEach ps (relayed_all b fs) → SameForEach (os ++ ps) (relayed_all a (es ++ fs))
 on_for_each os ps a b es fs e f g peer =
     for_each_more os ps (relayed_all a es) (relayed_all b fs) f g peer
     ∙ ap (λ (peers : List PeerRef). those_for peer (relayed_all a es ++ relayed_all peers fs)) e

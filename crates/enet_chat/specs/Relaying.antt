@@ -3,7 +3,6 @@ use Rattle.std.specs.Prelude.{◌≡◌, ◌⊎◌, ◌<◌, Bool, true, List, [
 use Rattle.std.specs.List.{filter}
 use Rattle.enet_codec.specs.declared.event.PeerRef.{PeerRef}
 use Rattle.enet_codec.specs.declared.event.Event.{Event}
-use Rattle.enet_codec.specs.declared.event.Event.TheVariants.{Connect, Disconnect}
 use Rattle.enet_submit.specs.declared.order.Order.{Order}
 use Rattle.enet_submit.specs.declared.order.Order.TheVariants as order
 use Rattle.enet_events.specs.declared.numbered.Numbered.{Numbered}

@@ -15,12 +15,16 @@
 mod batch;
 mod gauge;
 mod laws;
+mod lists;
+mod lone;
 mod relay;
 mod relaying;
 mod table;
 
 pub use gauge::Gauge;
 pub use laws::each_other_peer_once;
+pub use lists::{EventList, OrderList};
+pub use lone::LoneRelay;
 pub use relay::relay_step;
 pub use relaying::{Relay, RelayParts};
 pub use table::Table;

@@ -28,6 +28,16 @@ pub struct ServeOptions {
     pub length: Length,
     /// Whether each connection, each end of one and each refused order is told.
     pub logs: bool,
+    pub threads: ServerThreads,
+}
+
+/// Which threads serve.
+#[derive(Clone, Copy, PartialEq, Eq)]
+pub enum ServerThreads {
+    /// One takes the service's turns and relays.
+    One,
+    /// One takes the service's turns, and another relays.
+    Two,
 }
 
 /// What `demo` was told.
@@ -111,7 +121,8 @@ fn serve_command<'a>(alloc: Global) -> Result<Command<'a>, AllocError> {
         .arg(queue_capacity(alloc)?)?
         .arg(turns(alloc))?
         .arg(forever(alloc)?)?
-        .arg(logs(alloc))
+        .arg(logs(alloc))?
+        .arg(threads(alloc))
 }
 
 fn demo_command<'a>(alloc: Global) -> Result<Command<'a>, AllocError> {
@@ -188,6 +199,12 @@ fn logs<'a>(alloc: Global) -> Arg<'a> {
         .action(ArgAction::SetTrue)
 }
 
+fn threads<'a>(alloc: Global) -> Arg<'a> {
+    number8(alloc, "threads", 1, 2)
+        .help("How many threads serve: one does all, of two one relays")
+        .default_value("2")
+}
+
 fn turns<'a>(alloc: Global) -> Arg<'a> {
     Arg::new(alloc, "turns")
         .long("turns")
@@ -244,6 +261,10 @@ fn serve_options(found: &ArgMatches<'_>) -> Option<ServeOptions> {
         queue_capacity: found.get_one::<u32>("queue-capacity")?,
         length,
         logs: found.get_flag("log"),
+        threads: match found.get_one::<u8>("threads")? {
+            1 => ServerThreads::One,
+            _ => ServerThreads::Two,
+        },
     })
 }
 

@@ -1,10 +1,11 @@
 //! The server, as it tells of itself.
 
-use crate::command_line::{Length, ServeOptions};
+use crate::command_line::{Length, ServeOptions, ServerThreads};
 use crate::failure::Failure;
 use crate::watching::Operator;
 use enet_codec::Refusal;
 use enet_serve::{ChatServer, Gauge, RunLength, Settings, Unopened, Watch};
+use enet_service::Report;
 use std::net::{Ipv4Addr, Net};
 use std::rt::Clock;
 use std::sync::Wait;
@@ -27,7 +28,7 @@ where
         queue_capacity: options.queue_capacity,
     };
     // Where no thread can be made, a join does its parts one after the other: nothing would be relayed until the run is over.
-    if thread::spawn(rt, || ()).is_err() {
+    if options.threads == ServerThreads::Two && thread::spawn(rt, || ()).is_err() {
         return Err(Failure::NoThread);
     }
     let mut server = ChatServer::open(rt, settings)?;
@@ -57,14 +58,42 @@ where
     let gauge = Gauge::new();
     let mut operator = Operator::new(rt, &gauge, options.logs);
     match options.length {
-        Length::Turns(turns) => serve_turns(rt, server, turns, &gauge, &mut operator),
-        Length::Forever => serve_on(rt, server, &gauge, &mut operator),
+        Length::Turns(turns) => serve_turns(
+            rt,
+            server,
+            options.threads,
+            turns,
+            &gauge,
+            &mut operator,
+        ),
+        Length::Forever => serve_on(rt, server, options.threads, &gauge, &mut operator),
     }
+}
+
+// A run in so many threads.
+fn serve_run<R, W>(
+    rt: &R,
+    server: &mut ChatServer,
+    threads: ServerThreads,
+    run_length: RunLength,
+    gauge: &Gauge,
+    watch: &mut W,
+) -> Result<Report, Failure>
+where
+    R: Threads + Wait + Clock + Sync,
+    W: Watch + Send,
+{
+    let served = match threads {
+        ServerThreads::One => server.serve_alone(rt, run_length, gauge, watch),
+        ServerThreads::Two => server.serve(rt, run_length, gauge, watch),
+    };
+    served.map_err(|why| failure(server, why))
 }
 
 fn serve_turns<R, W>(
     rt: &R,
     server: &mut ChatServer,
+    threads: ServerThreads,
     turns: u32,
     gauge: &Gauge,
     watch: &mut W,
@@ -73,20 +102,18 @@ where
     R: Threads + Wait + Clock + Sync + Print,
     W: Watch + Send,
 {
-    match server.serve(rt, RunLength::Turns(u64::from(turns)), gauge, watch) {
-        Ok(report) => {
-            let received = report.received;
-            let sent = report.sent;
-            println!(rt; "served {turns} received {received} sent {sent}").map_err(|_| Failure::Io)
-        }
-        Err(why) => Err(failure(server, why)),
-    }
+    let run_length = RunLength::Turns(u64::from(turns));
+    let report = serve_run(rt, server, threads, run_length, gauge, watch)?;
+    let received = report.received;
+    let sent = report.sent;
+    println!(rt; "served {turns} received {received} sent {sent}").map_err(|_| Failure::Io)
 }
 
 // Serves until the process is stopped.
 fn serve_on<R, W>(
     rt: &R,
     server: &mut ChatServer,
+    threads: ServerThreads,
     gauge: &Gauge,
     watch: &mut W,
 ) -> Result<(), Failure>
@@ -96,9 +123,7 @@ where
 {
     for _ in rt.forever() {
         let day = RunLength::Time(Duration::from_secs(DAY));
-        if let Err(why) = server.serve(rt, day, gauge, watch) {
-            return Err(failure(server, why));
-        }
+        serve_run(rt, server, threads, day, gauge, watch)?;
     }
     Ok(())
 }

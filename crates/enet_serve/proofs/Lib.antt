@@ -1,1 +1,2 @@
+pub mod TurnByTurn
 pub mod More

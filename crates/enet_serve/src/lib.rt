@@ -18,6 +18,7 @@
 //! that the others are there; that a client hands over what it asks for (one that never does keeps `Visits`, with all of it left).
 #![tactic(auto)]
 
+mod alone;
 mod client;
 mod demonstration;
 mod leaving;

@@ -1,11 +1,12 @@
-//! A server: a service thread, and a thread that relays.
+//! A server: a service thread, and a thread that relays; or one thread that does both.
 ghost use Rattle.std.specs.Prelude.{◌≡◌, ◌⊎◌, OnOk, IfOk, IfErr};
 ghost use Rattle.enet_chat.specs.Relaying.{Relays, IsThrough};
 ghost use Rattle.enet_service.specs.ServiceRuns.{CanSettle, IsNotSettled};
 ghost use Rattle.enet_serve.specs.Private.Threads.{IsLeft, returned};
 
+use crate::alone::run_alone;
 use crate::leaving::take_leave;
-use crate::threads::{Carryover, begin_relay, relay_on};
+use crate::threads::{Carryover, begin_alone, begin_relay, end_alone, relay_on};
 use enet_chat::{Gauge, RelayParts};
 use enet_codec::{Addr, Config, Refusal};
 use enet_events::Poster;
@@ -109,6 +110,42 @@ impl ChatServer {
             signals: &Signals::new(),
         };
         self.run_turns(rt, shared, ends, run_length, gauge, watch)
+    }
+
+    /// Serves for a run, as [`ChatServer::serve`] does, in one thread: after each turn of the service this thread expands what the turn
+    /// told, and the next turn takes the orders. A packet wakes no other thread and passes no queue between two of them, so that each takes
+    /// less time and there is no use of a second processor.
+    ///
+    /// E14 where the wire fails, E1 for want of memory. Whatever is refused, nothing is promised of the server then, but that it can take
+    /// leave and be closed.
+    pub fn serve_alone<R, W>(
+        &mut self,
+        rt: &R,
+        run_length: RunLength,
+        gauge: &Gauge,
+        watch: &mut W,
+    ) -> Result<Report, Refusal>
+    where
+        R: Wait + Clock,
+        W: Watch,
+        ensures serves { IfOk result (Serves self.old run_length self.new) }
+        ensures refused { IfErr result (λ why. (why ≡ Refusal.WireFault) ⊎ (why ≡ Refusal.Memory)) }
+    {
+        let bell = self.bound.wire.bell()?;
+        let kept = mem::replace(&mut self.kept, Carryover::new(self.alloc));
+        let mut relay = begin_alone(self.alloc, kept, gauge);
+        relay.expand()?;
+        let report = run_alone(
+            rt,
+            &mut self.bound,
+            &mut relay,
+            &bell,
+            run_length,
+            gauge,
+            watch,
+        )?;
+        self.kept = end_alone(relay);
+        Ok(report)
     }
 
     // A run between these queues.

@@ -1,9 +1,10 @@
 //! The relay's side of a run.
 ghost use Rattle.std.specs.Prelude.{◌≡◌, ◌⊎◌, OnOk, IfOk, IfErr};
 ghost use Rattle.enet_chat.specs.Relaying.{Relays, IsThrough};
+ghost use Rattle.enet_serve.specs.Private.Alone.{IsOf};
 ghost use Rattle.enet_serve.specs.Private.Threads.{IsBegun};
 
-use enet_chat::{Gauge, Relay, Table};
+use enet_chat::{Gauge, LoneRelay, Relay, Table};
 use enet_codec::{Event, Refusal};
 use enet_service::{EventReceiver, OrderSender, Signals};
 use enet_submit::Order;
@@ -63,4 +64,23 @@ pub(crate) fn relay_on<R: Wait>(
     let relayed = relay.run(rt, &signals.bell, &signals.ended, gauge);
     signals.leave();
     relayed
+}
+
+/// The relay of a run in its service's thread.
+pub(crate) fn begin_alone(alloc: Global, kept: Carryover, gauge: &Gauge) -> LoneRelay
+    ensures { IsOf kept result }
+{
+    LoneRelay::new(alloc, kept.table, kept.backlog, kept.orders, gauge)
+}
+
+/// What it leaves.
+pub(crate) fn end_alone(relay: LoneRelay) -> Carryover
+    ensures { IsOf result relay }
+{
+    let (table, backlog, orders) = relay.into_parts();
+    Carryover {
+        table,
+        backlog,
+        orders,
+    }
 }

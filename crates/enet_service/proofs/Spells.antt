@@ -33,7 +33,7 @@ fault_of_wire turns rounds fault (inr e) = ap (λ (f : Fault). f.why) e.told
 sum_of_both : (f : Round → ℕ) (xs ys : List Round) (a b : ℕ) → a ≡ stopped (sum_by f xs) → b ≡ stopped (sum_by f ys) → stopped (a + b) ≡ stopped (sum_by f (xs ++ ys))
 sum_of_both f xs ys a b ea eb = omega (arith, sum_by-append f xs ys, ea, eb)
 
-total_of_both : (t d u : Report) (xs ys : List Round) → t ≡ total xs → d ≡ total ys
+pub total_of_both : (t d u : Report) (xs ys : List Round) → t ≡ total xs → d ≡ total ys
     → u ≡ record { orders = stopped (t.orders + d.orders); received = stopped (t.received + d.received); sent = stopped (t.sent + d.sent); lost = stopped (t.lost + d.lost); events = stopped (t.events + d.events) }
     → u ≡ total (xs ++ ys)
 total_of_both t d u xs ys et ed eu =
@@ -44,10 +44,10 @@ total_of_both t d u xs ys et ed eu =
     (sum_of_both (λ r. r.report.lost) xs ys _ _ (ap (λ (t : Report). t.lost) et) (ap (λ (d : Report). d.lost) ed))
     (sum_of_both (λ r. r.report.events) xs ys _ _ (ap (λ (t : Report). t.events) et) (ap (λ (d : Report). d.events) ed))
 
-given_both : (xs ys : List Round) → given (all_gave (xs ++ ys)) ≡ given (all_gave xs) ++ given (all_gave ys)
+pub given_both : (xs ys : List Round) → given (all_gave (xs ++ ys)) ≡ given (all_gave xs) ++ given (all_gave ys)
 given_both xs ys = ap given (flat_map-append (λ (r : Round). r.gave) xs ys) ∙ filter_map-append (λ (x : Option Submission). x) (all_gave xs) (all_gave ys)
 
-accepted_both : (xs ys : List Round) → accepted (all_puts (xs ++ ys)) ≡ accepted (all_puts xs) ++ accepted (all_puts ys)
+pub accepted_both : (xs ys : List Round) → accepted (all_puts (xs ++ ys)) ≡ accepted (all_puts xs) ++ accepted (all_puts ys)
 accepted_both xs ys =
     ap accepted (flat_map-append (λ (r : Round). r.puts) xs ys)
     ∙ ap (map (λ (x : Event × Bool). x.0)) (filter-append (λ (x : Event × Bool). x.1) (all_puts xs) (all_puts ys))

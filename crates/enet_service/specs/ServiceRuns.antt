@@ -16,7 +16,7 @@ use Rattle.enet_host.specs.Opening.{opened}
 use Rattle.enet_service.specs.declared.report.Report.{Report}
 use Rattle.enet_service.specs.Hosting.{host_calls}
 use Rattle.enet_service.specs.Queues.{given, accepted, PostsOn}
-use Rattle.enet_service.specs.Turn.{Round}
+use Rattle.enet_service.specs.Turn.{Round, Turn}
 use Rattle.enet_service.specs.Run.{Rounds, IsSound, all_gave, all_puts, total}
 use Rattle.enet_service.specs.declared.queues.Ends.{Ends}
 use Rattle.enet_service.specs.declared.settling.Returned.{Returned}
@@ -53,6 +53,10 @@ beginning config = record { host = opened config; waiting = None }
 abbrev pub Lasts : RunLength → List Round → Type 0
 Lasts (Turns n) rounds = length rounds ≡ n
 Lasts (Time length_of_time) rounds = 1 ≤ length rounds
+
+-- a turn of a service over our host
+abbrev pub TakesTurn : Service Host → Round → Service Host → Type 0
+TakesTurn old round new = Turn host_calls old round new
 
 -- turns of a service over our host, one after another
 abbrev pub TakesTurns : Service Host → List Round → Service Host → Type 0

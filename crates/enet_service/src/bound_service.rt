@@ -1,9 +1,18 @@
 //! A service over our host, with the socket at which it is reached.
+ghost use Rattle.std.specs.Prelude.{◌≡◌, IfOk, IfErr};
+ghost use Rattle.enet_service.specs.Phases.{Chain};
+ghost use Rattle.enet_service.specs.Turn.{Round};
+ghost use Rattle.enet_service.specs.Run.{IsSound};
+ghost use Rattle.enet_service.specs.ServiceRuns.{TakesTurn};
 
+use crate::run_length::show;
+use crate::watch::Watch;
 use crate::watched::WatchedHost;
-use crate::{MioWire, Service};
+use crate::{MioWire, Report, Service, Sink, Source, Wire};
 use enet_codec::{Config, Refusal};
 use std::alloc::Global;
+use std::rt::Clock;
+use std::sync::Wait;
 
 /// A service over our host, and the socket at which it is reached. It is given up by [`BoundService::close`] alone.
 pub struct BoundService {
@@ -29,6 +38,35 @@ impl BoundService {
             wire,
             service: Service::new(host),
         })
+    }
+
+    /// One turn in the calling thread, after a wait, by the milliseconds that the wait gave ([`Service::turn`]).
+    ///
+    /// E14 where the wire fails, in the wait or in the turn.
+    pub fn take_turn<S: Source, K: Sink, R: Wait + Clock>(
+        &mut self,
+        rt: &R,
+        source: &mut S,
+        sink: &mut K,
+    ) -> Result<Report, Refusal>
+        ensures turn { IfOk result (λ report. (round : Round) × TakesTurn self.old.service round self.new.service × IsSound round × (report ≡ round.report)
+            × Chain S.gives source.old round.gave source.new
+            × Chain (λ s x t. K.puts s x.0 x.1 t) sink.old round.puts sink.new) }
+        ensures fault { IfErr result (λ why. why ≡ Refusal.WireFault) }
+    {
+        let BoundService { wire, service } = self;
+        let ms = wire.wait(rt)?;
+        match service.turn(rt, wire, source, sink, ms) {
+            Ok(report) => Ok(report),
+            Err(fault) => Err(fault.why),
+        }
+    }
+
+    /// Shows what turns did, with what the host noted in them, to whoever watches; then the host forgets what it noted.
+    pub fn show<W: Watch>(&mut self, report: Report, watch: &mut W)
+        ensures { self.new.service ≡ self.old.service }
+    {
+        show(&mut self.service.host, report, watch);
     }
 
     /// Gives host and socket up.

@@ -48,7 +48,7 @@ pub use enet_host::HostCore;
 pub use host::Core;
 pub use queues::{Ends, Queues};
 pub use report::{Fault, Report};
-pub use run_length::RunLength;
+pub use run_length::{RunLength, has_passed};
 pub use running::run;
 pub use service::Service;
 pub use settling::{Returned, settle};

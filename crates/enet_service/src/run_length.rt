@@ -82,7 +82,7 @@ fn turns_of<R: Wait + Clock, W: Watch>(
 }
 
 // Shows what turns did, once.
-fn show<W: Watch>(host: &mut WatchedHost, report: Report, watch: &mut W)
+pub(crate) fn show<W: Watch>(host: &mut WatchedHost, report: Report, watch: &mut W)
     ensures { host.new ≡ host.old }
 {
     watch.look(host, report);
@@ -122,8 +122,8 @@ fn is_much(total: Report) -> bool {
     total.orders >= MANY || total.events >= MANY
 }
 
-// Where the clock can't be read, no time passes.
-fn has_passed<R: Clock>(rt: &R, start: &io::Result<Instant>, time: Duration) -> bool {
+/// Whether so much time has passed since `start`. Where the clock can't be read, no time passes.
+pub fn has_passed<R: Clock>(rt: &R, start: &io::Result<Instant>, time: Duration) -> bool {
     let Ok(start) = start else {
         return false;
     };

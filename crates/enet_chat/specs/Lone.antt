@@ -1,0 +1,27 @@
+-- A relay that shares its service's thread.
+use Rattle.std.specs.Prelude.{◌≡◌, List, [], ◌∷◌, ◌++◌, Bool, true, false, Option, Some, None}
+use Rattle.enet_codec.specs.declared.event.Event.{Event}
+use Rattle.enet_submit.specs.declared.order.Order.{Order}
+use Rattle.enet_submit.specs.declared.order.Submission.{Submission}
+use Rattle.enet_chat.specs.Relaying.{noted_all, relayed_all, SameForEach}
+use Rattle.enet_chat.specs.declared.lone.LoneRelay.{LoneRelay}
+
+-- the first order is given, or there is none
+abbrev pub IsGiven : List Order → Option Submission → List Order → Type 0
+IsGiven before (Some x) after = before ≡ x.order ∷ after
+IsGiven before None after = (before ≡ []) × (after ≡ [])
+
+-- an event is put last, or is handed back
+abbrev pub IsPut : List Event → Event → Bool → List Event → Type 0
+IsPut before event true after = after ≡ before ++ event ∷ []
+IsPut before event false after = after ≡ before
+
+-- The oldest events were expanded. The table is what they made of it. The orders behind those that waited are for every peer what these
+-- events give for it, in order
+pub record Expands (old new : LoneRelay) : Type 0 where
+  pub expanded : List Event
+  pub asked_for : List Order
+  pub in_order : old.events ≡ expanded ++ new.events
+  pub peers : new.table ≡ noted_all old.table expanded
+  pub orders : new.orders ≡ old.orders ++ asked_for
+  pub for_each : SameForEach asked_for (relayed_all old.table expanded)

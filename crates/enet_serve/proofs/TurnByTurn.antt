@@ -1,0 +1,86 @@
+-- A run whose relay shares its service's thread: turn by turn.
+use Rattle.std.proofs.Common.{◌≡◌, List, [], ◌∷◌, ◌++◌, Bool, true, false, Option, Some, None, refl, sym, ◌∙◌, ap, subst, append_assoc}
+use Rattle.std.proofs.lemmas.List.{append-nil}
+use Rattle.std.proofs.lemmas.List.Elements.{All-nil, All-append, All-push}
+use Rattle.enet_codec.specs.declared.event.PeerRef.{PeerRef}
+use Rattle.enet_codec.specs.declared.event.Event.{Event}
+use Rattle.enet_submit.specs.declared.order.Order.{Order}
+use Rattle.enet_submit.specs.declared.order.Submission.{Submission}
+use Rattle.enet_bridge.specs.Ends.{orders}
+use Rattle.enet_chat.specs.Lone.{IsGiven, IsPut, Expands}
+use Rattle.enet_chat.specs.declared.lone.LoneRelay.{LoneRelay}
+use Rattle.enet_chat.specs.Relaying.{noted_all, relayed_all, SameForEach, AreBehind}
+use Rattle.enet_chat.proofs.Relays.{noted_more, on_for_each, joined}
+use Rattle.enet_service.specs.Phases.{Chain}
+use Rattle.enet_service.specs.Queues.{given, accepted}
+use Rattle.enet_service.specs.Turn.{Round}
+use Rattle.enet_service.specs.Run.{IsSound, all_gave, all_puts}
+use Rattle.enet_service.specs.ServiceRuns.{TakesTurn}
+use Rattle.enet_service.proofs.PhaseSteps.{chain_more}
+use Rattle.enet_service.proofs.Spells.{given_both, accepted_both}
+use Rattle.enet_serve.specs.Private.Alone.{Pair, Goes}
+
+abbrev Puts : List Event → List (Event × Bool) → List Event → Type 0
+Puts before puts after = Chain (λ s x t. IsPut s x.0 x.1 t) before puts after
+
+-- what a list of orders gave was its front
+given_front : (before : List Order) (gave : List (Option Submission)) (after : List Order) → Chain IsGiven before gave after → before ≡ orders (given gave) ++ after
+given_front before [] after same = sym same
+given_front before (Some x ∷ gave) after (between, first, rest) = first ∙ ap (λ (os : List Order). x.order ∷ os) (given_front between gave after rest)
+given_front before (None ∷ gave) after (between, none, rest) = none.0 ∙ (sym none.1 ∙ given_front between gave after rest)
+
+-- what was put into a list of events is its end
+put_behind : (before : List Event) (puts : List (Event × Bool)) (after : List Event) → Puts before puts after → after ≡ before ++ accepted puts
+put_behind before [] after same = same ∙ sym (append-nil before)
+put_behind before ((event, true) ∷ puts) after (between, put, rest) =
+    put_behind between puts after rest ∙ (ap (λ (es : List Event). es ++ accepted puts) put ∙ append_assoc before (event ∷ []) (accepted puts))
+put_behind before ((event, false) ∷ puts) after (between, put, rest) = put_behind between puts after rest ∙ ap (λ (es : List Event). es ++ accepted puts) put
+
+-- no turn yet
+pub goes_nowhere : (a b : Pair) → b.service ≡ a.service → Expands a.relay b.relay → AreBehind b.relay.events b.relay.orders → Goes a [] b
+goes_nowhere a b same expands behind = record {
+  expanded = expands.expanded;
+  asked_for = expands.asked_for;
+  turns = same;
+  sound = All-nil IsSound;
+  events = append-nil a.relay.events ∙ expands.in_order;
+  behind = behind;
+  peers = expands.peers;
+  for_each = expands.for_each;
+  orders_done = sym expands.orders;
+}
+
+-- turns after turns
+pub goes_on : (a b c : Pair) (xs ys : List Round) → Goes a xs b → Goes b ys c → Goes a (xs ++ ys) c
+goes_on a b c xs ys p q = record {
+  expanded = p.expanded ++ q.expanded;
+  asked_for = p.asked_for ++ q.asked_for;
+  turns = chain_more _ a.service xs b.service ys c.service p.turns q.turns;
+  sound = All-append IsSound xs ys p.sound q.sound;
+  events = ap (λ (es : List Event). a.relay.events ++ es) (accepted_both xs ys)
+      ∙ joined a.relay.events b.relay.events c.relay.events (accepted (all_puts xs)) (accepted (all_puts ys)) p.expanded q.expanded p.events q.events;
+  behind = q.behind;
+  peers = q.peers ∙ (ap (λ (ps : List PeerRef). noted_all ps q.expanded) p.peers ∙ sym (noted_more a.relay.table p.expanded q.expanded));
+  for_each = on_for_each p.asked_for q.asked_for a.relay.table b.relay.table p.expanded q.expanded p.peers p.for_each q.for_each;
+  orders_done = joined a.relay.orders b.relay.orders c.relay.orders p.asked_for q.asked_for (orders (given (all_gave xs))) (orders (given (all_gave ys))) p.orders_done q.orders_done
+      ∙ ap (λ (os : List Order). os ++ c.relay.orders) (sym (ap orders (given_both xs ys)));
+}
+
+-- a turn, and what was expanded after it
+pub goes_a_turn : (a b : Pair) (between : LoneRelay) (r : Round) → TakesTurn a.service r b.service → IsSound r → between.table ≡ a.relay.table
+    → Chain IsGiven a.relay.orders r.gave between.orders → Puts a.relay.events r.puts between.events → Expands between b.relay
+    → AreBehind b.relay.events b.relay.orders → Goes a (r ∷ []) b
+goes_a_turn a b between r turn sound table gave puts expands behind = record {
+  expanded = expands.expanded;
+  asked_for = expands.asked_for;
+  turns = (b.service, turn, refl);
+  sound = All-push IsSound [] r (All-nil IsSound) sound;
+  events = ap (λ (ps : List (Event × Bool)). a.relay.events ++ accepted ps) (append-nil r.puts) ∙ (sym (put_behind a.relay.events r.puts between.events puts) ∙ expands.in_order);
+  behind = behind;
+  peers = expands.peers ∙ ap (λ (ps : List PeerRef). noted_all ps expands.expanded) table;
+  for_each = subst (λ (ps : List PeerRef). SameForEach expands.asked_for (relayed_all ps expands.expanded)) table expands.for_each;
+  orders_done = ap (λ (os : List Order). os ++ expands.asked_for) (given_front a.relay.orders r.gave between.orders gave)
+      ∙ (append_assoc (orders (given r.gave)) between.orders expands.asked_for
+          ∙ (ap (λ (os : List Order). orders (given r.gave) ++ os) (sym expands.orders)
+              ∙ ap (λ (xs : List (Option Submission)). orders (given xs) ++ b.relay.orders) (sym (append-nil r.gave))));
+}
