@@ -121,6 +121,6 @@ is_kept b m = is_kept_of b m m.body
 
 -- what a call did, where `kept` says whether something of the command is kept: want of memory changes nothing, and comes only
 -- where nothing else stops the command and something of it is kept
-abbrev pub Arrives : Result Bool Stop → Bool → DataEffect → Inbox → Inbox → Type 0
-Arrives (Err stop.Memory) kept a old new = (kept ≡ true) × ((may : Bool) × (a.answer ≡ Ok may)) × (new ≡ old)
-Arrives answer kept a old new = (answer ≡ a.answer) × (new ≡ a.after)
+abbrev pub DataArrives : Result Bool Stop → Bool → DataEffect → Inbox → Inbox → Type 0
+DataArrives (Err stop.Memory) kept a old new = (kept ≡ true) × ((may : Bool) × (a.answer ≡ Ok may)) × (new ≡ old)
+DataArrives answer kept a old new = (answer ≡ a.answer) × (new ≡ a.after)
