@@ -225,16 +225,19 @@ int enet_socketset_select(ENetSocket most, ENetSocketSet *readable, ENetSocketSe
 
 /* -- packets: one block, with the bytes behind the header, until it is resized -- */
 
+/* The program gave an allocator; it may be one of the C library's functions beside one of its own. */
+static bool has_allocator(void) { return callbacks.malloc != malloc || callbacks.free != free; }
+
 /* A packet's block comes from the program's allocator, where it gave one. */
 static void *take_block(size_t size) {
-    if (callbacks.malloc != malloc) return callbacks.malloc(size);
+    if (has_allocator()) return callbacks.malloc(size);
     Tried tried = rattle_alloc(size, _Alignof(max_align_t));
     return tried.is_there ? tried.at : NULL;
 }
 
 static void give_block(ENetPacket *packet) {
-    if (callbacks.free == free) rattle_dealloc(packet);
-    else callbacks.free(packet);
+    if (has_allocator()) callbacks.free(packet);
+    else rattle_dealloc(packet);
 }
 
 ENetPacket *enet_packet_create(const void *data, size_t length, enet_uint32 flags) {

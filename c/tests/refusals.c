@@ -3,6 +3,7 @@
 #include <enet/enet.h>
 #include <stdbool.h>
 #include <stdio.h>
+#include <stdlib.h>
 #include <string.h>
 
 static long passed, failed;
@@ -209,12 +210,40 @@ static void letting_go(void) {
     CHECK(made == 6 && let_go == 7);
 }
 
+static int taken, given_back;
+
+static void *ENET_CALLBACK take(size_t size) {
+    taken++;
+    return malloc(size);
+}
+
+static void ENET_CALLBACK give_back(void *memory) {
+    given_back++;
+    free(memory);
+}
+
+/* A program may give an allocator of its own, or half of one beside the C library's other half. */
+static void allocators(void) {
+    const ENetCallbacks both = {take, give_back, NULL}, of_taking = {take, free, NULL}, of_giving = {malloc, give_back, NULL};
+    const ENetCallbacks plain = {malloc, free, NULL}, *all[] = {&both, &of_taking, &of_giving, &plain};
+    const int takes[] = {1, 1, 0, 0}, gives[] = {1, 0, 1, 0};
+    for (int i = 0; i < 4; i++) {
+        CHECK(enet_initialize_with_callbacks(ENET_VERSION, all[i]) == 0);
+        taken = given_back = 0;
+        ENetPacket *packet = enet_packet_create("own", 4, 0);
+        CHECK(packet && !strcmp((char *)packet->data, "own"));
+        enet_packet_destroy(packet);
+        CHECK(taken == takes[i] && given_back == gives[i]);
+    }
+}
+
 int main(void) {
     CHECK(enet_initialize() == 0 && enet_linked_version() == ENET_VERSION);
     settings();
     nobody();
     conversation();
     letting_go();
+    allocators();
     enet_deinitialize();
     printf("refusals: %ld checks held, %ld did not\n", passed, failed);
     return passed > 0 && failed == 0 ? 0 : 1;

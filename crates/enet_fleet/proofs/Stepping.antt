@@ -28,7 +28,7 @@ use Rattle.enet_fleet.specs.declared.event.FleetEvent.TheVariants as happen
 use Rattle.enet_fleet.specs.declared.event.Node.{Node}
 use Rattle.enet_fleet.specs.declared.event.Node.TheVariants.{Server, Client}
 use Rattle.enet_fleet.specs.Fleets.{Fleet, place_of, with_place, address_of, is_host, numbers_far, around, asked_after, sent_if, sent_after, HappensAt, logged_to, next_number, brings, lacks, RefusesAt, refused_there, refused_delivery, RefusesThere, RefusesIf, Refuses, Steps}
-use Rattle.enet_fleet.specs.Private.Turning.{PutsOut, sent_of}
+use Rattle.enet_fleet.specs.Private.Turning.{PutsOutByTurn, sent_of}
 use Rattle.enet_fleet.proofs.Runs.{is_connect}
 
 -- a host put back as it was
@@ -182,7 +182,7 @@ undelivered f to from k was sender new why there sends r same =
 
 -- a turn
 
-pub turned : (f : Fleet) (n : Node) (k : Option ℕ) (was is : Place) → place_of f n ≡ Some was → PutsOut (is_host (length f.clients)) (numbers_far f n) k was is
+pub turned : (f : Fleet) (n : Node) (k : Option ℕ) (was is : Place) → place_of f n ≡ Some was → PutsOutByTurn (is_host (length f.clients)) (numbers_far f n) k was is
     → Steps f (happen.Turn n) (Ok (answers.Sent k)) (with_place f n is)
 turned f n None was is there h =
     let c = call.Service None h.0 in
@@ -197,11 +197,11 @@ not-turned f n why was is there memory same =
 
 -- what a turn put out is kept
 
-pub puts-none : (hosts : Addr → Bool) (far : ℕ → List ℕ) (was is : Place) (site : Site) → site ≡ was.site → TurnsAmong hosts far None site is.site → is.sent ≡ was.sent → PutsOut hosts far None was is
+pub puts-none : (hosts : Addr → Bool) (far : ℕ → List ℕ) (was is : Place) (site : Site) → site ≡ was.site → TurnsAmong hosts far None site is.site → is.sent ≡ was.sent → PutsOutByTurn hosts far None was is
 puts-none hosts far was is site same h kept = (h.0, subst (λ (s : Site). CallsAround hosts far (call.Service None h.0) s is.site) same h.1, kept)
 
 pub puts-some : (hosts : Addr → Bool) (far : ℕ → List ℕ) (was is : Place) (site : Site) (given : Turned) (k : ℕ) → site ≡ was.site → TurnsAmong hosts far (Some given) site is.site → k ≡ length was.sent
-    → is.sent ≡ was.sent ++ sent_of given ∷ [] → PutsOut hosts far (Some k) was is
+    → is.sent ≡ was.sent ++ sent_of given ∷ [] → PutsOutByTurn hosts far (Some k) was is
 puts-some hosts far was is site (turn.Sent n) k same h number kept = (
   number,
   h.1,

@@ -6,7 +6,7 @@ ghost use Rattle.enet_fleet.specs.declared.event.FleetEvent.TheVariants as happe
 ghost use Rattle.enet_fleet.specs.declared.event.Node.TheVariants as node;
 ghost use Rattle.enet_fleet.specs.Fleets.{Steps};
 ghost use Rattle.enet_fleet.specs.Reached.{IsReached};
-ghost use Rattle.enet_fleet.specs.Private.Turning.{PutsOut, sent_of};
+ghost use Rattle.enet_fleet.specs.Private.Turning.{PutsOutByTurn, sent_of};
 
 use crate::around::{AroundClient, AroundServer};
 use crate::event::Node;
@@ -32,7 +32,7 @@ fn put_out<A: Around>(here: &mut Place, alloc: Global, around: &A) -> Result<Opt
     requires { AreEnds (A.hosts around.now) here.old.site }
     ensures memory { IfErr result (λ why. why ≡ Refusal.Memory) }
     ensures unchanged { OnErr result (here.new ≡ here.old) }
-    ensures puts { IfOk result (λ k. PutsOut (A.hosts around.now) (A.numbers around.now) k here.old here.new) }
+    ensures puts { IfOk result (λ k. PutsOutByTurn (A.hosts around.now) (A.numbers around.now) k here.old here.new) }
 {
     let sent = &mut here.sent;
     if sent.reserve(1).is_err() {

@@ -7,7 +7,7 @@ use Rattle.enet_codec.specs.Message.{Message, Body, acknowledge, connect, verify
 use Rattle.enet_unsequenced.specs.Groups.{dispatches}
 use Rattle.enet_fragment.specs.DataCommand.{data_of}
 use Rattle.enet_inbox.specs.Inbox.{Inbox, is_full}
-use Rattle.enet_inbox.specs.DataEffect.{DataEffect, Arrives, arrival, arrival_of, handled, is_kept, is_kept_of, stopped, unsequenced, unsequenced_taken}
+use Rattle.enet_inbox.specs.DataEffect.{DataEffect, DataArrives, arrival, arrival_of, handled, is_kept, is_kept_of, stopped, unsequenced, unsequenced_taken}
 use Rattle.enet_inbox.specs.Private.Invariant.{HasFront}
 use Rattle.enet_inbox.specs.InboxParts.{foreseen, foreseen_of, seen_new, told, unsequenced_verdict}
 use Rattle.enet_inbox.specs.declared.arriving.Foreseen.{Foreseen}
@@ -84,7 +84,7 @@ pub kept_is : (b : Inbox) (m : Message) (s : Foreseen) → HasFront b m.head.cha
 kept_is b m s h e = (is-of b m m.body h).kept s e
 
 -- a stop is that of the arrival
-arrives-as : (why : Stop) (kept : Bool) (a : DataEffect) (b new : Inbox) → Tells a.answer → a.answer ≡ Err why → a.after ≡ b → new ≡ b → Arrives (Err why) kept a b new
+arrives-as : (why : Stop) (kept : Bool) (a : DataEffect) (b new : Inbox) → Tells a.answer → a.answer ≡ Err why → a.after ≡ b → new ≡ b → DataArrives (Err why) kept a b new
 arrives-as stop.Memory kept a b new t e after same = absurd (t stop.Memory e refl)
 arrives-as stop.Short kept a b new t e after same = (sym e, same ∙ sym after)
 arrives-as stop.Compressed kept a b new t e after same = (sym e, same ∙ sym after)
@@ -99,7 +99,7 @@ arrives-as stop.Waiting kept a b new t e after same = (sym e, same ∙ sym after
 arrives-as stop.NoSentTime kept a b new t e after same = (sym e, same ∙ sym after)
 arrives-as stop.NoSlot kept a b new t e after same = (sym e, same ∙ sym after)
 
-pub arrives_stopped : (b new : Inbox) (m : Message) (why : Stop) → told (foreseen b m) ≡ (arrival b m).answer → foreseen b m ≡ Err why → new ≡ b → Arrives (Err why) (is_kept b m) (arrival b m) b new
+pub arrives_stopped : (b new : Inbox) (m : Message) (why : Stop) → told (foreseen b m) ≡ (arrival b m).answer → foreseen b m ≡ Err why → new ≡ b → DataArrives (Err why) (is_kept b m) (arrival b m) b new
 arrives_stopped b new m why t e same =
     let is : (arrival b m).answer ≡ Err why = sym t ∙ ap told e in
     arrives-as why (is_kept b m) (arrival b m) b new (arrival_tells b m) is (arrival_stays b m why is) same

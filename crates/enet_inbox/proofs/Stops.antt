@@ -11,7 +11,7 @@ use Rattle.enet_receiver.specs.declared.took.Took.{Took}
 use Rattle.enet_receiver.specs.declared.took.Took.TheVariants.{Held, Again, Outside, Bad, Waiting, Memory}
 use Rattle.enet_receiver.specs.Foresight.{ReceivingEnd, outcome_for}
 use Rattle.enet_inbox.specs.Inbox.{Inbox, is_full}
-use Rattle.enet_inbox.specs.DataEffect.{DataEffect, arrival, arrival_of, sequenced, sequenced_on, by_took, unsequenced, unsequenced_taken, passed_over, passed_of, passed_sequenced, passed_on, passed_length, handled, stopped, is_kept, is_kept_as, is_kept_of, is_kept_on, is_kept_sequenced}
+use Rattle.enet_inbox.specs.DataEffect.{DataEffect, arrival, arrival_of, sequenced, sequenced_on, by_took, unsequenced, unsequenced_taken, passed_over, passed_of, passed_sequenced, passed_over_on, passed_length, handled, stopped, is_kept, is_kept_as, is_kept_of, is_kept_on, is_kept_sequenced}
 use Rattle.enet_inbox.proofs.Outcomes.{outcome_known}
 
 -- an answer that isn't want of memory
@@ -86,13 +86,13 @@ arrival_stays b m why e = (stays-of b m m.body).0 why e
 passed-length : (b : Inbox) (payload : List ℕ) (may : Bool) → Tells (passed_length b payload may)
 passed-length b payload may = tells-if (ltb b.max_packet (length payload)) (Err stop.BadFragment) (Ok may) (tells-err stop.BadFragment (λ e. cc)) (tells-ok may)
 
-passed-on : (b : Inbox) (c : DataCommand) (o : Option ReceivingEnd) → Tells (passed_on b c o)
-passed-on b c None = tells-err stop.BadChannel (λ e. cc)
-passed-on b c (Some r) = passed-length b c.body _
+passed-over-on : (b : Inbox) (c : DataCommand) (o : Option ReceivingEnd) → Tells (passed_over_on b c o)
+passed-over-on b c None = tells-err stop.BadChannel (λ e. cc)
+passed-over-on b c (Some r) = passed-length b c.body _
 
 passed-sequenced : (b : Inbox) (channel : ℕ) (o : Option DataCommand) → Tells (passed_sequenced b channel o)
 passed-sequenced b channel None = tells-err stop.BadCommand (λ e. cc)
-passed-sequenced b channel (Some c) = passed-on b c (slice_get b.receivers channel)
+passed-sequenced b channel (Some c) = passed-over-on b c (slice_get b.receivers channel)
 
 passed-of : (b : Inbox) (m : Message) (body : Body) → Tells (passed_of b m body)
 passed-of b m (send_unsequenced group payload) =

@@ -83,13 +83,13 @@ arrival b m = arrival_of b m m.body
 abbrev pub passed_length : Inbox → List ℕ → Bool → Result Bool Stop
 passed_length b payload may = if nat_lt b.max_packet (length payload) then Err stop.BadFragment else Ok may
 
-abbrev pub passed_on : Inbox → DataCommand → Option ReceivingEnd → Result Bool Stop
-passed_on b c None = Err stop.BadChannel
-passed_on b c (Some r) = passed_length b c.body (acknowledges r.receiver.front c.number)
+abbrev pub passed_over_on : Inbox → DataCommand → Option ReceivingEnd → Result Bool Stop
+passed_over_on b c None = Err stop.BadChannel
+passed_over_on b c (Some r) = passed_length b c.body (acknowledges r.receiver.front c.number)
 
 abbrev pub passed_sequenced : Inbox → ℕ → Option DataCommand → Result Bool Stop
 passed_sequenced b channel None = Err stop.BadCommand
-passed_sequenced b channel (Some c) = passed_on b c (slice_get b.receivers channel)
+passed_sequenced b channel (Some c) = passed_over_on b c (slice_get b.receivers channel)
 
 abbrev pub passed_of : Inbox → Message → Body → Result Bool Stop
 passed_of b m (send_unsequenced group payload) = if nat_le (length b.receivers) m.head.channel then Err stop.BadChannel else passed_length b payload true
@@ -121,6 +121,6 @@ is_kept b m = is_kept_of b m m.body
 
 -- what a call did, where `kept` says whether something of the command is kept: want of memory changes nothing, and comes only
 -- where nothing else stops the command and something of it is kept
-abbrev pub Arrives : Result Bool Stop → Bool → DataEffect → Inbox → Inbox → Type 0
-Arrives (Err stop.Memory) kept a old new = (kept ≡ true) × ((may : Bool) × (a.answer ≡ Ok may)) × (new ≡ old)
-Arrives answer kept a old new = (answer ≡ a.answer) × (new ≡ a.after)
+abbrev pub DataArrives : Result Bool Stop → Bool → DataEffect → Inbox → Inbox → Type 0
+DataArrives (Err stop.Memory) kept a old new = (kept ≡ true) × ((may : Bool) × (a.answer ≡ Ok may)) × (new ≡ old)
+DataArrives answer kept a old new = (answer ≡ a.answer) × (new ≡ a.after)

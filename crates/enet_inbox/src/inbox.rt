@@ -7,7 +7,7 @@ ghost use Rattle.enet_fragment.specs.DataCommand.{data_of};
 ghost use Rattle.enet_unsequenced.specs.Groups.{dispatches};
 ghost use Rattle.enet_receiver.specs.ArrivingData.{data_command};
 ghost use Rattle.enet_inbox.specs.Inbox.{empty_inbox, is_full, cleared, forgotten, narrowed};
-ghost use Rattle.enet_inbox.specs.DataEffect.{arrival, sequenced, unsequenced_taken, passed_over, passed_length, passed_sequenced, is_kept, Arrives};
+ghost use Rattle.enet_inbox.specs.DataEffect.{arrival, sequenced, unsequenced_taken, passed_over, passed_length, passed_sequenced, is_kept, DataArrives};
 ghost use Rattle.enet_inbox.specs.InboxParts.{foresight_of, unsequenced_verdict, foreseen, foreseen_sequenced, told};
 
 use crate::arriving::{Foreseen, acknowledges, seen};
@@ -107,7 +107,7 @@ impl Inbox {
     /// begins a packet while the bytes that are held, wait or weren't taken are at their limit or above; S11 where memory is
     /// refused (our profile). After a stop nothing has changed.
     pub fn data(&mut self, command: &Command<'_>) -> Result<bool, Stop>
-        ensures { Arrives result (is_kept self.old (view command.now)) (arrival self.old (view command.now)) self.old self.new }
+        ensures { DataArrives result (is_kept self.old (view command.now)) (arrival self.old (view command.now)) self.old self.new }
     {
         let _receivers = &self.receivers;
         let foreseen = self.foresee(command)?;

@@ -1,6 +1,6 @@
 //! What an outbox's lists do.
 
-ghost use Rattle.std.specs.Prelude.{◌≡◌, ℕ, ◌+◌, ◌-◌, ◌≤◌, ◌<◌, ◌⊎◌, ◌↔◌, Some, IsErrAnd, IsTrue, IfOk, IfErr, OnOk, false, length, map, slice_get, slice_set};
+ghost use Rattle.std.specs.Prelude.{◌≡◌, ℕ, ◌+◌, ◌-◌, ◌≤◌, ◌<◌, ◌⊎◌, ◌↔◌, Some, IsErrAnd, IsTrue, IfErr, OnOk, false, length, map, slice_get, slice_set};
 ghost use Rattle.std.specs.VecDeque.{deque_len, deque_capacity};
 ghost use Rattle.enet_sender.specs.Due.{SendingEnd, with_submitted};
 ghost use Rattle.enet_sender.specs.CommandChoice.{fragment_limit};

@@ -10,7 +10,7 @@ ghost use Rattle.enet_sender.specs.Due.{SendingEnd};
 ghost use Rattle.enet_codec.specs.Message.{view, payload_of};
 ghost use Rattle.enet_outbox.specs.Emission.{acknowledgement_of, unsequenced_of, filled, Emits};
 ghost use Rattle.enet_outbox.specs.Invariant.{HasNothing};
-ghost use Rattle.enet_outbox.specs.Private.Packing.{header_asking, Leads, taken_in, place_in, asked_for, refuses, TakesIn, PacksAcknowledgements, PacksControls, PacksUnsequenced, PacksChannel, PacksChannels};
+ghost use Rattle.enet_outbox.specs.Private.Packing.{header_asking, Leads, taken_in, place_in, asked_for, refuses, GoesIn, PacksAcknowledgements, PacksControls, PacksUnsequenced, PacksChannel, PacksChannels};
 
 use crate::{Acknowledgement, Destination, Outbox, Pace, Unsequenced, lists};
 use enet_codec::{Command, Head, Header, NO_PEER, write_acknowledge, write_command, write_header};
@@ -67,7 +67,7 @@ impl Progress {
     /// Writes a command where the datagram takes it; None where it does not, with nothing changed.
     fn put(self, buf: &mut [u8], command: &Command<'_>) -> Option<Progress>
         requires { length (payload_of (view command.now).body) < 2 ^ 16 }
-        ensures { TakesIn (view command.now) self result buf.old buf.new }
+        ensures { GoesIn (view command.now) self result buf.old buf.new }
     {
         if self.commands == 0 {
             return None;
@@ -78,7 +78,7 @@ impl Progress {
 
     /// Writes an acknowledgement (ENet 1.3) where the datagram takes it; None where it does not, with nothing changed.
     fn put_acknowledgement(self, buf: &mut [u8], what: Acknowledgement) -> Option<Progress>
-        ensures { TakesIn (acknowledgement_of what) self result buf.old buf.new }
+        ensures { GoesIn (acknowledgement_of what) self result buf.old buf.new }
     {
         if self.commands == 0 {
             return None;
@@ -156,7 +156,7 @@ pub(crate) fn pack_acknowledgements(
 /// Writes an unsequenced packet where the datagram takes it; None where it does not, with nothing changed.
 fn put_packet(packet: &Unsequenced, buf: &mut [u8], from: Progress) -> Option<Progress>
     requires { length buf.old ≤ 4096 }
-    ensures { TakesIn (unsequenced_of packet.now) from result buf.old buf.new }
+    ensures { GoesIn (unsequenced_of packet.now) from result buf.old buf.new }
 {
     if buf.len() < packet.body.len() {
         return None;

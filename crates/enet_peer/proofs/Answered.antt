@@ -24,7 +24,7 @@ use Rattle.enet_peer.specs.Peering.{Peering}
 use Rattle.enet_peer.specs.declared.parts.PeerState.{PeerState}
 use Rattle.enet_peer.specs.declared.parts.PeerState.TheVariants as state
 use Rattle.enet_peer.specs.CommandEffect.{Obeys, wants_memory, answered, answered_at, is_answered_in, obeyed, acknowledged, on_acknowledge, on_match}
-use Rattle.enet_peer.specs.Calls.{PutsOut, after_timeouts, after_timeouts_by, destination_of, gone_on, gone_on_in, is_pinged, pace_of, ticked}
+use Rattle.enet_peer.specs.Calls.{PutsOut, after_timeouts_by, destination_of, gone_on_in, pace_of, ticked}
 use Rattle.enet_peer.specs.Reachable.{Answers, IsAnswering, IsReachable, IsStill, answer_to}
 use Rattle.enet_peer.proofs.Obeying.{obeys-holds}
 

@@ -55,7 +55,7 @@ use Rattle.enet_peer.specs.declared.parts.PeerEvent.TheVariants as event
 use Rattle.enet_peer.specs.Endings.{ended, freed, disconnecting, parting, settled, is_later, cut_off_in}
 use Rattle.enet_peer.specs.CommandEffect.{Outcome, Obeys, wants_memory, answered, answered_at, is_answered_in, is_allowed, is_connect, obeyed, by_body, by_answer, by_arrival, on_data, stopped, sampled, with_answer, on_match, on_acknowledge, welcomed, on_verify_in, on_last_disconnect, on_disconnect_in}
 use Rattle.enet_peer.specs.Calls.{Leave, AtOnce, TellsOnce, Asks, AsksLater, Refused, Leaves, left, Submits, submitted, PutsOut, after_timeouts, after_timeouts_by, is_pinged, ticked, is_connected, pace_of, gone_on_in, Taken, Takes, next_event, event_after, packet_event, last_event, with_bandwidth, with_throttle}
-use Rattle.enet_peer.specs.Reachable.{IsReachable, IsStill, IsStillIn, Keeps, WaitsIn, holdings_of}
+use Rattle.enet_peer.specs.Reachable.{IsReachable, IsStill, IsStillIn, KeepsHoldings, WaitsIn, holdings_of}
 use Rattle.enet_peer.proofs.Obeying.{obeys-holds}
 
 -- ---- a fact of each element of a list and its place
@@ -108,7 +108,7 @@ HandedOver i r = r.receiver.dispatched ≡ []
 -- ---- by the state
 
 abbrev In : PeerState → Peering → Type 0
-In s p = Keeps s (holdings_of p)
+In s p = KeepsHoldings s (holdings_of p)
 
 seen-in : (s : PeerState) (p : Peering) → p.state ≡ s → IsReachable p → In s p
 seen-in s p e h = subst (λ (x : PeerState). In x p) e h

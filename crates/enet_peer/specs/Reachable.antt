@@ -58,7 +58,7 @@ holdings_of p = record {
 }
 
 -- what a peer keeps, by its state and what it holds
-pub record Keeps (state : PeerState) (has : Holdings) : Type 0 where
+pub record KeepsHoldings (state : PeerState) (has : Holdings) : Type 0 where
   pub still : IsStillIn state has.unsequenced has.control has.senders
   pub waits : WaitsIn state has.acknowledgements has.control.queued
   -- a sender's channel is its place
@@ -68,7 +68,7 @@ pub record Keeps (state : PeerState) (has : Holdings) : Type 0 where
 
 -- a peer as it can be reached
 abbrev pub IsReachable : Peering → Type 0
-IsReachable p = Keeps p.state (holdings_of p)
+IsReachable p = KeepsHoldings p.state (holdings_of p)
 
 -- a peer that is to acknowledge a DISCONNECT by this acknowledgement, which waits before all others
 abbrev pub IsAnswering : Acknowledgement → Peering → Type 0

@@ -56,13 +56,13 @@ read_is r c single wired small inside =
       | false ↦ λ i. cond (inside i) (Some (back i)) None
     ]
 
-nothing_came_of : (r : Receiver) (c : DataCommand) (place : ℕ) → ComesAlone r c place → came_at r c place ≡ None
-nothing_came_of r c place there =
-    let held : get r.held place ≡ None = nothing_held r.held place (omega (arith, there.nothing_held)) in
-    let absent : get r.waiting place ≡ None = nothing_held r.waiting place (omega (arith, there.nothing_waits)) in
-    let line : get (line_at r.waiting place) c.unreliable ≡ None =
+nothing_came_of : (r : Receiver) (c : DataCommand) → ComesAlone r c → came_at r c c.number ≡ None
+nothing_came_of r c there =
+    let held : get r.held c.number ≡ None = nothing_held r.held c.number (omega (arith, there.nothing_held)) in
+    let absent : get r.waiting c.number ≡ None = nothing_held r.waiting c.number (omega (arith, there.nothing_waits)) in
+    let line : get (line_at r.waiting c.number) c.unreliable ≡ None =
     ap (λ (o : Option Line). get (unwrap_or o empty) c.unreliable) absent ∙ get-empty {X = IncomingPacket} nat_cmp c.unreliable in
-    elim c.reliable as (λ b. cond b (get r.held place) (get (line_at r.waiting place) c.unreliable) ≡ None) [ true ↦ held | false ↦ line ]
+    elim c.reliable as (λ b. cond b (get r.held c.number) (get (line_at r.waiting c.number) c.unreliable) ≡ None) [ true ↦ held | false ↦ line ]
 
 -- it is taken in
 pub record IsDispatchedAtOnce (most : ℕ) (r : Receiver) (c : DataCommand) (full : Bool) : Type 0 where
@@ -71,17 +71,17 @@ pub record IsDispatchedAtOnce (most : ℕ) (r : Receiver) (c : DataCommand) (ful
 
 held_at_once : (most : ℕ) (r : Receiver) (c : DataCommand) (full : Bool) → GoesAtOnce most r c → full ≡ false → place_read wire r c ≡ Some c.number → outcome wire most r c full ≡ Held
 held_at_once most r c full at begins read =
-    let none : came_at r c c.number ≡ None = nothing_came_of r c c.number at.alone in
+    let none : came_at r c c.number ≡ None = nothing_came_of r c at.alone in
     let before : None ≡ came_before wire r c = sym (came_before-read wire r c c.number read ∙ none) in
     outcome-read most r c full c.number None (only_piece_of most c at.alone.single at.short at.number) before refl read
     ∙ (λ i. cond (at.not_behind i || false) Again (cond (begins i && true) Waiting Held))
 
 -- and is all that it dispatches
-one_dispatched : (most : ℕ) (r : Receiver) (c : DataCommand) (full : Bool) → ComesAlone r c c.number → outcome wire most r c full ≡ Held → place_read wire r c ≡ Some c.number → 1 ≡ dispatch_count wire most r c full
+one_dispatched : (most : ℕ) (r : Receiver) (c : DataCommand) (full : Bool) → ComesAlone r c → outcome wire most r c full ≡ Held → place_read wire r c ≡ Some c.number → 1 ≡ dispatch_count wire most r c full
 one_dispatched most r c full there held read =
     let a : Admitted most r c c.number = admitted most r c full c.number held read in
     let all : (r.dispatched ++ handed_out (only_packet c) ∷ []) ≡ (received_with (outcome wire most r c full) wire r c).dispatched =
-    ap (λ (s : Receiver). s.dispatched) (handed_out_is most r c c.number a there)
+    ap (λ (s : Receiver). s.dispatched) (handed_out_is most r c a there)
     ∙ sym (ap (λ (t : Took). (received_with t wire r c).dispatched) held ∙ ap (λ (o : Option ℕ). (added_at wire r c o).dispatched) read) in
     let long : length (r.dispatched ++ handed_out (only_packet c) ∷ []) ≡ length r.dispatched + 1 = length-append r.dispatched (handed_out (only_packet c) ∷ []) in
     let same : length (received_with (outcome wire most r c full) wire r c).dispatched ≡ length r.dispatched + 1 = sym (ap length all) ∙ long in

@@ -89,15 +89,15 @@ past_last r c place at unreliable not_behind =
     let above : leb c.unreliable r.unreliable ≡ false = sym is ∙ not_behind in
     grind (arith, nat_tests)
 
-unreliable_out : (most : ℕ) (r : Receiver) (c : DataCommand) (place : ℕ) → Admitted most r c place → ComesAlone r c place → c.reliable ≡ false → place ≡ r.front
-    → receiver_of r.front c.unreliable r.held r.waiting (r.dispatched ++ handed_out (only_packet c) ∷ []) ≡ all_released wire (with_stored r c place)
-unreliable_out most r c place a there unreliable at =
+unreliable_out : (most : ℕ) (r : Receiver) (c : DataCommand) → Admitted most r c c.number → ComesAlone r c → c.reliable ≡ false → c.number ≡ r.front
+    → receiver_of r.front c.unreliable r.held r.waiting (r.dispatched ++ handed_out (only_packet c) ∷ []) ≡ all_released wire (with_stored r c c.number)
+unreliable_out most r c a there unreliable at =
     let absent : get r.waiting r.front ≡ None = nothing_held r.waiting r.front (omega (arith, there.nothing_waits)) in
     let none : get r.held (after r.front 1) ≡ None = nothing_held r.held (after r.front 1) (omega (arith, there.nothing_held)) in
     let stored : Receiver = record r { waiting = with_line r.waiting r.front (insert empty c.unreliable (only_packet c)) } in
-    flushed_alone r c.unreliable (only_packet c) absent (only_whole c there.single (piece_sound most c a.piece).0) (past_last r c place at unreliable a.not_behind)
+    flushed_alone r c.unreliable (only_packet c) absent (only_whole c there.single (piece_sound most c a.piece).0) (past_last r c c.number at unreliable a.not_behind)
     ∙ sym (all_released-none wire stored (ap next_whole none))
-    ∙ ap (all_released wire) (stored_alone most r c place a there.single unreliable at absent)
+    ∙ ap (all_released wire) (stored_alone most r c c.number a there.single unreliable at absent)
 
 -- where nothing waits, no unreliable packet is dispatched
 flushed_nothing : (first : ℕ) (r : Receiver) → len r.waiting ≡ 0 → flushed_from first r ≡ r
@@ -131,14 +131,14 @@ passed_alone r c single nothing_held nothing_waits =
     }) (only_count c single)
     ∙ (λ i. receiver_of (after r.front 1) 0 (without_one r.held (after r.front 1) nothing_held i) (without_one r.waiting r.front nothing_waits i) (r.dispatched ++ handed_out (only_packet c) ∷ []))
 
-reliable_out : (most : ℕ) (r : Receiver) (c : DataCommand) (place : ℕ) → Admitted most r c place → ComesAlone r c place → c.reliable ≡ true → place ≡ after r.front 1
-    → receiver_of (after r.front 1) 0 r.held r.waiting (r.dispatched ++ handed_out (only_packet c) ∷ []) ≡ all_released wire (with_stored r c place)
-reliable_out most r c place a there reliable at =
+reliable_out : (most : ℕ) (r : Receiver) (c : DataCommand) → Admitted most r c c.number → ComesAlone r c → c.reliable ≡ true → c.number ≡ after r.front 1
+    → receiver_of (after r.front 1) 0 r.held r.waiting (r.dispatched ++ handed_out (only_packet c) ∷ []) ≡ all_released wire (with_stored r c c.number)
+reliable_out most r c a there reliable at =
     let out : Receiver = receiver_of (after r.front 1) 0 r.held r.waiting (r.dispatched ++ handed_out (only_packet c) ∷ []) in
     let pieces : HavePieces r = λ q x e. absurd (let none : get r.held q ≡ None = nothing_held r.held q (omega (arith, there.nothing_held)) in cc) in
     let due : next_whole (get r.held (after (after r.front 1) 1)) ≡ None = ap next_whole (nothing_held r.held (after (after r.front 1) 1) (omega (arith, there.nothing_held))) in
     sym (
-    ap (all_released wire) (sym (next_stored most r c place a there reliable))
+    ap (all_released wire) (sym (next_stored most r c a there reliable))
     ∙ sym (released_at_once r c there.single (piece_sound most c a.piece).0 pieces)
     ∙ ap (λ (s : Receiver). all_released wire (flushed_from 0 s)) (passed_alone r c there.single there.nothing_held there.nothing_waits)
     ∙ ap (all_released wire) (flushed_nothing 0 out there.nothing_waits)
@@ -146,20 +146,20 @@ reliable_out most r c place a there reliable at =
     ∙ flushed_nothing 1 out there.nothing_waits
     )
 
-pub handed_out_is : (most : ℕ) (r : Receiver) (c : DataCommand) (place : ℕ) → Admitted most r c place → ComesAlone r c place
-    → receiver_of place (cond c.reliable 0 c.unreliable) r.held r.waiting (r.dispatched ++ handed_out (only_packet c) ∷ []) ≡ all_released wire (with_stored r c place)
-handed_out_is most r c place a there =
-    elim c.reliable as (λ b. c.reliable ≡ b → place ≡ cond b (after r.front 1) r.front
-    → receiver_of place (cond b 0 c.unreliable) r.held r.waiting (r.dispatched ++ handed_out (only_packet c) ∷ []) ≡ all_released wire (with_stored r c place)) [
-      | true ↦ λ t at. ap (λ p. receiver_of p 0 r.held r.waiting (r.dispatched ++ handed_out (only_packet c) ∷ [])) at ∙ reliable_out most r c place a there t at
-      | false ↦ λ t at. ap (λ p. receiver_of p c.unreliable r.held r.waiting (r.dispatched ++ handed_out (only_packet c) ∷ [])) at ∙ unreliable_out most r c place a there t at
+pub handed_out_is : (most : ℕ) (r : Receiver) (c : DataCommand) → Admitted most r c c.number → ComesAlone r c
+    → receiver_of c.number (cond c.reliable 0 c.unreliable) r.held r.waiting (r.dispatched ++ handed_out (only_packet c) ∷ []) ≡ all_released wire (with_stored r c c.number)
+handed_out_is most r c a there =
+    elim c.reliable as (λ b. c.reliable ≡ b → c.number ≡ cond b (after r.front 1) r.front
+    → receiver_of c.number (cond b 0 c.unreliable) r.held r.waiting (r.dispatched ++ handed_out (only_packet c) ∷ []) ≡ all_released wire (with_stored r c c.number)) [
+      | true ↦ λ t at. ap (λ p. receiver_of p 0 r.held r.waiting (r.dispatched ++ handed_out (only_packet c) ∷ [])) at ∙ reliable_out most r c a there t at
+      | false ↦ λ t at. ap (λ p. receiver_of p c.unreliable r.held r.waiting (r.dispatched ++ handed_out (only_packet c) ∷ [])) at ∙ unreliable_out most r c a there t at
     ] refl there.at
 
 -- it keeps what a receiver keeps
-pub in_place_keeps : (most : ℕ) (r : Receiver) (c : DataCommand) (place : ℕ) → Keeps most r → IsInside r.front place → c.unreliable < 65536 → Admitted most r c place → ComesAlone r c place
-    → Keeps most (receiver_of place (cond c.reliable 0 c.unreliable) r.held r.waiting (r.dispatched ++ handed_out (only_packet c) ∷ []))
-in_place_keeps most r c place k inside count a there =
-    subst (Keeps most) (sym (handed_out_is most r c place a there)) (Keeps-all_released most (with_stored r c place) (Keeps-stored most r c place k inside count a))
+pub in_place_keeps : (most : ℕ) (r : Receiver) (c : DataCommand) → Keeps most r → IsInside r.front c.number → c.unreliable < 65536 → Admitted most r c c.number → ComesAlone r c
+    → Keeps most (receiver_of c.number (cond c.reliable 0 c.unreliable) r.held r.waiting (r.dispatched ++ handed_out (only_packet c) ∷ []))
+in_place_keeps most r c k inside count a there =
+    subst (Keeps most) (sym (handed_out_is most r c a there)) (Keeps-all_released most (with_stored r c c.number) (Keeps-stored most r c c.number k inside count a))
 
 -- the bytes of a packet of one command
 pub only_body : (c : DataCommand) → c.fragment ≡ None → handed_out (only_packet c) ≡ record { flags = flags_of c; body = c.body }

@@ -58,9 +58,9 @@ nothing_came None c single missing = refl
 nothing_came (Some e) c single missing = absurd (let t : came (Some e) c ≡ true = ap (λ (f : Option Fragment). came (Some e) (record c { fragment = f })) single in cc)
 
 -- such a packet, once it is stored
-pub next_stored : (most : ℕ) (r : Receiver) (c : DataCommand) (place : ℕ) → Admitted most r c place → ComesAlone r c place → c.reliable ≡ true → record r { held = insert r.held (after r.front 1) (only_packet c) } ≡ with_stored r c place
-next_stored most r c place a there reliable =
-    let none : came_at r c place ≡ None = nothing_came (came_at r c place) c there.single a.missing in
-    sym (ap (λ (o : Option IncomingPacket). with_added r c place (with_more (earlier_or_new o c) c)) none
-    ∙ ap (λ b. record r { held = cond b (insert r.held place (only_packet c)) r.held; waiting = cond b r.waiting (with_line r.waiting place (insert (line_at r.waiting place) c.unreliable (only_packet c))) }) reliable
+pub next_stored : (most : ℕ) (r : Receiver) (c : DataCommand) → Admitted most r c c.number → ComesAlone r c → c.reliable ≡ true → record r { held = insert r.held (after r.front 1) (only_packet c) } ≡ with_stored r c c.number
+next_stored most r c a there reliable =
+    let none : came_at r c c.number ≡ None = nothing_came (came_at r c c.number) c there.single a.missing in
+    sym (ap (λ (o : Option IncomingPacket). with_added r c c.number (with_more (earlier_or_new o c) c)) none
+    ∙ ap (λ b. record r { held = cond b (insert r.held c.number (only_packet c)) r.held; waiting = cond b r.waiting (with_line r.waiting c.number (insert (line_at r.waiting c.number) c.unreliable (only_packet c))) }) reliable
     ∙ ap (λ n. record r { held = insert r.held n (only_packet c) }) (there.at ∙ ap (λ b. cond b (after r.front 1) r.front) reliable))

@@ -33,23 +33,23 @@ first_out out c single none =
     ∙ ap (λ (d : Dispatched). d ∷ []) (only_body c single)
     ∙ ap (λ (ds : List Dispatched). (record { flags = flags_of c; body = c.body }) ∷ ds) (sym none)
 
-moved_is : (e : ReceivingEnd) (c : DataCommand) (full : Bool) → IsOwn e c c.number → ComesAlone e.receiver c c.number → e.receiver.dispatched ≡ [] → outcome_for e (Some c) full ≡ Held
+moved_is : (e : ReceivingEnd) (c : DataCommand) (full : Bool) → IsOwn e c c.number → ComesAlone e.receiver c → e.receiver.dispatched ≡ [] → outcome_for e (Some c) full ≡ Held
     → after_command e (Some c) full ≡ with_first (with_moved e c) (only_packet_from e.channel c)
 moved_is e c full own there none held =
     sym (kept_is e c full c.number held own)
-    ∙ ap (λ (r : Receiver). record e { receiver = r }) (sym (handed_out_is e.max_packet e.receiver c c.number own.admitted there))
+    ∙ ap (λ (r : Receiver). record e { receiver = r }) (sym (handed_out_is e.max_packet e.receiver c own.admitted there))
     ∙ ap (λ (out : List Dispatched). record e { receiver = record e.receiver { front = c.number; unreliable = cond c.reliable 0 c.unreliable; dispatched = out } }) (first_out e.receiver.dispatched c there.single none)
 
 -- the packet, and the receiver after it
-pub passed_on : (e new : ReceivingEnd) (c : DataCommand) (o : Option Packet) → IsOwn e c c.number → ComesAlone e.receiver c c.number → e.receiver.dispatched ≡ []
+pub passed_on : (e new : ReceivingEnd) (c : DataCommand) (o : Option Packet) → IsOwn e c c.number → ComesAlone e.receiver c → e.receiver.dispatched ≡ []
     → IfSome o (λ _. new ≡ with_moved e c) → IfSome o (λ packet. packet ≡ only_packet_from e.channel c)
     → IfSome o (λ packet. (full : Bool) → outcome_for e (Some c) full ≡ Held → after_command e (Some c) full ≡ with_first new packet)
 passed_on e new c None own there none moved is = tt
 passed_on e new c (Some packet) own there none moved is = λ full held. moved_is e c full own there none held ∙ (λ i. with_first (sym moved i) (sym is i))
 
 -- it keeps what a receiver keeps
-pub moved_keeps : (most : ℕ) (r : Receiver) (c : DataCommand) → Keeps most r → IsInside r.front c.number → c.unreliable < 65536 → Admitted most r c c.number → ComesAlone r c c.number
+pub moved_keeps : (most : ℕ) (r : Receiver) (c : DataCommand) → Keeps most r → IsInside r.front c.number → c.unreliable < 65536 → Admitted most r c c.number → ComesAlone r c
     → Keeps most (receiver_of c.number (cond c.reliable 0 c.unreliable) r.held r.waiting r.dispatched)
 moved_keeps most r c k inside count a there =
-    let out = in_place_keeps most r c c.number k inside count a there in
+    let out = in_place_keeps most r c k inside count a there in
     record { packet = out.packet; wire = out.wire; held = out.held; waiting = out.waiting }

@@ -346,7 +346,7 @@ impl Incoming {
     /// Whether a command is a whole packet that is dispatched as it comes, while nothing is held and nothing waits: the next
     /// reliable one in order, or an unreliable one that goes with the front.
     fn comes_alone(&self, arriving: ArrivingData<'_>) -> bool
-        ensures { IsTrue result → ComesAlone self.now.receiver (data_command arriving.entry) arriving.entry.head.number }
+        ensures { IsTrue result → ComesAlone self.now.receiver (data_command arriving.entry) }
     {
         arriving.fragment.is_none()
             && arriving.head.number == self.place_in_order(arriving.reliable)
@@ -378,7 +378,7 @@ impl Incoming {
     fn hand_out(&mut self, arriving: ArrivingData<'_>) -> Option<Packet>
         requires admitted { Admitted self.old.max_packet self.old.receiver (data_command arriving) arriving.head.number }
         requires inside { IsInside self.old.receiver.front arriving.head.number }
-        requires alone { ComesAlone self.old.receiver (data_command arriving) arriving.head.number }
+        requires alone { ComesAlone self.old.receiver (data_command arriving) }
         ensures moved { IfSome result (λ _. self.new ≡ with_moved self.old (data_command arriving.entry)) }
         ensures packet { IfSome result (λ packet. packet ≡ only_packet_from self.old.channel (data_command arriving.entry)) }
         ensures unchanged { IfNone result (self.new ≡ self.old) }

@@ -12,9 +12,10 @@
 //! (`sequenced_has_other_flags`). Inside, by the invariants of `Held` and `Block`: a number is marked exactly where a packet is
 //! held under it.
 //! Only tested, in `check_numbers` and `check_peer`: that calls succeed with ample memory, and the worked scripts of one
-//! channel. Neither: that a block's marks go with the last number that is held of it, what look-ups the marks save, and that
-//! `pass_on` gives a packet, with ample memory, wherever one comes alone: the next one in order or an unreliable one of the front,
-//! whole, while nothing is held, waits or was dispatched and not popped.
+//! channel. Neither: that a block's marks go with the last number that is held of it, what look-ups the marks save, and when
+//! `pass_on` gives a packet. It does so, with ample memory, exactly where one comes alone: the next one in order or an unreliable
+//! one of the front, whole, while nothing is held, waits or was dispatched and not popped. But no clause says that it ever gives
+//! one: a body that never does would pass. So would one that gives a packet elsewhere too, as where others are held that stay so.
 #![tactic(auto)]
 
 mod arriving_data;

@@ -15,7 +15,7 @@ use Rattle.enet_receiver.specs.Receiver.{Receiver, nothing_received}
 use Rattle.enet_receiver.specs.Foresight.{ReceivingEnd}
 use Rattle.enet_inbox.specs.Inbox.{Inbox, is_full}
 use Rattle.enet_unsequenced.specs.Groups.{dispatches}
-use Rattle.enet_inbox.specs.DataEffect.{DataEffect, handled, stopped as refused, unsequenced, unsequenced_taken, passed_on, sequenced_on, passed_over, arrival}
+use Rattle.enet_inbox.specs.DataEffect.{DataEffect, handled, stopped as refused, unsequenced, unsequenced_taken, passed_over_on, sequenced_on, passed_over, arrival}
 use Rattle.enet_sender.specs.Sender.{Sender, nothing_sent}
 use Rattle.enet_sender.specs.Due.{SendingEnd}
 use Rattle.enet_outbox.specs.Outbox.{cleared_sender}
@@ -53,14 +53,14 @@ data-state state.Parting body n e = absurd (let x : false ≡ true = e in cc)
 
 -- sequenced data, by the state
 data-by : (own other : End) (p : Peering) (put : Put) (c : DataCommand) (sent : Option ℕ) → Logged other put c → IsTidy own.submitted p → ((is_later p.state ≡ false) × (dispatches_in p.state ≡ true)) ⊎ ((is_later p.state ≡ true) × (dispatches_in p.state ≡ false))
-    → Holds own other p → Holds own other (cond (is_later p.state) (by_answer p put.message sent (passed_on p.inbox c (slice_get p.inbox.receivers put.message.head.channel)))
+    → Holds own other p → Holds own other (cond (is_later p.state) (by_answer p put.message sent (passed_over_on p.inbox c (slice_get p.inbox.receivers put.message.head.channel)))
     (by_arrival p put.message sent (sequenced_on p.inbox put.message.head.channel c (slice_get p.inbox.receivers put.message.head.channel)))).after
 data-by own other p put c sent logged tidy (inl s) h =
-    let later : Outcome = by_answer p put.message sent (passed_on p.inbox c (slice_get p.inbox.receivers put.message.head.channel)) in
+    let later : Outcome = by_answer p put.message sent (passed_over_on p.inbox c (slice_get p.inbox.receivers put.message.head.channel)) in
     let takes : Outcome = by_arrival p put.message sent (sequenced_on p.inbox put.message.head.channel c (slice_get p.inbox.receivers put.message.head.channel)) in
     subst (λ b. Holds own other (cond b later takes).after) (sym s.0) (holds-sequenced own other p put c sent s.1 logged tidy.receivers h)
 data-by own other p put c sent logged tidy (inr s) h =
-    let later : Outcome = by_answer p put.message sent (passed_on p.inbox c (slice_get p.inbox.receivers put.message.head.channel)) in
+    let later : Outcome = by_answer p put.message sent (passed_over_on p.inbox c (slice_get p.inbox.receivers put.message.head.channel)) in
     let takes : Outcome = by_arrival p put.message sent (sequenced_on p.inbox put.message.head.channel c (slice_get p.inbox.receivers put.message.head.channel)) in
     subst (λ b. Holds own other (cond b later takes).after) (sym s.0) (holds-passed own other p put c sent s.1 logged h)
 

@@ -23,7 +23,7 @@ use Rattle.enet_receiver.specs.declared.took.Took.{Took}
 use Rattle.enet_receiver.specs.declared.took.Took.TheVariants.{Held, Again, Outside, Bad, Waiting, Memory}
 use Rattle.enet_receiver.specs.Foresight.{ReceivingEnd, outcome_for, after_command}
 use Rattle.enet_inbox.specs.Inbox.{Inbox, is_full}
-use Rattle.enet_inbox.specs.DataEffect.{DataEffect, handled, stopped as refused, unsequenced, unsequenced_taken, handed_over, by_took, passed_on, sequenced_on, passed_over, arrival}
+use Rattle.enet_inbox.specs.DataEffect.{DataEffect, handled, stopped as refused, unsequenced, unsequenced_taken, handed_over, by_took, passed_over_on, sequenced_on, passed_over, arrival}
 use Rattle.enet_sender.specs.Sender.{Occasion, Next, next, with_skipped}
 use Rattle.enet_sender.specs.Due.{SendingEnd}
 use Rattle.enet_outbox.specs.declared.parts.Matched.{Matched}
@@ -317,7 +317,7 @@ kept-arrival P k p m sent a h = kept-result P k (record p { inbox = a.after }) m
 
 -- sequenced data
 kept-data : (P : Peering → Type 0) → Changes P → (p : Peering) (m : Message) (c : DataCommand) (sent : Option ℕ) → (is_later p.state ≡ false → is_connected p.state ≡ true) → P p
-    → P (cond (is_later p.state) (by_answer p m sent (passed_on p.inbox c (slice_get p.inbox.receivers m.head.channel))) (by_arrival p m sent (sequenced_on p.inbox m.head.channel c (slice_get p.inbox.receivers m.head.channel)))).after
+    → P (cond (is_later p.state) (by_answer p m sent (passed_over_on p.inbox c (slice_get p.inbox.receivers m.head.channel))) (by_arrival p m sent (sequenced_on p.inbox m.head.channel c (slice_get p.inbox.receivers m.head.channel)))).after
 kept-data P k p m c sent up h = by-later (is_later p.state) refl
   where
     j : ℕ
@@ -335,8 +335,8 @@ kept-data P k p m c sent up h = by-later (is_later p.state) refl
     by None there on = h
     by (Some r) there on = by-took r there on (outcome_for r (Some c) (is_full p.inbox))
 
-    by-later : (b : Bool) → is_later p.state ≡ b → P (cond b (by_answer p m sent (passed_on p.inbox c (slice_get p.inbox.receivers j))) (by_arrival p m sent (sequenced_on p.inbox j c (slice_get p.inbox.receivers j)))).after
-    by-later true e = kept-result P k p m sent (passed_on p.inbox c (slice_get p.inbox.receivers j)) h
+    by-later : (b : Bool) → is_later p.state ≡ b → P (cond b (by_answer p m sent (passed_over_on p.inbox c (slice_get p.inbox.receivers j))) (by_arrival p m sent (sequenced_on p.inbox j c (slice_get p.inbox.receivers j)))).after
+    by-later true e = kept-result P k p m sent (passed_over_on p.inbox c (slice_get p.inbox.receivers j)) h
     by-later false e = kept-arrival P k p m sent (sequenced_on p.inbox j c (slice_get p.inbox.receivers j)) (by (slice_get p.inbox.receivers j) refl (up e))
 
 -- an unsequenced packet

@@ -14,7 +14,7 @@ use Rattle.enet_receiver.specs.Receiver.{Receiver}
 use Rattle.enet_receiver.specs.DataOutcome.{outcome, is_handled}
 use Rattle.enet_receiver.specs.Foresight.{ReceivingEnd}
 use Rattle.enet_inbox.specs.Inbox.{Inbox, is_full}
-use Rattle.enet_inbox.specs.DataEffect.{DataEffect, by_took, sequenced_on, passed_on}
+use Rattle.enet_inbox.specs.DataEffect.{DataEffect, by_took, sequenced_on, passed_over_on}
 use Rattle.enet_outbox.specs.declared.parts.Acknowledgement.{Acknowledgement}
 use Rattle.enet_outbox.specs.Outbox.{with_acknowledgement}
 use Rattle.enet_peer.specs.Peering.{Peering}
@@ -164,7 +164,7 @@ holds-sequenced own other p put c sent opens logged tidy b = by (slice_get p.inb
 
 -- sequenced data is passed over
 pub holds-passed : (own other : End) (p : Peering) (put : Put) (c : DataCommand) (sent : Option ℕ) → dispatches_in p.state ≡ false → Logged other put c
-    → Holds own other p → Holds own other (by_answer p put.message sent (passed_on p.inbox c (slice_get p.inbox.receivers put.message.head.channel))).after
+    → Holds own other p → Holds own other (by_answer p put.message sent (passed_over_on p.inbox c (slice_get p.inbox.receivers put.message.head.channel))).after
 holds-passed own other p put c sent shut logged b = by (slice_get p.inbox.receivers j)
   where
     j : ℕ
@@ -200,6 +200,6 @@ holds-passed own other p put c sent shut logged b = by (slice_get p.inbox.receiv
     by-length true may = b
     by-length false may = after-answered (Holds own other) p put c.number p.inbox sent may logged.number (λ answer q rule after'. passes may answer q rule after')
 
-    by : (o : Option ReceivingEnd) → Holds own other (by_answer p put.message sent (passed_on p.inbox c o)).after
+    by : (o : Option ReceivingEnd) → Holds own other (by_answer p put.message sent (passed_over_on p.inbox c o)).after
     by None = b
     by (Some r) = by-length (ltb p.inbox.max_packet (length c.body)) (acknowledges r.receiver.front c.number)

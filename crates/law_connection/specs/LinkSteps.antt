@@ -60,7 +60,7 @@ pub record Comes (command : PutOut) (v : WireLink) : Type 0 where
   pub in_time : is_late v.greatest command.sent_then command.command.number ≡ false
 
 -- such a command comes, and is not acknowledged
-pub record Arrives (command : PutOut) (max_packet : ℕ) (full : Bool) (v w : WireLink) : Type 0 where
+pub record ArrivesUnanswered (command : PutOut) (max_packet : ℕ) (full : Bool) (v w : WireLink) : Type 0 where
   pub comes : Comes command v
   pub after : w ≡ arrives v max_packet command.command full false
 
@@ -93,7 +93,7 @@ Happens mtu (Send occasion) v w = Sends occasion v w
 Happens mtu (Drop occasion) v w = Drops occasion v w
 Happens mtu (Mark now) v w = Marks now v w
 Happens mtu PutsOut v w = w ≡ puts_out v
-Happens mtu (Arrive command max_packet full) v w = Arrives command max_packet full v w
+Happens mtu (Arrive command max_packet full) v w = ArrivesUnanswered command max_packet full v w
 Happens mtu (ArriveAnswered command max_packet full) v w = ArrivesAnswered command max_packet full v w
 Happens mtu (PutsAnswer number rest) v w = PutsAnswers number rest v w
 Happens mtu (Acknowledge answer) v w = Acknowledges answer v w

@@ -17,8 +17,8 @@ sent_of (turned.Sent n) = Of n
 sent_of (turned.Away to text) = Away to text
 
 -- by a turn of a host with these hosts around it, which gives the datagram the host's next number
-abbrev pub PutsOut : (Addr → Bool) → (ℕ → List ℕ) → Option ℕ → Place → Place → Type 0
-PutsOut hosts far None was is = (buf : List ℕ) × CallsAround hosts far (call.Service None buf) was.site is.site × (is.sent ≡ was.sent)
-PutsOut hosts far (Some k) was is =
+abbrev pub PutsOutByTurn : (Addr → Bool) → (ℕ → List ℕ) → Option ℕ → Place → Place → Type 0
+PutsOutByTurn hosts far None was is = (buf : List ℕ) × CallsAround hosts far (call.Service None buf) was.site is.site × (is.sent ≡ was.sent)
+PutsOutByTurn hosts far (Some k) was is =
     (k ≡ length was.sent) × (gave : PeerRef × Addr × ℕ) × (buf : List ℕ) × CallsAround hosts far (call.Service (Some gave) buf) was.site is.site
     × (is.sent ≡ sent_if (hosts gave.1) gave buf was)

@@ -34,9 +34,9 @@ abbrev pub taken_in : Progress → ℕ → List ℕ → Progress
 taken_in p past buf = record { at = past; commands = p.commands - 1; closed = false; asks = p.asks || nat_le 128 (slice_index buf p.at) }
 
 -- a command has gone into the datagram; or it doesn't fit, and nothing has changed
-abbrev pub TakesIn : Message → Progress → Option Progress → List ℕ → List ℕ → Type 0
-TakesIn m p None from to = (to ≡ from) × ((f : Filling) → Holds f p from → fits f m ≡ false)
-TakesIn m p (Some q) from to = (f : Filling) → Holds f p from → (fits f m ≡ true) × ((o : Outbox) → Holds (with_command f m o) q to) × Holds f p to
+abbrev pub GoesIn : Message → Progress → Option Progress → List ℕ → List ℕ → Type 0
+GoesIn m p None from to = (to ≡ from) × ((f : Filling) → Holds f p from → fits f m ≡ false)
+GoesIn m p (Some q) from to = (f : Filling) → Holds f p from → (fits f m ≡ true) × ((o : Outbox) → Holds (with_command f m o) q to) × Holds f p to
 
 -- a stage leads to this filling with this outbox, as the buffer shows it
 pub record Leads (g : Filling) (o : Outbox) (q : Progress) (to : List ℕ) : Type 0 where

@@ -10,15 +10,15 @@ use Rattle.enet_receiver.specs.Foresight.{ReceivingEnd}
 
 -- a command that is its whole packet, where nothing is held and nothing waits: the next reliable one in order, or an unreliable
 -- one that goes with the front
-pub record ComesAlone (r : Receiver) (c : DataCommand) (place : ℕ) : Type 0 where
+pub record ComesAlone (r : Receiver) (c : DataCommand) : Type 0 where
   pub single : c.fragment ≡ None
-  pub at : place ≡ (if c.reliable then after r.front 1 else r.front)
+  pub at : c.number ≡ (if c.reliable then after r.front 1 else r.front)
   pub nothing_held : len r.held ≡ 0
   pub nothing_waits : len r.waiting ≡ 0
 
 -- such a command that is short enough and hasn't fallen behind, where front and number have 16 bits
 pub record GoesAtOnce (most : ℕ) (r : Receiver) (c : DataCommand) : Type 0 where
-  pub alone : ComesAlone r c c.number
+  pub alone : ComesAlone r c
   pub short : length c.body ≤ most
   pub not_behind : is_behind r c c.number ≡ false
   pub front : r.front < 65536

@@ -9,7 +9,7 @@ use Rattle.enet_fleet.specs.declared.event.FleetEvent.TheVariants as happen
 use Rattle.enet_fleet.specs.declared.event.Node.TheVariants.{Client}
 use Rattle.enet_fleet.specs.Fleets.{Fleet, is_host}
 use Rattle.enet_fleet.specs.Reached.{IsReached}
-use Rattle.enet_fleet.specs.Private.Turning.{PutsOut}
+use Rattle.enet_fleet.specs.Private.Turning.{PutsOutByTurn}
 use Rattle.enet_fleet.proofs.Reaching.{owned-at}
 use Rattle.enet_fleet.proofs.Stepping.{turned, not-turned, at-client}
 use Rattle.enet_fleet.proofs.turning.turn_client.Goals as goal
@@ -58,4 +58,4 @@ returns c =
     slice_get_read w.clients c.len-clients.result c.from-i.result c.index_mut.result.now long c.if-i-clients.false c.index_mut.ensures.value in
     at-client c.args.hosts.now w (λ (i : ℕ). happen.Turn (Client i)) (Ok (answers.Sent c.in_ok-sent.sent)) c.from-i.result c.args.client _ same c.from-i.ensures
     (turned w (Client c.from-i.result) c.in_ok-sent.sent c.index_mut.result.now c.put_out.new.here there
-    (subst (λ (n : ℕ). PutsOut (is_host n) (numbers_of w.server.site) c.in_ok-sent.sent c.index_mut.result.now c.put_out.new.here) long c.in_ok-sent.ensures.puts))
+    (subst (λ (n : ℕ). PutsOutByTurn (is_host n) (numbers_of w.server.site) c.in_ok-sent.sent c.index_mut.result.now c.put_out.new.here) long c.in_ok-sent.ensures.puts))

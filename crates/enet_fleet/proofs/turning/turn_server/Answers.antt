@@ -7,7 +7,7 @@ use Rattle.enet_fleet.specs.declared.event.FleetEvent.TheVariants as happen
 use Rattle.enet_fleet.specs.declared.event.Node.TheVariants.{Server}
 use Rattle.enet_fleet.specs.Fleets.{Fleet, is_host, numbers_at, client_in, Steps}
 use Rattle.enet_fleet.specs.Reached.{IsReached}
-use Rattle.enet_fleet.specs.Private.Turning.{PutsOut}
+use Rattle.enet_fleet.specs.Private.Turning.{PutsOutByTurn}
 use Rattle.enet_fleet.proofs.Reaching.{owned-at}
 use Rattle.enet_fleet.proofs.Stepping.{turned, not-turned}
 use Rattle.enet_fleet.proofs.turning.turn_server.Goals as goal
@@ -33,8 +33,8 @@ pub returns : goal.returns
 returns c =
     let w : Fleet = record { server = c.hosts.inside.server; clients = c.hosts.inside.clients.items; asked = c.hosts.inside.asked.items } in
     let same : w ≡ c.args.hosts.now = c.hosts.view_is in
-    let puts : PutsOut (is_host (length w.clients)) (λ x. numbers_at x (client_in w.clients (slice_get w.asked x))) c.in_ok-sent.sent w.server c.put_out.new.here =
-    subst (λ (asked : List ℕ). PutsOut (is_host (length w.clients)) (λ x. numbers_at x (client_in w.clients (slice_get asked x))) c.in_ok-sent.sent w.server c.put_out.new.here) c.deref-2.ensures.value
-    (subst (λ (ps : List Place). PutsOut (is_host (length ps)) (λ x. numbers_at x (client_in ps (slice_get c.deref-2.result.now x))) c.in_ok-sent.sent w.server c.put_out.new.here) c.deref.ensures.value c.in_ok-sent.ensures.puts) in
+    let puts : PutsOutByTurn (is_host (length w.clients)) (λ x. numbers_at x (client_in w.clients (slice_get w.asked x))) c.in_ok-sent.sent w.server c.put_out.new.here =
+    subst (λ (asked : List ℕ). PutsOutByTurn (is_host (length w.clients)) (λ x. numbers_at x (client_in w.clients (slice_get asked x))) c.in_ok-sent.sent w.server c.put_out.new.here) c.deref-2.ensures.value
+    (subst (λ (ps : List Place). PutsOutByTurn (is_host (length ps)) (λ x. numbers_at x (client_in ps (slice_get c.deref-2.result.now x))) c.in_ok-sent.sent w.server c.put_out.new.here) c.deref.ensures.value c.in_ok-sent.ensures.puts) in
     subst (λ (f : Fleet). Steps f (happen.Turn Server) (Ok (answers.Sent c.in_ok-sent.sent)) (record w { server = c.put_out.new.here })) same
     (turned w Server c.in_ok-sent.sent w.server c.put_out.new.here refl puts)

@@ -3,7 +3,7 @@ use Rattle.enet_outbox.specs.declared.parts.Acknowledgement.{Acknowledgement}
 use Rattle.enet_outbox.specs.declared.packing.Progress.{Progress}
 use Rattle.enet_outbox.specs.Outbox.{Outbox}
 use Rattle.enet_outbox.specs.Emission.{acknowledgement_of, with_command}
-use Rattle.enet_outbox.specs.Private.Packing.{TakesIn}
+use Rattle.enet_outbox.specs.Private.Packing.{GoesIn}
 use Rattle.enet_outbox.proofs.Fillings.{leads-by, holds-shut}
 use Rattle.enet_outbox.proofs.Stages.{more_acknowledgements, acknowledgements-go, acknowledgements-stop, acknowledgements-end}
 use Rattle.enet_outbox.proofs.packing.pack_acknowledgements.Goals as goal
@@ -27,7 +27,7 @@ acknowledgements-preserved c = record {
       let m = acknowledgement_of a in
       let ys = c.pop_front.new.self.items in
       let is = sym c.first.ensures ∙ c.in-Some.is in
-      let t = subst (λ (r : Option Progress). TakesIn m c.acknowledgements.progress r c.acknowledgements.buf c.put_acknowledgement.new.buf) c.in-Some-put_acknowledgement.is c.put_acknowledgement.ensures in
+      let t = subst (λ (r : Option Progress). GoesIn m c.acknowledgements.progress r c.acknowledgements.buf c.put_acknowledgement.new.buf) c.in-Some-put_acknowledgement.is c.put_acknowledgement.ensures in
       let u = t g i.1 in
       let o : Outbox = record g.outbox { acknowledgements = ys } in
       (with_command g m o, u.1 o, refl, ap (λ (o : Outbox). record o { acknowledgements = ys }) i.3, i.4 ∙ acknowledgements-go _ ys a g i.2 (waits i.3) is c.pop_front.ensures.rest u.0);
@@ -40,7 +40,7 @@ returns-in_default-put_acknowledgement-clause-packs c = λ f h opened e.
     let a = c.in-Some.acknowledgement in
     let m = acknowledgement_of a in
     let is = sym c.first.ensures ∙ c.in-Some.is in
-    let t = subst (λ (r : Option Progress). TakesIn m c.acknowledgements.progress r c.acknowledgements.buf c.put_acknowledgement.new.buf) c.in_default-put_acknowledgement.is c.put_acknowledgement.ensures in
+    let t = subst (λ (r : Option Progress). GoesIn m c.acknowledgements.progress r c.acknowledgements.buf c.put_acknowledgement.new.buf) c.in_default-put_acknowledgement.is c.put_acknowledgement.ensures in
     let u = t.1 g i.1 in
     rw (c.shut.ensures, t.0) (leads-by (i.4 ∙ acknowledgements-stop _ a g i.2 (waits i.3) is u) (holds-shut i.1) i.3)
 

@@ -15,4 +15,4 @@ invariant_of-self c =
     (subst (λ (e : ReceivingEnd). IsInside e.receiver.front c.args.arriving.head.number) (sym c.self.view_is) c.requires.inside)
     (omega arith)
     (subst (λ (e : ReceivingEnd). Admitted e.max_packet e.receiver (data_command c.args.arriving) c.args.arriving.head.number) (sym c.self.view_is) c.requires.admitted)
-    (subst (λ (e : ReceivingEnd). ComesAlone e.receiver (data_command c.args.arriving) c.args.arriving.head.number) (sym c.self.view_is) c.requires.alone))
+    (subst (λ (e : ReceivingEnd). ComesAlone e.receiver (data_command c.args.arriving)) (sym c.self.view_is) c.requires.alone))

@@ -13,7 +13,7 @@ pub returns-clause-taken : goal.returns-clause-taken
 returns-clause-taken c =
     let e = c.args.self.now in
     let d = data_command c.args.arriving in
-    let alone : ComesAlone c.args.self.now.receiver (data_command c.args.arriving) c.args.arriving.head.number = c.comes_alone.ensures c.if-not-comes_alone.false in
+    let alone : ComesAlone c.args.self.now.receiver (data_command c.args.arriving) = c.comes_alone.ensures c.if-not-comes_alone.false in
     let own : IsOwn c.args.self.now (data_command c.args.arriving) c.args.arriving.head.number = own_command e d (c.requires.0) c.args.arriving.head.number
     (subst (λ (x : ReceivingEnd). x.receiver.front < 65536) c.self.view_is c.self.invariant.wire) (omega arith) (own_number d alone.single) c.requires.1 in
     let none_left : eqb (deque_len c.self.inside.dispatched) 0 ≡ true = sym c.is_empty.ensures ∙ c.if-not-is_empty.false in
