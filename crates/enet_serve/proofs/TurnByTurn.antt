@@ -1,6 +1,6 @@
 -- A run whose relay shares its service's thread: turn by turn.
 use Rattle.std.proofs.Common.{◌≡◌, List, [], ◌∷◌, ◌++◌, Bool, true, false, Option, Some, None, refl, sym, ◌∙◌, ap, subst, append_assoc}
-use Rattle.std.proofs.lemmas.List.{append-nil}
+use Rattle.std.proofs.lemmas.List.{append-nil, map-append}
 use Rattle.std.proofs.lemmas.List.Elements.{All-nil, All-append, All-push}
 use Rattle.enet_codec.specs.declared.event.PeerRef.{PeerRef}
 use Rattle.enet_codec.specs.declared.event.Event.{Event}
@@ -14,11 +14,15 @@ use Rattle.enet_chat.proofs.Relays.{noted_more, on_for_each, joined}
 use Rattle.enet_service.specs.Phases.{Chain}
 use Rattle.enet_service.specs.Queues.{given, accepted}
 use Rattle.enet_service.specs.Turn.{Round}
-use Rattle.enet_service.specs.Run.{IsSound, all_gave, all_puts}
-use Rattle.enet_service.specs.ServiceRuns.{TakesTurn}
+use Rattle.enet_service.specs.Run.{IsSound, all_gave, all_puts, total}
+use Rattle.enet_service.specs.ServiceRuns.{Lasts, TakesTurn}
 use Rattle.enet_service.proofs.PhaseSteps.{chain_more}
 use Rattle.enet_service.proofs.Spells.{given_both, accepted_both}
-use Rattle.enet_serve.specs.Private.Alone.{Pair, Goes}
+use Rattle.enet_service.specs.declared.report.Report.{Report}
+use Rattle.enet_service.specs.declared.run_length.RunLength.{RunLength}
+use Rattle.enet_serve.specs.declared.server.ChatServer.{ChatServer}
+use Rattle.enet_serve.specs.Serving.{Serves}
+use Rattle.enet_serve.specs.Private.Alone.{Pair, Goes, IsOf, pair}
 
 abbrev Puts : List Event → List (Event × Bool) → List Event → Type 0
 Puts before puts after = Chain (λ s x t. IsPut s x.0 x.1 t) before puts after
@@ -63,7 +67,7 @@ goes_on a b c xs ys p q = record {
   peers = q.peers ∙ (ap (λ (ps : List PeerRef). noted_all ps q.expanded) p.peers ∙ sym (noted_more a.relay.table p.expanded q.expanded));
   for_each = on_for_each p.asked_for q.asked_for a.relay.table b.relay.table p.expanded q.expanded p.peers p.for_each q.for_each;
   orders_done = joined a.relay.orders b.relay.orders c.relay.orders p.asked_for q.asked_for (orders (given (all_gave xs))) (orders (given (all_gave ys))) p.orders_done q.orders_done
-      ∙ ap (λ (os : List Order). os ++ c.relay.orders) (sym (ap orders (given_both xs ys)));
+      ∙ ap (λ (os : List Order). os ++ c.relay.orders) (sym (ap orders (given_both xs ys) ∙ map-append (λ (x : Submission). x.order) (given (all_gave xs)) (given (all_gave ys))));
 }
 
 -- a turn, and what was expanded after it
@@ -83,4 +87,24 @@ goes_a_turn a b between r turn sound table gave puts expands behind = record {
       ∙ (append_assoc (orders (given r.gave)) between.orders expands.asked_for
           ∙ (ap (λ (os : List Order). orders (given r.gave) ++ os) (sym expands.orders)
               ∙ ap (λ (xs : List (Option Submission)). orders (given xs) ++ b.relay.orders) (sym (append-nil r.gave))));
+}
+
+-- what the relay began with was kept by the server, and what it leaves is
+pub serves : (old new : ChatServer) (began ended : LoneRelay) (run_length : RunLength) (rounds : List Round) (report : Report)
+    → IsOf old.kept began → IsOf new.kept ended → new.queue_capacity ≡ old.queue_capacity → Lasts run_length rounds → report ≡ total rounds
+    → Goes (pair old.bound.service began) rounds (pair new.bound.service ended) → Serves old run_length new report
+serves old new began ended run_length rounds report i o capacity lasts totals g = record {
+  rounds = rounds;
+  expanded = g.expanded;
+  asked_for = g.asked_for;
+  lasts = lasts;
+  turns = g.turns;
+  sound = g.sound;
+  queue_capacity = capacity;
+  totals = totals;
+  events = ap (λ (es : List Event). es ++ accepted (all_puts rounds)) (sym i.events) ∙ (g.events ∙ ap (λ (es : List Event). g.expanded ++ es) o.events);
+  behind = subst (λ (es : List Event). AreBehind es new.kept.orders.items) o.events (subst (λ (os : List Order). AreBehind ended.events os) o.orders_are g.behind);
+  peers = sym o.peers ∙ (g.peers ∙ ap (λ (ps : List PeerRef). noted_all ps g.expanded) i.peers);
+  for_each = subst (λ (ps : List PeerRef). SameForEach g.asked_for (relayed_all ps g.expanded)) i.peers g.for_each;
+  orders_done = ap (λ (os : List Order). os ++ g.asked_for) (sym i.orders_are) ∙ (g.orders_done ∙ ap (λ (os : List Order). orders (given (all_gave rounds)) ++ os) o.orders_are);
 }
