@@ -5,8 +5,8 @@
 # tells first what an idle call of the C library takes. For each number of clients, size and kind of packet, both relays are measured one
 # after the other, SECONDS each for the trip at light load and for the most that goes through (2 where it isn't given). Prints a table;
 # in each cell ours stands first. With `slots` the table is one of 8 clients that talk, reliably and 32 bytes a packet, among 40, 400 and
-# 4,000 slots, and among 400 clients that only listen. Where PROCESSOR is set, each relay runs on that processor alone. Proves nothing, and
-# takes some minutes.
+# 4,000 slots, and among 400 clients that only listen. Where PROCESSOR is set, each relay runs on that processor alone; where THREADS is
+# set, `serve` serves in so many threads (1 or 2). Proves nothing, and takes some minutes.
 cd "$(dirname "$0")/.." || exit 1
 . scripts/clients.sh
 program=${1:-crates/enet_relay/out/enet_relay}

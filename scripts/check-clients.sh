@@ -5,10 +5,10 @@
 # reference library, and so does `example_echo`, whose own server a client of that library visits (clients/echo.c). Three of that library
 # play at `example_game` side by side until each has won (clients/guess.c), and it ends. Two guests (clients/guests.c) are told when a
 # server ends after its turns, and when it ends since its relay found no memory; they notice nothing of receptions that fail
-# (clients/faults.c). Each scenario has a server of its own, and all run side by side: `check-clients.sh [PROGRAM]`. PROGRAM is the built
-# `enet_relay`, by default the one that `rt ci`, or `rt run` in crates/enet_relay, leaves; `reference` stands for the relay of
-# clients/server.c, which tells whether the clients themselves are right. Prints what failed, and as last line 'N passed, M failed'; the
-# status is 1 where one failed. It ends within 4 minutes.
+# (clients/faults.c). The crowd and some of the others come to a server of one thread, too. Each scenario has a server of its own, and all run
+# side by side: `check-clients.sh [PROGRAM]`. PROGRAM is the built `enet_relay`, by default the one that `rt ci`, or `rt run` in
+# crates/enet_relay, leaves; `reference` stands for the relay of clients/server.c, which tells whether the clients themselves are right. Prints
+# what failed, and as last line 'N passed, M failed'; the status is 1 where one failed. It ends within 4 minutes.
 cd "$(dirname "$0")/.." || exit 1
 . scripts/clients.sh
 program=${1:-crates/enet_relay/out/enet_relay}
@@ -73,13 +73,13 @@ scenario() {
     esac
 }
 
-# Starts the scenario $1 with $2 clients and a relay of $3 slots, straight or lossy ($4).
+# Starts the scenario $1 with $2 clients and a relay of $3 slots, straight or lossy ($4), which serves in $5 threads where it is given.
 start() {
     free_port
-    local first=$port
+    local first=$port name=$1-$2${5:+-threads-$5}-$4
     free_port
-    names+=("$1-$2-$4")
-    scenario "$1-$2-$4" "$1" "$2" "$3" "$first" "$port" "${#names[@]}" &
+    names+=("$name")
+    THREADS=${5:-${THREADS:-}} scenario "$name" "$1" "$2" "$3" "$first" "$port" "${#names[@]}" &
 }
 
 # Clients of ours at a server of the reference library: the three packets of each come back to it.
@@ -227,35 +227,42 @@ no_memory() {
     server_ended no-memory 1 '' > "$room/no-memory.first" && : > "$room/no-memory.passed"
 }
 
-# The server's turns are over.
+# The turns of a server of $2 threads are over.
 turns_over() {
     trap end_attempt EXIT
     trap 'exit 1' TERM
-    receive_guests turns-over "$1" told --turns 2000
-    guests_fared turns-over 0 '' > "$room/turns-over.first" || return
-    server_ended turns-over 0 'served 2000 received ' > "$room/turns-over.first" && : > "$room/turns-over.passed"
+    local name=turns-over-$2
+    receive_guests "$name" "$1" told --turns 2000 --threads "$2"
+    guests_fared "$name" 0 '' > "$room/$name.first" || return
+    server_ended "$name" 0 'served 2000 received ' > "$room/$name.first" && : > "$room/$name.passed"
 }
 
-# Receptions of the server's socket fail.
+# Receptions of the socket of a server of $2 threads fail.
 no_reception() {
     trap end_attempt EXIT
     trap 'exit 1' TERM
-    receive_guests no-reception "$1" 100 --forever
+    local name=no-reception-$2
+    receive_guests "$name" "$1" 100 --forever --threads "$2"
     for _ in 1 2 3; do
         kill -USR2 "$relay"
         sleep 0.2
     done
-    guests_fared no-reception 2 '' > "$room/no-reception.first" || return
-    kill -0 "$relay" 2> /dev/null && : > "$room/no-reception.passed"
+    guests_fared "$name" 2 '' > "$room/$name.first" || return
+    kill -0 "$relay" 2> /dev/null && : > "$room/$name.passed"
 }
 
-# Scenarios of guests, each a function, by the names of their files.
+# Scenarios of guests, each a function.
 guests() {
-    local name
-    for name in no-memory turns-over no-reception; do
+    local threads
+    free_port
+    names+=(no-memory)
+    no_memory "$port" &
+    for threads in 1 2; do
+        names+=("turns-over-$threads" "no-reception-$threads")
         free_port
-        names+=("$name")
-        "${name//-/_}" "$port" &
+        turns_over "$port" "$threads" &
+        free_port
+        no_reception "$port" "$threads" &
     done
 }
 
@@ -264,6 +271,10 @@ all() {
     local name clients slots way
     start crowd 300 300 straight
     if [ "$program" != reference ]; then
+        start crowd 300 300 straight 1
+        start talk 8 8 straight 1
+        start talk 8 8 lossy 1
+        start large 2 2 lossy 1
         free_port
         names+=(visit)
         visit "$port" &

@@ -141,6 +141,8 @@ serve --port 47001 --room 0
 serve --port 47001 --room 65537
 serve --port 47001 --room 64 --queue-capacity 64
 serve --port 47001 --turns -1
+serve --port 47001 --threads 0
+serve --port 47001 --threads 3
 serve --port 47001 --turns 2 --forever
 serve --port 47001 --address localhost
 serve --port 47001 --address 127.0.0.1.1
@@ -165,20 +167,31 @@ services() {
     service_line serve-small-queues 0 "$(listening)" 'served 2 received 0 sent 0' serve --port "$port" --turns 2 --queue-capacity 1
     service_line serve-small-room 0 "$(listening)" 'served 2 received 0 sent 0' serve --port "$port" --turns 2 --room 1
     service_line serve-with-log 0 "$(listening)" 'served 2 received 0 sent 0' serve --port "$port" --turns 2 --log
+    service_line serve-in-one-thread 0 "$(listening)" 'served 2 received 0 sent 0' serve --port "$port" --turns 2 --threads 1
+    service_line serve-no-turn-in-one-thread 0 "$(listening)" 'served 0 received 0 sent 0' serve --port "$port" --turns 0 --threads 1
     PROGRAM=$program program=$room/no-threads service_line serve-without-threads 1 'no second thread can be made' '' \
         serve --port "$port" --turns 2
+    PROGRAM=$program program=$room/no-threads service_line serve-in-the-only-thread 0 "$(listening)" 'served 2 received 0 sent 0' \
+        serve --port "$port" --turns 2 --threads 1
     start_service --turns 1000000
     service_line port-taken 1 'E14 WireFault: Address already in use (os error 98)' '' serve --port "$port" --turns 2
     service_line no-such-address 1 'E14 WireFault: Cannot assign requested address (os error 99)' '' \
         serve --port "$port" --turns 2 --address 192.0.2.1
     service_line another-address 0 "$(listening 127.0.0.2)" 'served 2 received 0 sent 0' serve --port "$port" --turns 2 --address 127.0.0.2
     end_service
+    goes_on forever
+    goes_on forever-in-one-thread --threads 1
+}
+
+# `serve --forever` with these words, $1 its name here, goes on and writes its first line alone.
+goes_on() {
+    local name=$1
     free_port
-    start_service --forever
+    start_service --forever "${@:2}"
     sleep 2
-    kill -0 "$first" 2> "$room/gone" || fail forever 'it ended by itself'
+    kill -0 "$first" 2> "$room/gone" || fail "$name" 'it ended by itself'
     end_service
-    [ ! -s "$room/first" ] && [ "$(sized "$room/first.err")" = "$(listening)" ] || fail forever "it wrote: $(head -c 200 "$room/first" "$room/first.err")"
+    [ ! -s "$room/first" ] && [ "$(sized "$room/first.err")" = "$(listening)" ] || fail "$name" "it wrote: $(head -c 200 "$room/first" "$room/first.err")"
 }
 
 # What `demo` prints with $1 clients of which each got $2 packets, and the last word $3.
@@ -215,7 +228,7 @@ command_lines() {
     command_line help 0 '' /dev/null "$room/out" --help
     grep -q lab "$room/out" || fail help "it doesn't name the lab"
     command_line help-of-serve 0 '' /dev/null "$room/out" serve --help
-    grep -q -- '--queue-capacity' "$room/out" || fail help-of-serve "it doesn't name --queue-capacity"
+    grep -q -- '--queue-capacity' "$room/out" && grep -q -- '--threads' "$room/out" || fail help-of-serve 'an option is missing'
     command_line input-that-cannot-be-read 1 'input or output failed' / "$room/out" lab
     command_line output-that-cannot-be-written 1 'input or output failed' "$rows/one-reliable-packet.lab" /dev/full lab
 }

@@ -4,7 +4,9 @@
 //! packet goes once to each other peer of the table and never back to its sender. Of the thread that relays (`Relays`): the events
 //! that it took are, in order, those that it expanded and those that wait; what was asked for is, for every receiver and in order,
 //! what the expanded ones give for it, so that nothing is lost or doubled; after every refusal too; and it ends well only where it
-//! found no event, with all expanded unless orders wait for room.
+//! found no event, with all expanded unless orders wait for room. Of the relay in its service's own thread (`Expands`): what it expands are the
+//! oldest events, and the orders behind those that waited are for every receiver and in order what these give; after a refusal, too; and it
+//! ends well only with all expanded or with orders that wait.
 //! Only tested: by `check_queues`, that the calls succeed where there is memory; by scripts/check-clients.sh through `enet_relay serve`,
 //! that the thread gets on. Neither: that the bodies of the orders share their bytes, so that no copy is made, that orders
 //! of packets that follow one another are grouped by receiver, that events are kept while the service has orders left, that the thread

@@ -1,11 +1,11 @@
-//! A server over the service, one of whose threads takes turns and another relays chat ([`ChatServer`]); and a demonstration of it: the server
-//! and its clients in one process ([`demonstrate`]).
+//! A server over the service, one of whose threads takes turns and another relays chat, or one does both ([`ChatServer`]); and a demonstration of
+//! it: the server and its clients in one process ([`demonstrate`]).
 //!
-//! Proved: one call of [`ChatServer::serve`] (`Serves`) is turns of the service, as many as were asked for where a number was, in none of
-//! which the wire failed, and its report their sums. Each event that the turns told was expanded by the rule of the relay, once and in
-//! order, or waits for the next call; each order that the events gave was handed to a turn, once and for every receiver in order, or
-//! waits, too; and events wait only where orders do. So nothing is lost or doubled between the threads, nor from one call to the next.
-//! It ends early only for what [`ChatServer::serve`] names. A server opens with the standard host of its settings, with nothing waiting
+//! Proved: one call of [`ChatServer::serve`] or [`ChatServer::serve_alone`] (`Serves`) is turns of the service, as many as were asked for
+//! where a number was, in none of which the wire failed, and its report their sums. Each event that the turns told was expanded by the rule
+//! of the relay, once and in order, or waits for the next call; each order that the events gave was handed to a turn, once and for every
+//! receiver in order, or waits, too; and events wait only where orders do. So nothing is lost or doubled on the way, nor from one call to
+//! the next. It ends early only for what these calls name. A server opens with the standard host of its settings, with nothing waiting
 //! ([`ChatServer::open`]). After a call that was refused nothing is said of the server. Of each client of the demonstration (`Visits`): its
 //! service took so many turns, in none of which the wire failed; the turns were given the first part of what the client asks for, which is
 //! its connection and, over the first that it is told of, three packets of chat; and what is told of the client is whether the turns told
