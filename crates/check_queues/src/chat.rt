@@ -1,8 +1,9 @@
 use bytes::Bytes;
-use enet_chat::{Table, relay_step};
+use enet_chat::{Gauge, LoneRelay, Table, relay_step};
 use enet_codec::{Event, Packet, PeerRef, Refusal};
 use enet_submit::Order;
 use std::alloc::Global;
+use std::collections::VecDeque;
 use std::test::Fail;
 
 fn peer(slot: u16) -> PeerRef {
@@ -83,5 +84,40 @@ fn relay_to_the_others(rt: HostRuntime) -> Result<(), Fail> {
     assert!(rt; makes_two(rt.alloc(), &table, 0, (0, 0, 1), (2, 0, 1))?);
     assert!(rt; makes_two(rt.alloc(), &table, 1, (0, 1, 0), (2, 1, 0))?);
     assert!(rt; makes_none(rt.alloc(), &table, 2)?);
+    Ok(())
+}
+
+// Three peers connect, and peer 1 sends two packets.
+fn two_packets(alloc: Global) -> Result<VecDeque<Event>, Refusal> {
+    let told = [connect(0), connect(1), connect(2), chat(1, 0), chat(1, 1)];
+    let Ok(told) = Vec::from_array(alloc, told) else {
+        return Err(Refusal::Memory);
+    };
+    Ok(VecDeque::from_vec(told))
+}
+
+// Whether these are both packets for peer 0, and then both for peer 2.
+fn is_for_two(orders: &[Order]) -> bool {
+    match orders {
+        [first @ .., c, d] => {
+            is_two(first, (0, 0, 1), (0, 1, 0))
+                && told(c) == Some((2, 0, 1))
+                && told(d) == Some((2, 1, 0))
+        }
+        _ => false,
+    }
+}
+
+#[test]
+fn relay_in_the_same_thread(rt: HostRuntime) -> Result<(), Fail> {
+    let alloc = rt.alloc();
+    let table = Table::open(alloc);
+    let events = two_packets(alloc)?;
+    let mut relay = LoneRelay::new(alloc, table, events, VecDeque::new(alloc), &Gauge::new());
+    relay.expand()?;
+    let (table, events, orders) = relay.into_parts();
+    let orders: Vec<Order> = Vec::from(orders);
+    assert!(rt; table.len() == 3 && events.is_empty());
+    assert!(rt; is_for_two(orders.as_slice()));
     Ok(())
 }

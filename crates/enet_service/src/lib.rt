@@ -1,20 +1,19 @@
 //! The service: one thread owns a host and takes its turns; game threads reach it through two queues alone. It is used by [`Queues::open`],
-//! [`BoundService::open`] and [`beside_turns`], which runs the service beside a function of the user's; then by [`settle`]. Or one thread does all, by
-//! [`BoundService::take_turn`].
+//! [`BoundService::open`] and [`beside_turns`], which runs the service beside a function of the user's; then by [`settle`]. Or one thread
+//! does all, by [`BoundService::take_turn`].
 //!
 //! Proved, for every host that says what its calls do ([`Core`]): a turn is the stated calls in the stated order ([`Service::turn`]), on
-//! what the source gave and the wire told; what was sent and put is what these calls answered; a refused order becomes one
-//! event; while an event waits no order is taken; E14 exactly where the wire failed, and then the host is where the first part of
-//! the work left it, and the report counts that part. A run is its turns, each after a wait, up to the first fault, and its
-//! report their sums ([`run`]). A turn ends where the calls of source and sink return, since each event that a host tells
-//! leaves fewer. [`HostCore`] is such a host: each call of a turn is the call of the host with that meaning, by the host's own
-//! definitions. Between the two queues the orders of a run are each seat's next ones, once and in its order, and what was taken begins
-//! a history of the queue ([`run_between_queues`]). What [`beside_turns`] did (`HasTurned`) is turns of the service, as many as were asked
-//! for where a number was and at least one where a time was, in none of which the wire failed, and its report their sums; what the turns
-//! were given is what the drain took, and what they put is what the poster posted. Once settled, the only taker took all that was posted,
-//! and the orders that the drain didn't take are told in order. One turn of the calling thread
-//! ([`BoundService::take_turn`]) is a turn, too, on what its source gave. A host that notes who came and went ([`WatchedHost`]) is the host that it
-//! holds, in each of its calls.
+//! what the source gave and the wire told; what was sent and put is what these calls answered; a refused order becomes one event; while an
+//! event waits no order is taken; E14 exactly where the wire failed, and then the host is where the first part of the work left it, and the
+//! report counts that part. A run is its turns, each after a wait, up to the first fault, and its report their sums ([`run`]). A turn ends
+//! where the calls of source and sink return, since each event that a host tells leaves fewer. [`HostCore`] is such a host: each call of a
+//! turn is the call of the host with that meaning, by the host's own definitions. Between the two queues the orders of a run are each
+//! seat's next ones, once and in its order, and what was taken begins a history of the queue ([`run_between_queues`]). What
+//! [`beside_turns`] did (`HasTurned`) is turns of the service, as many as were asked for where a number was and at least one where a time
+//! was, in none of which the wire failed, and its report their sums; what the turns were given is what the drain took, and what they put is
+//! what the poster posted. Once settled, the only taker took all that was posted, and the orders that the drain didn't take are told in
+//! order. One turn of the calling thread ([`BoundService::take_turn`]) is a turn, too, on what its source gave. A host that notes who came
+//! and went ([`WatchedHost`]) is the host that it holds, in each of its calls.
 //! Only tested, by `check_service`: turns and runs of a real host over memory, with each call of the wire failing and each send blocking in
 //! its turn; that a game thread submits and takes while the service is inside its wire; a connection's opening through a socket of
 //! 127.0.0.1. By scripts/check-rows.sh and scripts/check-clients.sh: that the queues settle (no E16), what is noted and shown to a
