@@ -1,11 +1,10 @@
 //! The orders of several chat packets, receiver by receiver.
-ghost use Rattle.std.specs.Prelude.{◌≡◌, ◌≤◌, ◌++◌, [], ◌∷◌, length, take, drop, true, IfErr, IfOk, OnOk};
+ghost use Rattle.std.specs.Prelude.{◌≡◌, ◌≤◌, ◌++◌, [], ◌∷◌, length, take, drop, true, IfErr, IfOk, OnErr, OnOk, option_to_list};
 ghost use Rattle.enet_chat.specs.Chat.{relayed};
 ghost use Rattle.enet_chat.specs.Relaying.{SameForEach, relayed_all};
 ghost use Rattle.enet_chat.specs.Private.Relaying.{IsPacket, ArePackets};
 ghost use Rattle.enet_chat.specs.Private.Grouping.{relayed_to, grouped};
 
-use crate::relay::push_order;
 use crate::table::Table;
 use enet_codec::{Event, PeerRef, RELIABLE, Refusal};
 use enet_submit::Order;
@@ -92,18 +91,86 @@ fn push_for(orders: &mut Vec<Order>, peer: PeerRef, event: &Event) -> Result<(),
     ensures pushed { OnOk result (orders.new.items ≡ orders.old.items ++ relayed (peer ∷ []) event.now) }
     ensures memory { IfErr result (λ why. why ≡ Refusal.Memory) }
 {
+    match order_for(peer, event)? {
+        Some(order) => orders.push(order).map_err(|_| Refusal::Memory),
+        None => Ok(()),
+    }
+}
+
+// Puts what the first events of the backlog give behind these orders, receiver by receiver. For want of memory it may put some of it.
+pub(crate) fn put_grouped(
+    orders: &mut VecDeque<Order>,
+    peers: &[PeerRef],
+    backlog: &VecDeque<Event>,
+    count: usize,
+) -> Result<(), Refusal>
+    requires { count ≤ length backlog.now.items }
+    ensures put { OnOk result (orders.new.items ≡ orders.old.items ++ grouped peers.now (take count backlog.now.items)) }
+    ensures kept { OnErr result (take (length orders.old.items) orders.new.items ≡ orders.old.items) }
+    ensures memory { IfErr result (λ why. why ≡ Refusal.Memory) }
+{
+    for peer in peers {
+        put_all_for(orders, *peer, backlog, count)?;
+    }
+    Ok(())
+}
+
+// Puts what the first events of the backlog give for one peer behind these orders, or for want of memory some of it.
+fn put_all_for(
+    orders: &mut VecDeque<Order>,
+    peer: PeerRef,
+    backlog: &VecDeque<Event>,
+    count: usize,
+) -> Result<(), Refusal>
+    requires { count ≤ length backlog.now.items }
+    ensures put { OnOk result (orders.new.items ≡ orders.old.items ++ relayed_to peer (take count backlog.now.items)) }
+    ensures kept { OnErr result (take (length orders.old.items) orders.new.items ≡ orders.old.items) }
+    ensures memory { IfErr result (λ why. why ≡ Refusal.Memory) }
+{
+    for at in 0..count {
+        put_for(orders, peer, &backlog[at])?;
+    }
+    Ok(())
+}
+
+// Puts what an event gives for one peer behind these orders.
+fn put_for(orders: &mut VecDeque<Order>, peer: PeerRef, event: &Event) -> Result<(), Refusal>
+    ensures put { OnOk result (orders.new.items ≡ orders.old.items ++ relayed (peer ∷ []) event.now) }
+    ensures same { OnErr result (orders.new.items ≡ orders.old.items) }
+    ensures memory { IfErr result (λ why. why ≡ Refusal.Memory) }
+{
+    match order_for(peer, event)? {
+        Some(order) => orders.push_back(order).map_err(|_| Refusal::Memory),
+        None => Ok(()),
+    }
+}
+
+// The order that an event gives for one peer.
+#[inline(always)]
+fn order_for(peer: PeerRef, event: &Event) -> Result<Option<Order>, Refusal>
+    ensures order { IfOk result (λ order. option_to_list order ≡ relayed (peer ∷ []) event.now) }
+    ensures memory { IfErr result (λ why. why ≡ Refusal.Memory) }
+{
     let Event::Receive { peer: from, packet } = event else {
-        return Ok(());
+        return Ok(None);
     };
     let flags = match packet.channel {
         0 => RELIABLE,
         1 => 0,
-        _ => return Ok(()),
+        _ => return Ok(None),
     };
     if *from == peer {
-        return Ok(());
+        return Ok(None);
     }
-    push_order(orders, peer, packet.channel, flags, &packet.body)
+    let Ok(body) = packet.body.clone() else {
+        return Err(Refusal::Memory);
+    };
+    Ok(Some(Order::Submit {
+        peer,
+        channel: packet.channel,
+        flags,
+        body,
+    }))
 }
 
 // Drops the first events of the backlog.

@@ -1,8 +1,8 @@
 //! The two lists between a service and a relay that share a thread.
 
-use crate::batch::drop_first;
+use crate::batch::{drop_first, put_grouped};
 use enet_bridge::{Sink, Source};
-use enet_codec::{Event, Refusal};
+use enet_codec::{Event, PeerRef, Refusal};
 use enet_submit::{Order, Submission};
 use std::collections::VecDeque;
 use std::marker::Model;
@@ -26,7 +26,8 @@ impl Model for OrderList {
 }
 
 impl OrderList {
-    ghost use Rattle.std.specs.Prelude.{◌≡◌, ◌++◌, ◌↔◌, [], IsTrue, length, OnOk, OnErr, IfErr};
+    ghost use Rattle.std.specs.Prelude.{◌≡◌, ◌≤◌, ◌++◌, ◌↔◌, [], IsTrue, length, take, OnOk, OnErr, IfErr};
+    ghost use Rattle.enet_chat.specs.Private.Grouping.{grouped};
 
     /// These orders, of which none was given yet.
     pub fn new(orders: VecDeque<Order>) -> OrderList
@@ -64,6 +65,33 @@ impl OrderList {
             Ok(()) => Ok(()),
             Err(_) => Err(Refusal::Memory),
         }
+    }
+
+    /// Adds what the first events give behind those that wait, receiver by receiver: all of it, or for want of memory (E1) nothing.
+    pub(crate) fn add_grouped(
+        &mut self,
+        peers: &[PeerRef],
+        events: &VecDeque<Event>,
+        count: usize,
+    ) -> Result<(), Refusal>
+        requires { count ≤ length events.now.items }
+        ensures added { OnOk result (self.new ≡ self.old ++ grouped peers.now (take count events.now.items)) }
+        ensures same { OnErr result (self.new ≡ self.old) }
+        ensures memory { IfErr result (λ why. why ≡ Refusal.Memory) }
+    {
+        if self
+            .orders
+            .reserve(peers.len().saturating_mul(count))
+            .is_err()
+        {
+            return Err(Refusal::Memory);
+        }
+        let waiting = self.orders.len();
+        if let Err(why) = put_grouped(&mut self.orders, peers, events, count) {
+            self.orders.truncate(waiting);
+            return Err(why);
+        }
+        Ok(())
     }
 
     /// The orders that wait.

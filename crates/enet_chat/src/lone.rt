@@ -2,7 +2,7 @@
 ghost use Rattle.std.specs.Prelude.{◌≡◌, ◌++◌, OnOk, OnErr, IfErr};
 ghost use Rattle.enet_chat.specs.Chat.{noted, relayed};
 
-use crate::batch::{batch_orders, drop_first, packets_first};
+use crate::batch::packets_first;
 use crate::gauge::Gauge;
 use crate::lists::{EventList, OrderList};
 use crate::relay::relay_step;
@@ -97,9 +97,10 @@ impl LoneRelay {
         ensures rest { OnOk result (self.new.events ≡ drop count self.old.events) }
         ensures memory { IfErr result (λ why. why ≡ Refusal.Memory) }
     {
-        let orders = batch_orders(self.alloc, &self.table, self.events.as_deque(), count)?;
-        let asked = orders.len();
-        self.orders.add(VecDeque::from_vec(orders))?;
+        let before = self.orders.len();
+        self.orders
+            .add_grouped(self.table.as_slice(), self.events.as_deque(), count)?;
+        let asked = self.orders.len() - before;
         self.events.drop_first(count);
         self.count(count, asked);
         Ok(())

@@ -53,7 +53,7 @@ fn to_others(
     Ok(orders)
 }
 
-pub(crate) fn push_order(
+fn push_order(
     orders: &mut Vec<Order>,
     peer: PeerRef,
     channel: u8,

@@ -25,6 +25,7 @@ impl Model for Table {
 impl Table {
     ghost use Rattle.std.specs.Prelude.{◌≡◌, [], true, false, length, OnOk, OnErr, IfErr};
     ghost use Rattle.enet_chat.specs.Chat.{noted, IsNewcomer};
+    ghost use Rattle.enet_chat.specs.Peers.{has_each_once};
 
     /// A table without peers.
     pub fn open(alloc: Global) -> Table
@@ -40,6 +41,14 @@ impl Table {
         ensures { result ≡ length self.now }
     {
         self.peers.len()
+    }
+
+    /// The peers.
+    pub(crate) fn as_slice(&self) -> &[PeerRef]
+        ensures peers { result.now ≡ self.now }
+        ensures once { has_each_once result.now ≡ true }
+    {
+        self.peers.as_slice()
     }
 
     /// Takes an event in: a Connect adds its peer as the last, unless it is there already, and a Disconnect takes its peer

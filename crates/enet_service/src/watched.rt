@@ -213,6 +213,16 @@ impl Core for WatchedHost {
     fn apply_order(&mut self, order: Order) -> Result<(), Refusal> {
         let peer = peer_of(&order);
         let obeyed = match order {
+            // Most orders are to submit: such a one goes straight to the host.
+            Order::Submit {
+                peer,
+                channel,
+                flags,
+                body,
+            } => match self.host.submit(peer, channel, flags, body) {
+                Ok(()) => return Ok(()),
+                Err((why, _body)) => Err(why),
+            },
             Order::Connect {
                 addr,
                 channels,

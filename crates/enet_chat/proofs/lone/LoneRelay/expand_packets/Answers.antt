@@ -1,23 +1,24 @@
-use Rattle.std.proofs.Common.{List, ◌++◌, take, take-append-drop, refl, sym, ◌∙◌, ap, subst}
+use Rattle.std.proofs.Common.{◌≡◌, true, List, ◌++◌, take, take-append-drop, refl, sym, ◌∙◌, ap, subst}
 use Rattle.enet_codec.specs.declared.event.Event.{Event}
-use Rattle.enet_submit.specs.declared.order.Order.{Order}
-use Rattle.enet_chat.specs.Relaying.{relayed_all, SameForEach}
+use Rattle.enet_codec.specs.declared.event.PeerRef.{PeerRef}
+use Rattle.enet_chat.specs.Peers.{has_each_once}
+use Rattle.enet_chat.specs.Private.Grouping.{grouped}
+use Rattle.enet_chat.proofs.GroupingLemmas.{grouped_same}
 use Rattle.enet_chat.proofs.Expansions.{expands_none, expands_packets}
 use Rattle.enet_chat.proofs.lone.LoneRelay.expand_packets.Goals as goal
 
 pub returns-clause-expands : goal.returns-clause-expands
 returns-clause-expands c =
-    let items = c.args.self.now.events in
-    let first = take c.args.count items in
-    let each : SameForEach c.in_ok-orders.orders.items (relayed_all c.args.self.now.table first) =
-    subst (λ (es : List Event). SameForEach c.in_ok-orders.orders.items (relayed_all c.args.self.now.table (take c.args.count es))) c.as_deque.ensures c.in_ok-orders.ensures.orders in
-    expands_packets c.args.self.now c.count.new.self first c.in_ok-orders.orders.items c.requires.packets each
-    (sym (take-append-drop c.args.count items) ∙ ap (λ (es : List Event). first ++ es) (sym (c.count.ensures.same.1 ∙ c.drop_first.ensures)))
+    let peers = c.args.self.now.table in
+    let events = c.args.self.now.events in
+    let first = take c.args.count events in
+    let once : has_each_once peers ≡ true = subst (λ (ps : List PeerRef). has_each_once ps ≡ true) c.as_slice.ensures.peers c.as_slice.ensures.once in
+    expands_packets c.args.self.now c.count.new.self first (grouped peers first) c.requires.packets (grouped_same peers first once c.requires.packets)
+    (sym (take-append-drop c.args.count events) ∙ ap (λ (es : List Event). first ++ es) (sym (c.count.ensures.same.1 ∙ c.drop_first.ensures)))
     c.count.ensures.same.0
-    (c.count.ensures.same.2 ∙ (c.in_ok-add.ensures.added ∙ ap (λ (os : List Order). c.args.self.now.orders ++ os) c.from_vec.ensures.items))
+    (c.count.ensures.same.2 ∙ c.in_ok-add_grouped.ensures.added
+    ∙ ap (λ (ps : List PeerRef). c.args.self.now.orders ++ grouped ps (take c.args.count c.as_deque.result.now.items)) c.as_slice.ensures.peers
+    ∙ ap (λ (es : List Event). c.args.self.now.orders ++ grouped peers (take c.args.count es)) c.as_deque.ensures)
 
-pub returns-in_err-orders-clause-expands : goal.returns-in_err-orders-clause-expands
-returns-in_err-orders-clause-expands c = expands_none _ _ refl refl refl
-
-pub returns-in_err-add-clause-expands : goal.returns-in_err-add-clause-expands
-returns-in_err-add-clause-expands c = expands_none _ _ refl refl c.in_err-add.ensures.same
+pub returns-in_err-add_grouped-clause-expands : goal.returns-in_err-add_grouped-clause-expands
+returns-in_err-add_grouped-clause-expands c = expands_none _ _ refl refl c.in_err-add_grouped.ensures.same
