@@ -85,8 +85,8 @@ goes_a_turn a b between r turn sound table gave puts expands behind = record {
   for_each = subst (λ (ps : List PeerRef). SameForEach expands.asked_for (relayed_all ps expands.expanded)) table expands.for_each;
   orders_done = ap (λ (os : List Order). os ++ expands.asked_for) (given_front a.relay.orders r.gave between.orders gave)
       ∙ (append_assoc (orders (given r.gave)) between.orders expands.asked_for
-          ∙ (ap (λ (os : List Order). orders (given r.gave) ++ os) (sym expands.orders)
-              ∙ ap (λ (xs : List (Option Submission)). orders (given xs) ++ b.relay.orders) (sym (append-nil r.gave))));
+      ∙ (ap (λ (os : List Order). orders (given r.gave) ++ os) (sym expands.orders)
+      ∙ ap (λ (xs : List (Option Submission)). orders (given xs) ++ b.relay.orders) (sym (append-nil r.gave))));
 }
 
 -- what the relay began with was kept by the server, and what it leaves is

@@ -2,7 +2,6 @@ use Rattle.std.proofs.Common.{◌≡◌, List}
 use Rattle.std.specs.Prelude.{length}
 use Rattle.enet_service.specs.Turn.{Round}
 use Rattle.enet_service.specs.Run.{total}
-use Rattle.enet_chat.specs.Relaying.{AreBehind}
 use Rattle.enet_serve.specs.Private.Alone.{Goes, pair}
 use Rattle.enet_serve.proofs.alone.take_turns.Given as goal
 
