@@ -1,11 +1,12 @@
 // A library that is loaded before the C library (LD_PRELOAD) and has calls of it fail, one at each signal: SIGUSR1 asks that the next growth
-// of memory is refused in a thread that receives no datagrams; SIGUSR2 that the next reception of a datagram fails with EHOSTUNREACH.
+// of memory is refused in a thread that receives no datagrams, or in any thread where FAULTS_ANYWHERE is set; SIGUSR2 that the next reception of a datagram fails with EHOSTUNREACH.
 #include <errno.h>
 #include <malloc.h>
 #include <signal.h>
 #include <stdatomic.h>
 #include <stdbool.h>
 #include <stddef.h>
+#include <stdlib.h>
 #include <sys/socket.h>
 #include <sys/syscall.h>
 #include <unistd.h>
@@ -17,6 +18,7 @@ void *__libc_memalign(size_t alignment, size_t size);
 
 static atomic_bool wants_growth_refused, wants_reception_failed;
 static _Thread_local bool receives;
+static bool anywhere;
 
 static void ask(int number)
 {
@@ -25,6 +27,7 @@ static void ask(int number)
 
 __attribute__((constructor)) static void listen_for_signals(void)
 {
+    anywhere = getenv("FAULTS_ANYWHERE") != NULL;
     struct sigaction action = { .sa_handler = ask, .sa_flags = SA_RESTART };
     sigaction(SIGUSR1, &action, NULL);
     sigaction(SIGUSR2, &action, NULL);
@@ -32,7 +35,7 @@ __attribute__((constructor)) static void listen_for_signals(void)
 
 static bool is_refused(void)
 {
-    if (receives || !atomic_exchange(&wants_growth_refused, false))
+    if ((receives && !anywhere) || !atomic_exchange(&wants_growth_refused, false))
         return false;
     errno = ENOMEM;
     return true;

@@ -1,7 +1,7 @@
 #!/usr/bin/env bash
 # Clients of the reference library talk through a relay, in the scenarios of clients/client.c: first straight, then by way of
 # clients/proxy.c, which drops, repeats and reorders datagrams; and a crowd of them (clients/crowd.c) straight, where each queue of the
-# relay has 64 places, so that both are full at once and neither thread may wait for the other. Clients of `demo` visit a server of the
+# relay has 64 places, so that both are full at once and neither of its two threads may wait for the other. Clients of `demo` visit a server of the
 # reference library, and so does `example_echo`, whose own server a client of that library visits (clients/echo.c). Three of that library
 # play at `example_game` side by side until each has won (clients/guess.c), and it ends. Two guests (clients/guests.c) are told when a
 # server ends after its turns, and when it ends since its relay found no memory; they notice nothing of receptions that fail
@@ -79,7 +79,7 @@ start() {
     local first=$port name=$1-$2${5:+-threads-$5}-$4
     free_port
     names+=("$name")
-    THREADS=${5:-${THREADS:-}} scenario "$name" "$1" "$2" "$3" "$first" "$port" "${#names[@]}" &
+    THREADS=${5:-} scenario "$name" "$1" "$2" "$3" "$first" "$port" "${#names[@]}" &
 }
 
 # Clients of ours at a server of the reference library: the three packets of each come back to it.
@@ -217,14 +217,24 @@ server_ended() {
     [[ $(<"$room/$1.out") == "$3"* ]] || { echo "it wrote $(<"$room/$1.out")"; return 1; }
 }
 
-# The relay's thread finds no memory once.
+# What relays in a server of $2 threads finds no memory once. Where that is the only thread, most of its growths are of packets that come,
+# which are sent again where one is refused: so growths are refused one by one until the server ends.
 no_memory() {
     trap end_attempt EXIT
     trap 'exit 1' TERM
-    receive_guests no-memory "$1" told --forever
-    kill -USR1 "$relay"
-    guests_fared no-memory 0 'E1 Memory' > "$room/no-memory.first" || return
-    server_ended no-memory 1 '' > "$room/no-memory.first" && : > "$room/no-memory.passed"
+    local name=no-memory-$2
+    if [ "$2" = 2 ]; then
+        receive_guests "$name" "$1" told --forever
+        kill -USR1 "$relay"
+    else
+        FAULTS_ANYWHERE=1 receive_guests "$name" "$1" told --forever --threads 1
+        for _ in {1..200}; do
+            kill -USR1 "$relay" 2> /dev/null && ! grep -q '^E1' "$room/$name.err" || break
+            sleep 0.05
+        done
+    fi
+    guests_fared "$name" 0 'E1 Memory' > "$room/$name.first" || return
+    server_ended "$name" 1 '' > "$room/$name.first" && : > "$room/$name.passed"
 }
 
 # The turns of a server of $2 threads are over.
@@ -254,11 +264,10 @@ no_reception() {
 # Scenarios of guests, each a function.
 guests() {
     local threads
-    free_port
-    names+=(no-memory)
-    no_memory "$port" &
     for threads in 1 2; do
-        names+=("turns-over-$threads" "no-reception-$threads")
+        names+=("no-memory-$threads" "turns-over-$threads" "no-reception-$threads")
+        free_port
+        no_memory "$port" "$threads" &
         free_port
         turns_over "$port" "$threads" &
         free_port

@@ -5,6 +5,7 @@
 cd "$(dirname "$0")/.." || exit 1
 . scripts/clients.sh
 program=${1:-crates/enet_relay/out/enet_relay}
+unset THREADS
 room=$(mktemp -d) || exit 1
 trap 'rm -rf "$room"; kill $relay 2> /dev/null' EXIT
 relay=

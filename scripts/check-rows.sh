@@ -179,17 +179,18 @@ services() {
         serve --port "$port" --turns 2 --address 192.0.2.1
     service_line another-address 0 "$(listening 127.0.0.2)" 'served 2 received 0 sent 0' serve --port "$port" --turns 2 --address 127.0.0.2
     end_service
-    goes_on forever
-    goes_on forever-in-one-thread --threads 1
+    goes_on forever 2
+    goes_on forever-in-one-thread 1 --threads 1
 }
 
-# `serve --forever` with these words, $1 its name here, goes on and writes its first line alone.
+# `serve --forever` with the words behind $2, $1 its name here, goes on in $2 threads and writes its first line alone.
 goes_on() {
     local name=$1
     free_port
-    start_service --forever "${@:2}"
+    start_service --forever "${@:3}"
     sleep 2
     kill -0 "$first" 2> "$room/gone" || fail "$name" 'it ended by itself'
+    [ "$(find "/proc/$first/task" -mindepth 1 -maxdepth 1 | wc -l)" -eq "$2" ] || fail "$name" "it doesn't serve in $2 threads"
     end_service
     [ ! -s "$room/first" ] && [ "$(sized "$room/first.err")" = "$(listening)" ] || fail "$name" "it wrote: $(head -c 200 "$room/first" "$room/first.err")"
 }

@@ -8,8 +8,8 @@ use std::collections::VecDeque;
 use std::marker::Model;
 use std::sync::Wait;
 
-/// Orders that wait for a service, given from the front as those of seat 0. They are numbered from 0 on, modulo 4,294,967,296. A contract sees
-/// those that wait.
+/// Orders that wait for a service, given from the front as those of seat 0. They are numbered from 0 on, modulo 4,294,967,296. A contract
+/// sees those that wait.
 #[derive(Drop)]
 pub struct OrderList {
     orders: VecDeque<Order>,

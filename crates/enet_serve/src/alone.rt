@@ -8,7 +8,7 @@ ghost use Rattle.enet_serve.specs.Private.Alone.{Goes, pair};
 
 use enet_chat::{Gauge, LoneRelay};
 use enet_codec::Refusal;
-use enet_service::{Bell, BoundService, Report, RunLength, Watch, has_passed};
+use enet_service::{Bell, BoundService, Report, RunLength, Watch, is_over};
 use std::rt::Clock;
 use std::sync::Wait;
 use std::time::{Duration, Instant};
@@ -16,7 +16,8 @@ use std::time::{Duration, Instant};
 /// Between two looks at the clock so many turns are taken.
 const TURNS_AT_ONCE: u64 = 64;
 
-/// Takes the turns of a run, and expands after each of them what it told. `gauge` shows how far it has come, and `watch` is told of the turns.
+/// Takes the turns of a run, and expands after each of them what it told. `gauge` shows how far it has come, and `watch` is told of the
+/// turns.
 ///
 /// E14 where the wire fails, E1 for want of memory.
 pub(crate) fn run_alone<R: Wait + Clock, W: Watch>(
@@ -34,13 +35,13 @@ pub(crate) fn run_alone<R: Wait + Clock, W: Watch>(
     ensures why { IfErr result (λ why. (why ≡ Refusal.WireFault) ⊎ (why ≡ Refusal.Memory)) }
 {
     match run_length {
-        RunLength::Turns(turns) => run_turns(rt, bound, relay, bell, turns, gauge, watch),
-        RunLength::Time(time) => run_for(rt, bound, relay, bell, time, gauge, watch),
+        RunLength::Turns(turns) => run_for_turns(rt, bound, relay, bell, turns, gauge, watch),
+        RunLength::Time(time) => run_for_time(rt, bound, relay, bell, time, gauge, watch),
     }
 }
 
-// Takes turns until so much time has passed.
-fn run_for<R: Wait + Clock, W: Watch>(
+// Takes turns until so much time has passed, or much was done.
+fn run_for_time<R: Wait + Clock, W: Watch>(
     rt: &R,
     bound: &mut BoundService,
     relay: &mut LoneRelay,
@@ -57,17 +58,17 @@ fn run_for<R: Wait + Clock, W: Watch>(
     let start = Instant::now(rt);
     let mut total = Report::nothing();
     for _ in rt.forever() {
-        let report = run_turns(rt, bound, relay, bell, TURNS_AT_ONCE, gauge, watch)?;
+        let report = run_for_turns(rt, bound, relay, bell, TURNS_AT_ONCE, gauge, watch)?;
         total = total.and(report);
-        if has_passed(rt, &start, time) {
+        if is_over(rt, total, &start, time) {
             return Ok(total);
         }
     }
     unreachable!()
 }
 
-// Takes so many turns, and shows them.
-fn run_turns<R: Wait + Clock, W: Watch>(
+// Takes so many turns, and shows them; where they fail, without their sums.
+fn run_for_turns<R: Wait + Clock, W: Watch>(
     rt: &R,
     bound: &mut BoundService,
     relay: &mut LoneRelay,
@@ -81,19 +82,20 @@ fn run_turns<R: Wait + Clock, W: Watch>(
         × Goes (pair bound.old.service relay.old) rounds (pair bound.new.service relay.new)) }
     ensures why { IfErr result (λ why. (why ≡ Refusal.WireFault) ⊎ (why ≡ Refusal.Memory)) }
 {
-    let ran = take_turns(rt, bound, relay, bell, turns);
-    relay.show(gauge);
+    let ran = turn_by_turn(rt, bound, relay, bell, turns, gauge);
     bound.show(ran.unwrap_or(Report::nothing()), watch);
     ran
 }
 
-// Takes so many turns, and expands after each of them what it told. While orders wait the service doesn't sleep.
-fn take_turns<R: Wait + Clock>(
+// Takes so many turns, and expands after each of them what it told. While orders wait the service doesn't sleep. An event that the list
+// refused ends the run: while it waited no order would be taken, and so, with many orders, no event expanded that makes room for it.
+fn turn_by_turn<R: Wait + Clock>(
     rt: &R,
     bound: &mut BoundService,
     relay: &mut LoneRelay,
     bell: &Bell,
     turns: u64,
+    gauge: &Gauge,
 ) -> Result<Report, Refusal>
     requires { AreBehind relay.old.events relay.old.orders }
     ensures goes { IfOk result (λ report. (rounds : List Round) × (length rounds ≡ turns) × (report ≡ total rounds)
@@ -106,7 +108,11 @@ fn take_turns<R: Wait + Clock>(
             bell.ring();
         }
         let report = bound.take_turn(rt, &mut relay.orders, &mut relay.events)?;
+        if bound.service.waiting.is_some() {
+            return Err(Refusal::Memory);
+        }
         relay.expand()?;
+        relay.show(gauge);
         total = total.and(report);
     }
     Ok(total)

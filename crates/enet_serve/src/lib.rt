@@ -1,5 +1,5 @@
-//! A server over the service, one of whose threads takes turns and another relays chat, or one does both ([`ChatServer`]); and a demonstration of
-//! it: the server and its clients in one process ([`demonstrate`]).
+//! A server over the service, one of whose threads takes turns and another relays chat, or one does both ([`ChatServer`]); and a
+//! demonstration of it: the server and its clients in one process ([`demonstrate`]).
 //!
 //! Proved: one call of [`ChatServer::serve`] or [`ChatServer::serve_alone`] (`Serves`) is turns of the service, as many as were asked for
 //! where a number was, in none of which the wire failed, and its report their sums. Each event that the turns told was expanded by the rule
@@ -11,11 +11,12 @@
 //! its connection and, over the first that it is told of, three packets of chat; and what is told of the client is whether the turns told
 //! its connection, and how many packets they told. So its game thread missed no event and counted none twice. A number of clients that is
 //! out of its range is refused, with a refusal that comes for nothing else.
-//! Only tested, by scripts/check-rows.sh and scripts/check-clients.sh: what real clients get, that a call ends, at which address a
-//! server listens, what the system says where it can't, that the queues settle (no E16), that the server ends once its relay has, that its
-//! clients are told of its end; that each client of the demonstration gets all packets of the others, that a port that is taken is a
-//! refusal, and that the threads end. Neither: what a network gives, and when; what `gauge` shows and `watch` is told; when a client sees
-//! that the others are there; that a client hands over what it asks for (one that never does keeps `Visits`, with all of it left).
+//! Only tested, by scripts/check-rows.sh and scripts/check-clients.sh: what real clients get, that a call ends, at which address a server
+//! listens, what the system says where it can't, that the queues settle (no E16), that the server ends once its relay has, that its clients
+//! are told of its end; that each client of the demonstration gets all packets of the others, that a port that is taken is a refusal, and
+//! that the threads end. Neither: what a network gives, and when; that in one thread the service doesn't sleep while orders wait; what
+//! `gauge` shows and `watch` is told; when a client sees that the others are there; that a client hands over what it asks for (one that
+//! never does keeps `Visits`, with all of it left).
 #![tactic(auto)]
 
 mod alone;

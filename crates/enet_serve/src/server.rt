@@ -116,8 +116,8 @@ impl ChatServer {
     /// told, and the next turn takes the orders. A packet wakes no other thread and passes no queue between two of them, so that each takes
     /// less time and there is no use of a second processor.
     ///
-    /// E14 where the wire fails, E1 for want of memory. Whatever is refused, nothing is promised of the server then, but that it can take
-    /// leave and be closed.
+    /// E14 where the wire fails, E1 for want of memory, where an event found none, too. Whatever is refused, nothing is promised of the
+    /// server then, but that it can take leave and be closed.
     pub fn serve_alone<R, W>(
         &mut self,
         rt: &R,

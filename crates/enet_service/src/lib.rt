@@ -18,7 +18,8 @@
 //! its turn; that a game thread submits and takes while the service is inside its wire; a connection's opening through a socket of
 //! 127.0.0.1. By scripts/check-rows.sh and scripts/check-clients.sh: that the queues settle (no E16), what is noted and shown to a
 //! [`Watch`], and that turns for a time end once the other thread has left. Neither: that a wait or a call of a queue returns, when the
-//! source is told to expect orders, that two threads ran, and what a network gives, and when.
+//! source is told to expect orders, that two threads ran, what a network gives, and when; that a turn of the calling thread goes by the
+//! milliseconds of its wait, and is answered E14 only where the wire failed.
 #![tactic(auto)]
 
 mod between;
@@ -49,7 +50,7 @@ pub use enet_host::HostCore;
 pub use host::Core;
 pub use queues::{Ends, Queues};
 pub use report::{Fault, Report};
-pub use run_length::{RunLength, has_passed};
+pub use run_length::{RunLength, is_over};
 pub use running::run;
 pub use service::Service;
 pub use settling::{Returned, settle};

@@ -25,8 +25,8 @@ const MANY: u32 = 2_147_483_648;
 pub enum RunLength {
     /// So many turns.
     Turns(u64),
-    /// As many turns as it takes until so much time has passed, the other thread has left, or 2,147,483,648 orders were taken or events
-    /// told. Where the clock can't be read only the last two end it.
+    /// As many turns as it takes until so much time has passed, the other thread, if there is one, has left, or 2,147,483,648 orders were
+    /// taken or events told. Where the clock can't be read only the last two end it.
     Time(Duration),
 }
 
@@ -111,19 +111,25 @@ fn turns_for<R: Wait + Clock, W: Watch>(
     for _ in rt.forever() {
         let report = turns_of(rt, service, wire, source, sink, TURNS_AT_ONCE, watch)?;
         total = total.and(report);
-        if signals.has_left() || is_much(total) || has_passed(rt, &start, time) {
+        if signals.has_left() || is_over(rt, total, &start, time) {
             return Ok(total);
         }
     }
     unreachable!()
 }
 
-fn is_much(total: Report) -> bool {
-    total.orders >= MANY || total.events >= MANY
+/// Whether a run for this time that began at `start`, with these sums so far, is over: 2,147,483,648 orders were taken or events told, or the
+/// time has passed. Where the clock can't be read, no time passes.
+pub fn is_over<R: Clock>(
+    rt: &R,
+    total: Report,
+    start: &io::Result<Instant>,
+    time: Duration,
+) -> bool {
+    total.orders >= MANY || total.events >= MANY || has_passed(rt, start, time)
 }
 
-/// Whether so much time has passed since `start`. Where the clock can't be read, no time passes.
-pub fn has_passed<R: Clock>(rt: &R, start: &io::Result<Instant>, time: Duration) -> bool {
+fn has_passed<R: Clock>(rt: &R, start: &io::Result<Instant>, time: Duration) -> bool {
     let Ok(start) = start else {
         return false;
     };

@@ -5,7 +5,7 @@ use Rattle.enet_service.specs.Turn.{Round}
 use Rattle.enet_service.proofs.Runs.{total_more}
 use Rattle.enet_serve.specs.Private.Alone.{pair}
 use Rattle.enet_serve.proofs.TurnByTurn.{goes_nowhere, goes_on, goes_a_turn}
-use Rattle.enet_serve.proofs.alone.take_turns.Goals as goal
+use Rattle.enet_serve.proofs.alone.turn_by_turn.Goals as goal
 
 pub loop-turn-init : goal.loop-turn-init
 loop-turn-init g c = ([], goes_nowhere _ _ refl (expands_none _ _ refl refl refl) c.requires, refl, c.nothing-total.ensures)
