@@ -1,5 +1,6 @@
 // A library that is loaded before the C library (LD_PRELOAD) and has calls of it fail, one at each signal: SIGUSR1 asks that the next growth
-// of memory is refused in a thread that receives no datagrams, or in any thread where FAULTS_ANYWHERE is set; SIGUSR2 that the next reception of a datagram fails with EHOSTUNREACH.
+// of memory is refused in a thread that receives no datagrams; where FAULTS_ANYWHERE is set in any thread, and not always the next one, but one
+// of the next eight in turn. SIGUSR2 that the next reception of a datagram fails with EHOSTUNREACH.
 #include <errno.h>
 #include <malloc.h>
 #include <signal.h>
@@ -19,9 +20,12 @@ void *__libc_memalign(size_t alignment, size_t size);
 static atomic_bool wants_growth_refused, wants_reception_failed;
 static _Thread_local bool receives;
 static bool anywhere;
+static atomic_int asked, to_pass; // of growths, how many refusals were asked for, and how many more aren't refused before
 
 static void ask(int number)
 {
+    if (number == SIGUSR1 && anywhere)
+        atomic_store(&to_pass, atomic_fetch_add(&asked, 1) % 8);
     atomic_store(number == SIGUSR1 ? &wants_growth_refused : &wants_reception_failed, true);
 }
 
@@ -35,7 +39,9 @@ __attribute__((constructor)) static void listen_for_signals(void)
 
 static bool is_refused(void)
 {
-    if ((receives && !anywhere) || !atomic_exchange(&wants_growth_refused, false))
+    if ((receives && !anywhere) || !atomic_load(&wants_growth_refused) || atomic_fetch_sub(&to_pass, 1) > 0)
+        return false;
+    if (!atomic_exchange(&wants_growth_refused, false))
         return false;
     errno = ENOMEM;
     return true;
