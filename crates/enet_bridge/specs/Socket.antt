@@ -1,7 +1,18 @@
 -- A socket.
-use Rattle.std.specs.Prelude.{ℕ}
+use Rattle.std.specs.Prelude.{ℕ, Option}
+use Rattle.std.specs.Arc.{arc_value}
+use Rattle.std.specs.declared.io.Error.{Error}
+use Rattle.enet_bridge.specs.declared.bell.Bell.{Bell}
 use Rattle.enet_bridge.specs.declared.socket.MioWire.{MioWire}
 
 -- how often a call of it failed
 abbrev pub failures_of : MioWire → ℕ
 failures_of wire = wire.failures
+
+-- what the system said of the last call of it that failed, if one did
+abbrev pub reason_of : MioWire → Option Error
+reason_of wire = wire.reason
+
+-- its bell
+abbrev pub bell_of : MioWire → Bell
+bell_of wire = arc_value wire.bell

@@ -111,6 +111,7 @@ impl<'a> EventReceiver<'a> {
         ensures none { IfNone result (received self.new ≡ received self.old) }
         ensures empty { IfNone result (FoundNone self.new) }
         ensures queue { receiver_queue self.new ≡ receiver_queue self.old }
+        ensures index { (taker_of self.new).index ≡ (taker_of self.old).index }
     {
         self.queue.take(rt, &mut self.taker)
     }

@@ -1,14 +1,17 @@
 //! Between the service's thread, game threads and the network: where orders come from, where events go, what a game thread holds
-//! ([`OrderSender`], [`EventReceiver`]), and the wire: the trait [`Wire`], a wire in memory, and a UDP socket with a bell that ends its wait.
+//! ([`OrderSender`], [`EventReceiver`]), and the wire: the trait [`Wire`], a wire in memory, and a UDP socket with a bell that ends its
+//! wait.
 //!
 //! Proved: a source gives and a sink takes just what its queue or its list says, in order; what an order sender was asked is, in order,
 //! what it submitted and what waits, none is lost or doubled, and it tells of a full queue only where that was full at a moment of the
-//! call. Each wire counts its faults exactly, E14 comes exactly where the count rises, a spent wire does nothing, and a wire that tells
-//! its calls tells them truly. The wire in memory does what its script says; a want of memory is a fault of it.
-//! Only tested, by `check_queues`: that an order sender gets on once there is room; that datagrams pass through the socket, that its
-//! milliseconds add up, and what the system says of an address that is taken; by scripts/check-clients.sh: a reception that fails once.
+//! call. Orders that find none waiting are never refused. Each wire counts its faults exactly, E14 comes exactly where the count rises, a
+//! spent wire does nothing, and a wire that tells its calls tells them truly. The wire in memory does what its script says; a want of
+//! memory is a fault of it.
+//! Only tested, by `check_queues`: that an order sender gets on once there is room; that datagrams pass through the socket, which stands at
+//! the address that was asked for, that its milliseconds add up, and what the system says of an address that is taken; by
+//! scripts/check-clients.sh: a reception that fails once.
 //! Neither: that a bell wakes a thread, whether the service is idle or expects orders, how long a wait takes, when a datagram comes, how
-//! many datagrams the system keeps, and which of its errors are faults.
+//! many datagrams the system keeps, which of its errors are faults, and that `reason` is that of the last fault.
 #![tactic(auto)]
 
 mod bell;

@@ -1,5 +1,5 @@
 //! A seat with the orders that wait for room, and the bell that tells the service of what was submitted.
-ghost use Rattle.std.specs.Prelude.{◌≡◌, ◌++◌, ◌∷◌, [], OnOk, OnErr, IfErr, IsTrue, ◌↔◌, ◌<◌, length};
+ghost use Rattle.std.specs.Prelude.{◌≡◌, ◌++◌, ◌∷◌, [], OnOk, OnErr, IfErr, IsOk, IsTrue, ◌↔◌, ◌<◌, length};
 ghost use Rattle.enet_submit.specs.Words.{IsSeatOf, IsFinishedOf, sent, all_sent, limit_of};
 ghost use Rattle.enet_bridge.specs.Ends.{orders};
 
@@ -54,11 +54,13 @@ impl<'a> OrderSender<'a> {
         }
     }
 
-    /// Adds orders behind those that wait, in their order: all of them, or for want of memory (E1) none.
+    /// Adds orders behind those that wait, in their order: all of them, or for want of memory (E1) none. Where none waits it is
+    /// never refused.
     pub fn ask_all(&mut self, orders: VecDeque<Order>) -> Result<(), Refusal>
         ensures added { OnOk result (asked self.new ≡ asked self.old ++ orders.items) }
         ensures same { OnErr result (asked self.new ≡ asked self.old) }
         ensures memory { IfErr result (λ why. why ≡ Refusal.Memory) }
+        ensures in_place { waiting_at self.old ≡ [] → IsOk result }
         ensures queue { sender_queue self.new ≡ sender_queue self.old }
     {
         if self.waiting.is_empty() {
@@ -80,6 +82,7 @@ impl<'a> OrderSender<'a> {
         ensures full { result ≡ Pumped.Full → 0 < length (waiting_at self.new) }
         ensures held { result ≡ Pumped.Full → FoundFull self.new }
         ensures spent { result ≡ Pumped.Spent → length (submitted_at self.new) ≡ limit_of (sender_queue self.new) }
+        ensures left { result ≡ Pumped.Spent → 0 < length (waiting_at self.new) }
         ensures queue { sender_queue self.new ≡ sender_queue self.old }
     {
         if !self.waiting.is_empty() {

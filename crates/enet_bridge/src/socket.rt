@@ -1,6 +1,7 @@
 //! A UDP socket as a wire.
-ghost use Rattle.std.specs.Prelude.{◌≡◌, ◌⊎◌, ◌+◌, ◌<◌, Err, IfOk, IfErr, None};
-ghost use Rattle.enet_bridge.specs.Socket.{failures_of};
+ghost use Rattle.std.specs.Prelude.{◌≡◌, ◌⊎◌, ◌↔◌, ◌+◌, ◌<◌, Err, IfOk, IfErr, IsSome, None, Some};
+ghost use Rattle.enet_bridge.specs.Socket.{bell_of, failures_of, reason_of};
+ghost use Rattle.std.specs.Arc.{arc_value};
 
 use crate::bell::Bell;
 use crate::source::MOST_PER_TURN;
@@ -86,6 +87,7 @@ impl MioWire {
     /// E14 where the address can't be had, or the system grants nothing to wait by; E1 for want of memory.
     pub fn bind<R: Net + AllocGlobal>(rt: &R, addr: Addr) -> Result<MioWire, Refusal>
         ensures new { IfOk result (λ wire. failures_of wire ≡ 0) }
+        ensures silent { IfOk result (λ wire. reason_of wire ≡ None) }
         ensures refused { IfErr result (λ why. (why ≡ Refusal.WireFault) ⊎ (why ≡ Refusal.Memory)) }
     {
         match MioWire::open(rt, addr) {
@@ -97,7 +99,9 @@ impl MioWire {
     /// As [`MioWire::bind`], and beside E14 what the system said.
     pub fn open<R: Net + AllocGlobal>(rt: &R, addr: Addr) -> Result<MioWire, Unopened>
         ensures new { IfOk result (λ wire. failures_of wire ≡ 0) }
+        ensures silent { IfOk result (λ wire. reason_of wire ≡ None) }
         ensures refused { IfErr result (λ unopened. (unopened.why ≡ Refusal.WireFault) ⊎ (unopened.why ≡ Refusal.Memory)) }
+        ensures said { IfErr result (λ unopened. (unopened.why ≡ Refusal.WireFault) ↔ IsSome unopened.reason) }
     {
         let Ok(events) = Events::with_capacity(rt.alloc(), 4) else {
             return Err(Unopened::from(Refusal::Memory));
@@ -133,7 +137,8 @@ impl MioWire {
 
     /// The bell that ends this wire's wait. E1 where so many of its bells are held that no more can be counted.
     pub fn bell(&self) -> Result<Arc<Bell, Global>, Refusal>
-        ensures { IfErr result (λ why. why ≡ Refusal.Memory) }
+        ensures own { IfOk result (λ bell. arc_value bell ≡ bell_of self.now) }
+        ensures memory { IfErr result (λ why. why ≡ Refusal.Memory) }
     {
         match Arc::try_clone(&self.bell) {
             Ok(bell) => Ok(bell),
@@ -155,7 +160,9 @@ impl MioWire {
     }
 
     /// What the system said at the last call that answered E14.
-    pub fn reason(&self) -> Option<io::Error> {
+    pub fn reason(&self) -> Option<io::Error>
+        ensures { result ≡ reason_of self.now }
+    {
         self.reason
     }
 
@@ -163,6 +170,7 @@ impl MioWire {
         requires { failures_of self.old < 18446744073709551615 }
         ensures answer { result ≡ Err Refusal.WireFault }
         ensures count { failures_of self.new ≡ failures_of self.old + 1 }
+        ensures reason { reason_of self.new ≡ Some reason }
     {
         self.reason = Some(reason);
         self.failures += 1;

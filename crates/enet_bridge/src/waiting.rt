@@ -37,6 +37,7 @@ pub(crate) fn pump<R: Wait>(
     ensures all { result ≡ Pumped.All → waiting.new.items ≡ [] }
     ensures spent { result ≡ Pumped.Spent → length (sent seat.new) ≡ limit_of queue.now }
     ensures waits { result ≡ Pumped.Full → 0 < length waiting.new.items }
+    ensures left { result ≡ Pumped.Spent → 0 < length waiting.new.items }
     ensures full { result ≡ Pumped.Full → Held (capacity_of queue.now) (SeatSees queue.now seat.new) }
 {
     while let Some(order) = waiting.pop_front() {

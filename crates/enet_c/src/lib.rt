@@ -5,13 +5,14 @@
 //! into the caller's memory. There is no state but the handles'. C calls these functions by way of `c/gofnjerta.c`, which tests
 //! pointers and lengths: here each pointer is a reference.
 //!
-//! Proved: each call is safe and returns, whatever C passes by value, and answers and leaves what the host's call of that name
-//! does, by the host's own definitions (`Crosses`). Calls that name a peer: `Settles` and `SettlesWithMemory` (`on_named`).
-//! `connect` is `Asks` (the host's `Connects`), `receive` is `TakesIn` (`Receives`), `service` is `PutsOut` (`Serves`) and leaves
-//! the rest of the buffer alone, `next_event` is `Tells` (`Takes`) and keeps the body of the packet that it told, which `body`
-//! copies (`Copies`); `submit` answers 1 only where nothing else is refused; `peer` and `totals_of` show what the host holds, and `due_in` when time brings it something (`IsDueIn`);
-//! `open` is `Begins` (`Opens`), and `close` leaves the handle closed. A name that `error_name` or `stop_name` gives is that of
-//! the refusal or stop with this number.
+//! Proved: each call is safe and returns, whatever C passes by value, and answers and leaves what the host's call of that name does, by the
+//! host's own definitions (`Crosses`); with a closed handle, each but `open` writes nothing to the caller's memory. Calls that name a peer:
+//! `Settles` and `SettlesWithMemory` (`on_named`). `connect` is `Asks` (the host's `Connects`), `receive` is `TakesIn` (`Receives`),
+//! `service` is `PutsOut` (`Serves`) and leaves the rest of the buffer alone, `next_event` is `Tells` (`Takes`) and keeps the body of the
+//! packet that it told, which `body` copies (`Copies`); `submit` answers 1 only where nothing else is refused, and `throttle_configure`
+//! only where the host may want memory to tell the peer (`wants_room_in`); `peer` and `totals_of` show what the host holds, and `due_in`
+//! when time brings it something (`IsDueIn`); `open` is `Begins` (`Opens`), and `close` leaves the handle closed. A name that `error_name`
+//! or `stop_name` gives is that of the refusal or stop with this number.
 //! Only tested, by `c/tests`: that C's structures lie as these do, and that calls succeed with ample memory. Neither: what C
 //! does with its memory between calls.
 #![tactic(auto)]

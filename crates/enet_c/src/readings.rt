@@ -1,6 +1,6 @@
 //! What can be read of a host and its peers.
 
-ghost use Rattle.std.specs.Prelude.{◌≡◌, IfSome};
+ghost use Rattle.std.specs.Prelude.{◌≡◌, IfNone, IfSome};
 ghost use Rattle.enet_host.specs.Ticking.{IsDueIn};
 ghost use Rattle.enet_c.specs.Border.{Crosses, Reads, ReadsPeer};
 ghost use Rattle.enet_c.specs.Shapes.{name_meant, totals_shown};
@@ -19,7 +19,8 @@ pub extern "C" fn gofnjerta_core_peer(
     peer: &CorePeer,
     reading: &mut CoreReading,
 ) -> u32
-    ensures { Crosses (ReadsPeer (name_meant peer.now) reading.old reading.new) handle.old.own.value result handle.new.own.value }
+    ensures reads { Crosses (ReadsPeer (name_meant peer.now) reading.old reading.new) handle.old.own.value result handle.new.own.value }
+    ensures closed { IfNone handle.old.own.value (reading.new ≡ reading.old) }
 {
     let Some(held) = handle.take(alloc) else {
         return CLOSED;
@@ -44,6 +45,7 @@ pub extern "C" fn gofnjerta_core_totals_of(
 ) -> u32
     ensures reads { Crosses Reads handle.old.own.value result handle.new.own.value }
     ensures totals { IfSome handle.old.own.value (λ held. totals.new ≡ totals_shown held.host.totals) }
+    ensures closed { IfNone handle.old.own.value (totals.new ≡ totals.old) }
 {
     let Some(held) = handle.take(alloc) else {
         return CLOSED;
@@ -64,6 +66,7 @@ pub extern "C" fn gofnjerta_core_totals_of(
 pub extern "C" fn gofnjerta_core_due_in(alloc: Global, handle: &mut Handle, ms: &mut u32) -> u32
     ensures reads { Crosses Reads handle.old.own.value result handle.new.own.value }
     ensures due { IfSome handle.old.own.value (λ held. IsDueIn held.host ms.new) }
+    ensures closed { IfNone handle.old.own.value (ms.new ≡ ms.old) }
 {
     let Some(held) = handle.take(alloc) else {
         return CLOSED;

@@ -1,9 +1,11 @@
 //! Connections end, and what can be set.
 
-ghost use Rattle.std.specs.Prelude.{◌≡◌};
+ghost use Rattle.std.specs.Prelude.{◌≡◌, IfSome, true};
 ghost use Rattle.enet_codec.specs.declared.event.DisconnectMode.TheVariants.{Ask, Later, Now};
 ghost use Rattle.enet_slot.specs.Calls.{leaving, pinging, throttling, waiting};
+ghost use Rattle.enet_slot.specs.Sharing.{wants_room_in};
 ghost use Rattle.enet_host.specs.Calls.{on_named};
+ghost use Rattle.enet_host.specs.Host.{named};
 ghost use Rattle.enet_c.specs.Border.{Crosses, Settles, SettlesWithMemory, SetsBandwidth};
 ghost use Rattle.enet_c.specs.Shapes.{name_meant};
 
@@ -94,7 +96,8 @@ pub extern "C" fn gofnjerta_core_throttle_configure(
     acceleration: u32,
     deceleration: u32,
 ) -> u32
-    ensures { Crosses (SettlesWithMemory (λ slots. on_named slots (name_meant peer.now) (throttling interval acceleration deceleration))) handle.old.own.value result handle.new.own.value }
+    ensures configures { Crosses (SettlesWithMemory (λ slots. on_named slots (name_meant peer.now) (throttling interval acceleration deceleration))) handle.old.own.value result handle.new.own.value }
+    ensures wanted { IfSome handle.old.own.value (λ held. result ≡ 1 → wants_room_in (named held.host.slots (name_meant peer.now)) ≡ true) }
 {
     let Some(mut held) = handle.take(alloc) else {
         return CLOSED;

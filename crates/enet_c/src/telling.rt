@@ -1,6 +1,6 @@
 //! Events.
 
-ghost use Rattle.std.specs.Prelude.{◌≡◌};
+ghost use Rattle.std.specs.Prelude.{◌≡◌, IfNone};
 ghost use Rattle.enet_c.specs.Border.{Crosses, Copies, Tells};
 
 use crate::numbers::CLOSED;
@@ -16,7 +16,8 @@ pub extern "C" fn gofnjerta_core_next_event(
     handle: &mut Handle,
     event: &mut CoreEvent,
 ) -> u32
-    ensures { Crosses (Tells event.new) handle.old.own.value result handle.new.own.value }
+    ensures tells { Crosses (Tells event.new) handle.old.own.value result handle.new.own.value }
+    ensures closed { IfNone handle.old.own.value (event.new ≡ event.old) }
 {
     let Some(mut held) = handle.take(alloc) else {
         return CLOSED;
@@ -29,7 +30,8 @@ pub extern "C" fn gofnjerta_core_next_event(
 /// Copies the body that is kept to the front of a buffer: 34 where the buffer is shorter than it, 36 where none is kept.
 #[unsafe(no_mangle)]
 pub extern "C" fn gofnjerta_core_body(alloc: Global, handle: &mut Handle, buffer: &mut [u8]) -> u32
-    ensures { Crosses (λ c. Copies c.before.told buffer.old c.number buffer.new × (c.after ≡ c.before)) handle.old.own.value result handle.new.own.value }
+    ensures copies { Crosses (λ c. Copies c.before.told buffer.old c.number buffer.new × (c.after ≡ c.before)) handle.old.own.value result handle.new.own.value }
+    ensures closed { IfNone handle.old.own.value (buffer.new ≡ buffer.old) }
 {
     let Some(held) = handle.take(alloc) else {
         return CLOSED;

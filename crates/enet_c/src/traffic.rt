@@ -4,7 +4,7 @@ ghost use Rattle.std.specs.Prelude.{◌≡◌, IfNone};
 ghost use Rattle.enet_slot.specs.Calls.{submission};
 ghost use Rattle.enet_host.specs.Calls.{on_named};
 ghost use Rattle.enet_host.specs.Ticking.{ticked};
-ghost use Rattle.enet_c.specs.Border.{Crosses, Asks, PutsOut, SettlesWithMemory, Stages, SubmitsStaged, TakesIn};
+ghost use Rattle.enet_c.specs.Border.{closed, Crosses, Asks, PutsOut, SettlesWithMemory, Stages, SubmitsStaged, TakesIn};
 ghost use Rattle.enet_c.specs.Shapes.{address_meant, name_meant};
 
 use crate::numbers::{CLOSED, OK, number_of};
@@ -103,7 +103,8 @@ pub extern "C" fn gofnjerta_core_receive(
     from: &CoreAddress,
     datagram: &[u8],
 ) -> CoreReceived
-    ensures { Crosses (TakesIn (address_meant from.now) datagram.now result) handle.old.own.value result.status handle.new.own.value }
+    ensures takes_in { Crosses (TakesIn (address_meant from.now) datagram.now result) handle.old.own.value result.status handle.new.own.value }
+    ensures closed { IfNone handle.old.own.value (result ≡ record { status = closed; handled = 0; stop = 0 }) }
 {
     let Some(mut held) = handle.take(alloc) else {
         return CoreReceived {
@@ -125,7 +126,8 @@ pub extern "C" fn gofnjerta_core_service(
     buffer: &mut [u8],
     datagram: &mut CoreDatagram,
 ) -> u32
-    ensures { Crosses (PutsOut buffer.old buffer.new datagram.new) handle.old.own.value result handle.new.own.value }
+    ensures puts_out { Crosses (PutsOut buffer.old buffer.new datagram.new) handle.old.own.value result handle.new.own.value }
+    ensures closed { IfNone handle.old.own.value ((buffer.new ≡ buffer.old) × (datagram.new ≡ datagram.old)) }
 {
     let Some(mut held) = handle.take(alloc) else {
         return CLOSED;

@@ -4,10 +4,11 @@ use Rattle.std.proofs.lemmas.List.{append-nil}
 use Rattle.std.proofs.lemmas.List.Elements.{filter-append}
 use Rattle.enet_codec.specs.declared.event.PeerRef.{PeerRef}
 use Rattle.enet_codec.specs.declared.event.Event.{Event}
+use Rattle.enet_codec.specs.declared.event.Event.TheVariants.{Connect, Receive, Disconnect, Refused}
 use Rattle.enet_submit.specs.declared.order.Order.{Order}
 use Rattle.enet_events.specs.declared.numbered.Numbered.{Numbered}
 use Rattle.enet_bridge.specs.Holding.{asked, received}
-use Rattle.enet_chat.specs.Chat.{noted, relayed}
+use Rattle.enet_chat.specs.Chat.{noted, IsNewcomer, relayed}
 use Rattle.enet_chat.specs.declared.relaying.Relay.{Relay}
 use Rattle.enet_chat.specs.Relaying.{events, noted_all, relayed_all, is_for, those_for, SameForEach, SameQueues, Relays}
 use Rattle.enet_chat.specs.Private.Relaying.{ArePackets}
@@ -67,19 +68,36 @@ relays_none a b same receiver backlog table sender = record {
   for_each = λ (peer : PeerRef). refl;
 }
 
--- an event was expanded
+-- ---- an event
+after_noted : (peers : List PeerRef) (e : Event) → relayed peers e ≡ relayed (noted peers e) e
+after_noted peers (Connect peer info) = refl
+after_noted peers (Receive from packet) = refl
+after_noted peers (Disconnect peer info) = refl
+after_noted peers (Refused seat number why) = refl
+
+pub for_event : (peers : List PeerRef) (e : Event) → SameForEach (relayed peers e) (relayed_all peers (e ∷ []))
+for_event peers e peer = ap (those_for peer) (after_noted peers e ∙ sym (append-nil (relayed (noted peers e) e)))
+
+-- one that finds no memory gave no orders
+pub none_added : (peers : List PeerRef) (e : Event) (before now : List Order) → IsNewcomer peers e → now ≡ before ++ relayed peers e → now ≡ before
+none_added peers (Connect peer info) before now new added = added ∙ append-nil before
+none_added peers (Receive from packet) before now new added = absurd new
+none_added peers (Disconnect peer info) before now new added = absurd new
+none_added peers (Refused seat number why) before now new added = absurd new
+
+-- it was expanded
 pub relays_expanded : (a b : Relay) (e : Event) → SameQueues a b → received b.receiver ≡ received a.receiver → a.backlog.items ≡ e ∷ b.backlog.items → b.table ≡ noted a.table e
-    → asked b.sender ≡ asked a.sender ++ relayed (noted a.table e) e → Relays a b
+    → asked b.sender ≡ asked a.sender ++ relayed a.table e → Relays a b
 relays_expanded a b e same receiver backlog table sender = record {
   same_queues = same;
   taken = [];
   expanded = e ∷ [];
-  asked_for = relayed (noted a.table e) e;
+  asked_for = relayed a.table e;
   took = ap events receiver ∙ sym (append-nil (events (received a.receiver)));
   in_order = append-nil a.backlog.items ∙ backlog;
   peers = table;
   orders = sender;
-  for_each = λ (peer : PeerRef). ap (those_for peer) (sym (append-nil (relayed (noted a.table e) e)));
+  for_each = for_event a.table e;
 }
 
 events_more : (xs : List Numbered) (n : Numbered) → events (xs ++ n ∷ []) ≡ events xs ++ n.event ∷ []

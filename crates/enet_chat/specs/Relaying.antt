@@ -5,12 +5,13 @@ use Rattle.enet_codec.specs.declared.event.PeerRef.{PeerRef}
 use Rattle.enet_codec.specs.declared.event.Event.{Event}
 use Rattle.enet_submit.specs.declared.order.Order.{Order}
 use Rattle.enet_submit.specs.declared.order.Order.TheVariants as order
+use Rattle.enet_submit.specs.Words.{limit_of}
 use Rattle.enet_events.specs.declared.numbered.Numbered.{Numbered}
 use Rattle.enet_chat.specs.Peers.{is_same}
 use Rattle.enet_chat.specs.Chat.{noted, relayed}
 use Rattle.enet_bridge.specs.declared.order_sender.OrderSender.{OrderSender}
 use Rattle.enet_bridge.specs.declared.event_receiver.EventReceiver.{EventReceiver}
-use Rattle.enet_bridge.specs.Holding.{sender_queue, receiver_queue, waiting_at, asked, received}
+use Rattle.enet_bridge.specs.Holding.{sender_queue, receiver_queue, waiting_at, submitted_at, asked, received}
 use Rattle.enet_chat.specs.declared.relaying.Relay.{Relay}
 
 -- the peers that a relay knows, the events that it took and has not expanded, and its ends of the queues
@@ -32,6 +33,10 @@ AreBehind backlog waiting = (backlog ≡ []) ⊎ (0 < length waiting)
 
 abbrev pub IsThrough : Relay → Type 0
 IsThrough relay = AreBehind (backlog_of relay) (waiting_at (sender_of relay))
+
+-- its seat submitted as many orders as it may
+abbrev pub IsSpent : Relay → Type 0
+IsSpent relay = length (submitted_at (sender_of relay)) ≡ limit_of (sender_queue (sender_of relay))
 
 -- events without their numbers
 abbrev pub events : List Numbered → List Event

@@ -11,6 +11,9 @@ use enet_submit::Order;
 use std::alloc::Global;
 use std::collections::VecDeque;
 
+// So many events at most are taken one after another, and so many chat packets expanded together.
+pub(crate) const MOST_EVENTS: usize = 64;
+
 // How many chat packets come first in the backlog, at most so many.
 pub(crate) fn packets_first(backlog: &VecDeque<Event>, most: usize) -> usize
     ensures within { result ≤ length backlog.now.items }
@@ -38,63 +41,15 @@ pub(crate) fn batch_orders(
     table: &Table,
     backlog: &VecDeque<Event>,
     count: usize,
-) -> Result<Vec<Order>, Refusal>
+) -> Result<VecDeque<Order>, Refusal>
     requires within { count ≤ length backlog.now.items }
     requires packets { ArePackets (take count backlog.now.items) }
     ensures orders { IfOk result (λ orders. SameForEach orders.items (relayed_all table.now (take count backlog.now.items))) }
     ensures memory { IfErr result (λ why. why ≡ Refusal.Memory) }
 {
-    let orders = group(alloc, table.peers.as_slice(), backlog, count)?;
+    let mut orders = VecDeque::new(alloc);
+    put_grouped(&mut orders, table.peers.as_slice(), backlog, count)?;
     Ok(orders)
-}
-
-// What the first events of the backlog give, receiver by receiver.
-fn group(
-    alloc: Global,
-    peers: &[PeerRef],
-    backlog: &VecDeque<Event>,
-    count: usize,
-) -> Result<Vec<Order>, Refusal>
-    requires { count ≤ length backlog.now.items }
-    ensures orders { IfOk result (λ orders. orders.items ≡ grouped peers.now (take count backlog.now.items)) }
-    ensures memory { IfErr result (λ why. why ≡ Refusal.Memory) }
-{
-    let mut orders = Vec::new(alloc);
-    if orders.reserve(peers.len().saturating_mul(count)).is_err() {
-        return Err(Refusal::Memory);
-    }
-    for peer in peers {
-        push_all_for(&mut orders, *peer, backlog, count)?;
-    }
-    Ok(orders)
-}
-
-// What the first events of the backlog give for one peer.
-fn push_all_for(
-    orders: &mut Vec<Order>,
-    peer: PeerRef,
-    backlog: &VecDeque<Event>,
-    count: usize,
-) -> Result<(), Refusal>
-    requires { count ≤ length backlog.now.items }
-    ensures pushed { OnOk result (orders.new.items ≡ orders.old.items ++ relayed_to peer (take count backlog.now.items)) }
-    ensures memory { IfErr result (λ why. why ≡ Refusal.Memory) }
-{
-    for at in 0..count {
-        push_for(orders, peer, &backlog[at])?;
-    }
-    Ok(())
-}
-
-// What an event gives for one peer.
-fn push_for(orders: &mut Vec<Order>, peer: PeerRef, event: &Event) -> Result<(), Refusal>
-    ensures pushed { OnOk result (orders.new.items ≡ orders.old.items ++ relayed (peer ∷ []) event.now) }
-    ensures memory { IfErr result (λ why. why ≡ Refusal.Memory) }
-{
-    match order_for(peer, event)? {
-        Some(order) => orders.push(order).map_err(|_| Refusal::Memory),
-        None => Ok(()),
-    }
 }
 
 // Puts what the first events of the backlog give behind these orders, receiver by receiver. For want of memory it may put some of it.
@@ -109,6 +64,9 @@ pub(crate) fn put_grouped(
     ensures kept { OnErr result (take (length orders.old.items) orders.new.items ≡ orders.old.items) }
     ensures memory { IfErr result (λ why. why ≡ Refusal.Memory) }
 {
+    if orders.reserve(peers.len().saturating_mul(count)).is_err() {
+        return Err(Refusal::Memory);
+    }
     for peer in peers {
         put_all_for(orders, *peer, backlog, count)?;
     }

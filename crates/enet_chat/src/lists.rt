@@ -79,13 +79,6 @@ impl OrderList {
         ensures same { OnErr result (self.new ≡ self.old) }
         ensures memory { IfErr result (λ why. why ≡ Refusal.Memory) }
     {
-        if self
-            .orders
-            .reserve(peers.len().saturating_mul(count))
-            .is_err()
-        {
-            return Err(Refusal::Memory);
-        }
         let waiting = self.orders.len();
         if let Err(why) = put_grouped(&mut self.orders, peers, events, count) {
             self.orders.truncate(waiting);

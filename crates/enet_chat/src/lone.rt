@@ -1,8 +1,5 @@
 //! A relay that shares its service's thread.
-ghost use Rattle.std.specs.Prelude.{◌≡◌, ◌++◌, OnOk, OnErr, IfErr};
-ghost use Rattle.enet_chat.specs.Chat.{noted, relayed};
-
-use crate::batch::packets_first;
+use crate::batch::{MOST_EVENTS, packets_first};
 use crate::gauge::Gauge;
 use crate::lists::{EventList, OrderList};
 use crate::relay::relay_step;
@@ -12,9 +9,6 @@ use enet_codec::{Event, Refusal};
 use enet_submit::Order;
 use std::alloc::Global;
 use std::collections::VecDeque;
-
-/// So many chat packets at most are expanded together.
-const MOST_EVENTS: usize = 64;
 
 /// The connected peers, the events that a service told and that aren't expanded yet, and the orders that they gave, which wait for its turns.
 /// Between two turns the service's thread expands events, as a `Relay` does in a thread of its own: chat packets that follow one another
@@ -32,7 +26,7 @@ pub struct LoneRelay {
 
 impl LoneRelay {
     ghost use Rattle.std.specs.Prelude.{◌≡◌, ◌≤◌, ◌<◌, [], true, false, length, take, drop, OnOk, IfOk, IfErr};
-    ghost use Rattle.enet_chat.specs.Lone.{Expands};
+    ghost use Rattle.enet_chat.specs.Lone.{Expands, counted_on};
     ghost use Rattle.enet_chat.specs.Relaying.{AreBehind};
     ghost use Rattle.enet_chat.specs.Private.Relaying.{ArePackets};
 
@@ -116,7 +110,10 @@ impl LoneRelay {
         let Some(event) = self.events.first() else {
             return Ok(false);
         };
-        let asked = expand_event(self.alloc, &mut self.table, &mut self.orders, event)?;
+        let orders = relay_step(self.alloc, &self.table, event)?;
+        let asked = orders.len();
+        self.orders.add(VecDeque::from_vec(orders))?;
+        self.table.note(event)?;
         self.events.drop_first(1);
         self.count(1, asked);
         Ok(true)
@@ -124,6 +121,8 @@ impl LoneRelay {
 
     fn count(&mut self, events: usize, orders: usize)
         ensures same { (self.new.table ≡ self.old.table) × (self.new.events ≡ self.old.events) × (self.new.orders ≡ self.old.orders) }
+        ensures expanded { self.new.expanded ≡ counted_on self.old.expanded events }
+        ensures asked { self.new.asked ≡ counted_on self.old.asked orders }
     {
         self.expanded = self.expanded.saturating_add(events as u64);
         self.asked = self.asked.saturating_add(orders as u64);
@@ -146,23 +145,4 @@ impl LoneRelay {
     pub fn show(&self, gauge: &Gauge) {
         gauge.show(self.table.len(), self.expanded, self.asked);
     }
-}
-
-// Asks for the orders of an event, of which it tells the number, and notes the event.
-fn expand_event(
-    alloc: Global,
-    table: &mut Table,
-    orders: &mut OrderList,
-    event: &Event,
-) -> Result<usize, Refusal>
-    ensures peers { OnOk result (table.new ≡ noted table.old event.now) }
-    ensures orders { OnOk result (orders.new ≡ orders.old ++ relayed (noted table.old event.now) event.now) }
-    ensures same { OnErr result ((table.new ≡ table.old) × (orders.new ≡ orders.old)) }
-    ensures memory { IfErr result (λ why. why ≡ Refusal.Memory) }
-{
-    let asked = relay_step(alloc, table, event)?;
-    let count = asked.len();
-    orders.add(VecDeque::from_vec(asked))?;
-    table.note(event)?;
-    Ok(count)
 }

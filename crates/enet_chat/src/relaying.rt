@@ -1,9 +1,5 @@
 //! The thread that takes the service's events and asks for what they give.
-ghost use Rattle.std.specs.Prelude.{◌≡◌, ◌++◌, OnOk, OnErr, IfErr};
-ghost use Rattle.enet_bridge.specs.Holding.{asked, sender_queue};
-ghost use Rattle.enet_chat.specs.Chat.{noted, relayed};
-
-use crate::batch::{batch_orders, drop_first, packets_first};
+use crate::batch::{MOST_EVENTS, batch_orders, drop_first, packets_first};
 use crate::gauge::Gauge;
 use crate::relay::relay_step;
 use crate::table::Table;
@@ -17,9 +13,6 @@ use std::sync::Wait;
 use std::sync::atomic::AtomicBool;
 use std::sync::atomic::Ordering::SeqCst;
 use std::thread;
-
-/// So many events at most are taken one after another, and so many chat packets expanded together.
-const MOST_EVENTS: usize = 64;
 
 /// With more than so many peers, an event gives so many orders that few events make a turn of the service. While it has orders left, events
 /// are then kept until there are `ENOUGH`: the more of them are expanded together, the fewer are the datagrams in which a receiver gets
@@ -104,7 +97,7 @@ impl<'a> Relay<'a> {
     ghost use Rattle.enet_submit.specs.Words.{IsFinishedOf, all_sent};
     ghost use Rattle.enet_bridge.specs.Ends.{orders};
     ghost use Rattle.enet_bridge.specs.Holding.{asked, waiting_at, received, sender_queue, receiver_queue, FoundNone};
-    ghost use Rattle.enet_chat.specs.Relaying.{peers_of, backlog_of, sender_of, receiver_of, Relays, IsThrough};
+    ghost use Rattle.enet_chat.specs.Relaying.{peers_of, backlog_of, sender_of, receiver_of, Relays, IsThrough, IsSpent};
     ghost use Rattle.enet_chat.specs.Private.Relaying.{ArePackets};
 
     /// A relay that goes on from these peers and these events.
@@ -171,6 +164,7 @@ impl<'a> Relay<'a> {
         ensures none_left { OnOk result (FoundNone (receiver_of self.new)) }
         ensures through { OnOk result (IsThrough self.new) }
         ensures why { IfErr result (λ why. (why ≡ Refusal.Memory) ⊎ (why ≡ Refusal.SeatSpent)) }
+        ensures spent { IfErr result (λ why. why ≡ Refusal.SeatSpent → IsSpent self.new) }
     {
         let mut pace = Pace::new();
         self.tally.expanded = gauge.expanded();
@@ -197,6 +191,7 @@ impl<'a> Relay<'a> {
         ensures none { IfOk result (λ over. over ≡ true → FoundNone (receiver_of self.new)) }
         ensures through { IfOk result (λ over. over ≡ true → IsThrough self.new) }
         ensures why { IfErr result (λ why. (why ≡ Refusal.Memory) ⊎ (why ≡ Refusal.SeatSpent)) }
+        ensures spent { IfErr result (λ why. why ≡ Refusal.SeatSpent → IsSpent self.new) }
     {
         let over = ended.load(SeqCst);
         let before = self.tally.expanded;
@@ -247,6 +242,7 @@ impl<'a> Relay<'a> {
         ensures none { IfOk result (λ found. found ≡ Found.Nothing → FoundNone (receiver_of self.new)) }
         ensures through { IfOk result (λ found. found ≡ Found.Nothing → IsThrough self.new) }
         ensures why { IfErr result (λ why. (why ≡ Refusal.Memory) ⊎ (why ≡ Refusal.SeatSpent)) }
+        ensures spent { IfErr result (λ why. why ≡ Refusal.SeatSpent → IsSpent self.new) }
     {
         match self.submit(rt) {
             Pumped::Spent => return Err(Refusal::SeatSpent),
@@ -289,6 +285,7 @@ impl<'a> Relay<'a> {
     fn submit<R: Wait>(&mut self, rt: &R) -> Pumped
         ensures relays { Relays self.old self.new }
         ensures full { result ≡ Pumped.Full → 0 < length (waiting_at (sender_of self.new)) }
+        ensures spent { result ≡ Pumped.Spent → IsSpent self.new }
     {
         let before = self.sender.len();
         let pumped = self.sender.submit(rt);
@@ -362,7 +359,7 @@ impl<'a> Relay<'a> {
     {
         let orders = batch_orders(self.alloc, &self.table, &self.backlog, count)?;
         let asked = orders.len();
-        self.sender.ask_all(VecDeque::from_vec(orders))?;
+        self.sender.ask_all(orders)?;
         drop_first(&mut self.backlog, count);
         self.tally.add(count, asked);
         Ok(())
@@ -374,19 +371,16 @@ impl<'a> Relay<'a> {
         ensures none { IfOk result (λ found. found ≡ false → backlog_of self.new ≡ []) }
         ensures why { IfErr result (λ why. why ≡ Refusal.Memory) }
     {
-        let Some(event) = self.backlog.pop_front() else {
+        let Some(event) = self.backlog.front() else {
             return Ok(false);
         };
-        match relay_event(self.alloc, &mut self.table, &mut self.sender, &event) {
-            Ok(orders) => {
-                self.tally.add(1, orders);
-                Ok(true)
-            }
-            Err(why) => {
-                self.backlog.push_front_reserved(event);
-                Err(why)
-            }
-        }
+        let orders = relay_step(self.alloc, &self.table, event)?;
+        let asked = orders.len();
+        self.sender.ask_all(VecDeque::from_vec(orders))?;
+        self.table.note(event)?;
+        let _ = self.backlog.pop_front();
+        self.tally.add(1, asked);
+        Ok(true)
     }
 
     fn show(&self, gauge: &Gauge) {
@@ -412,26 +406,6 @@ impl<'a> Relay<'a> {
         self.tally.untold = 0;
         self.sender.ring();
     }
-}
-
-// Asks for the orders of an event, of which it tells the number, and notes the event.
-fn relay_event(
-    alloc: Global,
-    table: &mut Table,
-    sender: &mut OrderSender<'_>,
-    event: &Event,
-) -> Result<usize, Refusal>
-    ensures peers { OnOk result (table.new ≡ noted table.old event.now) }
-    ensures orders { OnOk result (asked sender.new ≡ asked sender.old ++ relayed (noted table.old event.now) event.now) }
-    ensures same { OnErr result ((table.new ≡ table.old) × (asked sender.new ≡ asked sender.old)) }
-    ensures queue { sender_queue sender.new ≡ sender_queue sender.old }
-    ensures memory { IfErr result (λ why. why ≡ Refusal.Memory) }
-{
-    let orders = relay_step(alloc, table, event)?;
-    let count = orders.len();
-    sender.ask_all(VecDeque::from_vec(orders))?;
-    table.note(event)?;
-    Ok(count)
 }
 
 /// What was done since the thread last rested.

@@ -1,7 +1,8 @@
 -- A run whose relay shares its service's thread: turn by turn.
 use Rattle.std.proofs.Common.{◌≡◌, List, [], ◌∷◌, ◌++◌, Bool, true, false, Option, Some, None, refl, sym, ◌∙◌, ap, subst, append_assoc}
+use Rattle.std.specs.List.{All}
 use Rattle.std.proofs.lemmas.List.{append-nil, map-append}
-use Rattle.std.proofs.lemmas.List.Elements.{All-nil, All-append, All-push}
+use Rattle.std.proofs.lemmas.List.Elements.{All-nil, All-append}
 use Rattle.enet_codec.specs.declared.event.PeerRef.{PeerRef}
 use Rattle.enet_codec.specs.declared.event.Event.{Event}
 use Rattle.enet_submit.specs.declared.order.Order.{Order}
@@ -15,7 +16,7 @@ use Rattle.enet_service.specs.Phases.{Chain}
 use Rattle.enet_service.specs.Queues.{given, accepted}
 use Rattle.enet_service.specs.Turn.{Round}
 use Rattle.enet_service.specs.Run.{IsSound, all_gave, all_puts, total}
-use Rattle.enet_service.specs.ServiceRuns.{Lasts, TakesTurn}
+use Rattle.enet_service.specs.ServiceRuns.{Lasts, TakesTurns}
 use Rattle.enet_service.proofs.PhaseSteps.{chain_more}
 use Rattle.enet_service.proofs.Spells.{given_both, accepted_both}
 use Rattle.enet_service.specs.declared.report.Report.{Report}
@@ -70,23 +71,22 @@ goes_on a b c xs ys p q = record {
       ∙ ap (λ (os : List Order). os ++ c.relay.orders) (sym (ap orders (given_both xs ys) ∙ map-append (λ (x : Submission). x.order) (given (all_gave xs)) (given (all_gave ys))));
 }
 
--- a turn, and what was expanded after it
-pub goes_a_turn : (a b : Pair) (between : LoneRelay) (r : Round) → TakesTurn a.service r b.service → IsSound r → between.table ≡ a.relay.table
-    → Chain IsGiven a.relay.orders r.gave between.orders → Puts a.relay.events r.puts between.events → Expands between b.relay
-    → AreBehind b.relay.events b.relay.orders → Goes a (r ∷ []) b
-goes_a_turn a b between r turn sound table gave puts expands behind = record {
+-- turns, and what was expanded after them
+pub goes_turns : (a b : Pair) (between : LoneRelay) (rounds : List Round) → TakesTurns a.service rounds b.service → All IsSound rounds → between.table ≡ a.relay.table
+    → Chain IsGiven a.relay.orders (all_gave rounds) between.orders → Puts a.relay.events (all_puts rounds) between.events → Expands between b.relay
+    → AreBehind b.relay.events b.relay.orders → Goes a rounds b
+goes_turns a b between rounds turns sound table gave puts expands behind = record {
   expanded = expands.expanded;
   asked_for = expands.asked_for;
-  turns = (b.service, turn, refl);
-  sound = All-push IsSound [] r (All-nil IsSound) sound;
-  events = ap (λ (ps : List (Event × Bool)). a.relay.events ++ accepted ps) (append-nil r.puts) ∙ (sym (put_behind a.relay.events r.puts between.events puts) ∙ expands.in_order);
+  turns = turns;
+  sound = sound;
+  events = sym (put_behind a.relay.events (all_puts rounds) between.events puts) ∙ expands.in_order;
   behind = behind;
   peers = expands.peers ∙ ap (λ (ps : List PeerRef). noted_all ps expands.expanded) table;
   for_each = subst (λ (ps : List PeerRef). SameForEach expands.asked_for (relayed_all ps expands.expanded)) table expands.for_each;
-  orders_done = ap (λ (os : List Order). os ++ expands.asked_for) (given_front a.relay.orders r.gave between.orders gave)
-      ∙ (append_assoc (orders (given r.gave)) between.orders expands.asked_for
-      ∙ (ap (λ (os : List Order). orders (given r.gave) ++ os) (sym expands.orders)
-      ∙ ap (λ (xs : List (Option Submission)). orders (given xs) ++ b.relay.orders) (sym (append-nil r.gave))));
+  orders_done = ap (λ (os : List Order). os ++ expands.asked_for) (given_front a.relay.orders (all_gave rounds) between.orders gave)
+      ∙ (append_assoc (orders (given (all_gave rounds))) between.orders expands.asked_for
+      ∙ ap (λ (os : List Order). orders (given (all_gave rounds)) ++ os) (sym expands.orders));
 }
 
 -- what the relay began with was kept by the server, and what it leaves is

@@ -11,6 +11,7 @@ use Rattle.enet_submit.specs.declared.order.Order.{Order}
 use Rattle.enet_host.specs.Host.{Host}
 use Rattle.enet_host.specs.Opening.{opened}
 use Rattle.enet_bridge.specs.Ends.{orders}
+use Rattle.enet_bridge.specs.Socket.{failures_of}
 use Rattle.enet_service.specs.declared.report.Report.{Report}
 use Rattle.enet_service.specs.Queues.{given, accepted}
 use Rattle.enet_service.specs.Turn.{Round}
@@ -24,6 +25,10 @@ use Rattle.enet_serve.specs.declared.server.Settings.{Settings}
 -- ---- what a server is between two runs
 abbrev pub host_of : ChatServer → Host
 host_of server = server.bound.service.host
+
+-- how often its socket has failed
+abbrev pub faults_of : ChatServer → ℕ
+faults_of server = failures_of server.bound.wire
 
 -- the event that waits for room in the queue, if there is one
 abbrev pub waiting_of : ChatServer → Option Event
@@ -47,10 +52,11 @@ orders_of server = server.kept.orders.items
 abbrev pub is_in_range : Settings → Bool
 is_in_range settings = configs.is_in_range (standard_config settings.peers settings.channels)
 
--- a fresh host of these settings, and nothing that waits
+-- a fresh host of these settings, a socket that hasn't failed, and nothing that waits
 pub record IsOpened (settings : Settings) (server : ChatServer) : Type 0 where
   pub host : host_of server ≡ opened (standard_config settings.peers settings.channels)
   pub waiting : waiting_of server ≡ None
+  pub faults : faults_of server ≡ 0
   pub queue_capacity : queue_capacity_of server ≡ settings.queue_capacity
   pub peers : peers_of server ≡ []
   pub backlog : backlog_of server ≡ []

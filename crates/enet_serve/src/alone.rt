@@ -1,119 +1,175 @@
 //! A run whose relay shares its service's thread.
-ghost use Rattle.std.specs.Prelude.{◌≡◌, ◌≤◌, ◌⊎◌, List, length, IfOk, IfErr};
-ghost use Rattle.enet_chat.specs.Relaying.{AreBehind};
-ghost use Rattle.enet_service.specs.Turn.{Round};
-ghost use Rattle.enet_service.specs.Run.{total};
-ghost use Rattle.enet_service.specs.ServiceRuns.{Lasts};
-ghost use Rattle.enet_serve.specs.Private.Alone.{Goes, pair};
 
 use enet_chat::{Gauge, LoneRelay};
 use enet_codec::Refusal;
-use enet_service::{Bell, BoundService, Report, RunLength, Watch, is_over};
+use enet_service::{Bell, BoundService, Fault, MioWire, Report, RunLength, Watch, is_over, run};
+use std::alloc::Global;
 use std::rt::Clock;
-use std::sync::Wait;
+use std::sync::{Arc, Wait};
 use std::time::{Duration, Instant};
 
 /// Between two looks at the clock so many turns are taken.
 const TURNS_AT_ONCE: u64 = 64;
 
-/// Takes the turns of a run, and expands after each of them what it told. `gauge` shows how far it has come, and `watch` is told of the
-/// turns.
-///
-/// E14 where the wire fails, E1 for want of memory.
-pub(crate) fn run_alone<R: Wait + Clock, W: Watch>(
-    rt: &R,
-    bound: &mut BoundService,
-    relay: &mut LoneRelay,
-    bell: &Bell,
-    run_length: RunLength,
-    gauge: &Gauge,
-    watch: &mut W,
-) -> Result<Report, Refusal>
-    requires { AreBehind relay.old.events relay.old.orders }
-    ensures goes { IfOk result (λ report. (rounds : List Round) × Lasts run_length rounds × (report ≡ total rounds)
-        × Goes (pair bound.old.service relay.old) rounds (pair bound.new.service relay.new)) }
-    ensures why { IfErr result (λ why. (why ≡ Refusal.WireFault) ⊎ (why ≡ Refusal.Memory)) }
-{
-    match run_length {
-        RunLength::Turns(turns) => run_for_turns(rt, bound, relay, bell, turns, gauge, watch),
-        RunLength::Time(time) => run_for_time(rt, bound, relay, bell, time, gauge, watch),
-    }
+/// The relay of a run in one thread, with what shows how far it has come, and what keeps the service awake while orders wait.
+#[derive(Drop)]
+pub(crate) struct Alone<'a> {
+    pub(crate) relay: LoneRelay,
+    pub(crate) bell: Arc<Bell, Global>,
+    pub(crate) gauge: &'a Gauge,
 }
 
-// Takes turns until so much time has passed, or much was done.
-fn run_for_time<R: Wait + Clock, W: Watch>(
-    rt: &R,
-    bound: &mut BoundService,
-    relay: &mut LoneRelay,
-    bell: &Bell,
-    time: Duration,
-    gauge: &Gauge,
-    watch: &mut W,
-) -> Result<Report, Refusal>
-    requires { AreBehind relay.old.events relay.old.orders }
-    ensures goes { IfOk result (λ report. (rounds : List Round) × (1 ≤ length rounds) × (report ≡ total rounds)
-        × Goes (pair bound.old.service relay.old) rounds (pair bound.new.service relay.new)) }
-    ensures why { IfErr result (λ why. (why ≡ Refusal.WireFault) ⊎ (why ≡ Refusal.Memory)) }
-{
-    let start = Instant::now(rt);
-    let mut total = Report::nothing();
-    for _ in rt.forever() {
-        let report = run_for_turns(rt, bound, relay, bell, TURNS_AT_ONCE, gauge, watch)?;
-        total = total.and(report);
-        if is_over(rt, total, &start, time) {
-            return Ok(total);
+impl Alone<'_> {
+    ghost use Rattle.std.specs.Prelude.{◌≡◌, ◌≢◌, ◌+◌, ◌⊎◌, List, length, OnOk, IfOk, IfErr};
+    ghost use Rattle.enet_bridge.specs.Socket.{failures_of};
+    ghost use Rattle.enet_chat.specs.Relaying.{AreBehind};
+    ghost use Rattle.enet_service.specs.Turn.{Round};
+    ghost use Rattle.enet_service.specs.Run.{total};
+    ghost use Rattle.enet_service.specs.ServiceRuns.{Lasts, LastsForTime};
+    ghost use Rattle.enet_serve.specs.Private.Alone.{Goes, pair};
+
+    /// Takes the turns of a run, and expands after each of them what it told. `watch` is told of the turns.
+    ///
+    /// E14 where the wire fails, E1 for want of memory.
+    pub(crate) fn run<R: Wait + Clock, W: Watch>(
+        &mut self,
+        rt: &R,
+        bound: &mut BoundService<MioWire>,
+        run_length: RunLength,
+        watch: &mut W,
+    ) -> Result<Report, Refusal>
+        requires { AreBehind self.old.relay.events self.old.relay.orders }
+        ensures goes { IfOk result (λ report. (rounds : List Round) × Lasts run_length rounds × (report ≡ total rounds)
+            × Goes (pair bound.old.service self.old.relay) rounds (pair bound.new.service self.new.relay)) }
+        ensures why { IfErr result (λ why. (why ≡ Refusal.WireFault) ⊎ (why ≡ Refusal.Memory)) }
+        ensures sound { OnOk result (failures_of bound.new.wire ≡ failures_of bound.old.wire) }
+        ensures failed { IfErr result (λ why. why ≡ Refusal.WireFault → failures_of bound.new.wire ≡ failures_of bound.old.wire + 1) }
+        ensures other { IfErr result (λ why. why ≢ Refusal.WireFault → failures_of bound.new.wire ≡ failures_of bound.old.wire) }
+    {
+        match run_length {
+            RunLength::Turns(turns) => self.run_for_turns(rt, bound, turns, watch),
+            RunLength::Time(time) => self.run_for_time(rt, bound, time, watch),
         }
     }
-    unreachable!()
-}
 
-// Takes so many turns, and shows them; where they fail, without their sums.
-fn run_for_turns<R: Wait + Clock, W: Watch>(
-    rt: &R,
-    bound: &mut BoundService,
-    relay: &mut LoneRelay,
-    bell: &Bell,
-    turns: u64,
-    gauge: &Gauge,
-    watch: &mut W,
-) -> Result<Report, Refusal>
-    requires { AreBehind relay.old.events relay.old.orders }
-    ensures goes { IfOk result (λ report. (rounds : List Round) × (length rounds ≡ turns) × (report ≡ total rounds)
-        × Goes (pair bound.old.service relay.old) rounds (pair bound.new.service relay.new)) }
-    ensures why { IfErr result (λ why. (why ≡ Refusal.WireFault) ⊎ (why ≡ Refusal.Memory)) }
-{
-    let ran = turn_by_turn(rt, bound, relay, bell, turns, gauge);
-    bound.show(ran.unwrap_or(Report::nothing()), watch);
-    ran
-}
+    // Takes turns until so much time has passed, or much was done.
+    fn run_for_time<R: Wait + Clock, W: Watch>(
+        &mut self,
+        rt: &R,
+        bound: &mut BoundService<MioWire>,
+        time: Duration,
+        watch: &mut W,
+    ) -> Result<Report, Refusal>
+        requires { AreBehind self.old.relay.events self.old.relay.orders }
+        ensures goes { IfOk result (λ report. (rounds : List Round) × LastsForTime rounds × (report ≡ total rounds)
+            × Goes (pair bound.old.service self.old.relay) rounds (pair bound.new.service self.new.relay)) }
+        ensures why { IfErr result (λ why. (why ≡ Refusal.WireFault) ⊎ (why ≡ Refusal.Memory)) }
+        ensures sound { OnOk result (failures_of bound.new.wire ≡ failures_of bound.old.wire) }
+        ensures failed { IfErr result (λ why. why ≡ Refusal.WireFault → failures_of bound.new.wire ≡ failures_of bound.old.wire + 1) }
+        ensures other { IfErr result (λ why. why ≢ Refusal.WireFault → failures_of bound.new.wire ≡ failures_of bound.old.wire) }
+    {
+        let start = Instant::now(rt);
+        let mut total = Report::nothing();
+        for _ in rt.forever() {
+            let report = self.run_for_turns(rt, bound, TURNS_AT_ONCE, watch)?;
+            total = total.and(report);
+            if is_over(rt, total, &start, time) {
+                return Ok(total);
+            }
+        }
+        unreachable!()
+    }
 
-// Takes so many turns, and expands after each of them what it told. While orders wait the service doesn't sleep. An event that the list
-// refused ends the run: while it waited no order would be taken, and so, with many orders, no event expanded that makes room for it.
-fn turn_by_turn<R: Wait + Clock>(
-    rt: &R,
-    bound: &mut BoundService,
-    relay: &mut LoneRelay,
-    bell: &Bell,
-    turns: u64,
-    gauge: &Gauge,
-) -> Result<Report, Refusal>
-    requires { AreBehind relay.old.events relay.old.orders }
-    ensures goes { IfOk result (λ report. (rounds : List Round) × (length rounds ≡ turns) × (report ≡ total rounds)
-        × Goes (pair bound.old.service relay.old) rounds (pair bound.new.service relay.new)) }
-    ensures why { IfErr result (λ why. (why ≡ Refusal.WireFault) ⊎ (why ≡ Refusal.Memory)) }
-{
-    let mut total = Report::nothing();
-    for _turn in 0..turns {
+    // Takes so many turns, and shows them.
+    fn run_for_turns<R: Wait + Clock, W: Watch>(
+        &mut self,
+        rt: &R,
+        bound: &mut BoundService<MioWire>,
+        turns: u64,
+        watch: &mut W,
+    ) -> Result<Report, Refusal>
+        requires { AreBehind self.old.relay.events self.old.relay.orders }
+        ensures goes { IfOk result (λ report. (rounds : List Round) × (length rounds ≡ turns) × (report ≡ total rounds)
+            × Goes (pair bound.old.service self.old.relay) rounds (pair bound.new.service self.new.relay)) }
+        ensures why { IfErr result (λ why. (why ≡ Refusal.WireFault) ⊎ (why ≡ Refusal.Memory)) }
+        ensures sound { OnOk result (failures_of bound.new.wire ≡ failures_of bound.old.wire) }
+        ensures failed { IfErr result (λ why. why ≡ Refusal.WireFault → failures_of bound.new.wire ≡ failures_of bound.old.wire + 1) }
+        ensures other { IfErr result (λ why. why ≢ Refusal.WireFault → failures_of bound.new.wire ≡ failures_of bound.old.wire) }
+    {
+        match self.turn_by_turn(rt, bound, turns) {
+            Ok(report) => {
+                bound.show(report, watch);
+                Ok(report)
+            }
+            Err(fault) => {
+                bound.show(fault.report, watch);
+                Err(fault.why)
+            }
+        }
+    }
+
+    // Takes so many turns, and expands after each of them what it told. Where they fail, the report has all that was done.
+    fn turn_by_turn<R: Wait + Clock>(
+        &mut self,
+        rt: &R,
+        bound: &mut BoundService<MioWire>,
+        turns: u64,
+    ) -> Result<Report, Fault>
+        requires { AreBehind self.old.relay.events self.old.relay.orders }
+        ensures goes { IfOk result (λ report. (rounds : List Round) × (length rounds ≡ turns) × (report ≡ total rounds)
+            × Goes (pair bound.old.service self.old.relay) rounds (pair bound.new.service self.new.relay)) }
+        ensures why { IfErr result (λ fault. (fault.why ≡ Refusal.WireFault) ⊎ (fault.why ≡ Refusal.Memory)) }
+        ensures sound { OnOk result (failures_of bound.new.wire ≡ failures_of bound.old.wire) }
+        ensures failed { IfErr result (λ fault. fault.why ≡ Refusal.WireFault → failures_of bound.new.wire ≡ failures_of bound.old.wire + 1) }
+        ensures other { IfErr result (λ fault. fault.why ≢ Refusal.WireFault → failures_of bound.new.wire ≡ failures_of bound.old.wire) }
+    {
+        let mut total = Report::nothing();
+        for _turn in 0..turns {
+            match self.take_turn(rt, bound) {
+                Ok(report) => total = total.and(report),
+                Err(Fault { why, report }) => {
+                    return Err(Fault {
+                        why,
+                        report: total.and(report),
+                    });
+                }
+            }
+        }
+        Ok(total)
+    }
+
+    // Takes a turn, and expands what it told. While orders wait the service doesn't sleep. An event that the list refused ends the run:
+    // while it waited no order would be taken, and so, with many orders, no event expanded that makes room for it.
+    fn take_turn<R: Wait + Clock>(
+        &mut self,
+        rt: &R,
+        bound: &mut BoundService<MioWire>,
+    ) -> Result<Report, Fault>
+        ensures goes { IfOk result (λ report. (rounds : List Round) × (length rounds ≡ 1) × (report ≡ total rounds)
+            × Goes (pair bound.old.service self.old.relay) rounds (pair bound.new.service self.new.relay)) }
+        ensures why { IfErr result (λ fault. (fault.why ≡ Refusal.WireFault) ⊎ (fault.why ≡ Refusal.Memory)) }
+        ensures sound { OnOk result (failures_of bound.new.wire ≡ failures_of bound.old.wire) }
+        ensures failed { IfErr result (λ fault. fault.why ≡ Refusal.WireFault → failures_of bound.new.wire ≡ failures_of bound.old.wire + 1) }
+        ensures other { IfErr result (λ fault. fault.why ≢ Refusal.WireFault → failures_of bound.new.wire ≡ failures_of bound.old.wire) }
+    {
+        let Alone { relay, bell, gauge } = self;
         if !relay.orders.is_empty() {
             bell.ring();
         }
-        let report = bound.take_turn(rt, &mut relay.orders, &mut relay.events)?;
-        if bound.service.waiting.is_some() {
-            return Err(Refusal::Memory);
+        let BoundService { wire, service } = bound;
+        let report = run(rt, service, wire, &mut relay.orders, &mut relay.events, 1)?;
+        if service.waiting.is_some() {
+            return Err(Fault {
+                why: Refusal::Memory,
+                report,
+            });
         }
-        relay.expand()?;
-        relay.show(gauge);
-        total = total.and(report);
+        match relay.expand() {
+            Ok(()) => {
+                relay.show(gauge);
+                Ok(report)
+            }
+            Err(why) => Err(Fault { why, report }),
+        }
     }
-    Ok(total)
 }

@@ -89,7 +89,7 @@ where
 // A client between these queues.
 fn run_client<R: Threads + Wait + Clock + Sync>(
     rt: &R,
-    bound: &mut BoundService,
+    bound: &mut BoundService<MioWire>,
     shared: Shared<'_>,
     ends: Ends,
     part: Part,

@@ -1,7 +1,7 @@
 //! How the clients of a server are told that it ends.
 
 use enet_codec::DisconnectMode;
-use enet_service::{BoundService, Fault, MemorySink, MemorySource, run};
+use enet_service::{BoundService, Fault, MemorySink, MemorySource, MioWire, run};
 use std::alloc::Global;
 use std::collections::VecDeque;
 use std::io;
@@ -17,7 +17,11 @@ const MOST_EVENTS: usize = 1_024;
 
 /// Ends each connection behind all that was sent over it, and takes turns until all have ended, for a second at most. Who isn't gone by
 /// then is sent one DISCONNECT that wants no answer. Where the wire fails it ends.
-pub(crate) fn take_leave<R: Wait + Clock>(rt: &R, alloc: Global, bound: &mut BoundService) {
+pub(crate) fn take_leave<R: Wait + Clock>(
+    rt: &R,
+    alloc: Global,
+    bound: &mut BoundService<MioWire>,
+) {
     if see_off(rt, alloc, bound).is_err() || bound.service.host.is_alone() {
         return;
     }
@@ -26,7 +30,11 @@ pub(crate) fn take_leave<R: Wait + Clock>(rt: &R, alloc: Global, bound: &mut Bou
 }
 
 // Takes turns until no peer is left, or the moment is over. Who connects meanwhile is asked to go, too.
-fn see_off<R: Wait + Clock>(rt: &R, alloc: Global, bound: &mut BoundService) -> Result<(), Fault> {
+fn see_off<R: Wait + Clock>(
+    rt: &R,
+    alloc: Global,
+    bound: &mut BoundService<MioWire>,
+) -> Result<(), Fault> {
     let start = Instant::now(rt);
     for _ in rt.forever() {
         bound.service.host.part_from_all(DisconnectMode::Later);
@@ -53,7 +61,7 @@ fn is_over<R: Clock>(rt: &R, start: &io::Result<Instant>) -> bool {
 fn take_turn<R: Wait + Clock>(
     rt: &R,
     alloc: Global,
-    bound: &mut BoundService,
+    bound: &mut BoundService<MioWire>,
 ) -> Result<(), Fault> {
     let mut source = MemorySource::new(VecDeque::new(alloc));
     let mut sink = MemorySink::new(alloc, MOST_EVENTS);

@@ -4,7 +4,7 @@ ghost use Rattle.enet_chat.specs.Relaying.{Relays, IsThrough};
 ghost use Rattle.enet_service.specs.ServiceRuns.{CanSettle, IsNotSettled};
 ghost use Rattle.enet_serve.specs.Private.Threads.{IsLeft, returned};
 
-use crate::alone::run_alone;
+use crate::alone::Alone;
 use crate::leaving::take_leave;
 use crate::threads::{Carryover, begin_alone, begin_relay, end_alone, relay_on};
 use enet_chat::{Gauge, RelayParts};
@@ -40,14 +40,14 @@ pub struct Settings {
 pub struct ChatServer {
     alloc: Global,
     queue_capacity: u32,
-    bound: BoundService,
+    bound: BoundService<MioWire>,
     kept: Carryover,
 }
 
 impl ChatServer {
-    ghost use Rattle.std.specs.Prelude.{◌≡◌, ◌⊎◌, true, false, None, IfOk, IfErr, Err};
-    ghost use Rattle.enet_service.specs.ServiceRuns.{AreNew};
-    ghost use Rattle.enet_serve.specs.Serving.{Serves, EndsRun, IsNotServed, IsOpened, is_in_range, host_of};
+    ghost use Rattle.std.specs.Prelude.{◌≡◌, ◌≢◌, ◌+◌, ◌⊎◌, ◌↔◌, IsSome, true, false, None, OnOk, IfOk, IfErr, Err};
+    ghost use Rattle.enet_service.specs.ServiceRuns.{AreNew, IsCapacity};
+    ghost use Rattle.enet_serve.specs.Serving.{Serves, EndsRun, IsNotServed, IsOpened, is_in_range, host_of, faults_of, peers_of, backlog_of, orders_of, queue_capacity_of};
 
     /// A server at this address, with no peer.
     ///
@@ -56,6 +56,7 @@ impl ChatServer {
     pub fn open<R: Net + AllocGlobal>(rt: &R, settings: Settings) -> Result<ChatServer, Unopened>
         ensures out_of_range { is_in_range settings ≡ false → result ≡ Err (record { why = Refusal.BadConfig; reason = None }) }
         ensures in_range { is_in_range settings ≡ true → IfErr result (λ unopened. (unopened.why ≡ Refusal.WireFault) ⊎ (unopened.why ≡ Refusal.Memory)) }
+        ensures said { IfErr result (λ unopened. (unopened.why ≡ Refusal.WireFault) ↔ IsSome unopened.reason) }
         ensures opened { IfOk result (IsOpened settings) }
     {
         let alloc = rt.alloc();
@@ -82,8 +83,8 @@ impl ChatServer {
     ///
     /// E14 where the wire fails, E1 for want of memory, E8 where the queues' places are out of range, E10 where a run is so long
     /// that the seat has submitted as many orders as it may, E16 where the threads ended and a queue isn't empty. By E1 and E10 the relay
-    /// ends, and a run for a time soon after it. Whatever is refused, nothing is promised of the server then, but that it can take leave
-    /// and be closed.
+    /// ends, and a run for a time soon after it. Whatever is refused, nothing is promised of the server then but how often its socket has
+    /// failed, and that it can take leave and be closed.
     pub fn serve<R, W>(
         &mut self,
         rt: &R,
@@ -96,6 +97,10 @@ impl ChatServer {
         W: Watch + Send,
         ensures serves { IfOk result (Serves self.old run_length self.new) }
         ensures refused { IfErr result (IsNotServed self.old) }
+        ensures range { OnOk result (IsCapacity (queue_capacity_of self.old)) }
+        ensures sound { OnOk result (faults_of self.new ≡ faults_of self.old) }
+        ensures failed { IfErr result (λ why. why ≡ Refusal.WireFault → faults_of self.new ≡ faults_of self.old + 1) }
+        ensures other { IfErr result (λ why. why ≢ Refusal.WireFault → faults_of self.new ≡ faults_of self.old) }
     {
         let bell = self.bound.wire.bell()?;
         let Queues {
@@ -117,7 +122,7 @@ impl ChatServer {
     /// less time and there is no use of a second processor.
     ///
     /// E14 where the wire fails, E1 for want of memory, where an event found none, too. Whatever is refused, nothing is promised of the
-    /// server then, but that it can take leave and be closed.
+    /// server then but how often its socket has failed, and that it can take leave and be closed.
     pub fn serve_alone<R, W>(
         &mut self,
         rt: &R,
@@ -130,21 +135,20 @@ impl ChatServer {
         W: Watch,
         ensures serves { IfOk result (Serves self.old run_length self.new) }
         ensures refused { IfErr result (λ why. (why ≡ Refusal.WireFault) ⊎ (why ≡ Refusal.Memory)) }
+        ensures sound { OnOk result (faults_of self.new ≡ faults_of self.old) }
+        ensures failed { IfErr result (λ why. why ≡ Refusal.WireFault → faults_of self.new ≡ faults_of self.old + 1) }
+        ensures other { IfErr result (λ why. why ≢ Refusal.WireFault → faults_of self.new ≡ faults_of self.old) }
     {
         let bell = self.bound.wire.bell()?;
         let kept = mem::replace(&mut self.kept, Carryover::new(self.alloc));
-        let mut relay = begin_alone(self.alloc, kept, gauge);
-        relay.expand()?;
-        let report = run_alone(
-            rt,
-            &mut self.bound,
-            &mut relay,
-            &bell,
-            run_length,
+        let mut alone = Alone {
+            relay: begin_alone(self.alloc, kept, gauge),
+            bell,
             gauge,
-            watch,
-        )?;
-        self.kept = end_alone(relay);
+        };
+        alone.relay.expand()?;
+        let report = alone.run(rt, &mut self.bound, run_length, watch)?;
+        self.kept = end_alone(alone.relay);
         Ok(report)
     }
 
@@ -161,6 +165,9 @@ impl ChatServer {
         requires { AreNew shared.queue.now shared.events.now ends }
         ensures serves { IfOk result (Serves self.old run_length self.new) }
         ensures refused { IfErr result EndsRun }
+        ensures sound { OnOk result (faults_of self.new ≡ faults_of self.old) }
+        ensures failed { IfErr result (λ why. why ≡ Refusal.WireFault → faults_of self.new ≡ faults_of self.old + 1) }
+        ensures other { IfErr result (λ why. why ≢ Refusal.WireFault → faults_of self.new ≡ faults_of self.old) }
     {
         let Shared {
             queue,
@@ -220,8 +227,13 @@ impl ChatServer {
     }
 
     /// Tells each client that the server ends, behind all that was sent to it, and gives them a second to acknowledge it. Where the
-    /// wire fails nobody is told.
-    pub fn take_leave<R: Wait + Clock>(&mut self, rt: &R) {
+    /// wire fails nobody is told. The relay isn't told of these ends, and keeps its peers, its events and its orders: nothing is served after
+    /// it.
+    pub fn take_leave<R: Wait + Clock>(&mut self, rt: &R)
+        ensures peers { peers_of self.new ≡ peers_of self.old }
+        ensures kept { (backlog_of self.new ≡ backlog_of self.old) × (orders_of self.new ≡ orders_of self.old) }
+        ensures queues { queue_capacity_of self.new ≡ queue_capacity_of self.old }
+    {
         take_leave(rt, self.alloc, &mut self.bound);
     }
 

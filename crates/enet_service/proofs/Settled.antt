@@ -93,3 +93,7 @@ taken_is_sent q d f fs is one back all held =
     let others : (seat : ℕ) → 1 ≤ seat → of seat (taken d) ≡ [] =
     λ seat least. subst (λ (xs : List Submission). of seat xs ≡ []) empty (held.2.of_these_seats seat (omega (arith, one, least))) in
     sym (of_one_seat (taken d) others) ∙ (ap (λ (k : ℕ). of k (taken d)) (sym zeroth) ∙ sent_all)
+
+-- where the queue isn't settled, its only seat isn't back
+pub not_back_of : (q : SubmitQueue) (d : Drain) (f : Finished) (fs : List Finished) → fs ≡ f ∷ [] → (AllBack q d fs → false ≡ true) → AllBack q d (f ∷ []) → ⊥
+not_back_of q d f fs is none back = let e : false ≡ true = none (subst (AllBack q d) (sym is) back) in absurd cc

@@ -1,5 +1,5 @@
 -- Turns in which the wire did not fail, one run of them after another.
-use Rattle.std.proofs.Common.{◌≡◌, ◌⊎◌, inl, inr, ℕ, ◌+◌, Bool, List, [], ◌++◌, Option, refl, sym, ap, ◌∙◌, append_assoc, arith}
+use Rattle.std.proofs.Common.{◌≡◌, ◌⊎◌, inl, inr, ℕ, ◌+◌, Bool, List, [], ◌∷◌, ◌++◌, Option, refl, sym, ap, ◌∙◌, append_assoc, arith}
 use Rattle.std.specs.Prelude.{map}
 use Rattle.std.specs.List.{sum_by}
 use Rattle.std.proofs.lemmas.List.{append-nil, map-append}
@@ -11,13 +11,17 @@ use Rattle.enet_submit.specs.declared.order.Submission.{Submission}
 use Rattle.enet_submit.specs.Words.{taken}
 use Rattle.enet_events.specs.declared.numbered.Numbered.{Numbered}
 use Rattle.enet_codec.specs.declared.refusal.Refusal.TheVariants.{WireFault}
+use Rattle.enet_bridge.specs.declared.told.Told.{Told}
+use Rattle.enet_bridge.specs.declared.told.Told.TheVariants.{Waited}
+use Rattle.enet_bridge.specs.Wires.{also, unless_spent}
 use Rattle.enet_service.specs.declared.report.Fault.{Fault}
 use Rattle.enet_service.specs.declared.report.Report.{Report}
 use Rattle.enet_service.specs.Counts.{stopped}
 use Rattle.enet_service.specs.Queues.{given, accepted}
 use Rattle.enet_service.specs.Turn.{Round}
-use Rattle.enet_service.specs.Run.{IsSound, EndsInTurn, EndsInWait, all_gave, all_puts, total}
+use Rattle.enet_service.specs.Run.{IsSound, EndsInTurn, EndsInWait, all_gave, all_told, all_puts, total}
 use Rattle.enet_service.proofs.PhaseSteps.{chain_more}
+use Rattle.enet_service.proofs.Tellings.{told_on, also_nothing}
 use Rattle.enet_service.proofs.Reporting.{same_report}
 use Rattle.enet_service.specs.ServiceRuns.{Standing, Spell}
 
@@ -60,6 +64,8 @@ no_turn s r e = record {
   totals = e;
   gave = sym (append-nil (taken s.drain));
   put = record { same = refl; grown = sym (append-nil _) };
+  told = also_nothing s.faults s.told;
+  faults = refl;
 }
 
 pub further : (a b c : Standing) (xs ys : List Round) (t u w : Report) → Spell a xs b t → Spell b ys c u
@@ -74,4 +80,7 @@ further a b c xs ys t u w one two sum = record {
     same = two.put.same ∙ one.put.same;
     grown = two.put.grown ∙ (ap (λ (zs : List Event). zs ++ accepted (all_puts ys)) one.put.grown ∙ (append_assoc (events a.poster.posted) (accepted (all_puts xs)) (accepted (all_puts ys)) ∙ ap (λ (zs : List Event). events a.poster.posted ++ zs) (sym (accepted_both xs ys))));
   };
+  told = told_on a.told b.told c.told a.faults b.faults (all_told xs) (all_told ys) one.told one.faults two.told
+      ∙ ap (λ (zs : List Told). also a.told (unless_spent a.faults zs)) (sym (flat_map-append (λ (r : Round). Waited r.ms ∷ r.told) xs ys));
+  faults = two.faults ∙ one.faults;
 }

@@ -1,23 +1,29 @@
 -- What a service's thread does in a run.
-use Rattle.std.specs.Prelude.{◌≡◌, ◌⊎◌, ℕ, ◌≤◌, List, [], ◌++◌, length, None}
+use Rattle.std.specs.Prelude.{◌≡◌, ◌⊎◌, ℕ, ◌*◌, ◌≤◌, ◌<◌, List, [], ◌∷◌, ◌++◌, Option, length, None}
 use Rattle.std.specs.List.{All}
 use Rattle.enet_codec.specs.declared.config.Config.{Config}
+use Rattle.enet_codec.specs.declared.event.DisconnectMode.{DisconnectMode}
+use Rattle.enet_codec.specs.declared.event.PeerRef.{PeerRef}
 use Rattle.enet_codec.specs.declared.refusal.Refusal.{Refusal}
 use Rattle.enet_codec.specs.declared.refusal.Refusal.TheVariants.{Memory, BadConfig, StillHeld}
+use Rattle.enet_submit.specs.declared.order.Order.TheVariants.{Disconnect}
 use Rattle.enet_submit.specs.declared.token.Drain.{Drain}
 use Rattle.enet_submit.specs.declared.queue.SubmitQueue.{SubmitQueue}
 use Rattle.enet_submit.specs.Words.{IsSeatOf, IsDrainOf, IsFinishedOf, seats_of, sent, taken}
 use Rattle.enet_events.specs.Words.{Queue, PosterState}
+use Rattle.enet_bridge.specs.Wires.{also, unless_spent}
+use Rattle.enet_bridge.specs.declared.told.Told.{Told}
 use Rattle.enet_bridge.specs.declared.source.QueueSource.{QueueSource}
 use Rattle.enet_bridge.specs.declared.sink.QueueSink.{QueueSink}
 use Rattle.enet_bridge.specs.Serving.{drain_of, poster_of}
 use Rattle.enet_host.specs.Host.{Host}
 use Rattle.enet_host.specs.Opening.{opened}
 use Rattle.enet_service.specs.declared.report.Report.{Report}
-use Rattle.enet_service.specs.Hosting.{host_calls}
+use Rattle.enet_service.specs.Hosting.{host_calls, Obeys}
+use Rattle.enet_service.specs.Phases.{Chain}
 use Rattle.enet_service.specs.Queues.{given, accepted, PostsOn}
-use Rattle.enet_service.specs.Turn.{Round, Turn}
-use Rattle.enet_service.specs.Run.{Rounds, IsSound, all_gave, all_puts, total}
+use Rattle.enet_service.specs.Turn.{Round}
+use Rattle.enet_service.specs.Run.{Rounds, IsSound, all_gave, all_told, all_puts, total}
 use Rattle.enet_service.specs.declared.queues.Ends.{Ends}
 use Rattle.enet_service.specs.declared.settling.Returned.{Returned}
 use Rattle.enet_service.specs.declared.run_length.RunLength.{RunLength}
@@ -49,41 +55,60 @@ pub record AreNew (queue : SubmitQueue) (events : Queue) (ends : Ends) : Type 0 
 abbrev pub beginning : Config → Service Host
 beginning config = record { host = opened config; waiting = None }
 
--- how many turns a run has: as many as it was told; where it was told a time, at least one
+-- so few orders were taken and events told that a run for a time may go on
+abbrev pub AreFew : Report → Type 0
+AreFew sums = (sums.orders < 2147483648) × (sums.events < 2147483648)
+
+-- the turns of a run for a time: 64 by 64, and no further 64 once there were many orders or events
+pub record LastsForTime (rounds : List Round) : Type 0 where
+  pub before : List Round
+  pub last : List Round
+  pub all : rounds ≡ before ++ last
+  pub times : ℕ
+  pub before_are : length before ≡ 64 * times
+  pub last_are : length last ≡ 64
+  pub few : AreFew (total before)
+
+-- how many turns a run has: as many as it was told, or those of a time
 abbrev pub Lasts : RunLength → List Round → Type 0
 Lasts (Turns n) rounds = length rounds ≡ n
-Lasts (Time length_of_time) rounds = 1 ≤ length rounds
-
--- a turn of a service over our host
-abbrev pub TakesTurn : Service Host → Round → Service Host → Type 0
-TakesTurn old round new = Turn host_calls old round new
+Lasts (Time length_of_time) rounds = LastsForTime rounds
 
 -- turns of a service over our host, one after another
 abbrev pub TakesTurns : Service Host → List Round → Service Host → Type 0
 TakesTurns old rounds new = Rounds host_calls old rounds new
 
--- a service, and its ends of the two queues
+-- a service, its ends of the two queues, what its wire told of its calls, and how often that failed
 pub record Standing : Type 0 where
   pub service : Service Host
   pub drain : Drain
   pub poster : PosterState
+  pub told : Option (List Told)
+  pub faults : ℕ
 
-abbrev pub standing : Service Host → QueueSource → QueueSink → Standing
-standing service source sink = record { service = service; drain = drain_of source; poster = poster_of sink }
+abbrev pub standing : Service Host → QueueSource → QueueSink → Option (List Told) → ℕ → Standing
+standing service source sink told faults = record { service = service; drain = drain_of source; poster = poster_of sink; told = told; faults = faults }
 
--- turns in which the wire did not fail, on what the drain took; what they put is what the poster posted
+-- turns in which the wire did not fail, on what the drain took and what the wire told, each by the milliseconds of a wait; what they put is
+-- what the poster posted
 pub record Spell (old : Standing) (rounds : List Round) (new : Standing) (report : Report) : Type 0 where
   pub turns : TakesTurns old.service rounds new.service
   pub sound : All IsSound rounds
   pub totals : report ≡ total rounds
   pub gave : taken new.drain ≡ taken old.drain ++ given (all_gave rounds)
   pub put : PostsOn old.poster (accepted (all_puts rounds)) new.poster
+  pub told : new.told ≡ also old.told (unless_spent old.faults (all_told rounds))
+  pub faults : new.faults ≡ old.faults
 
 -- the turns of a run
 pub record HasTurned (run_length : RunLength) (old new : Standing) (report : Report) : Type 0 where
   pub rounds : List Round
   pub lasts : Lasts run_length rounds
   pub spell : Spell old rounds new report
+
+-- these peers were told that their connection ends in this way, one after another, unless that was refused
+abbrev pub PartsFrom : DisconnectMode → Host → List PeerRef → Host → Type 0
+PartsFrom how old peers new = Chain (λ h peer g. (why : Option Refusal) × Obeys h (Disconnect peer how 0) why g) old peers new
 
 -- what the threads handed back belongs to the queues, which have one seat and one taker
 pub record CanSettle (queue : SubmitQueue) (events : Queue) (back : Returned) : Type 0 where

@@ -1,6 +1,6 @@
 //! The service: one thread owns a host and takes its turns; game threads reach it through two queues alone. It is used by [`Queues::open`],
 //! [`BoundService::open`] and [`beside_turns`], which runs the service beside a function of the user's; then by [`settle`]. Or one thread
-//! does all, by [`BoundService::take_turn`].
+//! does all, by [`run`], a turn at a time.
 //!
 //! Proved, for every host that says what its calls do ([`Core`]): a turn is the stated calls in the stated order ([`Service::turn`]), on
 //! what the source gave and the wire told; what was sent and put is what these calls answered; a refused order becomes one event; while an
@@ -8,18 +8,21 @@
 //! report counts that part. A run is its turns, each after a wait, up to the first fault, and its report their sums ([`run`]). A turn ends
 //! where the calls of source and sink return, since each event that a host tells leaves fewer. [`HostCore`] is such a host: each call of a
 //! turn is the call of the host with that meaning, by the host's own definitions. Between the two queues the orders of a run are each
-//! seat's next ones, once and in its order, and what was taken begins a history of the queue ([`run_between_queues`]). What
-//! [`beside_turns`] did (`HasTurned`) is turns of the service, as many as were asked for where a number was and at least one where a time
-//! was, in none of which the wire failed, and its report their sums; what the turns were given is what the drain took, and what they put is
-//! what the poster posted. Once settled, the only taker took all that was posted, and the orders that the drain didn't take are told in
-//! order. One turn of the calling thread ([`BoundService::take_turn`]) is a turn, too, on what its source gave. A host that notes who came
-//! and went ([`WatchedHost`]) is the host that it holds, in each of its calls.
+//! seat's next ones, once and in its order, and what was taken begins a history of the queue ([`run_between_queues`]). Two new queues have
+//! the places that were asked for, and a seat that may submit 4,294,967,295 orders ([`Queues::open`]). What [`beside_turns`] did
+//! (`HasTurned`) is turns of the service, as many as were asked for where a number was; where a time was, 64 at a time, and no more once
+//! 2,147,483,648 orders were taken or events told (`Lasts`). In none of them did the wire fail, and the report has their sums; what the
+//! turns were given is what the drain took and the wire told, each after a wait, and what they put is what the poster posted; E14 comes
+//! exactly where the wire failed. Once settled, the only taker took all that was posted, and the orders that the drain didn't take are told
+//! in order. A host that notes who came and went ([`WatchedHost`]) is the host that it holds, in each of its calls.
 //! Only tested, by `check_service`: turns and runs of a real host over memory, with each call of the wire failing and each send blocking in
 //! its turn; that a game thread submits and takes while the service is inside its wire; a connection's opening through a socket of
 //! 127.0.0.1. By scripts/check-rows.sh and scripts/check-clients.sh: that the queues settle (no E16), what is noted and shown to a
 //! [`Watch`], and that turns for a time end once the other thread has left. Neither: that a wait or a call of a queue returns, when the
-//! source is told to expect orders, that two threads ran, what a network gives, and when; that a turn of the calling thread goes by the
-//! milliseconds of its wait, and is answered E14 only where the wire failed.
+//! source is told to expect orders, that two threads ran, what a network gives, and when; that a run for a time lasts that time; when
+//! [`settle`] answers E16; what the host and the queues are after a [`beside_turns`] that ended with E14; which peers
+//! [`WatchedHost::part_from_all`] asks to go. That turns go by what their wire gave, and by the milliseconds of its waits, is said of each
+//! wire that tells its calls: a socket tells nothing, and is used by the same functions.
 #![tactic(auto)]
 
 mod between;

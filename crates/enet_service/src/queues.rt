@@ -26,13 +26,19 @@ pub struct Ends {
 }
 
 impl Queues {
-    ghost use Rattle.std.specs.Prelude.{IfOk, IfErr, OnOk};
+    ghost use Rattle.std.specs.Prelude.{◌≡◌, IfOk, IfErr, OnOk, Err};
+    ghost use Rattle.enet_submit.specs.Words.{capacity_of, limit_of};
     ghost use Rattle.enet_service.specs.ServiceRuns.{AreNew, IsCapacity, AreNotOpened};
 
-    /// Queues of so many places each, in which nothing was put. E8 where the places are out of 1 to 65,536, E1 for want of memory.
+    /// Queues of so many places each, in which nothing was put. The seat may submit 4,294,967,295 orders.
+    ///
+    /// E8 where the places are out of 1 to 65,536, E1 for want of memory.
     pub fn open(alloc: Global, capacity: u32) -> Result<Queues, Refusal>
         ensures new { IfOk result (λ queues. AreNew queues.orders queues.events queues.ends) }
+        ensures places { IfOk result (λ queues. (capacity_of queues.orders ≡ capacity) × (queues.events.capacity ≡ capacity)) }
+        ensures limit { IfOk result (λ queues. limit_of queues.orders ≡ 4294967295) }
         ensures range { OnOk result (IsCapacity capacity) }
+        ensures out_of_range { ¬ (IsCapacity capacity) → result ≡ Err Refusal.BadConfig }
         ensures refused { IfErr result (AreNotOpened capacity) }
     {
         let (orders, seats, drain) = SubmitQueue::open(alloc, capacity, 1, u32::MAX)?;

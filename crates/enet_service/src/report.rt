@@ -18,10 +18,10 @@ pub struct Report {
     pub events: u32,
 }
 
-/// The wire failed, after this work was done.
+/// Turns ended early, after this work was done.
 #[derive(Clone, Copy, Debug, PartialEq, Eq)]
 pub struct Fault {
-    /// E14.
+    /// Why. Of [`Service::turn`](crate::Service::turn) and [`run`](crate::run) it is E14.
     pub why: Refusal,
     pub report: Report,
 }

@@ -1,13 +1,14 @@
 //! How long a service takes turns.
-ghost use Rattle.std.specs.Prelude.{◌≡◌, ◌≤◌, List, length, IfOk, IfErr};
+ghost use Rattle.std.specs.Prelude.{◌≡◌, ◌+◌, true, false, List, length, IfOk, IfErr, is_err};
 ghost use Rattle.enet_service.specs.Turn.{Round as OneTurn};
 ghost use Rattle.enet_bridge.specs.Serving.{queue_of, poster_of};
-ghost use Rattle.enet_service.specs.ServiceRuns.{Lasts, Spell, standing};
+ghost use Rattle.enet_service.specs.Counts.{count_of};
+ghost use Rattle.enet_service.specs.ServiceRuns.{Lasts, LastsForTime, AreFew, Spell, standing};
 
 use crate::turning::Signals;
 use crate::watch::Watch;
 use crate::watched::WatchedHost;
-use crate::{MioWire, QueueSink, QueueSource, Report, Service, run_between_queues};
+use crate::{QueueSink, QueueSource, Report, Service, Wire, run_between_queues};
 use enet_codec::Refusal;
 use std::io;
 use std::rt::Clock;
@@ -31,10 +32,10 @@ pub enum RunLength {
 }
 
 /// The turns of a run, and the sums of their reports. E14 where the wire fails.
-pub(crate) fn take_turns<R: Wait + Clock, W: Watch>(
+pub(crate) fn take_turns<R: Wait + Clock, N: Wire, W: Watch>(
     rt: &R,
     service: &mut Service<WatchedHost>,
-    wire: &mut MioWire,
+    wire: &mut N,
     source: &mut QueueSource<'_>,
     sink: &mut QueueSink<'_>,
     run_length: RunLength,
@@ -44,8 +45,9 @@ pub(crate) fn take_turns<R: Wait + Clock, W: Watch>(
     ensures queue { queue_of source.new ≡ queue_of source.old }
     ensures poster { (poster_of sink.new).queue ≡ (poster_of sink.old).queue }
     ensures turns { IfOk result (λ report. (rounds : List OneTurn) × Lasts run_length rounds
-        × Spell (standing service.old source.old sink.old) rounds (standing service.new source.new sink.new) report) }
+        × Spell (standing service.old source.old sink.old (N.told wire.old) (N.faults wire.old)) rounds (standing service.new source.new sink.new (N.told wire.new) (N.faults wire.new)) report) }
     ensures fault { IfErr result (λ why. why ≡ Refusal.WireFault) }
+    ensures faults { N.faults wire.new ≡ N.faults wire.old + count_of (is_err result) }
 {
     match run_length {
         RunLength::Turns(turns) => turns_of(rt, service, wire, source, sink, turns, watch),
@@ -54,10 +56,10 @@ pub(crate) fn take_turns<R: Wait + Clock, W: Watch>(
 }
 
 // So many turns.
-fn turns_of<R: Wait + Clock, W: Watch>(
+fn turns_of<R: Wait + Clock, N: Wire, W: Watch>(
     rt: &R,
     service: &mut Service<WatchedHost>,
-    wire: &mut MioWire,
+    wire: &mut N,
     source: &mut QueueSource<'_>,
     sink: &mut QueueSink<'_>,
     turns: u64,
@@ -66,8 +68,9 @@ fn turns_of<R: Wait + Clock, W: Watch>(
     ensures queue { queue_of source.new ≡ queue_of source.old }
     ensures poster { (poster_of sink.new).queue ≡ (poster_of sink.old).queue }
     ensures turns { IfOk result (λ report. (rounds : List OneTurn) × (length rounds ≡ turns)
-        × Spell (standing service.old source.old sink.old) rounds (standing service.new source.new sink.new) report) }
+        × Spell (standing service.old source.old sink.old (N.told wire.old) (N.faults wire.old)) rounds (standing service.new source.new sink.new (N.told wire.new) (N.faults wire.new)) report) }
     ensures fault { IfErr result (λ why. why ≡ Refusal.WireFault) }
+    ensures faults { N.faults wire.new ≡ N.faults wire.old + count_of (is_err result) }
 {
     match run_between_queues(rt, service, wire, source, sink, turns) {
         Ok(report) => {
@@ -90,10 +93,10 @@ pub(crate) fn show<W: Watch>(host: &mut WatchedHost, report: Report, watch: &mut
 }
 
 // Turns until so much time has passed, the other thread has left, or much was done.
-fn turns_for<R: Wait + Clock, W: Watch>(
+fn turns_for<R: Wait + Clock, N: Wire, W: Watch>(
     rt: &R,
     service: &mut Service<WatchedHost>,
-    wire: &mut MioWire,
+    wire: &mut N,
     source: &mut QueueSource<'_>,
     sink: &mut QueueSink<'_>,
     time: Duration,
@@ -102,9 +105,10 @@ fn turns_for<R: Wait + Clock, W: Watch>(
 ) -> Result<Report, Refusal>
     ensures queue { queue_of source.new ≡ queue_of source.old }
     ensures poster { (poster_of sink.new).queue ≡ (poster_of sink.old).queue }
-    ensures turns { IfOk result (λ report. (rounds : List OneTurn) × (1 ≤ length rounds)
-        × Spell (standing service.old source.old sink.old) rounds (standing service.new source.new sink.new) report) }
+    ensures turns { IfOk result (λ report. (rounds : List OneTurn) × LastsForTime rounds
+        × Spell (standing service.old source.old sink.old (N.told wire.old) (N.faults wire.old)) rounds (standing service.new source.new sink.new (N.told wire.new) (N.faults wire.new)) report) }
     ensures fault { IfErr result (λ why. why ≡ Refusal.WireFault) }
+    ensures faults { N.faults wire.new ≡ N.faults wire.old + count_of (is_err result) }
 {
     let start = Instant::now(rt);
     let mut total = Report::nothing();
@@ -120,16 +124,16 @@ fn turns_for<R: Wait + Clock, W: Watch>(
 
 /// Whether a run for this time that began at `start`, with these sums so far, is over: 2,147,483,648 orders were taken or events told, or the
 /// time has passed. Where the clock can't be read, no time passes.
-pub fn is_over<R: Clock>(
-    rt: &R,
-    total: Report,
-    start: &io::Result<Instant>,
-    time: Duration,
-) -> bool {
+pub fn is_over<R: Clock>(rt: &R, total: Report, start: &io::Result<Instant>, time: Duration) -> bool
+    ensures few { result ≡ false → AreFew total }
+    ensures no_clock { IfErr start.now (λ e. AreFew total → result ≡ false) }
+{
     total.orders >= MANY || total.events >= MANY || has_passed(rt, start, time)
 }
 
-fn has_passed<R: Clock>(rt: &R, start: &io::Result<Instant>, time: Duration) -> bool {
+fn has_passed<R: Clock>(rt: &R, start: &io::Result<Instant>, time: Duration) -> bool
+    ensures no_clock { IfErr start.now (λ e. result ≡ false) }
+{
     let Ok(start) = start else {
         return false;
     };

@@ -1,6 +1,7 @@
 //! What is left of a run, once both its threads have ended.
-ghost use Rattle.std.specs.Prelude.{◌≡◌, ◌++◌, OnOk, IfOk, IfErr};
-ghost use Rattle.enet_submit.specs.Words.{IsDrainOf, IsFinishedOf, seats_of, taken, all_sent};
+ghost use Rattle.std.specs.Prelude.{◌≡◌, [], ◌∷◌, ◌++◌, OnOk, IfOk, IfErr};
+ghost use Rattle.enet_submit.specs.Words.{IsDrainOf, IsFinishedOf, AllBack, seats_of, taken, all_sent};
+ghost use Rattle.enet_events.specs.Words.{IsAllTaken};
 ghost use Rattle.enet_bridge.specs.Ends.{orders};
 ghost use Rattle.enet_service.specs.ServiceRuns.{CanSettle, IsNotSettled};
 
@@ -23,7 +24,8 @@ pub struct Returned {
 /// Settles both queues: their only taker took all that was posted. Answers the orders that the only seat submitted and the drain didn't
 /// take, in order.
 ///
-/// E16 where there are other events or orders still, E1 for want of memory.
+/// E16 where the only taker didn't take all events, or where the drain, once the queue is empty, hasn't just the orders of the only seat; E1
+/// for want of memory.
 pub fn settle<R: Wait>(
     rt: &R,
     alloc: Global,
@@ -58,6 +60,7 @@ fn settle_events(
     requires one { events.now.id.takers ≡ 1 }
     ensures taken { OnOk result (taker.taken ≡ poster.posted) }
     ensures refused { IfErr result IsNotSettled }
+    ensures held { IfErr result (λ why. why ≡ Refusal.StillHeld → ¬ (IsAllTaken poster (taker ∷ []))) }
 {
     let Ok(takers) = Vec::from_array(alloc, [taker]) else {
         return Err(Refusal::Memory);
@@ -68,8 +71,8 @@ fn settle_events(
     }
 }
 
-// The orders that the only seat submitted and the drain didn't take, in order. E16 where the queue has others still, E1 for want
-// of memory.
+// The orders that the only seat submitted and the drain didn't take, in order. E16 where the drain then hasn't just that seat's orders, E1 for
+// want of memory.
 fn untaken<R: Wait>(
     rt: &R,
     alloc: Global,
@@ -98,7 +101,7 @@ fn take_rest<R: Wait>(
     requires { IsDrainOf queue.now drain }
     ensures fits { IfOk result (λ r. IsDrainOf queue.now r.0) }
     ensures rest { IfOk result (λ r. orders (taken r.0) ≡ orders (taken drain) ++ r.1.items) }
-    ensures refused { IfErr result IsNotSettled }
+    ensures memory { IfErr result (λ why. why ≡ Refusal.Memory) }
 {
     let mut drain = drain;
     let mut rest = VecDeque::new(alloc);
@@ -125,6 +128,7 @@ fn settle_orders(
     requires one { seats_of queue.now ≡ 1 }
     ensures taken { OnOk result (taken drain ≡ all_sent seat) }
     ensures refused { IfErr result IsNotSettled }
+    ensures held { IfErr result (λ why. why ≡ Refusal.StillHeld → ¬ (AllBack queue.now drain (seat ∷ []))) }
 {
     let Ok(seats) = Vec::from_array(alloc, [seat]) else {
         return Err(Refusal::Memory);

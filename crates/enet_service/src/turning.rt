@@ -1,12 +1,13 @@
 //! The service's thread of a run.
-ghost use Rattle.std.specs.Prelude.{◌≡◌, IfOk, IfErr};
+ghost use Rattle.std.specs.Prelude.{◌≡◌, ◌+◌, IfOk, IfErr, is_err};
+ghost use Rattle.enet_service.specs.Counts.{count_of};
 ghost use Rattle.enet_bridge.specs.Serving.{queue_of, poster_of};
 ghost use Rattle.enet_service.specs.ServiceRuns.{HasTurned, standing};
 
 use crate::bound_service::BoundService;
 use crate::run_length::{RunLength, take_turns};
 use crate::watch::Watch;
-use crate::{Bell, QueueSink, QueueSource, Report, TakerBell};
+use crate::{Bell, QueueSink, QueueSource, Report, TakerBell, Wire};
 use enet_codec::Refusal;
 use enet_events::EventQueue;
 use enet_submit::SubmitQueue;
@@ -67,9 +68,9 @@ impl Signals {
 
 // Takes the turns of a run, and then tells the other thread that the service has ended. E14 where the wire fails; the other thread
 // is told of the end then, too.
-fn serve_turns<R: Wait + Clock, W: Watch>(
+fn serve_turns<R: Wait + Clock, N: Wire, W: Watch>(
     rt: &R,
-    bound: &mut BoundService,
+    bound: &mut BoundService<N>,
     source: &mut QueueSource<'_>,
     sink: &mut QueueSink<'_>,
     run_length: RunLength,
@@ -78,8 +79,9 @@ fn serve_turns<R: Wait + Clock, W: Watch>(
 ) -> Result<Report, Refusal>
     ensures queue { queue_of source.new ≡ queue_of source.old }
     ensures poster { (poster_of sink.new).queue ≡ (poster_of sink.old).queue }
-    ensures turned { IfOk result (HasTurned run_length (standing bound.old.service source.old sink.old) (standing bound.new.service source.new sink.new)) }
+    ensures turned { IfOk result (HasTurned run_length (standing bound.old.service source.old sink.old (N.told bound.old.wire) (N.faults bound.old.wire)) (standing bound.new.service source.new sink.new (N.told bound.new.wire) (N.faults bound.new.wire))) }
     ensures fault { IfErr result (λ why. why ≡ Refusal.WireFault) }
+    ensures faults { N.faults bound.new.wire ≡ N.faults bound.old.wire + count_of (is_err result) }
 {
     let report = take_turns(
         rt,
@@ -100,9 +102,9 @@ fn serve_turns<R: Wait + Clock, W: Watch>(
 /// once the service has ended where no second thread can be made. `watch` is told of the turns.
 ///
 /// E14 where the wire fails: the service's thread ends then.
-pub fn beside_turns<R, W, F, T>(
+pub fn beside_turns<R, N, W, F, T>(
     rt: &R,
-    bound: &mut BoundService,
+    bound: &mut BoundService<N>,
     source: &mut QueueSource<'_>,
     sink: &mut QueueSink<'_>,
     run_length: RunLength,
@@ -112,6 +114,7 @@ pub fn beside_turns<R, W, F, T>(
 ) -> (T, Result<Report, Refusal>)
 where
     R: Threads + Wait + Clock + Sync,
+    N: Wire + Send,
     W: Watch + Send,
     F: FnMut() -> T + Send,
     T: Send,
@@ -119,8 +122,9 @@ where
     ensures other { F.step other.old result.0 other.new }
     ensures queue { queue_of source.new ≡ queue_of source.old }
     ensures poster { (poster_of sink.new).queue ≡ (poster_of sink.old).queue }
-    ensures turned { IfOk result.1 (HasTurned run_length (standing bound.old.service source.old sink.old) (standing bound.new.service source.new sink.new)) }
+    ensures turned { IfOk result.1 (HasTurned run_length (standing bound.old.service source.old sink.old (N.told bound.old.wire) (N.faults bound.old.wire)) (standing bound.new.service source.new sink.new (N.told bound.new.wire) (N.faults bound.new.wire))) }
     ensures fault { IfErr result.1 (λ why. why ≡ Refusal.WireFault) }
+    ensures faults { N.faults bound.new.wire ≡ N.faults bound.old.wire + count_of (is_err result.1) }
 {
     join_mut(
         rt,
@@ -128,8 +132,9 @@ where
         &mut || -> Result<Report, Refusal>
             ensures queue { queue_of source.exit.now ≡ queue_of source.entry.now }
             ensures poster { (poster_of sink.exit.now).queue ≡ (poster_of sink.entry.now).queue }
-            ensures turned { IfOk result (HasTurned run_length (standing bound.entry.now.service source.entry.now sink.entry.now) (standing bound.exit.now.service source.exit.now sink.exit.now)) }
+            ensures turned { IfOk result (HasTurned run_length (standing bound.entry.now.service source.entry.now sink.entry.now (N.told bound.entry.now.wire) (N.faults bound.entry.now.wire)) (standing bound.exit.now.service source.exit.now sink.exit.now (N.told bound.exit.now.wire) (N.faults bound.exit.now.wire))) }
             ensures fault { IfErr result (λ why. why ≡ Refusal.WireFault) }
+            ensures faults { N.faults bound.exit.now.wire ≡ N.faults bound.entry.now.wire + count_of (is_err result) }
         { serve_turns(rt, bound, source, sink, run_length, signals, watch) },
     )
 }

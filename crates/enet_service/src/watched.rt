@@ -62,9 +62,11 @@ impl Model for WatchedHost {
 }
 
 impl WatchedHost {
-    ghost use Rattle.std.specs.Prelude.{◌≡◌, true, false, IfOk, IfErr, Err};
+    ghost use Rattle.std.specs.Prelude.{◌≡◌, true, false, List, IfOk, IfErr, Err};
     ghost use Rattle.enet_codec.specs.Config.{is_in_range};
+    ghost use Rattle.enet_codec.specs.declared.event.PeerRef.{PeerRef};
     ghost use Rattle.enet_host.specs.Opening.{opened};
+    ghost use Rattle.enet_service.specs.ServiceRuns.{PartsFrom};
 
     /// A host of this configuration, which did nothing yet.
     ///
@@ -127,7 +129,9 @@ impl WatchedHost {
     }
 
     /// Ends each connection that was told, in this way. A peer that is going already isn't asked again.
-    pub fn part_from_all(&mut self, how: DisconnectMode) {
+    pub fn part_from_all(&mut self, how: DisconnectMode)
+        ensures parts { (peers : List PeerRef) × PartsFrom how self.old peers self.new }
+    {
         for slot in 0..self.met.len() {
             if let Some(Some(met)) = self.met.get(slot) {
                 let peer = met.peer;

@@ -1,5 +1,8 @@
 //! The game's thread: it takes the service's events and asks for the answers.
 
+ghost use Rattle.std.specs.Prelude.{IfOk};
+ghost use Rattle.example_game.specs.Guessing.{IsAnswer};
+
 use crate::rule::{answer, secret_of};
 use bytes::Bytes;
 use enet_codec::{DisconnectMode, Event, PeerRef, RELIABLE, Refusal};
@@ -161,7 +164,10 @@ impl<'a> Game<'a> {
     }
 }
 
-fn text(alloc: Global, player: &Player, guess: u32) -> Result<Bytes, AllocError> {
+// What a player is answered to a guess, which is counted already.
+fn text(alloc: Global, player: &Player, guess: u32) -> Result<Bytes, AllocError>
+    ensures { IfOk result (IsAnswer player.now.secret guess player.now.guesses) }
+{
     Bytes::from_string(answer(alloc, player.secret, guess, player.guesses)?)
 }
 

@@ -4,8 +4,10 @@
 //! seed: it sends guesses as text, reliably on channel 0, and is answered `lower`, `higher` or, after its N-th guess, `right after N`. The
 //! program ends once so many have won and gone, or so many seconds have passed; it tells none who is still there.
 //!
-//! Proved: that it is safe, and what a guess is answered (`IsAnswer`). Only tested, by its stored run and scripts/check-clients.sh: what
-//! clients get, and that it ends. Neither: when the threads run.
+//! Proved: that it is safe, which number is to be guessed for a drawn word (`secret_of`), and the text that answers a guess, for the
+//! secret and the count of the player that it is made for (`IsAnswer`, by `text`). Only tested, by its stored run and
+//! scripts/check-clients.sh: that guesses are counted and answered to the players who made them, and that it ends. Neither: when the
+//! threads run.
 #![tactic(auto)]
 
 ghost use Rattle.enet_service.specs.ServiceRuns.{AreNew};
@@ -87,7 +89,7 @@ where
 /// Plays the game beside the service, between these queues.
 fn play<R: Threads + Wait + Clock + Sync + AllocGlobal>(
     rt: &R,
-    bound: &mut BoundService,
+    bound: &mut BoundService<MioWire>,
     shared: Shared<'_>,
     ends: Ends,
     settings: Settings,

@@ -1,5 +1,5 @@
 //! The rule: a client guesses a number, and is told where it is.
-ghost use Rattle.std.specs.Prelude.{◌≡◌, ◌<◌, ◌≤◌, IfOk};
+ghost use Rattle.std.specs.Prelude.{◌≡◌, ◌+◌, ◌%◌, ◌<◌, ◌≤◌, IfOk};
 ghost use Rattle.std.specs.String.{string_bytes};
 ghost use Rattle.example_game.specs.Guessing.{IsAnswer};
 
@@ -11,7 +11,8 @@ const GREATEST: u32 = 1_000;
 
 /// The number that is to be guessed, of a drawn word.
 pub fn secret_of(word: u32) -> u32
-    ensures { (1 ≤ result) × (result ≤ 1000) }
+    ensures drawn { result ≡ word % 1000 + 1 }
+    ensures range { (1 ≤ result) × (result ≤ 1000) }
 {
     word % GREATEST + 1
 }

@@ -1,4 +1,4 @@
-use Rattle.std.proofs.Common.{◌≡◌, true, List, take, sym, ◌∙◌, ap, subst}
+use Rattle.std.proofs.Common.{◌≡◌, true, List, ◌++◌, take, sym, ◌∙◌, ap, subst}
 use Rattle.enet_codec.specs.declared.event.PeerRef.{PeerRef}
 use Rattle.enet_submit.specs.declared.order.Order.{Order}
 use Rattle.enet_chat.specs.Peers.{has_each_once}
@@ -11,6 +11,7 @@ pub returns-clause-orders : goal.returns-clause-orders
 returns-clause-orders c =
     let once : has_each_once c.args.table.now ≡ true = subst (λ xs. has_each_once xs ≡ true) c.table.view_is c.table.invariant in
     let first = take c.args.count c.args.backlog.now.items in
-    let is : c.in_ok-orders.orders.items ≡ grouped c.args.table.now first =
-    c.in_ok-orders.ensures.orders ∙ ap (λ (peers : List PeerRef). grouped peers first) (c.as_slice.ensures.value ∙ c.table.view_is) in
+    let is : c.put_grouped.new.orders.items ≡ grouped c.args.table.now first =
+    c.in_ok-put_grouped.ensures.put ∙ ap (λ (os : List Order). os ++ grouped c.as_slice.result.now first) c.new-orders.ensures.items
+    ∙ ap (λ (peers : List PeerRef). grouped peers first) (c.as_slice.ensures.value ∙ c.table.view_is) in
     subst (λ (os : List Order). SameForEach os (relayed_all c.args.table.now first)) (sym is) (grouped_same c.args.table.now first once c.requires.packets)

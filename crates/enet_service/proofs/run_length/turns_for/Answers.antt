@@ -1,23 +1,30 @@
-use Rattle.std.proofs.Common.{List, [], ◌++◌, refl, ◌∙◌, arith}
+use Rattle.std.proofs.Common.{◌+◌, List, [], ◌++◌, refl, sym, subst, ◌∙◌, arith, rules}
 use Rattle.std.proofs.lemmas.List.{length-append}
 use Rattle.enet_service.specs.Turn.{Round}
+use Rattle.enet_service.specs.ServiceRuns.{AreFew}
 use Rattle.enet_service.proofs.Spells.{no_turn, further}
 use Rattle.enet_service.proofs.run_length.turns_for.Goals as goal
 
 pub loop-init : goal.loop-init
-loop-init g c = (refl, [], no_turn _ _ c.nothing-total.ensures)
+loop-init g c = (refl, subst AreFew (sym c.nothing-total.ensures) (omega arith, omega arith), [], 0, refl, no_turn _ _ c.nothing-total.ensures)
 
 pub loop-preserved : goal.loop-preserved
 loop-preserved g c =
-    let before : List Round = c.loop.invariant.1 in
+    let before : List Round = c.loop.invariant.2 in
     let more : List Round = c.in_ok-report.ensures.turns.0 in (
       c.in_ok-report.ensures.queue ∙ c.loop.invariant.0,
+      c.is_over.ensures.few (search rules),
       before ++ more,
-      further _ _ _ before more _ _ _ c.loop.invariant.2 c.in_ok-report.ensures.turns.2 c.and-total.ensures,
+      c.loop.invariant.3 + 1,
+      omega (arith, length-append before more, c.loop.invariant.4, c.in_ok-report.ensures.turns.1),
+      further _ _ _ before more _ _ _ c.loop.invariant.5 c.in_ok-report.ensures.turns.2 c.and-total.ensures,
     )
 
 pub returns-then-has_left-clause-turns : goal.returns-then-has_left-clause-turns
 returns-then-has_left-clause-turns g c =
-    let before : List Round = c.loop.invariant.1 in
-    let more : List Round = c.in_ok-report.ensures.turns.0 in
-    (before ++ more, omega (arith, length-append before more, c.in_ok-report.ensures.turns.1), further _ _ _ before more _ _ _ c.loop.invariant.2 c.in_ok-report.ensures.turns.2 c.and-total.ensures)
+    let before : List Round = c.loop.invariant.2 in
+    let more : List Round = c.in_ok-report.ensures.turns.0 in (
+      before ++ more,
+      record { before = before; last = more; all = refl; times = c.loop.invariant.3; before_are = c.loop.invariant.4; last_are = c.in_ok-report.ensures.turns.1; few = subst AreFew c.loop.invariant.5.totals c.loop.invariant.1 },
+      further _ _ _ before more _ _ _ c.loop.invariant.5 c.in_ok-report.ensures.turns.2 c.and-total.ensures,
+    )

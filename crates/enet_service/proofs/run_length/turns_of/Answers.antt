@@ -1,4 +1,4 @@
-use Rattle.std.proofs.Common.{List, sym, subst}
+use Rattle.std.proofs.Common.{List, sym, subst, arith}
 use Rattle.enet_host.specs.Host.{Host}
 use Rattle.enet_service.specs.Turn.{Round}
 use Rattle.enet_service.specs.ServiceRuns.{TakesTurns}
@@ -12,7 +12,7 @@ returns-in-Ok-clause-turns g c =
     let rounds : List Round = ran.0 in
     let turns : TakesTurns c.args.service.now rounds (record { host = c.show.new.host; waiting = c.run_between_queues.new.service.waiting }) =
     subst (λ (host : Host). TakesTurns c.args.service.now rounds (record { host = host; waiting = c.run_between_queues.new.service.waiting })) (sym c.show.ensures) ran.1 in
-    (rounds, ends.1, record { turns = turns; sound = ends.0; totals = ends.2; gave = ran.3.grown; put = ran.4 })
+    (rounds, ends.1, record { turns = turns; sound = ends.0; totals = ends.2; gave = ran.3.grown; put = ran.4; told = ran.5; faults = omega (arith, c.in-Ok.ensures.faults) })
 
 pub returns-in-Err-clause-fault : goal.returns-in-Err-clause-fault
 returns-in-Err-clause-fault g c = fault_of_wire _ _ _ c.in-Err.ensures.run.6

@@ -1,5 +1,5 @@
 use Rattle.std.proofs.Common.{refl}
-use Rattle.enet_service.proofs.Settled.{taken_is_sent}
+use Rattle.enet_service.proofs.Settled.{taken_is_sent, not_back_of}
 use Rattle.enet_service.proofs.settling.settle_orders.Goals.{in-Ok-settle, in-Err}
 use Rattle.enet_service.proofs.settling.settle_orders.Goals as goal
 
@@ -7,4 +7,10 @@ pub returns-clause-taken : goal.returns-clause-taken
 returns-clause-taken c = elim c.match-settle.branch [
   | in-Ok-settle w ↦ rw w.result-is (taken_is_sent c.args.queue.now c.args.drain c.args.seat _ c.in-Ok.ensures.items c.requires.one (w.in-Ok-settle.ensures.settled.0 refl) w.in-Ok-settle.ensures.all_taken w.in-Ok-settle.ensures.empty)
   | in-Err w ↦ rw w.result-is tt
+]
+
+pub returns-clause-held : goal.returns-clause-held
+returns-clause-held c = elim c.match-settle.branch [
+  | in-Ok-settle w ↦ rw w.result-is tt
+  | in-Err w ↦ rw w.result-is (λ held. not_back_of c.args.queue.now c.args.drain c.args.seat _ c.in-Ok.ensures.items w.in-Err.ensures.settled.1)
 ]

@@ -3,7 +3,7 @@ use Rattle.enet_chat.proofs.Expansions.{expands_none, expands_on}
 use Rattle.enet_chat.proofs.lone.LoneRelay.expand.Goals as goal
 
 pub loop-self-init : goal.loop-self-init
-loop-self-init c = expands_none _ _ refl refl refl
+loop-self-init c = expands_none _ _ refl refl refl refl refl
 
 pub returns-in_err-expand_some-clause-expands : goal.returns-in_err-expand_some-clause-expands
 returns-in_err-expand_some-clause-expands c = expands_on _ _ _ c.loop-self.invariant c.expand_some.ensures.expands

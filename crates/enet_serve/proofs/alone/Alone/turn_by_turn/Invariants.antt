@@ -1,13 +1,15 @@
 use Rattle.std.proofs.Common.{◌≡◌, List}
 use Rattle.std.specs.Prelude.{length}
+use Rattle.enet_bridge.specs.Socket.{failures_of}
 use Rattle.enet_service.specs.Turn.{Round}
 use Rattle.enet_service.specs.Run.{total}
 use Rattle.enet_serve.specs.Private.Alone.{Goes, pair}
-use Rattle.enet_serve.proofs.alone.turn_by_turn.Given as goal
+use Rattle.enet_serve.proofs.alone.Alone.turn_by_turn.Given as goal
 
 abbrev pub invariant-loop-turn : goal.invariant-loop-turn
 invariant-loop-turn g l =
-    (rounds : List Round)
-    × Goes (pair l.fn.bound.service l.fn.relay) rounds (pair l.bound.service l.relay)
+    (failures_of l.bound.wire ≡ failures_of l.fn.bound.wire)
+    × (rounds : List Round)
+    × Goes (pair l.fn.bound.service l.fn.self.relay) rounds (pair l.bound.service l.self.relay)
     × (length rounds ≡ l._turn)
     × (l.total ≡ total rounds)

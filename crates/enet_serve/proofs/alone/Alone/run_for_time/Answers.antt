@@ -1,0 +1,51 @@
+use Rattle.std.proofs.Common.{◌+◌, List, [], ◌++◌, refl, sym, subst, ◌∙◌, arith, rules}
+use Rattle.std.proofs.lemmas.List.{length-append}
+use Rattle.enet_chat.proofs.Expansions.{expands_none}
+use Rattle.enet_service.specs.Turn.{Round}
+use Rattle.enet_service.specs.ServiceRuns.{AreFew}
+use Rattle.enet_service.proofs.Spells.{total_of_both}
+use Rattle.enet_serve.specs.Private.Alone.{pair}
+use Rattle.enet_serve.proofs.TurnByTurn.{goes_nowhere, goes_on}
+use Rattle.enet_serve.proofs.alone.Alone.run_for_time.Goals as goal
+
+pub loop-init : goal.loop-init
+loop-init g c = (
+  refl,
+  subst AreFew (sym c.nothing-total.ensures) (omega arith, omega arith),
+  [],
+  0,
+  refl,
+  goes_nowhere _ _ refl (expands_none _ _ refl refl refl refl refl) c.requires,
+  c.nothing-total.ensures,
+)
+
+pub loop-preserved : goal.loop-preserved
+loop-preserved g c =
+    let inv = c.loop.invariant in
+    let before : List Round = inv.2 in
+    let more : List Round = c.in_ok-report.ensures.goes.0 in
+    let first = pair c.args.bound.now.service c.args.self.now.relay in
+    let second = pair c.loop.bound.service c.loop.self.relay in
+    let third = pair c.run_for_turns.new.bound.service c.run_for_turns.new.self.relay in (
+      c.in_ok-report.ensures.sound ∙ inv.0,
+      c.is_over.ensures.few (search rules),
+      before ++ more,
+      inv.3 + 1,
+      omega (arith, length-append before more, inv.4, c.in_ok-report.ensures.goes.1),
+      goes_on first second third before more inv.5 c.in_ok-report.ensures.goes.3,
+      total_of_both c.loop.total c.in_ok-report.report c.and-total.result before more inv.6 c.in_ok-report.ensures.goes.2 c.and-total.ensures,
+    )
+
+pub returns-then-is_over-clause-goes : goal.returns-then-is_over-clause-goes
+returns-then-is_over-clause-goes g c =
+    let inv = c.loop.invariant in
+    let before : List Round = inv.2 in
+    let more : List Round = c.in_ok-report.ensures.goes.0 in
+    let first = pair c.args.bound.now.service c.args.self.now.relay in
+    let second = pair c.loop.bound.service c.loop.self.relay in
+    let third = pair c.run_for_turns.new.bound.service c.run_for_turns.new.self.relay in (
+      before ++ more,
+      record { before = before; last = more; all = refl; times = inv.3; before_are = inv.4; last_are = c.in_ok-report.ensures.goes.1; few = subst AreFew inv.6 inv.1 },
+      total_of_both c.loop.total c.in_ok-report.report c.and-total.result before more inv.6 c.in_ok-report.ensures.goes.2 c.and-total.ensures,
+      goes_on first second third before more inv.5 c.in_ok-report.ensures.goes.3,
+    )

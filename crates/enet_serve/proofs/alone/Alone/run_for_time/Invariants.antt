@@ -1,0 +1,18 @@
+use Rattle.std.proofs.Common.{◌≡◌, ℕ, ◌*◌, List}
+use Rattle.std.specs.Prelude.{length}
+use Rattle.enet_bridge.specs.Socket.{failures_of}
+use Rattle.enet_service.specs.Turn.{Round}
+use Rattle.enet_service.specs.Run.{total}
+use Rattle.enet_service.specs.ServiceRuns.{AreFew}
+use Rattle.enet_serve.specs.Private.Alone.{Goes, pair}
+use Rattle.enet_serve.proofs.alone.Alone.run_for_time.Given as goal
+
+abbrev pub invariant-loop : goal.invariant-loop
+invariant-loop g l =
+    (failures_of l.bound.wire ≡ failures_of l.fn.bound.wire)
+    × AreFew l.total
+    × (rounds : List Round)
+    × (times : ℕ)
+    × (length rounds ≡ 64 * times)
+    × Goes (pair l.fn.bound.service l.fn.self.relay) rounds (pair l.bound.service l.self.relay)
+    × (l.total ≡ total rounds)
