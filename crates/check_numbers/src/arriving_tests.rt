@@ -324,7 +324,7 @@ fn inbox_cleared_and_narrowed(rt: HostRuntime) {
     let first = [
         (reliable(0, 1, b"a"), Ok(true)),
         (reliable(0, 3, b"ccc"), Ok(true)),
-        (reliable(1, 1, b"x"), Err(Stop::Waiting)),
+        (reliable(1, 2, b"x"), Err(Stop::Waiting)),
     ];
     assert!(rt; arrives(&mut inbox, &first));
     inbox.clear();
@@ -337,7 +337,7 @@ fn inbox_cleared_and_narrowed(rt: HostRuntime) {
     assert!(rt; inbox.next().is_none());
     assert!(rt; arrives(&mut inbox, &[(reliable(2, 2, b"bcde"), Ok(true))]));
     inbox.narrow(4);
-    assert!(rt; arrives(&mut inbox, &[(reliable(0, 2, b"b"), Err(Stop::Waiting))]));
+    assert!(rt; arrives(&mut inbox, &[(reliable(0, 3, b"b"), Err(Stop::Waiting))]));
     inbox.narrow(1);
     let third = [
         (reliable(1, 2, b"b"), Err(Stop::BadChannel)),

@@ -20,7 +20,7 @@ use Rattle.enet_receiver.specs.Receiver.{held_bytes}
 use Rattle.enet_receiver.specs.declared.took.Foresight.{Foresight}
 use Rattle.enet_receiver.specs.Foresight.{ReceivingEnd, new_end, after_command}
 use Rattle.enet_inbox.specs.declared.arriving.Foreseen.{Foreseen}
-use Rattle.enet_inbox.specs.Inbox.{Inbox, empty_inbox, is_full, cleared, cleared_receiver, forgotten, narrowed}
+use Rattle.enet_inbox.specs.Inbox.{Inbox, empty_inbox, is_full_for, cleared, cleared_receiver, forgotten, narrowed}
 use Rattle.enet_inbox.specs.DataEffect.{emptied, packet_of, sequenced}
 use Rattle.enet_inbox.specs.InboxParts.{foresight_on, foresight_of, foreseen_sequenced}
 use Rattle.enet_inbox.specs.Invariant.{IsShort, IsInPlace, KeepsInbox}
@@ -279,17 +279,30 @@ has_receiver b channel (Some c) f e = has_on b channel c f (slice_get b.receiver
 abbrev pub Reached : Inbox → Head → Head → Option DataCommand → Foreseen → ReceivingEnd → Bool → Type 0
 Reached b own h o what d full = (own.channel < length b.receivers) × Taken b h.channel o (foresight_in what) d full × IsInPlace b.max_packet own.channel d
 
+-- what is kept is of a channel
+pub kept_channel : (b inside : Inbox) (channel : ℕ) (c : DataCommand) (what : Foreseen) → inside ≡ b → foreseen_sequenced b channel (Some c) ≡ Ok what → what.kept ≡ true → channel < length inside.receivers
+kept_channel b inside channel c what view foreseen kept =
+    has_receiver inside channel (Some c) (foresight_in what) (at_inside b inside channel (Some c) (foresight_in what) view (foresight_is b channel (Some c) what foreseen kept))
+
 -- seen from its place
-pub taken_at : (b inside : Inbox) (waiting : ℕ) (own h : Head) (o : Option DataCommand) (what : Foreseen) (d : ReceivingEnd) (full : Bool) → inside ≡ b → KeepsInbox inside waiting → own ≡ h
-    → d ≡ get_or inside.receivers own.channel d → full ≡ is_full b → foreseen_sequenced b h.channel o ≡ Ok what → what.kept ≡ true → Reached inside own h o what d full
-taken_at b inside waiting own h o what d full view k is at same foreseen kept =
+pub taken_at : (b inside : Inbox) (waiting : ℕ) (own h : Head) (c : DataCommand) (what : Foreseen) (d : ReceivingEnd) (full : Bool) → inside ≡ b → KeepsInbox inside waiting → own ≡ h
+    → d ≡ get_or inside.receivers own.channel d → full ≡ is_full_for b d c → foreseen_sequenced b h.channel (Some c) ≡ Ok what → what.kept ≡ true → Reached inside own h (Some c) what d full
+taken_at b inside waiting own h c what d full view k is at same foreseen kept =
     let f = foresight_in what in
-    let inner : foresight_of inside h.channel o ≡ Ok f = at_inside b inside h.channel o f view (foresight_is b h.channel o what foreseen kept) in
+    let inner : foresight_of inside h.channel (Some c) ≡ Ok f = at_inside b inside h.channel (Some c) f view (foresight_is b h.channel (Some c) what foreseen kept) in
     let channel : own.channel ≡ h.channel = ap (λ (x : Head). x.channel) is in
-    let low : own.channel < length inside.receivers = subst (λ n. n < length inside.receivers) (sym channel) (has_receiver inside h.channel o f inner) in
+    let low : own.channel < length inside.receivers = subst (λ n. n < length inside.receivers) (sym channel) (has_receiver inside h.channel (Some c) f inner) in
     let there : slice_get inside.receivers own.channel ≡ Some d = slice_get_read inside.receivers (length inside.receivers) own.channel d refl low at in
-    let whole : full ≡ is_full inside = same ∙ ap (λ (x : Inbox). is_full x) (sym view) in
-    (low, taken inside h.channel o f d full inner refl (ap (slice_get inside.receivers) (sym channel) ∙ there) whole, in_place inside waiting own.channel d k there)
+    let whole : full ≡ is_full_for inside d c = same ∙ ap (λ (x : Inbox). is_full_for x d c) (sym view) in
+    (low, taken inside h.channel c f d full inner refl (ap (slice_get inside.receivers) (sym channel) ∙ there) whole, in_place inside waiting own.channel d k there)
+
+same_some : (d e : ReceivingEnd) → ◌≡◌ {A = Option ReceivingEnd} (Some d) (Some e) → d ≡ e
+same_some d e h = cc
+
+-- a receiver that is looked at twice
+pub looked_at_twice : (rs : List ReceivingEnd) (channel : ℕ) (d e : ReceivingEnd) → channel < length rs → d ≡ get_or rs channel d → e ≡ get_or rs channel e → d ≡ e
+looked_at_twice rs channel d e low at also =
+    same_some d e (sym (slice_get_read rs (length rs) channel d refl low at) ∙ slice_get_read rs (length rs) channel e refl low also)
 
 -- what is kept after it, where what the receiver holds is counted anew
 pub kept_after : (b : Inbox) (waiting channel : ℕ) (d new : ReceivingEnd) (o : Option DataCommand) (full : Bool) (qs : List Packet) (bytes was now : ℕ) → KeepsInbox b waiting

@@ -13,7 +13,7 @@ use Rattle.enet_receiver.specs.declared.took.Foresight.{Foresight}
 use Rattle.enet_receiver.specs.Receiver.{Receiver}
 use Rattle.enet_receiver.specs.DataOutcome.{outcome, outcome_at, outcome_of, place_read, came_at, is_piece_of_its_packet, is_behind, came, is_handled}
 use Rattle.enet_receiver.specs.Foresight.{ReceivingEnd, foreseen as foreseen_by, outcome_for, after_command}
-use Rattle.enet_inbox.specs.Inbox.{Inbox, is_full}
+use Rattle.enet_inbox.specs.Inbox.{Inbox, is_full_for}
 use Rattle.enet_inbox.specs.DataEffect.{is_kept_as, is_kept_on, is_kept_sequenced, sequenced, sequenced_on, by_took, handed_over}
 use Rattle.enet_inbox.specs.Private.Invariant.{HasFront}
 use Rattle.enet_inbox.specs.InboxParts.{foresight_on, foresight_of, seen_by, seen_of, foreseen_sequenced, told}
@@ -52,8 +52,8 @@ on_answer : (b : Inbox) (channel : ℕ) (c : DataCommand) (o : Option ReceivingE
     → foresight_on b c o ≡ Ok f → answer_of f ≡ (sequenced_on b channel c o).answer
 on_answer b channel c None f h e = absurd (cc)
 on_answer b channel c (Some r) f h e =
-    let same : foreseen_by r (Some c) (is_full b) ≡ f = cc in
-    ap (λ (x : Foresight). answer_of x) (sym same) ∙ by_answer (outcome_for r (Some c) (is_full b)) _ b channel r c (same_front r.receiver.front c.number (h r refl))
+    let same : foreseen_by r (Some c) (is_full_for b r c) ≡ f = cc in
+    ap (λ (x : Foresight). answer_of x) (sym same) ∙ by_answer (outcome_for r (Some c) (is_full_for b r c)) _ b channel r c (same_front r.receiver.front c.number (h r refl))
 
 -- the answer is that of the foresight
 pub answer_is : (b : Inbox) (channel : ℕ) (o : Option DataCommand) (f : Foresight) → HasFront b channel → foresight_of b channel o ≡ Ok f → answer_of f ≡ (sequenced b channel o).answer
@@ -116,7 +116,7 @@ seen_kept Memory f s e = absurd (cc)
 
 kept_on : (b : Inbox) (c : DataCommand) (o : Option ReceivingEnd) (s : Foreseen) → seen_of (foresight_on b c o) ≡ Ok s → s.kept ≡ is_kept_on b c o
 kept_on b c None s e = absurd (cc)
-kept_on b c (Some r) s e = seen_kept (outcome_for r (Some c) (is_full b)) (foreseen_by r (Some c) (is_full b)) s e
+kept_on b c (Some r) s e = seen_kept (outcome_for r (Some c) (is_full_for b r c)) (foreseen_by r (Some c) (is_full_for b r c)) s e
 
 -- what is kept of a sequenced command
 pub kept_sequenced : (b : Inbox) (channel : ℕ) (o : Option DataCommand) (s : Foreseen) → foreseen_sequenced b channel o ≡ Ok s → s.kept ≡ is_kept_sequenced b channel o
@@ -130,18 +130,17 @@ pub record Taken (b : Inbox) (channel : ℕ) (o : Option DataCommand) (f : Fores
   pub after : (sequenced b channel o).after ≡ handed_over b channel (after_command d o full)
 
 taken_full : (b : Inbox) (channel : ℕ) (c : DataCommand) (f : Foresight) (d : ReceivingEnd) → foresight_of b channel (Some c) ≡ Ok f → f.took ≡ Held → slice_get b.receivers channel ≡ Some d
-    → Taken b channel (Some c) f d (is_full b)
+    → Taken b channel (Some c) f d (is_full_for b d c)
 taken_full b channel c f d e held at =
     let there : foresight_on b c (Some d) ≡ Ok f = ap (foresight_on b c) (sym at) ∙ e in
-    let is : foreseen_by d (Some c) (is_full b) ≡ f = cc in
-    let took : outcome_for d (Some c) (is_full b) ≡ Held = ap (λ (x : Foresight). x.took) is ∙ held in
+    let is : foreseen_by d (Some c) (is_full_for b d c) ≡ f = cc in
+    let took : outcome_for d (Some c) (is_full_for b d c) ≡ Held = ap (λ (x : Foresight). x.took) is ∙ held in
     record {
       outcome = took;
       dispatches = ap (λ (x : Foresight). x.dispatches) (sym is);
       after = ap (λ x. (sequenced_on b channel c x).after) at ∙ ap (λ t. (by_took t b channel d c).after) took;
     }
 
-pub taken : (b : Inbox) (channel : ℕ) (o : Option DataCommand) (f : Foresight) (d : ReceivingEnd) (full : Bool) → foresight_of b channel o ≡ Ok f → f.took ≡ Held → slice_get b.receivers channel ≡ Some d → full ≡ is_full b
-    → Taken b channel o f d full
-taken b channel None f d full e held at same = absurd (cc)
-taken b channel (Some c) f d full e held at same = subst (λ x. Taken b channel (Some c) f d x) (sym same) (taken_full b channel c f d e held at)
+pub taken : (b : Inbox) (channel : ℕ) (c : DataCommand) (f : Foresight) (d : ReceivingEnd) (full : Bool) → foresight_of b channel (Some c) ≡ Ok f → f.took ≡ Held → slice_get b.receivers channel ≡ Some d → full ≡ is_full_for b d c
+    → Taken b channel (Some c) f d full
+taken b channel c f d full e held at same = subst (λ x. Taken b channel (Some c) f d x) (sym same) (taken_full b channel c f d e held at)

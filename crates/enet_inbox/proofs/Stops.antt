@@ -10,7 +10,7 @@ use Rattle.enet_fragment.specs.DataCommand.{data_of}
 use Rattle.enet_receiver.specs.declared.took.Took.{Took}
 use Rattle.enet_receiver.specs.declared.took.Took.TheVariants.{Held, Again, Outside, Bad, Waiting, Memory}
 use Rattle.enet_receiver.specs.Foresight.{ReceivingEnd, outcome_for}
-use Rattle.enet_inbox.specs.Inbox.{Inbox, is_full}
+use Rattle.enet_inbox.specs.Inbox.{Inbox, is_full, is_full_for}
 use Rattle.enet_inbox.specs.DataEffect.{DataEffect, arrival, arrival_of, sequenced, sequenced_on, by_took, unsequenced, unsequenced_taken, passed_over, passed_of, passed_sequenced, passed_over_on, passed_length, handled, stopped, is_kept, is_kept_as, is_kept_of, is_kept_on, is_kept_sequenced}
 use Rattle.enet_inbox.proofs.Outcomes.{outcome_known}
 
@@ -52,7 +52,7 @@ stays-took Memory b channel r c known = absurd (known refl)
 
 stays-on : (b : Inbox) (channel : ℕ) (c : DataCommand) (o : Option ReceivingEnd) → Stays b (sequenced_on b channel c o)
 stays-on b channel c None = stays-stopped b stop.BadChannel (λ e. cc)
-stays-on b channel c (Some r) = stays-took (outcome_for r (Some c) (is_full b)) b channel r c (outcome_known r.max_packet r.receiver c (is_full b))
+stays-on b channel c (Some r) = stays-took (outcome_for r (Some c) (is_full_for b r c)) b channel r c (outcome_known r.max_packet r.receiver c (is_full_for b r c))
 
 stays-sequenced : (b : Inbox) (channel : ℕ) (o : Option DataCommand) → Stays b (sequenced b channel o)
 stays-sequenced b channel None = stays-stopped b stop.BadCommand (λ e. cc)
@@ -126,7 +126,7 @@ quiet-took Memory b channel r c n = refl
 
 quiet-on : (b : Inbox) (channel : ℕ) (c : DataCommand) (o : Option ReceivingEnd) → is_kept_on b c o ≡ false → (sequenced_on b channel c o).after ≡ b
 quiet-on b channel c None n = refl
-quiet-on b channel c (Some r) n = quiet-took (outcome_for r (Some c) (is_full b)) b channel r c n
+quiet-on b channel c (Some r) n = quiet-took (outcome_for r (Some c) (is_full_for b r c)) b channel r c n
 
 quiet-sequenced : (b : Inbox) (channel : ℕ) (o : Option DataCommand) → is_kept_sequenced b channel o ≡ false → (sequenced b channel o).after ≡ b
 quiet-sequenced b channel None n = refl

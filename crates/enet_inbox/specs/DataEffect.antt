@@ -12,7 +12,7 @@ use Rattle.enet_packets.specs.declared.incoming_packet.Dispatched.{Dispatched}
 use Rattle.enet_receiver.specs.declared.took.Took.{Took}
 use Rattle.enet_receiver.specs.declared.took.Took.TheVariants as took
 use Rattle.enet_receiver.specs.Foresight.{ReceivingEnd, outcome_for, after_command}
-use Rattle.enet_inbox.specs.Inbox.{Inbox, is_full}
+use Rattle.enet_inbox.specs.Inbox.{Inbox, is_full, is_full_for}
 
 -- what a data command makes of an inbox with ample memory: why it stops the datagram, or whether it may be acknowledged, and the
 -- inbox after it
@@ -45,11 +45,11 @@ by_took took.Waiting b channel r c = stopped b stop.Waiting
 by_took took.Memory b channel r c = stopped b stop.Memory
 by_took took.Outside b channel r c = handled b (acknowledges r.receiver.front c.number)
 by_took took.Again b channel r c = handled b (acknowledges r.receiver.front c.number)
-by_took took.Held b channel r c = handled (handed_over b channel (after_command r (Some c) (is_full b))) (acknowledges r.receiver.front c.number)
+by_took took.Held b channel r c = handled (handed_over b channel (after_command r (Some c) (is_full_for b r c))) (acknowledges r.receiver.front c.number)
 
 abbrev pub sequenced_on : Inbox → ℕ → DataCommand → Option ReceivingEnd → DataEffect
 sequenced_on b channel c None = stopped b stop.BadChannel
-sequenced_on b channel c (Some r) = by_took (outcome_for r (Some c) (is_full b)) b channel r c
+sequenced_on b channel c (Some r) = by_took (outcome_for r (Some c) (is_full_for b r c)) b channel r c
 
 -- a sequenced data command comes
 abbrev pub sequenced : Inbox → ℕ → Option DataCommand → DataEffect
@@ -75,9 +75,13 @@ abbrev pub arrival_of : Inbox → Message → Body → DataEffect
 arrival_of b m (send_unsequenced group payload) = unsequenced b m.head.channel group payload
 arrival_of b m body = sequenced b m.head.channel (data_of m)
 
--- a data command comes; what is none stops the datagram as a bad command
+-- a data command comes, and nothing gives way to it; what is none stops the datagram as a bad command
+abbrev pub plain_arrival : Inbox → Message → DataEffect
+plain_arrival b m = arrival_of b m m.body
+
+-- a data command comes
 abbrev pub arrival : Inbox → Message → DataEffect
-arrival b m = arrival_of b m m.body
+arrival b m = plain_arrival b m
 
 -- a data command that is passed over, as by a peer that dispatches nothing more: tests of channel and length alone
 abbrev pub passed_length : Inbox → List ℕ → Bool → Result Bool Stop
@@ -106,7 +110,7 @@ is_kept_as _ = false
 
 abbrev pub is_kept_on : Inbox → DataCommand → Option ReceivingEnd → Bool
 is_kept_on b c None = false
-is_kept_on b c (Some r) = is_kept_as (outcome_for r (Some c) (is_full b))
+is_kept_on b c (Some r) = is_kept_as (outcome_for r (Some c) (is_full_for b r c))
 
 abbrev pub is_kept_sequenced : Inbox → ℕ → Option DataCommand → Bool
 is_kept_sequenced b channel None = false

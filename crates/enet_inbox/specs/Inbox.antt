@@ -1,10 +1,12 @@
 -- All that comes to a peer.
-use Rattle.std.specs.Prelude.{ℕ, ◌+◌, Bool, nat_le, List, [], length, map, take, sum_by}
+use Rattle.std.specs.Prelude.{ℕ, ◌+◌, Bool, nat_le, if◌then◌else◌, List, [], length, map, take, sum_by}
 use Rattle.std.specs.List.{range_with_len}
 use Rattle.enet_codec.specs.declared.packet.Packet.{Packet}
 use Rattle.enet_unsequenced.specs.Groups.{Seen, nothing_seen}
+use Rattle.enet_fragment.specs.declared.data.DataCommand.{DataCommand}
 use Rattle.enet_receiver.specs.Receiver.{held_bytes}
 use Rattle.enet_receiver.specs.Receiver as receiver
+use Rattle.enet_receiver.specs.DataOutcome.{is_next}
 use Rattle.enet_receiver.specs.Foresight.{ReceivingEnd, new_end}
 
 pub record Inbox : Type 0 where
@@ -24,13 +26,26 @@ empty_inbox channels max_packet max_waiting = record {
   untaken = [];
 }
 
+-- the bytes that were dispatched and not taken
+abbrev pub untaken_of : Inbox → ℕ
+untaken_of b = sum_by (λ (q : Packet). length q.body) b.untaken
+
 -- the bytes that wait: held, or dispatched and not taken
 abbrev pub waiting_of : Inbox → ℕ
-waiting_of b = sum_by (λ (r : ReceivingEnd). held_bytes r.receiver) b.receivers + sum_by (λ (q : Packet). length q.body) b.untaken
+waiting_of b = sum_by (λ (r : ReceivingEnd). held_bytes r.receiver) b.receivers + untaken_of b
 
 -- whether so many wait that no further packet begins
 abbrev pub is_full : Inbox → Bool
 is_full b = nat_le b.max_waiting (waiting_of b)
+
+-- the bytes that keep a command from beginning a packet: all that wait, but of the packet that its channel dispatches next only
+-- those that the user can take
+abbrev pub counted_for : Inbox → ReceivingEnd → DataCommand → ℕ
+counted_for b r c = if is_next r.receiver c then untaken_of b else waiting_of b
+
+-- whether so many wait that a command begins no packet
+abbrev pub is_full_for : Inbox → ReceivingEnd → DataCommand → Bool
+is_full_for b r c = nat_le b.max_waiting (counted_for b r c)
 
 abbrev pub cleared_receiver : ReceivingEnd → ReceivingEnd
 cleared_receiver r = record r { receiver = receiver.cleared r.receiver }
@@ -46,3 +61,10 @@ forgotten b = record (cleared b) { untaken = [] }
 -- only the first channels stay
 abbrev pub narrowed : Inbox → ℕ → Inbox
 narrowed b channels = record b { receivers = take channels b.receivers }
+
+abbrev pub given_way_receiver : ReceivingEnd → ReceivingEnd
+given_way_receiver r = record r { receiver = receiver.without_waiting r.receiver }
+
+-- the unreliable packets that wait or are in the making are given up on all channels
+abbrev pub given_way : Inbox → Inbox
+given_way b = record b { receivers = map given_way_receiver b.receivers }

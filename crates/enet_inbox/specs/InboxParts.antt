@@ -13,7 +13,7 @@ use Rattle.enet_receiver.specs.declared.took.Foresight.{Foresight}
 use Rattle.enet_receiver.specs.Foresight.{ReceivingEnd}
 use Rattle.enet_receiver.specs.Foresight as receiving
 use Rattle.enet_inbox.specs.declared.arriving.Foreseen.{Foreseen}
-use Rattle.enet_inbox.specs.Inbox.{Inbox, is_full}
+use Rattle.enet_inbox.specs.Inbox.{Inbox, is_full, is_full_for}
 
 abbrev pub inbox_of : ℕ → ℕ → List ReceivingEnd → Seen → List Packet → Inbox
 inbox_of max_packet max_waiting receivers seen untaken =
@@ -21,7 +21,7 @@ inbox_of max_packet max_waiting receivers seen untaken =
 
 abbrev pub foresight_on : Inbox → DataCommand → Option ReceivingEnd → Result Foresight Stop
 foresight_on b c None = Err stop.BadChannel
-foresight_on b c (Some r) = Ok (receiving.foreseen r (Some c) (is_full b))
+foresight_on b c (Some r) = Ok (receiving.foreseen r (Some c) (is_full_for b r c))
 
 -- what the receiver of its channel would do with a sequenced data command
 abbrev pub foresight_of : Inbox → ℕ → Option DataCommand → Result Foresight Stop

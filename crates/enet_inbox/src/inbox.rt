@@ -6,7 +6,7 @@ ghost use Rattle.enet_codec.specs.Message.{view};
 ghost use Rattle.enet_fragment.specs.DataCommand.{data_of};
 ghost use Rattle.enet_unsequenced.specs.Groups.{dispatches};
 ghost use Rattle.enet_receiver.specs.ArrivingData.{data_command};
-ghost use Rattle.enet_inbox.specs.Inbox.{empty_inbox, is_full, cleared, forgotten, narrowed};
+ghost use Rattle.enet_inbox.specs.Inbox.{empty_inbox, is_full, is_full_for, cleared, forgotten, narrowed};
 ghost use Rattle.enet_inbox.specs.DataEffect.{arrival, sequenced, unsequenced_taken, passed_over, passed_length, passed_sequenced, is_kept, DataArrives};
 ghost use Rattle.enet_inbox.specs.InboxParts.{foresight_of, unsequenced_verdict, foreseen, foreseen_sequenced, told};
 
@@ -104,7 +104,8 @@ impl Inbox {
     /// A stop is the first that applies: S6 for a command that is no data; S8 where the channel is not below the channel
     /// count; S9 where the payload or the packet is above the maximum packet size, or a fragment's fields fit together
     /// neither with themselves nor with the pieces before (fields and sizes before the window: our profile); S10 where it
-    /// begins a packet while the bytes that are held, wait or weren't taken are at their limit or above; S11 where memory is
+    /// begins a packet while the bytes that are held, wait or weren't taken are at their limit or above, or, of the packet that
+    /// its channel dispatches next, while those that weren't taken alone are (our profile); S11 where memory is
     /// refused (our profile). After a stop nothing has changed.
     pub fn data(&mut self, command: &Command<'_>) -> Result<bool, Stop>
         ensures { DataArrives result (is_kept self.old (view command.now)) (arrival self.old (view command.now)) self.old self.new }
@@ -204,6 +205,19 @@ impl Inbox {
         u128::from(self.max_waiting) <= self.waiting
     }
 
+    /// Whether so many bytes wait that a command begins no packet at the receiver of its channel.
+    fn is_full_for(&self, receiver: &Incoming, arriving: ArrivingData<'_>) -> bool
+        ensures { result ≡ is_full_for self.now receiver.now (data_command arriving.entry) }
+    {
+        if !self.is_full() {
+            return false;
+        }
+        if !receiver.is_next(arriving) {
+            return true;
+        }
+        u128::from(self.max_waiting) <= self.waiting - held_in(&self.receivers)
+    }
+
     /// What the receiver of its channel would do with a sequenced data command.
     fn foresight(&self, command: &Command<'_>) -> Result<Foresight, Stop>
         ensures { result ≡ foresight_of self.now (view command.now).head.channel (data_of (view command.now)) }
@@ -215,7 +229,8 @@ impl Inbox {
         if channel >= self.receivers.len() {
             return Err(Stop::BadChannel);
         }
-        Ok(self.receivers[channel].foresee_data(arriving, self.is_full()))
+        let receiver = &self.receivers[channel];
+        Ok(receiver.foresee_data(arriving, self.is_full_for(receiver, arriving)))
     }
 
     /// What becomes of a sequenced data command with ample memory.
@@ -266,8 +281,9 @@ impl Inbox {
         ensures taken { IsTrue result → self.new ≡ (sequenced self.old arriving.entry.head.channel (Some (data_command arriving.entry))).after }
         ensures unchanged { result ≡ false → self.new ≡ self.old }
     {
-        let full = self.is_full();
-        let receiver = &mut self.receivers[arriving.head.channel as usize];
+        let channel = arriving.head.channel as usize;
+        let full = self.is_full_for(&self.receivers[channel], arriving);
+        let receiver = &mut self.receivers[channel];
         let before = receiver.held();
         let Some(bytes) = take_in(receiver, &mut self.untaken, arriving, full, what.dispatches)
         else {

@@ -16,7 +16,7 @@ use Rattle.enet_outbox.specs.Outbox.{matched_by}
 use Rattle.enet_peer.specs.declared.parts.PeerState.{PeerState}
 use Rattle.enet_peer.specs.declared.parts.PeerState.TheVariants as state
 use Rattle.enet_peer.specs.Peering.{Peering}
-use Rattle.enet_peer.specs.CommandEffect.{Outcome, answered, answered_at, is_acknowledge, is_answered_in, is_disconnect, is_kept, Obeys, Stops, obeyed, on_acknowledge, on_disconnect_in, acknowledged, on_match, on_verify_in, waits_longer, wants_memory, welcomed}
+use Rattle.enet_peer.specs.CommandEffect.{Outcome, answered, answered_at, is_acknowledge, is_answered_in, is_disconnect, is_kept, Obeys, Stops, obeyed, on_acknowledge, is_connecting, on_disconnect_in, acknowledged, on_match, on_verify_in, waits_longer, wants_memory, welcomed}
 use Rattle.enet_peer.specs.Acting.{foreseen}
 use Rattle.enet_peer.specs.Private.Acting.{acted, by_foresight, is_welcomed_by, may_be_answered, may_clear, none_waits, Replies, wants_place, wants_place_in}
 use Rattle.enet_peer.proofs.Arriving.{obeyed_is}
@@ -210,14 +210,14 @@ verify_place state.Ended p v e a = inl (plain_place p.state p (verify_connect v)
 verify_place state.Parting p v e a = inl (plain_place p.state p (verify_connect v) refl a)
 
 -- no acknowledgement of a command is an end's own answer
-unanswered : (s : PeerState) (p : Peering) (what : Matched) (now channel number time n t : ℕ) → p.state ≡ s → wants_place_in s p (acknowledge n t) ≡ false → is_answered_in (on_match what p (acknowledged p now channel number time)).state (acknowledge n t) ≡ true → ⊥
+unanswered : (s : PeerState) (p : Peering) (what : Matched) (now channel number time n t : ℕ) → p.state ≡ s → wants_place_in s p (acknowledge n t) ≡ false → is_answered_in (cond (is_connecting p.state) p (on_match what p (acknowledged p now channel number time))).state (acknowledge n t) ≡ true → ⊥
 unanswered s p what now channel number time n t e w a = by-state s e w
   where
     at : PeerState → Peering
     at s = record p { state = s }
 
     left : PeerState → Matched → Peering
-    left s what = on_match what (at s) (acknowledged (at s) now channel number time)
+    left s what = cond (is_connecting s) (at s) (on_match what (at s) (acknowledged (at s) now channel number time))
 
     quiet : (s : PeerState) → p.state ≡ s → is_answered_in (left s what).state (acknowledge n t) ≡ false → ⊥
     quiet s e f = let same : is_answered_in (left p.state what).state (acknowledge n t) ≡ true = a in
@@ -231,11 +231,6 @@ unanswered s p what now channel number time n t e w a = by-state s e w
     by-control control.Ping = refl
     by-control (control.BandwidthLimit i o) = refl
     by-control (control.ThrottleConfigure i x d) = refl
-
-    connecting : (what : Matched) → is_answered_in (left state.Connecting what).state (acknowledge n t) ≡ false
-    connecting matched.Nothing = refl
-    connecting matched.Data = refl
-    connecting (matched.Control c) = refl
 
     disconnecting : (what : Matched) → is_answered_in (left state.Disconnecting what).state (acknowledge n t) ≡ false
     disconnecting matched.Nothing = refl
@@ -266,7 +261,7 @@ unanswered s p what now channel number time n t e w a = by-state s e w
     by-state state.Connected e w = absurd (cc)
     by-state state.DisconnectLater e w = absurd (cc)
     by-state state.Answering e w = absurd (cc)
-    by-state state.Connecting e w = quiet state.Connecting e (connecting what)
+    by-state state.Connecting e w = quiet state.Connecting e refl
     by-state state.Disconnecting e w = quiet state.Disconnecting e (disconnecting what)
     by-state state.AckDisconnect e w = quiet state.AckDisconnect e (ending what)
     by-state state.Free e w = quiet state.Free e (free what)

@@ -30,7 +30,7 @@ use Rattle.enet_receiver.specs.declared.took.Took.{Took}
 use Rattle.enet_receiver.specs.declared.took.Took.TheVariants.{Held, Again, Outside, Bad, Waiting, Memory}
 use Rattle.enet_receiver.specs.Foresight.{ReceivingEnd, outcome_for, after_command}
 use Rattle.enet_receiver.specs.Foresight as receiving
-use Rattle.enet_inbox.specs.Inbox.{Inbox, is_full, cleared_receiver}
+use Rattle.enet_inbox.specs.Inbox.{Inbox, is_full, is_full_for, cleared_receiver}
 use Rattle.enet_inbox.specs.DataEffect.{DataEffect, handled, stopped as refused, unsequenced, unsequenced_taken, by_took, sequenced, sequenced_on, passed_over, arrival, arrival_of, emptied}
 use Rattle.enet_sender.specs.CommandChoice.{Packet}
 use Rattle.enet_sender.specs.declared.sent.Sent.{Sent}
@@ -53,7 +53,7 @@ use Rattle.enet_peer.specs.declared.parts.Limits.{Limits}
 use Rattle.enet_peer.specs.declared.parts.PeerEvent.{PeerEvent}
 use Rattle.enet_peer.specs.declared.parts.PeerEvent.TheVariants as event
 use Rattle.enet_peer.specs.Endings.{ended, freed, disconnecting, parting, settled, is_later, cut_off_in}
-use Rattle.enet_peer.specs.CommandEffect.{Outcome, Obeys, wants_memory, answered, answered_at, is_answered_in, is_allowed, is_connect, obeyed, by_body, by_answer, by_arrival, on_data, stopped, sampled, with_answer, on_match, on_acknowledge, welcomed, on_verify_in, on_last_disconnect, on_disconnect_in}
+use Rattle.enet_peer.specs.CommandEffect.{Outcome, Obeys, wants_memory, answered, answered_at, is_answered_in, is_allowed, is_connect, obeyed, by_body, by_answer, by_arrival, on_data, stopped, sampled, with_answer, on_match, accepted, is_connecting, on_acknowledge, welcomed, on_verify_in, on_last_disconnect, on_disconnect_in}
 use Rattle.enet_peer.specs.Calls.{Leave, AtOnce, TellsOnce, Asks, AsksLater, Refused, Leaves, left, Submits, submitted, PutsOut, after_timeouts, after_timeouts_by, is_pinged, ticked, is_connected, pace_of, gone_on_in, Taken, Takes, next_event, event_after, packet_event, last_event, with_bandwidth, with_throttle}
 use Rattle.enet_peer.specs.Reachable.{IsReachable, IsStill, IsStillIn, KeepsHoldings, WaitsIn, holdings_of}
 use Rattle.enet_peer.proofs.Obeying.{obeys-holds}
@@ -263,7 +263,7 @@ with-answer-keeps p state.Disconnecting (control.Disconnect info) h = ended-keep
 with-answer-keeps p s what h = h
 
 acknowledged-keeps : (p : Peering) (now channel number time : ℕ) → IsReachable p → IsReachable (on_acknowledge p now channel number time)
-acknowledged-keeps p now channel number time h = by (matched_by p.outbox channel number)
+acknowledged-keeps p now channel number time h = by-state (is_connecting p.state)
   where
     q : Peering
     q = sampled (record p { outbox = after_acknowledgement p.outbox channel number }) now time
@@ -275,6 +275,10 @@ acknowledged-keeps p now channel number time h = by (matched_by p.outbox channel
     by matched.Nothing = h
     by matched.Data = settled-keeps q a
     by (matched.Control what) = settled-keeps (with_answer p.state what q) (with-answer-keeps q p.state what a)
+
+    by-state : (b : Bool) → IsReachable (cond b p (accepted p now channel number time))
+    by-state true = h
+    by-state false = by (matched_by p.outbox channel number)
 
 welcomed-keeps : (p : Peering) (v : Verify) (o : Option Terms) → IsReachable p → IsReachable (welcomed p v o)
 welcomed-keeps p v None h = ended-keeps p 0 h
@@ -333,11 +337,11 @@ took-hands Waiting b channel r c h = h
 took-hands Memory b channel r c h = h
 took-hands Outside b channel r c h = h
 took-hands Again b channel r c h = h
-took-hands Held b channel r c h = at-set HandedOver b.receivers channel (emptied (after_command r (Some c) (is_full b))) refl h
+took-hands Held b channel r c h = at-set HandedOver b.receivers channel (emptied (after_command r (Some c) (is_full_for b r c))) refl h
 
 on-hands : (b : Inbox) (channel : ℕ) (c : DataCommand) (o : Option ReceivingEnd) → At HandedOver b.receivers → At HandedOver (sequenced_on b channel c o).after.receivers
 on-hands b channel c None h = h
-on-hands b channel c (Some r) h = took-hands (outcome_for r (Some c) (is_full b)) b channel r c h
+on-hands b channel c (Some r) h = took-hands (outcome_for r (Some c) (is_full_for b r c)) b channel r c h
 
 sequenced-hands : (b : Inbox) (channel : ℕ) (o : Option DataCommand) → At HandedOver b.receivers → At HandedOver (sequenced b channel o).after.receivers
 sequenced-hands b channel None h = h

@@ -108,9 +108,18 @@ on_match matched.Nothing old gone = old
 on_match matched.Data old gone = settled gone
 on_match (matched.Control what) old gone = settled (with_answer old.state what gone)
 
--- an acknowledgement comes; one that matches nothing has no effect
+-- an acknowledgement takes away what it matches; one that matches nothing has no effect
+abbrev pub accepted : Peering → ℕ → ℕ → ℕ → ℕ → Peering
+accepted p now channel number time = on_match (matched_by p.outbox channel number) p (acknowledged p now channel number time)
+
+abbrev pub is_connecting : PeerState → Bool
+is_connecting state.Connecting = true
+is_connecting _ = false
+
+-- an acknowledgement comes. At a client that waits for its server's answer none has an effect: the answer alone stands for the
+-- acknowledgement of CONNECT
 abbrev pub on_acknowledge : Peering → ℕ → ℕ → ℕ → ℕ → Peering
-on_acknowledge p now channel number time = on_match (matched_by p.outbox channel number) p (acknowledged p now channel number time)
+on_acknowledge p now channel number time = if is_connecting p.state then p else accepted p now channel number time
 
 -- a server's answer comes to a client. Where it isn't accepted, the connection has ended; else it stands, and the answer is the
 -- acknowledgement of CONNECT, which is all that the client had to send

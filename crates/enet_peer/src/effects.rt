@@ -7,7 +7,7 @@ ghost use Rattle.enet_inbox.specs.InboxParts as coming;
 ghost use Rattle.enet_peer.specs.Acting.{foreseen, foreseen_data};
 ghost use Rattle.enet_peer.specs.Private.Acting.{taken_in, acted, may_be_answered, wants_place, is_welcomed_by, may_clear, Replies};
 ghost use Rattle.enet_peer.specs.Private.Peered.{places_of};
-ghost use Rattle.enet_peer.specs.CommandEffect.{obeyed, wants_memory, is_kept, Obeys, answered, is_allowed, is_answered_in, on_acknowledge, on_verify_in, on_disconnect_in, on_bandwidth, on_throttle, sampled, with_answer};
+ghost use Rattle.enet_peer.specs.CommandEffect.{obeyed, wants_memory, is_kept, Obeys, answered, is_allowed, is_answered_in, accepted, on_acknowledge, on_verify_in, on_disconnect_in, on_bandwidth, on_throttle, sampled, with_answer};
 
 use crate::{Peer, PeerState};
 use enet_codec::{Command, Head, Stop, Verify};
@@ -284,9 +284,21 @@ impl Peer {
         Ok(())
     }
 
-    /// An acknowledgement comes; one that matches nothing has no effect.
+    /// An acknowledgement comes. At a client that waits for its server's answer none has an effect: the answer alone stands for
+    /// the acknowledgement of CONNECT.
     fn on_acknowledge(&mut self, now: u32, channel: u8, number: u16, time: u16)
         ensures peer { self.new.peer ≡ on_acknowledge self.old.peer now channel number time }
+        ensures acknowledgement_room { self.old.acknowledgement_room ≤ self.new.acknowledgement_room }
+    {
+        if self.state == PeerState::Connecting {
+            return;
+        }
+        self.accept(now, channel, number, time);
+    }
+
+    /// An acknowledgement takes away what it matches; one that matches nothing has no effect.
+    fn accept(&mut self, now: u32, channel: u8, number: u16, time: u16)
+        ensures peer { self.new.peer ≡ accepted self.old.peer now channel number time }
         ensures acknowledgement_room { self.old.acknowledgement_room ≤ self.new.acknowledgement_room }
     {
         match self.outbox.matched(channel, number) {

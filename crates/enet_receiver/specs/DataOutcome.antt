@@ -2,7 +2,7 @@
 use Rattle.std.specs.Prelude.{ℕ, Bool, true, false, ◌+◌, ◌-◌, ◌%◌, ◌&&◌, ◌||◌, not, ◌==◌, nat_le, if◌then◌else◌, length, Option, Some, None}
 use Rattle.std.specs.Option.{is_some, is_none}
 use Rattle.std.specs.FinMap.{get, insert}
-use Rattle.enet_seq.specs.Windows.{acknowledges}
+use Rattle.enet_seq.specs.Windows.{acknowledges, after}
 use Rattle.enet_seq.specs.Numbering.{Numbering, number_read, start_read}
 use Rattle.enet_fragment.specs.Place.{is_sound}
 use Rattle.enet_fragment.specs.PartialPacket.{nothing_yet, belongs, piece_at, with_piece}
@@ -53,6 +53,10 @@ came (Some e) c = is_none c.fragment || is_some (piece_at e.making (piece_of c).
 -- whether its packet was dispatched, or has fallen behind
 abbrev pub is_behind : Receiver → DataCommand → ℕ → Bool
 is_behind r c place = place == r.front && (c.reliable || nat_le c.unreliable r.unreliable)
+
+-- whether it is of the packet just past the front, the next that is dispatched
+abbrev pub is_next : Receiver → DataCommand → Bool
+is_next r c = c.reliable && (piece_of c).start == after r.front 1
 
 abbrev pub outcome_of : Receiver → DataCommand → Bool → ℕ → Option IncomingPacket → Took
 outcome_of r c full place earlier =

@@ -84,3 +84,7 @@ held_bytes r = bytes_of r.held + bytes_in r.waiting
 -- all that is held or waits is dropped; the front, the unreliable number and what was dispatched stay
 abbrev pub cleared : Receiver → Receiver
 cleared r = record r { held = empty; waiting = empty }
+
+-- the unreliable packets that wait or are in the making are given up
+abbrev pub without_waiting : Receiver → Receiver
+without_waiting r = record r { waiting = empty }

@@ -14,7 +14,7 @@ ghost use Rattle.enet_receiver.specs.Private.ReceiverParts.{with_kept, grown_at,
 ghost use Rattle.enet_receiver.specs.Private.InPlace.{ComesAlone, GoesAtOnce, with_moved, only_packet_from};
 ghost use Rattle.enet_receiver.specs.Private.Walk.{Completes};
 ghost use Rattle.enet_receiver.specs.Receiver.{held_bytes, cleared};
-ghost use Rattle.enet_receiver.specs.DataOutcome.{outcome, outcome_of, place_read, came_at, came_before, is_behind, is_handled, dispatch_count};
+ghost use Rattle.enet_receiver.specs.DataOutcome.{outcome, outcome_of, place_read, came_at, came_before, is_behind, is_next, is_handled, dispatch_count};
 ghost use Rattle.enet_receiver.specs.Foresight.{new_end, data_if, is_reliable, is_unreliable, is_fragment, is_unreliable_fragment, outcome_for, after_command, WouldBeHeld, Receives, foreseen};
 
 use crate::arriving_data::ArrivingData;
@@ -265,6 +265,13 @@ impl Incoming {
             return None;
         }
         self.hand_out(arriving)
+    }
+
+    /// Whether a command is of the packet just past the front, the next that is dispatched.
+    pub fn is_next(&self, arriving: ArrivingData<'_>) -> bool
+        ensures { result ≡ is_next self.now.receiver (data_command arriving.entry) }
+    {
+        arriving.reliable && arriving.start() == after(self.front, 1)
     }
 
     /// The bytes of the packets that are held or wait until those before them have come, each counted whole from its first

@@ -17,7 +17,7 @@ use Rattle.enet_peer.specs.Peering.{Peering}
 use Rattle.enet_peer.specs.declared.parts.PeerState.{PeerState}
 use Rattle.enet_peer.specs.declared.parts.PeerState.TheVariants as state
 use Rattle.enet_peer.specs.Endings.{ended, freed, disconnecting, parting, settled, is_later}
-use Rattle.enet_peer.specs.CommandEffect.{Outcome, answered, answered_at, is_answered_in, sampled, with_answer, on_match, on_acknowledge, on_last_disconnect, on_disconnect_in}
+use Rattle.enet_peer.specs.CommandEffect.{Outcome, answered, answered_at, is_answered_in, sampled, with_answer, on_match, accepted, is_connecting, on_acknowledge, on_last_disconnect, on_disconnect_in}
 use Rattle.law_connection.specs.Link.{is_late}
 use Rattle.law_connection.specs.LinkSteps.{Has}
 use Rattle.law_connection.specs.Connection.{Put, End, sent_on, in_sequence}
@@ -114,7 +114,7 @@ holds-with_answer own other p s what e h = h
 
 pub holds-acknowledged : (own other : End) (p : Peering) (put : Put) (now number time : ℕ) → Has other.log put → put.message.body ≡ acknowledge number time → (put.message.head.channel < 255 → is_late (sent_on put.message.head.channel own) put.sent_then number ≡ false)
     → Holds own other p → Holds own other (on_acknowledge p now put.message.head.channel number time)
-holds-acknowledged own other p put now number time logged body late h = by (matched_by p.outbox put.message.head.channel number)
+holds-acknowledged own other p put now number time logged body late h = by-state (is_connecting p.state)
   where
     q : Peering
     q = sampled (record p { outbox = after_acknowledgement p.outbox put.message.head.channel number }) now time
@@ -127,6 +127,10 @@ holds-acknowledged own other p put now number time logged body late h = by (matc
     by matched.Nothing = h
     by matched.Data = holds-settled own other q k
     by (matched.Control what) = holds-settled own other (with_answer p.state what q) (holds-with_answer own other q p.state what refl k)
+
+    by-state : (b : Bool) → Holds own other (cond b p (accepted p now put.message.head.channel number time))
+    by-state true = h
+    by-state false = by (matched_by p.outbox put.message.head.channel number)
 
 -- DISCONNECT comes
 holds-last : (own other : End) (p : Peering) (b : Bool) (info : ℕ) → Holds own other p → Holds own other (on_last_disconnect p b info)

@@ -8,7 +8,7 @@ use Rattle.enet_packets.specs.declared.incoming_packet.Dispatched.{Dispatched}
 use Rattle.enet_receiver.specs.Receiver.{Receiver}
 use Rattle.enet_receiver.specs.DataOutcome.{received, acknowledged}
 use Rattle.enet_receiver.specs.Foresight.{ReceivingEnd}
-use Rattle.enet_inbox.specs.Inbox.{Inbox, is_full}
+use Rattle.enet_inbox.specs.Inbox.{Inbox, is_full_for}
 use Rattle.enet_inbox.specs.DataEffect.{sequenced_on}
 use Rattle.enet_peer.specs.Peering.{Peering}
 use Rattle.law_connection.specs.Link.{PutOut, is_late}
@@ -43,7 +43,7 @@ pub record Comes (own other : End) (put : Put) (c : DataCommand) : Type 0 where
 pub back-taken_in : (own other : End) (p q : Peering) (put : Put) (c : DataCommand) (r : ReceivingEnd) (answer : Bool) (k : IsLinked other own put.message.head.channel) → own.peer ≡ Some p
     → dispatches_in p.state ≡ true → dispatches_in q.state ≡ true → Comes own other put c → slice_get p.inbox.receivers put.message.head.channel ≡ Some r → r.receiver.dispatched ≡ [] → HasSequenced r.receiver
     → q.inbox ≡ (sequenced_on p.inbox put.message.head.channel c (slice_get p.inbox.receivers put.message.head.channel)).after
-    → (answer ≡ true → (c.reliable ≡ true) × (acknowledged wire r.max_packet k.link.incoming c (is_full p.inbox) ≡ true))
+    → (answer ≡ true → (c.reliable ≡ true) × (acknowledged wire r.max_packet k.link.incoming c (is_full_for p.inbox r c) ≡ true))
     → numbers_on put.message.head.channel q.outbox.acknowledgements ≡ cond answer (numbers_on put.message.head.channel p.outbox.acknowledgements ++ c.number ∷ []) (numbers_on put.message.head.channel p.outbox.acknowledgements)
     → IsLinked other (with_peer own q) put.message.head.channel
 back-taken_in own other p q put c r answer k is opens open2 comes there none flagged box rule numbers =
@@ -54,7 +54,7 @@ back-taken_in own other p q put c r answer k is opens open2 comes there none fla
     channel = put.message.head.channel
 
     full : Bool
-    full = is_full p.inbox
+    full = is_full_for p.inbox r c
 
     e : PutOut
     e = record { command = c; sent_then = put.sent_then }

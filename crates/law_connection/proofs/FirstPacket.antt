@@ -1,9 +1,9 @@
 -- A receiver to which nothing came dispatches the first reliable packet at once, and so its peer has it. (Finite maps don't compute, so a run that takes
 -- a packet needs this.)
-use Rattle.std.proofs.Common.{◌≡◌, ℕ, zero, suc, ◌+◌, true, false, cond, List, [], ◌∷◌, ◌++◌, length, map, refl, sym, ap, subst, ◌∙◌, arith, Option, Some, None}
-use Rattle.std.specs.Prelude.{nat_le, sum_by, ◌&&◌}
+use Rattle.std.proofs.Common.{◌≡◌, ℕ, zero, suc, ◌+◌, true, false, cond, List, [], ◌∷◌, ◌++◌, map, refl, sym, ap, subst, ◌∙◌, arith, Option, Some, None}
+use Rattle.std.specs.Prelude.{◌&&◌}
 use Rattle.std.specs.Ordering.{nat_cmp}
-use Rattle.std.specs.FinMap.{FinMap, get, empty, len, entries, values, get-empty, len-empty, len-entries}
+use Rattle.std.specs.FinMap.{get, len, entries, get-empty}
 use Rattle.enet_codec.specs.declared.packet.Packet.{Packet}
 use Rattle.enet_codec.specs.Message.{Message}
 use Rattle.enet_seq.specs.Numbering.{wire}
@@ -14,15 +14,15 @@ use Rattle.enet_fragment.specs.declared.data.DataCommand.{DataCommand}
 use Rattle.enet_fragment.specs.DataCommand.{message_of}
 use Rattle.enet_packets.specs.declared.incoming_packet.IncomingPacket.{IncomingPacket}
 use Rattle.enet_packets.specs.declared.incoming_packet.Dispatched.{Dispatched}
-use Rattle.enet_packets.specs.Packets.{handed_out, fresh, bytes_of}
+use Rattle.enet_packets.specs.Packets.{handed_out, fresh}
 use Rattle.enet_receiver.specs.declared.took.Took.{Took}
 use Rattle.enet_receiver.specs.declared.took.Took.TheVariants.{Held, Bad}
-use Rattle.enet_receiver.specs.Receiver.{Receiver, nothing_received, held_bytes, front_line, flushed_from, with_passed, next_whole, released, released_with, all_released}
+use Rattle.enet_receiver.specs.Receiver.{Receiver, nothing_received, front_line, flushed_from, with_passed, next_whole, released, released_with, all_released}
 use Rattle.enet_receiver.specs.Foresight.{ReceivingEnd, new_end}
 use Rattle.enet_receiver.specs.DataOutcome.{outcome, outcome_of, is_piece, agrees_with, received, received_with, earlier_or_new, with_more, with_added}
 use Rattle.enet_receiver.proofs.Maps.{get-insert_same}
 use Rattle.enet_receiver.proofs.Released.{released-keeps, nothing_held}
-use Rattle.enet_inbox.specs.Inbox.{empty_inbox, is_full}
+use Rattle.enet_inbox.specs.Inbox.{empty_inbox, is_full_for}
 use Rattle.enet_inbox.specs.DataEffect.{packet_of, by_took}
 use Rattle.enet_peer.specs.declared.parts.PeerState.TheVariants as state
 use Rattle.enet_peer.specs.Peering.{Peering}
@@ -80,21 +80,6 @@ first-received =
     let is : received wire 1000 nothing_received first_command false ≡ all_released wire new = ap (λ (t : Took). received_with t wire nothing_received first_command) first-outcome ∙ at in
     subst (λ (r : Receiver). Begins (record { flags = 1; body = 7 ∷ 8 ∷ [] }) r) (sym is) (subst (λ (d : Dispatched). Begins d (all_released wire new)) handed out)
 
--- a receiver to which nothing came holds no bytes
-
-none-in : {X : Type 0} (f : X → ℕ) (es : List (ℕ × X)) → 0 ≡ length es → sum_by f (map (λ e. e.1) es) ≡ 0
-none-in f [] e = refl
-none-in f (x ∷ es) e = absurd (omega arith)
-
-none-of : {X : Type 0} (f : X → ℕ) → sum_by f (values (empty {X = X} {R = nat_cmp})) ≡ 0
-none-of {X = X} f = none-in f (entries (empty {X = X} {R = nat_cmp})) (sym (len-empty nat_cmp X) ∙ len-entries (empty {X = X} {R = nat_cmp}))
-
-nothing-waits : held_bytes nothing_received ≡ 0
-nothing-waits =
-    let one = none-of {X = IncomingPacket} (λ c. c.making.total) in
-    let two = none-of {X = FinMap nat_cmp IncomingPacket} bytes_of in
-    omega arith
-
 -- a connected peer with one channel, on which nothing came
 
 abbrev pub first_message : Message
@@ -109,8 +94,8 @@ receiving = new_end 0 1000
 abbrev by-outcome : Peering → Took → Outcome
 by-outcome p t = by_arrival (ready p) first_message (Some 0) (by_took t (empty_inbox 1 1000 1000) 0 receiving first_command)
 
-not-full : is_full (empty_inbox 1 1000 1000) ≡ false
-not-full = ap (λ n. nat_le 1000 (0 + n + 0)) nothing-waits
+not-full : is_full_for (empty_inbox 1 1000 1000) receiving first_command ≡ false
+not-full = refl
 
 comes : (p : Peering) → obeyed (ready p) 0 (Some 0) first_message ≡ by-outcome p Held
 comes p = ap (λ full. by-outcome p (outcome wire 1000 nothing_received first_command full)) not-full ∙ ap (by-outcome p) first-outcome

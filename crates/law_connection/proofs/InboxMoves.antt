@@ -13,7 +13,7 @@ use Rattle.enet_receiver.specs.Receiver.{Receiver}
 use Rattle.enet_receiver.specs.DataOutcome.{outcome, received, received_with}
 use Rattle.enet_receiver.specs.Laws.{DoesTheSame}
 use Rattle.enet_receiver.specs.Foresight.{ReceivingEnd}
-use Rattle.enet_inbox.specs.Inbox.{Inbox, is_full}
+use Rattle.enet_inbox.specs.Inbox.{Inbox, is_full_for}
 use Rattle.enet_inbox.specs.DataEffect.{packet_of, emptied, by_took, sequenced_on}
 use Rattle.law_connection.specs.Connection.{in_sequence}
 use Rattle.law_connection.specs.Linked.{receiver_in}
@@ -60,16 +60,16 @@ abbrev Moves : ℕ → List Dispatched → Inbox → ReceivingEnd → DataComman
 Moves channel taken b r c t = shown_in channel taken (by_took t b channel r c).after ≡ received_with t wire (shown_in channel taken b) c
 
 moves-by : (channel : ℕ) (taken : List Dispatched) (b : Inbox) (r : ReceivingEnd) (c : DataCommand) (t : Took) → slice_get b.receivers channel ≡ Some r → r.receiver.dispatched ≡ []
-    → DoesTheSame (λ s. received wire r.max_packet s c (is_full b)) r.receiver (taken ++ in_sequence channel b.untaken)
-    → AreSequenced (received wire r.max_packet r.receiver c (is_full b)).dispatched
-    → outcome wire r.max_packet r.receiver c (is_full b) ≡ t → Moves channel taken b r c t
+    → DoesTheSame (λ s. received wire r.max_packet s c (is_full_for b r c)) r.receiver (taken ++ in_sequence channel b.untaken)
+    → AreSequenced (received wire r.max_packet r.receiver c (is_full_for b r c)).dispatched
+    → outcome wire r.max_packet r.receiver c (is_full_for b r c) ≡ t → Moves channel taken b r c t
 moves-by channel taken b r c Bad there none same flags e = refl
 moves-by channel taken b r c Waiting there none same flags e = refl
 moves-by channel taken b r c Memory there none same flags e = refl
 moves-by channel taken b r c Outside there none same flags e = refl
 moves-by channel taken b r c Again there none same flags e = refl
 moves-by channel taken b r c Held there none same flags e =
-    let full = is_full b in
+    let full = is_full_for b r c in
     let d : List Dispatched = taken ++ in_sequence channel b.untaken in
     let new : Receiver = received wire r.max_packet r.receiver c full in
     let mine : Receiver = grown d r.receiver in
@@ -88,11 +88,11 @@ moves-by channel taken b r c Held there none same flags e =
 
 -- on the channel of the command
 pub arrival-own : (channel : ℕ) (taken : List Dispatched) (b : Inbox) (r : ReceivingEnd) (c : DataCommand) → slice_get b.receivers channel ≡ Some r → r.receiver.dispatched ≡ []
-    → DoesTheSame (λ s. received wire r.max_packet s c (is_full b)) r.receiver (taken ++ in_sequence channel b.untaken)
-    → AreSequenced (received wire r.max_packet r.receiver c (is_full b)).dispatched
-    → shown_in channel taken (sequenced_on b channel c (slice_get b.receivers channel)).after ≡ received wire r.max_packet (shown_in channel taken b) c (is_full b)
+    → DoesTheSame (λ s. received wire r.max_packet s c (is_full_for b r c)) r.receiver (taken ++ in_sequence channel b.untaken)
+    → AreSequenced (received wire r.max_packet r.receiver c (is_full_for b r c)).dispatched
+    → shown_in channel taken (sequenced_on b channel c (slice_get b.receivers channel)).after ≡ received wire r.max_packet (shown_in channel taken b) c (is_full_for b r c)
 arrival-own channel taken b r c there none same flags =
-    let full = is_full b in
+    let full = is_full_for b r c in
     let d : List Dispatched = taken ++ in_sequence channel b.untaken in
     let shown : shown_in channel taken b ≡ grown d r.receiver = ap (λ (o : Option ReceivingEnd). grown d (receiver_in o)) there in
     let t : outcome wire r.max_packet (shown_in channel taken b) c full ≡ outcome wire r.max_packet r.receiver c full = ap (λ (x : Receiver). outcome wire r.max_packet x c full) shown in
@@ -108,7 +108,7 @@ other-by k channel taken b r c Memory n = refl
 other-by k channel taken b r c Outside n = refl
 other-by k channel taken b r c Again n = refl
 other-by k channel taken b r c Held n =
-    let new : Receiver = received wire r.max_packet r.receiver c (is_full b) in
+    let new : Receiver = received wire r.max_packet r.receiver c (is_full_for b r c) in
     let after' : ReceivingEnd = record r { receiver = new } in
     ap (λ (o : Option ReceivingEnd). grown (taken ++ in_sequence channel (b.untaken ++ map (packet_of k) new.dispatched)) (receiver_in o)) (get-set-other b.receivers k channel (emptied after') n)
     ∙ ap (λ (l : List Dispatched). grown (taken ++ l) (receiver_in (slice_get b.receivers channel)))
@@ -116,4 +116,4 @@ other-by k channel taken b r c Held n =
 
 pub arrival-other : (k channel : ℕ) (taken : List Dispatched) (b : Inbox) (c : DataCommand) (o : Option ReceivingEnd) → k ≢ channel → shown_in channel taken (sequenced_on b k c o).after ≡ shown_in channel taken b
 arrival-other k channel taken b c None n = refl
-arrival-other k channel taken b c (Some r) n = other-by k channel taken b r c (outcome wire r.max_packet r.receiver c (is_full b)) n
+arrival-other k channel taken b c (Some r) n = other-by k channel taken b r c (outcome wire r.max_packet r.receiver c (is_full_for b r c)) n

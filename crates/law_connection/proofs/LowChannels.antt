@@ -8,7 +8,7 @@ use Rattle.enet_codec.specs.declared.packet.Packet.{Packet}
 use Rattle.enet_packets.specs.declared.incoming_packet.Dispatched.{Dispatched}
 use Rattle.enet_receiver.specs.Foresight.{ReceivingEnd, after_command}
 use Rattle.enet_receiver.specs.Foresight as receiving
-use Rattle.enet_inbox.specs.Inbox.{Inbox, cleared_receiver, is_full}
+use Rattle.enet_inbox.specs.Inbox.{Inbox, cleared_receiver, is_full_for}
 use Rattle.enet_inbox.specs.DataEffect.{packet_of, emptied}
 use Rattle.enet_peer.specs.Peering.{Peering}
 use Rattle.enet_peer.specs.Endings.{disconnecting, dropped, ended, freed, parting}
@@ -55,9 +55,9 @@ lows = record {
   acknowledges = λ p j number here h. record { channels = h.channels; untaken = h.untaken };
   marks = λ p now h. record { channels = h.channels; untaken = h.untaken };
   takes = λ p j r c on there h. record {
-    channels = subst (λ n. n ≤ 255) (sym (length-set p.inbox.receivers j (emptied (after_command r (Some c) (is_full p.inbox))))) h.channels;
-    untaken = low-append p.inbox.untaken (map (packet_of j) (after_command r (Some c) (is_full p.inbox)).receiver.dispatched) h.untaken
-        (low-handed j (let i = inside p.inbox.receivers j r there in let f = h.channels in omega arith) (after_command r (Some c) (is_full p.inbox)).receiver.dispatched);
+    channels = subst (λ n. n ≤ 255) (sym (length-set p.inbox.receivers j (emptied (after_command r (Some c) (is_full_for p.inbox r c))))) h.channels;
+    untaken = low-append p.inbox.untaken (map (packet_of j) (after_command r (Some c) (is_full_for p.inbox r c)).receiver.dispatched) h.untaken
+        (low-handed j (let i = inside p.inbox.receivers j r there in let f = h.channels in omega arith) (after_command r (Some c) (is_full_for p.inbox r c)).receiver.dispatched);
   };
   takes_unsequenced = λ p j group payload on h. record {
     channels = h.channels;

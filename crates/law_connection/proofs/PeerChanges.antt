@@ -22,7 +22,7 @@ use Rattle.enet_fragment.specs.declared.data.DataCommand.{DataCommand}
 use Rattle.enet_receiver.specs.declared.took.Took.{Took}
 use Rattle.enet_receiver.specs.declared.took.Took.TheVariants.{Held, Again, Outside, Bad, Waiting, Memory}
 use Rattle.enet_receiver.specs.Foresight.{ReceivingEnd, outcome_for, after_command}
-use Rattle.enet_inbox.specs.Inbox.{Inbox, is_full}
+use Rattle.enet_inbox.specs.Inbox.{Inbox, is_full, is_full_for}
 use Rattle.enet_inbox.specs.DataEffect.{DataEffect, handled, stopped as refused, unsequenced, unsequenced_taken, handed_over, by_took, passed_over_on, sequenced_on, passed_over, arrival}
 use Rattle.enet_sender.specs.Sender.{Occasion, Next, next, with_skipped}
 use Rattle.enet_sender.specs.Due.{SendingEnd}
@@ -37,7 +37,7 @@ use Rattle.enet_peer.specs.Peering.{Peering}
 use Rattle.enet_peer.specs.declared.parts.PeerState.{PeerState}
 use Rattle.enet_peer.specs.declared.parts.PeerState.TheVariants as state
 use Rattle.enet_peer.specs.Endings.{dropped, ended, freed, disconnecting, parting, settled, is_later, cut_off_in}
-use Rattle.enet_peer.specs.CommandEffect.{Outcome, answered, answered_at, is_answered_in, is_allowed, is_of_handshake, obeyed, by_body, by_answer, by_arrival, on_data, stopped, sampled, with_answer, on_match, on_acknowledge, welcomed, on_verify_in, on_last_disconnect, on_disconnect_in, on_bandwidth, on_throttle}
+use Rattle.enet_peer.specs.CommandEffect.{Outcome, answered, answered_at, is_answered_in, is_allowed, is_of_handshake, obeyed, by_body, by_answer, by_arrival, on_data, stopped, sampled, with_answer, on_match, accepted, is_connecting, on_acknowledge, welcomed, on_verify_in, on_last_disconnect, on_disconnect_in, on_bandwidth, on_throttle}
 use Rattle.enet_peer.specs.Calls.{left, after_timeouts, after_timeouts_by, is_pinged, ticked, is_connected, pace_of, gone_on, gone_on_in}
 use Rattle.law_connection.specs.Steps.{Way, Asking, Now, Later, leave_by, Setting, Bandwidth, Throttle, ThrottleLimit, PingInterval, Timeout, with_setting, MaySet}
 use Rattle.enet_outbox.proofs.Filled.{by-filling}
@@ -91,7 +91,7 @@ pub record Changes (P : Peering → Type 0) : Type 0 where
   pub acknowledges : (p : Peering) (channel number : ℕ) → is_gone p.state ≡ false → P p → P (record p { outbox = after_acknowledgement p.outbox channel number })
   pub marks : (p : Peering) (now : ℕ) → P p → P (record p { outbox = outbox.marked p.outbox now })
   pub takes : (p : Peering) (channel : ℕ) (r : ReceivingEnd) (c : DataCommand) → is_connected p.state ≡ true → slice_get p.inbox.receivers channel ≡ Some r → P p
-      → P (record p { inbox = handed_over p.inbox channel (after_command r (Some c) (is_full p.inbox)) })
+      → P (record p { inbox = handed_over p.inbox channel (after_command r (Some c) (is_full_for p.inbox r c)) })
   pub takes_unsequenced : (p : Peering) (channel group : ℕ) (payload : List ℕ) → is_connected p.state ≡ true → P p → P (record p { inbox = unsequenced_taken p.inbox channel group payload })
   pub puts_control : (p : Peering) (now timeout : ℕ) (n : controlling.Next) → controlling.next now timeout p.outbox.control ≡ Some n → P p → P (record p { outbox = record p.outbox { control = n.commands } })
   pub puts_data : (p : Peering) (k : ℕ) (occasion : Occasion) (s : SendingEnd) (n : Next) → slice_get p.outbox.senders k ≡ Some s → next wire occasion s.sender ≡ Some n → P p
@@ -256,7 +256,7 @@ kept-with_answer P k p state.Disconnecting (control.Disconnect info) e h = k.end
 kept-with_answer P k p s what e h = h
 
 kept-acknowledged : (P : Peering → Type 0) → Changes P → (p : Peering) (now channel number time : ℕ) → is_gone p.state ≡ false → P p → P (on_acknowledge p now channel number time)
-kept-acknowledged P k p now channel number time here h = by (matched_by p.outbox channel number)
+kept-acknowledged P k p now channel number time here h = by-state (is_connecting p.state)
   where
     q : Peering
     q = sampled (record p { outbox = after_acknowledgement p.outbox channel number }) now time
@@ -268,6 +268,10 @@ kept-acknowledged P k p now channel number time here h = by (matched_by p.outbox
     by matched.Nothing = h
     by matched.Data = kept-settled P k q a
     by (matched.Control what) = kept-settled P k (with_answer p.state what q) (kept-with_answer P k q p.state what refl a)
+
+    by-state : (b : Bool) → P (cond b p (accepted p now channel number time))
+    by-state true = h
+    by-state false = by (matched_by p.outbox channel number)
 
 big-enough : (n : ℕ) → 28 < max 576 n
 big-enough n = omega arith
@@ -333,7 +337,7 @@ kept-data P k p m c sent up h = by-later (is_later p.state) refl
 
     by : (o : Option ReceivingEnd) → slice_get p.inbox.receivers j ≡ o → is_connected p.state ≡ true → P (record p { inbox = (sequenced_on p.inbox j c o).after })
     by None there on = h
-    by (Some r) there on = by-took r there on (outcome_for r (Some c) (is_full p.inbox))
+    by (Some r) there on = by-took r there on (outcome_for r (Some c) (is_full_for p.inbox r c))
 
     by-later : (b : Bool) → is_later p.state ≡ b → P (cond b (by_answer p m sent (passed_over_on p.inbox c (slice_get p.inbox.receivers j))) (by_arrival p m sent (sequenced_on p.inbox j c (slice_get p.inbox.receivers j)))).after
     by-later true e = kept-result P k p m sent (passed_over_on p.inbox c (slice_get p.inbox.receivers j)) h

@@ -13,7 +13,7 @@ use Rattle.enet_receiver.specs.declared.took.Took.TheVariants.{Held, Again, Outs
 use Rattle.enet_receiver.specs.Receiver.{Receiver}
 use Rattle.enet_receiver.specs.DataOutcome.{outcome, is_handled}
 use Rattle.enet_receiver.specs.Foresight.{ReceivingEnd}
-use Rattle.enet_inbox.specs.Inbox.{Inbox, is_full}
+use Rattle.enet_inbox.specs.Inbox.{Inbox, is_full_for}
 use Rattle.enet_inbox.specs.DataEffect.{DataEffect, by_took, sequenced_on, passed_over_on}
 use Rattle.enet_outbox.specs.declared.parts.Acknowledgement.{Acknowledgement}
 use Rattle.enet_outbox.specs.Outbox.{with_acknowledgement}
@@ -91,7 +91,7 @@ front-small own other channel k open' = let f = keeps k.mtu k.events k.link k.bi
 -- it is taken in
 pub holds-taken_in : (own other : End) (p q : Peering) (put : Put) (c : DataCommand) (r : ReceivingEnd) (answer : Bool) → dispatches_in p.state ≡ true → Logged other put c
     → slice_get p.inbox.receivers put.message.head.channel ≡ Some r → r.receiver.dispatched ≡ [] → HasSequenced r.receiver
-    → (answer ≡ true → (c.reliable ≡ true) × (is_handled (outcome wire r.max_packet r.receiver c (is_full p.inbox)) ≡ true) × (acknowledges r.receiver.front c.number ≡ true))
+    → (answer ≡ true → (c.reliable ≡ true) × (is_handled (outcome wire r.max_packet r.receiver c (is_full_for p.inbox r c)) ≡ true) × (acknowledges r.receiver.front c.number ≡ true))
     → After p put c.number (sequenced_on p.inbox put.message.head.channel c (slice_get p.inbox.receivers put.message.head.channel)).after answer q → Holds own other p → Holds own other q
 holds-taken_in own other p q put c r answer opens logged there none flagged rule after' b = record {
   out = λ channel few. out-quiet (with_peer own p) other p q channel refl (record { sends = ap sends_in after'.same; mtu = after'.mtu; senders = after'.senders }) (b.out channel few);
@@ -107,7 +107,7 @@ holds-taken_in own other p q put c r answer opens logged there none flagged rule
 
     here : IsLinked other (with_peer own p) j → IsLinked other (with_peer own q) j
     here k =
-        let full = is_full p.inbox in
+        let full = is_full_for p.inbox r c in
         let h = receiving-of (with_peer own p) p j k.link refl k.receiving in
         let open' : k.link.is_open ≡ true = sym h.0 ∙ opens in
         let now : k.link.incoming ≡ grown (in_sequence j (packets_of own.events) ++ in_sequence j p.inbox.untaken) r.receiver = h.1 open' ∙ ap (λ (o : Option ReceivingEnd). grown (in_sequence j (packets_of own.events) ++ in_sequence j p.inbox.untaken) (receiver_in o)) there in
@@ -135,7 +135,7 @@ holds-sequenced own other p put c sent opens logged tidy b = by (slice_get p.inb
     Good a = Holds own other (by_arrival p put.message sent a).after
 
     -- an outcome that is handled
-    handles : (r : ReceivingEnd) → slice_get p.inbox.receivers j ≡ Some r → (t : Took) → outcome wire r.max_packet r.receiver c (is_full p.inbox) ≡ t → is_handled t ≡ true
+    handles : (r : ReceivingEnd) → slice_get p.inbox.receivers j ≡ Some r → (t : Took) → outcome wire r.max_packet r.receiver c (is_full_for p.inbox r c) ≡ t → is_handled t ≡ true
         → Holds own other (answered (record p { inbox = (by_took t p.inbox j r c).after }) put.message sent (acknowledges r.receiver.front c.number)).after
     handles r there t e handled =
         after-answered (Holds own other) p put c.number (by_took t p.inbox j r c).after sent (acknowledges r.receiver.front c.number) logged.number
@@ -150,7 +150,7 @@ holds-sequenced own other p put c sent opens logged tidy b = by (slice_get p.inb
           others = after'.others;
         }) b)
 
-    took : (r : ReceivingEnd) → slice_get p.inbox.receivers j ≡ Some r → (t : Took) → outcome wire r.max_packet r.receiver c (is_full p.inbox) ≡ t → Holds own other (by_arrival p put.message sent (by_took t p.inbox j r c)).after
+    took : (r : ReceivingEnd) → slice_get p.inbox.receivers j ≡ Some r → (t : Took) → outcome wire r.max_packet r.receiver c (is_full_for p.inbox r c) ≡ t → Holds own other (by_arrival p put.message sent (by_took t p.inbox j r c)).after
     took r there Bad e = b
     took r there Waiting e = b
     took r there Memory e = b
@@ -160,7 +160,7 @@ holds-sequenced own other p put c sent opens logged tidy b = by (slice_get p.inb
 
     by : (o : Option ReceivingEnd) → slice_get p.inbox.receivers j ≡ o → Holds own other (by_arrival p put.message sent (sequenced_on p.inbox j c o)).after
     by None there = b
-    by (Some r) there = took r there (outcome wire r.max_packet r.receiver c (is_full p.inbox)) refl
+    by (Some r) there = took r there (outcome wire r.max_packet r.receiver c (is_full_for p.inbox r c)) refl
 
 -- sequenced data is passed over
 pub holds-passed : (own other : End) (p : Peering) (put : Put) (c : DataCommand) (sent : Option ℕ) → dispatches_in p.state ≡ false → Logged other put c

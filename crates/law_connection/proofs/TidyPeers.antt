@@ -7,7 +7,7 @@ use Rattle.enet_seq.specs.Numbering.{wire}
 use Rattle.enet_receiver.specs.DataOutcome.{received}
 use Rattle.enet_receiver.specs.Receiver.{Receiver}
 use Rattle.enet_receiver.specs.Foresight.{ReceivingEnd, after_command}
-use Rattle.enet_inbox.specs.Inbox.{cleared_receiver, is_full}
+use Rattle.enet_inbox.specs.Inbox.{cleared_receiver, is_full_for}
 use Rattle.enet_inbox.specs.DataEffect.{emptied}
 use Rattle.enet_sender.specs.Sender.{Occasion, Sender, Next, next, with_skipped, with_marked, nothing_sent}
 use Rattle.enet_sender.specs.Sender as sender
@@ -191,8 +191,8 @@ tidies qs = record {
   takes = λ p j r c on there h. record {
     places = h.places;
     few = h.few;
-    receivers = flat-set p.inbox.receivers j (emptied (after_command r (Some c) (is_full p.inbox))) refl
-        (sequenced-emptied (received wire r.max_packet r.receiver c (is_full p.inbox)) (sequenced-received wire r.max_packet r.receiver c (is_full p.inbox) (let f = h.receivers j r there in f.1))) h.receivers;
+    receivers = flat-set p.inbox.receivers j (emptied (after_command r (Some c) (is_full_for p.inbox r c))) refl
+        (sequenced-emptied (received wire r.max_packet r.receiver c (is_full_for p.inbox r c)) (sequenced-received wire r.max_packet r.receiver c (is_full_for p.inbox r c) (let f = h.receivers j r there in f.1))) h.receivers;
     young = λ t. absurd (let x : true ≡ false = sym t ∙ connected-old p.state on in cc);
     big = h.big;
   };

@@ -10,7 +10,7 @@ use Rattle.enet_receiver.specs.declared.took.Took.{Took}
 use Rattle.enet_receiver.specs.declared.took.Took.TheVariants as took
 use Rattle.enet_receiver.specs.Foresight.{ReceivingEnd, outcome_for}
 use Rattle.enet_unsequenced.specs.Groups.{dispatches}
-use Rattle.enet_inbox.specs.Inbox.{Inbox, is_full}
+use Rattle.enet_inbox.specs.Inbox.{Inbox, is_full, is_full_for}
 use Rattle.enet_inbox.specs.DataEffect.{DataEffect, by_took, sequenced_on, sequenced, unsequenced, unsequenced_taken, handled, arrival_of, arrival, passed_over}
 use Rattle.enet_inbox.specs.DataEffect as inbox
 use Rattle.enet_peer.specs.Peering.{Peering}
@@ -42,7 +42,7 @@ stays-took took.Held b channel r c = λ w e. absurd (cc)
 
 stays-on : (b : Inbox) (channel : ℕ) (c : DataCommand) (o : Option ReceivingEnd) → Stays b (sequenced_on b channel c o)
 stays-on b channel c None = stays-stopped b stop.BadChannel
-stays-on b channel c (Some r) = stays-took (outcome_for r (Some c) (is_full b)) b channel r c
+stays-on b channel c (Some r) = stays-took (outcome_for r (Some c) (is_full_for b r c)) b channel r c
 
 stays-sequenced : (b : Inbox) (channel : ℕ) (o : Option DataCommand) → Stays b (sequenced b channel o)
 stays-sequenced b channel None = stays-stopped b stop.BadCommand

@@ -1,7 +1,7 @@
 use Rattle.std.proofs.Common.{◌<◌, ◌+◌, ◌^◌, length, refl, ap, ◌∙◌, arith, Some}
 use Rattle.std.specs.Prelude.{slice_set}
 use Rattle.enet_receiver.specs.ArrivingData.{data_command}
-use Rattle.enet_inbox.specs.Inbox.{Inbox, is_full}
+use Rattle.enet_inbox.specs.Inbox.{Inbox, is_full_for}
 use Rattle.enet_inbox.specs.DataEffect.{sequenced}
 use Rattle.enet_inbox.specs.Invariant.{KeepsInbox}
 use Rattle.enet_inbox.specs.contracts.inbox.Inbox.{the_view}
@@ -10,29 +10,29 @@ use Rattle.enet_inbox.proofs.Keeping.{Reached, taken_at, handed_at, kept_passed,
 use Rattle.enet_inbox.proofs.inbox.Inbox.pass_on.Goals.{After-index_mut-receiver, In-Some}
 use Rattle.enet_inbox.proofs.inbox.Inbox.pass_on.Goals as goal
 
-reached : (c : After-index_mut-receiver) → Reached (the_view c.self.inside) c.args.arriving.head c.args.arriving.head (Some (data_command c.args.arriving)) c.args.what c.index_mut-receiver.result.now (is_full c.args.self.now)
+reached : (c : After-index_mut-receiver) → Reached (the_view c.self.inside) c.args.arriving.head c.args.arriving.head (Some (data_command c.args.arriving)) c.args.what c.index_mut-receiver.result.now (is_full_for c.args.self.now c.index_mut-receiver.result.now (data_command c.args.arriving))
 reached c =
-    taken_at c.args.self.now (the_view c.self.inside) c.self.inside.waiting c.args.arriving.head c.args.arriving.head (Some (data_command c.args.arriving)) c.args.what c.index_mut-receiver.result.now (is_full c.args.self.now) c.self.view_is c.self.invariant refl c.index_mut-receiver.ensures.value refl c.requires.foreseen c.requires.kept
+    taken_at c.args.self.now (the_view c.self.inside) c.self.inside.waiting c.args.arriving.head c.args.arriving.head (data_command c.args.arriving) c.args.what c.index_mut-receiver.result.now (is_full_for c.args.self.now c.index_mut-receiver.result.now (data_command c.args.arriving)) c.self.view_is c.self.invariant refl c.index_mut-receiver.ensures.value refl c.requires.foreseen c.requires.kept
 
 -- the inbox keeps what it keeps, and the counter fits
-kept : (c : In-Some) → Reached (the_view c.self.inside) c.args.arriving.head c.args.arriving.head (Some (data_command c.args.arriving)) c.args.what c.index_mut-receiver.result.now (is_full c.args.self.now)
+kept : (c : In-Some) → Reached (the_view c.self.inside) c.args.arriving.head c.args.arriving.head (Some (data_command c.args.arriving)) c.args.what c.index_mut-receiver.result.now (is_full_for c.args.self.now c.index_mut-receiver.result.now (data_command c.args.arriving))
     → KeepsInbox (record (the_view c.self.inside) { receivers = slice_set c.self.inside.receivers.items c.args.arriving.head.channel c.pass_on.new.receiver; untaken = c.pass_on.new.untaken.items })
     (c.self.inside.waiting + c.in-Some.bytes) × (c.self.inside.waiting + c.in-Some.bytes < 2 ^ 127)
 kept c t =
     let qs = c.pass_on.new.untaken.items in
-    let k = kept_passed (the_view c.self.inside) c.self.inside.waiting c.args.arriving.head.channel c.index_mut-receiver.result.now c.pass_on.new.receiver (Some (data_command c.args.arriving)) (is_full c.args.self.now) qs c.in-Some.bytes
-    c.self.invariant t.0 c.index_mut-receiver.ensures.value t.2 (c.in-Some.ensures.receiver (is_full c.args.self.now) t.1.outcome) c.in-Some.ensures.as_much_held c.in-Some.ensures.short c.in-Some.ensures.bytes in
+    let k = kept_passed (the_view c.self.inside) c.self.inside.waiting c.args.arriving.head.channel c.index_mut-receiver.result.now c.pass_on.new.receiver (Some (data_command c.args.arriving)) (is_full_for c.args.self.now c.index_mut-receiver.result.now (data_command c.args.arriving)) qs c.in-Some.bytes
+    c.self.invariant t.0 c.index_mut-receiver.ensures.value t.2 (c.in-Some.ensures.receiver (is_full_for c.args.self.now c.index_mut-receiver.result.now (data_command c.args.arriving)) t.1.outcome) c.in-Some.ensures.as_much_held c.in-Some.ensures.short c.in-Some.ensures.bytes in
     let few : length qs < 2 ^ 63 = omega (arith, c.pass_on.new.untaken.ok.0, c.pass_on.new.untaken.small.0, c.pass_on.new.untaken.small.1) in
     (k, bounded _ _ k few)
 
 pub pass_on-requires-clause-held : goal.pass_on-requires-clause-held
-pass_on-requires-clause-held c = (is_full c.args.self.now, (reached (goal.at.pass_on-requires-clause-held c).After-index_mut-receiver).1.outcome)
+pass_on-requires-clause-held c = (is_full_for c.args.self.now c.index_mut-receiver.result.now (data_command c.args.arriving), (reached (goal.at.pass_on-requires-clause-held c).After-index_mut-receiver).1.outcome)
 
 pub returns-clause-taken : goal.returns-clause-taken
 returns-clause-taken c = λ _.
     let t = reached (goal.at.returns-clause-taken c).After-index_mut-receiver in
-    handed_at (the_view c.self.inside) c.args.arriving.head c.args.arriving.head (Some (data_command c.args.arriving)) (foresight_in c.args.what) c.index_mut-receiver.result.now c.pass_on.new.receiver (is_full c.args.self.now) c.pass_on.new.untaken.items refl t.1 t.2
-    (c.in-Some.ensures.receiver (is_full c.args.self.now) t.1.outcome) (c.in-Some.ensures.untaken (is_full c.args.self.now) t.1.outcome)
+    handed_at (the_view c.self.inside) c.args.arriving.head c.args.arriving.head (Some (data_command c.args.arriving)) (foresight_in c.args.what) c.index_mut-receiver.result.now c.pass_on.new.receiver (is_full_for c.args.self.now c.index_mut-receiver.result.now (data_command c.args.arriving)) c.pass_on.new.untaken.items refl t.1 t.2
+    (c.in-Some.ensures.receiver (is_full_for c.args.self.now c.index_mut-receiver.result.now (data_command c.args.arriving)) t.1.outcome) (c.in-Some.ensures.untaken (is_full_for c.args.self.now c.index_mut-receiver.result.now (data_command c.args.arriving)) t.1.outcome)
     ∙ ap (λ (x : Inbox). (sequenced x c.args.arriving.head.channel (Some (data_command c.args.arriving))).after) c.self.view_is
 
 pub overflow_add-self : goal.overflow_add-self

@@ -2,21 +2,25 @@ use Rattle.std.proofs.Common.{◌≡◌, ◌<◌, ◌+◌, ◌-◌, ◌^◌, len
 use Rattle.std.specs.Prelude.{slice_set}
 use Rattle.enet_receiver.specs.ArrivingData.{data_command}
 use Rattle.enet_receiver.specs.Receiver.{held_bytes}
-use Rattle.enet_inbox.specs.Inbox.{Inbox}
+use Rattle.enet_receiver.specs.Foresight.{ReceivingEnd}
+use Rattle.enet_inbox.specs.Inbox.{Inbox, is_full_for}
 use Rattle.enet_inbox.specs.DataEffect.{sequenced}
 use Rattle.enet_inbox.specs.Invariant.{KeepsInbox}
 use Rattle.enet_inbox.specs.contracts.inbox.Inbox.{the_view}
 use Rattle.enet_inbox.proofs.Outcomes.{foresight_in}
-use Rattle.enet_inbox.proofs.Keeping.{Reached, taken_at, handed_at, kept_after, held_counted, bounded}
+use Rattle.enet_inbox.proofs.Keeping.{Reached, taken_at, kept_channel, looked_at_twice, handed_at, kept_after, held_counted, bounded}
 use Rattle.enet_inbox.proofs.inbox.Inbox.take_in_any.Goals.{After-index_mut-receiver, After-from-2}
 use Rattle.enet_inbox.proofs.inbox.Inbox.take_in_any.Goals as goal
 
-reached : (c : After-index_mut-receiver) → Reached (the_view c.self.inside) c.args.arriving.head c.args.arriving.head (Some (data_command c.args.arriving)) c.args.what c.index_mut-receiver.result.now c.is_full-full.result
+reached : (c : After-index_mut-receiver) → Reached (the_view c.self.inside) c.args.arriving.head c.args.arriving.head (Some (data_command c.args.arriving)) c.args.what c.index_mut-receiver.result.now c.is_full_for-full.result
 reached c =
-    taken_at c.args.self.now (the_view c.self.inside) c.self.inside.waiting c.args.arriving.head c.args.arriving.head (Some (data_command c.args.arriving)) c.args.what c.index_mut-receiver.result.now c.is_full-full.result c.self.view_is c.self.invariant refl c.index_mut-receiver.ensures.value c.is_full-full.ensures c.requires.foreseen c.requires.kept
+    let d = c.index_mut-receiver.result.now in
+    let same : c.index.result.now ≡ d = looked_at_twice c.self.inside.receivers.items c.args.arriving.head.channel c.index.result.now d (kept_channel c.args.self.now (the_view c.self.inside) c.args.arriving.head.channel (data_command c.args.arriving) c.args.what c.self.view_is c.requires.foreseen c.requires.kept) c.index.ensures c.index_mut-receiver.ensures.value in
+    let full : c.is_full_for-full.result ≡ is_full_for c.args.self.now d (data_command c.args.arriving) = c.is_full_for-full.ensures ∙ ap (λ (r : ReceivingEnd). is_full_for c.args.self.now r (data_command c.args.arriving)) same in
+    taken_at c.args.self.now (the_view c.self.inside) c.self.inside.waiting c.args.arriving.head c.args.arriving.head (data_command c.args.arriving) c.args.what c.index_mut-receiver.result.now c.is_full_for-full.result c.self.view_is c.self.invariant refl c.index_mut-receiver.ensures.value full c.requires.foreseen c.requires.kept
 
 -- the inbox keeps what it keeps, with what the receiver holds counted anew, and the counter fits
-kept : (c : After-from-2) → Reached (the_view c.self.inside) c.args.arriving.head c.args.arriving.head (Some (data_command c.args.arriving)) c.args.what c.index_mut-receiver.result.now c.is_full-full.result
+kept : (c : After-from-2) → Reached (the_view c.self.inside) c.args.arriving.head c.args.arriving.head (Some (data_command c.args.arriving)) c.args.what c.index_mut-receiver.result.now c.is_full_for-full.result
     → KeepsInbox (record (the_view c.self.inside) { receivers = slice_set c.self.inside.receivers.items c.args.arriving.head.channel c.take_in.new.receiver; untaken = c.take_in.new.untaken.items })
     (c.self.inside.waiting - c.from.result + c.from-2.result + c.in-Some.bytes) × (c.self.inside.waiting - c.from.result + c.from-2.result + c.in-Some.bytes < 2 ^ 127)
 kept c t =
@@ -24,7 +28,7 @@ kept c t =
     let qs = c.take_in.new.untaken.items in
     let was : c.from.result ≡ held_bytes c.index_mut-receiver.result.now.receiver = c.from.ensures ∙ c.held-before.ensures in
     let now : c.from-2.result ≡ held_bytes new.receiver = c.from-2.ensures ∙ c.held.ensures in
-    let k = kept_after (the_view c.self.inside) c.self.inside.waiting c.args.arriving.head.channel c.index_mut-receiver.result.now new (Some (data_command c.args.arriving)) c.is_full-full.result qs c.in-Some.bytes
+    let k = kept_after (the_view c.self.inside) c.self.inside.waiting c.args.arriving.head.channel c.index_mut-receiver.result.now new (Some (data_command c.args.arriving)) c.is_full_for-full.result qs c.in-Some.bytes
     c.from.result c.from-2.result c.self.invariant t.0 c.index_mut-receiver.ensures.value t.2 c.in-Some.ensures.receiver was now (omega arith) c.in-Some.ensures.short c.in-Some.ensures.bytes in
     let few : length qs < 2 ^ 63 = omega (arith, c.take_in.new.untaken.ok.0, c.take_in.new.untaken.small.0, c.take_in.new.untaken.small.1) in
     (k, bounded _ _ k few)
@@ -64,5 +68,5 @@ invariant_of-self-2 c = let at = goal.at.invariant_of-self-2 c in (kept at.After
 pub returns-clause-taken : goal.returns-clause-taken
 returns-clause-taken c = λ _.
     let t = reached (goal.at.returns-clause-taken c).After-index_mut-receiver in
-    handed_at (the_view c.self.inside) c.args.arriving.head c.args.arriving.head (Some (data_command c.args.arriving)) (foresight_in c.args.what) c.index_mut-receiver.result.now c.take_in.new.receiver c.is_full-full.result c.take_in.new.untaken.items refl t.1 t.2 c.in-Some.ensures.receiver c.in-Some.ensures.untaken
+    handed_at (the_view c.self.inside) c.args.arriving.head c.args.arriving.head (Some (data_command c.args.arriving)) (foresight_in c.args.what) c.index_mut-receiver.result.now c.take_in.new.receiver c.is_full_for-full.result c.take_in.new.untaken.items refl t.1 t.2 c.in-Some.ensures.receiver c.in-Some.ensures.untaken
     ∙ ap (λ (x : Inbox). (sequenced x c.args.arriving.head.channel (Some (data_command c.args.arriving))).after) c.self.view_is

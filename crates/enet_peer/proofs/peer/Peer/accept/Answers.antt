@@ -4,9 +4,9 @@ use Rattle.enet_outbox.specs.Outbox.{Outbox}
 use Rattle.enet_peer.specs.contracts.peer.Peer.{the_view}
 use Rattle.enet_peer.specs.Peering.{Peering}
 use Rattle.enet_peer.specs.Peered.{Peered}
-use Rattle.enet_peer.specs.CommandEffect.{acknowledged, on_acknowledge, on_match}
+use Rattle.enet_peer.specs.CommandEffect.{acknowledged, accepted, on_match}
 use Rattle.enet_peer.proofs.Unmatched.{unmatched}
-use Rattle.enet_peer.proofs.peer.Peer.on_acknowledge.Goals as goal
+use Rattle.enet_peer.proofs.peer.Peer.accept.Goals as goal
 
 pub returns-in-Nothing-clause-peer : goal.returns-in-Nothing-clause-peer
 returns-in-Nothing-clause-peer c =
@@ -14,6 +14,6 @@ returns-in-Nothing-clause-peer c =
     let found = c.in-Nothing.ensures.found in
     let stays : c.matched.new.self.outbox ≡ p.outbox = c.in-Nothing.ensures.outbox ∙ unmatched p.outbox c.args.channel c.args.number (sym found) in
     let after : record p { outbox = c.matched.new.self.outbox } ≡ p = ap (λ (o : Outbox). record p { outbox = o }) stays in
-    let is : p ≡ on_acknowledge p c.args.now c.args.channel c.args.number c.args.time =
+    let is : p ≡ accepted p c.args.now c.args.channel c.args.number c.args.time =
     subst (λ (m : Matched). p ≡ on_match m p (acknowledged p c.args.now c.args.channel c.args.number c.args.time)) found refl in
-    subst (λ (v : Peered). record p { outbox = c.matched.new.self.outbox } ≡ on_acknowledge v.peer c.args.now c.args.channel c.args.number c.args.time) c.self.view_is (after ∙ is)
+    subst (λ (v : Peered). record p { outbox = c.matched.new.self.outbox } ≡ accepted v.peer c.args.now c.args.channel c.args.number c.args.time) c.self.view_is (after ∙ is)
