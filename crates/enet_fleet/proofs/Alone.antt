@@ -8,10 +8,14 @@ use Rattle.law_network.proofs.Alone.{Led, by-none, by-one, led-on, alone}
 use Rattle.law_network.proofs.Submitting.{same-some}
 use Rattle.enet_site.specs.Places.{Place}
 use Rattle.enet_fleet.specs.declared.event.FleetEvent.{FleetEvent}
-use Rattle.enet_fleet.specs.declared.event.Node.{Node}
-use Rattle.enet_fleet.specs.declared.event.Node.TheVariants.{Server, Client}
+use Rattle.law_headline.specs.declared.node.Node.{Node}
+use Rattle.law_headline.specs.declared.node.Node.TheVariants.{Server, Client}
 use Rattle.enet_fleet.specs.Alone.{EachAlone}
-use Rattle.enet_fleet.specs.Fleets.{Fleet, place_of, around, node_of, from_of, HappensAt, Steps, Runs}
+use Rattle.law_headline.specs.Nets as nets
+use Rattle.enet_fleet.specs.Fleets.{Fleet, place_of, address_of, around, node_of, from_of, Steps, Runs}
+
+abbrev HappensAt : Node → Node → Happening → Fleet → Fleet → Type 0
+HappensAt n from what old new = nets.HappensAt address_of n from what old new
 
 -- a host afterwards, and how it got there
 abbrev Leads : ℕ → Place → Fleet → Node → Type 0
@@ -46,7 +50,7 @@ led-at (Client k) (Client i) from what old new h was there = set-there k i from 
 -- one event, and all of a list
 
 led : (n : Node) (old new : Fleet) (event : FleetEvent) (answer : Result Answer Refusal) → Steps old event answer new → (was : Place) → place_of old n ≡ Some was → Leads 1 was new n
-led n old new event (Ok answer) h was there = led-at (node_of event) n (from_of event) h.0 old new h.2 was there
+led n old new event (Ok answer) h was there = led-at (node_of event) n (from_of event) h.0 old new h.2.happens was there
 led n old new event (Err why) h was there = stays-there 1 was new n (ap (λ (f : Fleet). place_of f n) h.1 ∙ there)
 
 led-all : (n : Node) (events : List FleetEvent) (answers : List (Result Answer Refusal)) (old new : Fleet) → Runs old events answers new → (was : Place) → place_of old n ≡ Some was → Leads (length events) was new n

@@ -21,7 +21,7 @@ use Rattle.enet_site.specs.Places.{Place, opened_at}
 use Rattle.enet_site.specs.declared.put_out.Sent.{Sent}
 use Rattle.enet_site.specs.declared.put_out.Sent.TheVariants.{Of}
 use Rattle.enet_fleet.specs.declared.event.FleetEvent.TheVariants as happen
-use Rattle.enet_fleet.specs.declared.event.Node.TheVariants.{Server, Client}
+use Rattle.law_headline.specs.declared.node.Node.TheVariants.{Server, Client}
 use Rattle.enet_fleet.specs.Fleets.{Fleet, address_of, is_host, numbers_far, Steps}
 use Rattle.enet_fleet.specs.Examples as example
 use Rattle.enet_fleet.proofs.Stepping.{asks, submitted, turned, delivered, heard, taken}

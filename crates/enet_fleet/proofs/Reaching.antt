@@ -23,14 +23,14 @@ use Rattle.enet_site.specs.declared.put_out.Sent.TheVariants.{Of, Away}
 use Rattle.enet_site.specs.Places.{Place, all_opened}
 use Rattle.enet_fleet.specs.declared.event.FleetEvent.{FleetEvent}
 use Rattle.enet_fleet.specs.declared.event.FleetEvent.TheVariants as happen
-use Rattle.enet_fleet.specs.declared.event.Node.{Node}
-use Rattle.enet_fleet.specs.declared.event.Node.TheVariants.{Server, Client}
+use Rattle.law_headline.specs.declared.node.Node.{Node}
+use Rattle.law_headline.specs.declared.node.Node.TheVariants.{Server, Client}
 use Rattle.enet_fleet.specs.Fleets.{Fleet, place_of, with_place, address_of, is_host, gone_to, logged_in, logged_to, node_of, lacks, refused_there, refused_delivery, Refuses, RefusesIf, Steps, open_fleet}
 use Rattle.enet_fleet.specs.Headline.{HasHeadline}
 use Rattle.enet_fleet.specs.Law.{OfEachRun}
 use Rattle.enet_fleet.specs.Reached.{fit, IsReached}
-use Rattle.enet_fleet.proofs.Places.{server-apart}
-use Rattle.enet_fleet.proofs.Holding.{Sound, Holds, each-holds}
+use Rattle.law_headline.proofs.Net as net
+use Rattle.enet_fleet.proofs.Places.{apart, server-apart, Sound}
 use Rattle.enet_fleet.proofs.Runs.{sound-run, IsAcross, goes-across}
 use Rattle.enet_fleet.proofs.Headlines.{has-headline}
 
@@ -70,7 +70,7 @@ pub owned-at : (f : Fleet) (n : Node) (p : Place) → IsReached f → place_of f
 owned-at f n p r there = (let h : HasHeadline f = has-headline f (reached-sound f r) in (h.hosts n p there).all)
 
 pub at-its-address : (f : Fleet) (n : Node) (p : Place) → IsReached f → place_of f n ≡ Some p → p.site.address ≡ address_of n
-at-its-address f n p r there = (let h : Holds f.asked (length f.clients) n p.site = each-holds f (reached-sound f r) n p there in h.address)
+at-its-address f n p r there = (net.each-holds address_of apart f (reached-sound f r) n p there).address
 
 -- there are few clients
 
@@ -80,7 +80,7 @@ length-with f (Client i) p = length-set f.clients i p
 
 step-clients : (f g : Fleet) (e : FleetEvent) (x : Result Answer Refusal) → Steps f e x g → length f.clients ≤ 4095 → length g.clients ≤ 4095
 step-clients f g e (Ok a) r few =
-    let same : length g.clients ≡ length f.clients = ap (λ (h : Fleet). length h.clients) r.2.rest ∙ length-with f (node_of e) r.2.is in
+    let same : length g.clients ≡ length f.clients = ap (λ (h : Fleet). length h.clients) r.2.happens.rest ∙ length-with f (node_of e) r.2.happens.is in
     omega arith
 step-clients f g e (Err why) r few = (let same : length g.clients ≡ length f.clients = ap (λ (h : Fleet). length h.clients) r.1 in omega arith)
 
@@ -120,8 +120,7 @@ not-aside f to from p k r there h = at-sent (slice_get p.sent k)
     at-log : (n : ℕ) (found : Option Logged) → slice_get p.site.log n ≡ found → gone_to (address_of to) n found ≡ None
     at-log n None e = refl
     at-log n (Some d) e =
-        let s : Sound f = reached-sound f r in
-        let across : IsAcross from d.to = goes-across f.asked (length f.clients) from p.site d (each-holds f s from p there) (Has-slice_get p.site.log n d e) in
+        let across : IsAcross from d.to = goes-across f (reached-sound f r) from p there d (Has-slice_get p.site.log n d e) in
         rw (aside to from d.to h across) refl
 
     at-sent : (o : Option Sent) → logged_in (address_of to) p o ≡ None

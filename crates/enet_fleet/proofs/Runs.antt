@@ -1,11 +1,9 @@
 -- Whatever happens in a fleet, the law of one connection holds of each connection.
 use Rattle.std.proofs.Common.{◌≡◌, ℕ, zero, suc, ◌+◌, Bool, true, false, cond, List, [], ◌∷◌, length, refl, sym, ap, subst, ◌∙◌, arith, Option, Some, None, Result, Ok, Err, slice_get}
-use Rattle.std.specs.List.{list_all}
+use Rattle.std.specs.Option.{option_map}
 use Rattle.enet_codec.specs.declared.address.Addr.{Addr}
-use Rattle.enet_codec.specs.declared.config.Config.{Config}
 use Rattle.enet_codec.specs.declared.event.Received.{Received}
 use Rattle.enet_codec.specs.declared.refusal.Refusal.{Refusal}
-use Rattle.enet_codec.specs.Config.{is_in_range}
 use Rattle.law_connection.specs.LinkSteps.{Has}
 use Rattle.enet_slot.specs.Hearing.{is_same_address}
 use Rattle.law_network.specs.Calls.{Call}
@@ -13,48 +11,33 @@ use Rattle.law_network.specs.Calls as call
 use Rattle.law_network.specs.declared.event.Answer.{Answer}
 use Rattle.law_network.specs.declared.event.Answer.TheVariants as answers
 use Rattle.law_network.specs.Log.{Logged}
-use Rattle.law_network.specs.Network.{Site}
-use Rattle.law_network.specs.Steps.{Happening, Calls, Hears, HappensAmong}
+use Rattle.law_network.specs.Steps.{Happening, Calls, Hears}
 use Rattle.law_network.proofs.Addresses.{equal-address}
 use Rattle.law_network.proofs.Submitting.{same-some}
-use Rattle.law_network.proofs.Owned.{none-held}
 use Rattle.law_network.proofs.Running.{runs-keep}
-use Rattle.law_network.proofs.Runs.{few-of, both, none-at, lawful-either}
 use Rattle.enet_site.specs.declared.put_out.Sent.{Sent}
 use Rattle.enet_site.specs.declared.put_out.Sent.TheVariants.{Of, Away}
-use Rattle.enet_site.specs.Places.{Place, opened_at, all_opened}
-use Rattle.enet_fleet.specs.declared.event.Node.{Node}
-use Rattle.enet_fleet.specs.declared.event.Node.TheVariants.{Server, Client}
+use Rattle.enet_site.specs.Places.{Place}
+use Rattle.law_headline.specs.declared.node.Node.{Node}
+use Rattle.law_headline.specs.declared.node.Node.TheVariants.{Server, Client}
 use Rattle.enet_fleet.specs.declared.event.FleetEvent.{FleetEvent}
 use Rattle.enet_fleet.specs.declared.event.FleetEvent.TheVariants as happen
-use Rattle.enet_fleet.specs.Fleets.{Fleet, place_of, address_of, around, asked_after, HappensAt, gone_to, logged_in, brings, node_of, from_of, Makes, Steps, Runs, open_fleet}
+use Rattle.enet_fleet.specs.Fleets.{Fleet, place_of, address_of, far_address, gone_to, logged_in, brings, node_of, from_of, Makes, Steps, Runs, open_fleet}
 use Rattle.enet_fleet.specs.Law.{AreLawful, AreAcross, OfEachRun}
-use Rattle.enet_fleet.proofs.Places.{place_in, place}
-use Rattle.enet_fleet.proofs.Holding.{AreOwn, Holds, Sound, each-holds, asked-sent, far-known, AllowsCall, IsAllowed}
-use Rattle.enet_fleet.proofs.AtServer.{ServerGone, server-goes}
-use Rattle.enet_fleet.proofs.AtClient.{ClientGone, client-goes}
+use Rattle.law_headline.specs.Nets as nets
+use Rattle.law_headline.specs.Nets.{AllowsCall}
+use Rattle.law_headline.proofs.Net as net
+use Rattle.enet_fleet.proofs.Places.{apart, Sound}
 
--- one thing at a host
-
-at-server : (m : Node) (what : Happening) (f g : Fleet) (h : HappensAt Server m what f g) → IsAllowed f Server m what → Sound f → Sound g
-at-server m what f g h allowed s = subst Sound (sym h.rest) (record { server = gone.holds; clients = s.clients; pairs = gone.pairs; begun = s.begun })
-  where
-    here : HappensAmong (around f Server) h.sender.site what f.server.site h.is.site
-    here = subst (λ (p : Place). HappensAmong (around f Server) h.sender.site what p.site h.is.site) (sym (same-some f.server h.was h.there)) h.here
-
-    gone : ServerGone f h.is.site
-    gone = server-goes f m what h.sender h.is.site h.sends here allowed s
-
-at-client : (i : ℕ) (m : Node) (what : Happening) (f g : Fleet) (h : HappensAt (Client i) m what f g) → IsAllowed f (Client i) m what → Sound f → Sound g
-at-client i m what f g h allowed s =
-    let gone : ClientGone f i (asked_after (Client i) what f.asked) h.is = client-goes f i m what h.sender h.was h.is h.sends h.there h.here allowed s in
-    subst Sound (sym h.rest) (record { server = gone.server; clients = gone.clients; pairs = gone.pairs; begun = gone.begun })
-
-pub sound-goes : (n m : Node) (what : Happening) (f g : Fleet) → HappensAt n m what f g → IsAllowed f n m what → Sound f → Sound g
-sound-goes Server m what f g h allowed s = at-server m what f g h allowed s
-sound-goes (Client i) m what f g h allowed s = at-client i m what f g h allowed s
+-- where the other host of a connection is
+pub far-known : (f : Fleet) (n : Node) (x : ℕ) → (i : ℕ) × (slice_get f.asked x ≡ Some i) → far_address f n x ≡ Some (net.place address_of apart f.asked n x)
+far-known f Server x a = ap (option_map (λ (i : ℕ). address_of (Client i))) a.1 ∙ sym (ap (λ (o : Option ℕ). Some (net.place_in address_of apart o)) a.1)
+far-known f (Client i) x a = refl
 
 -- an event makes what is allowed
+
+abbrev pub IsAllowed : Fleet → Node → Node → Happening → Type 0
+IsAllowed f n m what = nets.IsAllowed address_of f n m what
 
 abbrev pub is_connect : Call → Bool
 is_connect (call.Connect address channels info word answer) = true
@@ -102,57 +85,18 @@ allowed-of f (happen.Disconnect node peer how info) answers.Done e m = plain-cal
 allowed-of f event answer e m = absurd m
 
 pub sound-step : (f g : Fleet) (event : FleetEvent) (answer : Result Answer Refusal) → Steps f event answer g → Sound f → Sound g
-sound-step f g e (Ok a) r s = sound-goes (node_of e) (from_of e) r.0 f g r.2 (allowed-of f e a r.0 r.1) s
+sound-step f g e (Ok a) r s = net.sound-goes address_of apart (node_of e) (from_of e) r.0 f g r.2.happens (allowed-of f e a r.0 r.1) s
 sound-step f g e (Err why) r s = subst Sound (sym r.1) s
 
 sound-runs : (events : List FleetEvent) (answers : List (Result Answer Refusal)) (f g : Fleet) → Runs f events answers g → Sound f → Sound g
 sound-runs events answers f g r s = runs-keep Steps Sound sound-step events answers f g r s
 
--- at first
-
-open-holds : (clients : ℕ) (n : Node) (c : Config) → is_in_range c ≡ true → Holds [] clients n (opened_at (address_of n) c).site
-open-holds clients n c fits = record {
-  host = record { few = few-of c fits; apart = λ e i. absurd i; below = λ e i. absurd i; logged = λ d i. absurd i; named = λ d i. absurd i };
-  address = refl;
-  far = none-at (place [] n) (opened_at (address_of n) c).site refl;
-  sent = λ d i. absurd i;
-  own = own n;
-  owned = λ i t p there has at. absurd (none-held c.peers i t p there has);
-}
-  where
-    own : (m : Node) → AreOwn [] m (opened_at (address_of n) c).site
-    own Server = tt
-    own (Client k) = λ e i. absurd i
-
-open-client : (cs : List Config) (first i : ℕ) (p : Place) → list_all is_in_range cs ≡ true → slice_get (all_opened (λ k. address_of (Client k)) first cs) i ≡ Some p → (c : Config) × (is_in_range c ≡ true) × (opened_at (address_of (Client (first + i))) c ≡ p)
-open-client [] first i p fits h = absurd (let e : ◌≡◌ {A = Option Place} None (Some p) = h in cc)
-open-client (c ∷ cs) first zero p fits h =
-    let n : first ≡ first + 0 = omega arith in
-    (c, (both (is_in_range c) (list_all is_in_range cs) fits).0, ap (λ (k : ℕ). opened_at (address_of (Client k)) c) (sym n) ∙ same-some (opened_at (address_of (Client first)) c) p h)
-open-client (c ∷ cs) first (suc i) p fits h =
-    let r = open-client cs (first + 1) i p (both (is_in_range c) (list_all is_in_range cs) fits).1 h in
-    let n : first + 1 + i ≡ first + suc i = omega arith in
-    (r.0, r.1, ap (λ (k : ℕ). opened_at (address_of (Client k)) r.0) (sym n) ∙ r.2)
-
-open-sound : (server : Config) (clients : List Config) → is_in_range server ≡ true → list_all is_in_range clients ≡ true → Sound (open_fleet server clients)
-open-sound server clients one all = record {
-  server = open-holds (length (open_fleet server clients).clients) Server server one;
-  clients = λ i p h. (let r = open-client clients 0 i p all h in
-      let n : 0 + i ≡ i = omega arith in
-      subst (λ (k : ℕ). Holds [] (length (open_fleet server clients).clients) (Client k) p.site) n
-      (subst (λ (q : Place). Holds [] (length (open_fleet server clients).clients) (Client (0 + i)) q.site) r.2 (open-holds (length (open_fleet server clients).clients) (Client (0 + i)) r.0 r.1)));
-  pairs = λ x i h. absurd (let e : ◌≡◌ {A = Option ℕ} None (Some i) = h in cc);
-  begun = λ x i h. absurd (let e : ◌≡◌ {A = Option ℕ} None (Some i) = h in cc);
-}
-
 pub sound-run : OfEachRun Sound
-sound-run server clients one all events answers f r = sound-runs events answers (open_fleet server clients) f r (open-sound server clients one all)
+sound-run server clients one all events answers f r = sound-runs events answers (open_fleet server clients) f r (net.open-sound address_of apart server clients one all)
 
 -- so the law holds
 pub are-lawful : (f : Fleet) → Sound f → AreLawful f
-are-lawful f s x i asked =
-    let r = s.pairs x i asked in
-    (r.0, r.1, record { one = r.2.one; two = r.2.two; here = r.2.here; there = r.2.there; lawful = lawful-either false r.2.one r.2.two r.2.kept })
+are-lawful f s = net.are-lawful address_of apart f s
 
 pub each-run : OfEachRun AreLawful
 each-run server clients one all events answers f r = are-lawful f (sound-run server clients one all events answers f r)
@@ -162,11 +106,15 @@ abbrev pub IsAcross : Node → Addr → Type 0
 IsAcross Server to = (i : ℕ) × (to ≡ address_of (Client i))
 IsAcross (Client i) to = to ≡ address_of Server
 
-pub goes-across : (asked : List ℕ) (clients : ℕ) (n : Node) (s : Site) (d : Logged) → Holds asked clients n s → Has s.log d → IsAcross n d.to
-goes-across asked clients Server s d k h = (let a = asked-sent asked clients Server s d k h in (a.0, k.sent d h ∙ ap place_in a.1))
-goes-across asked clients (Client i) s d k h = k.sent d h
+pub goes-across : (f : Fleet) → Sound f → (n : Node) (p : Place) → place_of f n ≡ Some p → (d : Logged) → Has p.site.log d → IsAcross n d.to
+goes-across f s n p there d h = by n (net.each-holds address_of apart f s n p there)
+  where
+    by : (n : Node) → net.Holds address_of apart f.asked (length f.clients) n p.site → IsAcross n d.to
+    by Server k = (let a = net.asked-sent address_of apart f.asked (length f.clients) Server p.site d k h in (a.0, k.sent d h ∙ ap (net.place_in address_of apart) a.1))
+    by (Client i) k = k.sent d h
 
 pub across-run : OfEachRun AreAcross
 across-run server clients one all events answers f r n p there d h =
-    let k : Holds f.asked (length f.clients) n p.site = each-holds f (sound-run server clients one all events answers f r) n p there in
-    far-known f n d.connection (asked-sent f.asked (length f.clients) n p.site d k h) ∙ ap (λ (a : Addr). Some a) (sym (k.sent d h))
+    let s : Sound f = sound-run server clients one all events answers f r in
+    let k = net.each-holds address_of apart f s n p there in
+    far-known f n d.connection (net.asked-sent address_of apart f.asked (length f.clients) n p.site d k h) ∙ ap (λ (a : Addr). Some a) (sym (k.sent d h))

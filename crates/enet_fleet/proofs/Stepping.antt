@@ -25,8 +25,8 @@ use Rattle.enet_site.specs.Sites.{CallsAt}
 use Rattle.enet_site.specs.Turning.{CallsAround, TurnsAmong}
 use Rattle.enet_fleet.specs.declared.event.FleetEvent.{FleetEvent}
 use Rattle.enet_fleet.specs.declared.event.FleetEvent.TheVariants as happen
-use Rattle.enet_fleet.specs.declared.event.Node.{Node}
-use Rattle.enet_fleet.specs.declared.event.Node.TheVariants.{Server, Client}
+use Rattle.law_headline.specs.declared.node.Node.{Node}
+use Rattle.law_headline.specs.declared.node.Node.TheVariants.{Server, Client}
 use Rattle.enet_fleet.specs.Fleets.{Fleet, place_of, with_place, address_of, is_host, numbers_far, around, asked_after, sent_if, sent_after, HappensAt, logged_to, next_number, brings, lacks, RefusesAt, refused_there, refused_delivery, RefusesThere, RefusesIf, Refuses, Steps}
 use Rattle.enet_fleet.specs.Private.Turning.{PutsOutByTurn, sent_of}
 use Rattle.enet_fleet.proofs.Runs.{is_connect}
@@ -65,7 +65,7 @@ stays (Client i) what f is h = ap (λ (a : List ℕ). record f { clients = slice
 pub done : (n from : Node) (what : Happening) (f : Fleet) (was sender is : Place) → asked_after n what f.asked ≡ f.asked → place_of f n ≡ Some was → place_of f from ≡ Some sender
     → HappensAmong (around f n) sender.site what was.site is.site → is.sent ≡ sent_after (is_host (length f.clients)) what was → HappensAt n from what f (with_place f n is)
 done n from what f was sender is asked there sends here sent =
-    record { was = was; there = there; sender = sender; sends = sends; is = is; here = here; sent = sent; rest = stays n what f is asked }
+    record { happens = record { was = was; there = there; sender = sender; sends = sends; is = is; here = here; rest = stays n what f is asked }; sent = sent }
 
 -- but for a Connect no call adds to the connections
 pub no-connect : (n : Node) (c : Call) (asked : List ℕ) → is_connect c ≡ false → asked_after n (Calls c) asked ≡ asked
@@ -132,14 +132,16 @@ asks f i was new asked channels info word name there at h noted = (
   Calls (call.Connect (address_of Server) channels info word (Ok name)),
   refl,
   record {
-    was = was;
-    there = there;
-    sender = f.server;
-    sends = refl;
-    is = record was { site = new };
-    here = subst (λ (a : Addr). HappensAmong (around f (Client i)) f.server.site (Calls (call.Connect a channels info word (Ok name))) was.site new) at h;
+    happens = record {
+      was = was;
+      there = there;
+      sender = f.server;
+      sends = refl;
+      is = record was { site = new };
+      here = subst (λ (a : Addr). HappensAmong (around f (Client i)) f.server.site (Calls (call.Connect a channels info word (Ok name))) was.site new) at h;
+      rest = λ t. record f { clients = slice_set f.clients i (record was { site = new }); asked = noted t };
+    };
     sent = refl;
-    rest = λ t. record f { clients = slice_set f.clients i (record was { site = new }); asked = noted t };
   },
 )
 

@@ -5,7 +5,7 @@ use Rattle.law_network.specs.declared.event.Answer.{Answer}
 use Rattle.law_network.specs.Alone.{LiveAlone}
 use Rattle.enet_site.specs.Places.{Place}
 use Rattle.enet_fleet.specs.declared.event.FleetEvent.{FleetEvent}
-use Rattle.enet_fleet.specs.declared.event.Node.{Node}
+use Rattle.law_headline.specs.declared.node.Node.{Node}
 use Rattle.enet_fleet.specs.Fleets.{Fleet, place_of, Runs}
 
 -- by any list of events, each of which makes one call at most, each peer of a host lived alone, whatever the other hosts and strangers send

@@ -15,7 +15,7 @@ use Rattle.enet_site.specs.Places.{Place}
 use Rattle.enet_fleet.specs.declared.event.End.TheVariants as end
 use Rattle.enet_fleet.specs.declared.event.FleetEvent.{FleetEvent}
 use Rattle.enet_fleet.specs.declared.event.FleetEvent.TheVariants as happen
-use Rattle.enet_fleet.specs.declared.event.Node.TheVariants.{Server, Client}
+use Rattle.law_headline.specs.declared.node.Node.TheVariants.{Server, Client}
 use Rattle.enet_fleet.specs.Fleets.{Fleet, address_of, client_of, Runs, open_fleet}
 use Rattle.enet_fleet.specs.Headline.{end_at}
 

@@ -19,24 +19,17 @@ use Rattle.law_network.specs.World.{IsRefusedFor, RefusesCall}
 use Rattle.enet_site.specs.declared.put_out.Sent.{Sent}
 use Rattle.enet_site.specs.declared.put_out.Sent.TheVariants.{Of, Away}
 use Rattle.enet_site.specs.Places.{Place, opened_at, all_opened}
-use Rattle.enet_fleet.specs.declared.event.Node.{Node}
-use Rattle.enet_fleet.specs.declared.event.Node.TheVariants.{Server, Client}
+use Rattle.law_headline.specs.declared.node.Node.{Node}
+use Rattle.law_headline.specs.declared.node.Node.TheVariants.{Server, Client}
+use Rattle.law_headline.specs.Nets as nets
+use Rattle.law_headline.specs.Nets.{Net}
+pub use Rattle.law_headline.specs.Nets.{place_of, with_place, numbers_at, numbers_far, client_in, client_of, asked_after}
 use Rattle.enet_fleet.specs.declared.event.FleetEvent.{FleetEvent}
 use Rattle.enet_fleet.specs.declared.event.FleetEvent.TheVariants as happen
 
 -- all hosts, and the client of each connection so far
-pub record Fleet : Type 0 where
-  pub server : Place
-  pub clients : List Place
-  pub asked : List ℕ
-
-abbrev pub place_of : Fleet → Node → Option Place
-place_of f Server = Some f.server
-place_of f (Client i) = slice_get f.clients i
-
-abbrev pub with_place : Fleet → Node → Place → Fleet
-with_place f Server p = record f { server = p }
-with_place f (Client i) p = record f { clients = slice_set f.clients i p }
+abbrev pub Fleet : Type 0
+Fleet = Net
 
 abbrev pub address_of : Node → Addr
 address_of Server = record { ip = 0x0A000001; port = 7001 }
@@ -49,28 +42,10 @@ far_address f (Client i) x = Some (address_of Server)
 
 -- whether a host is at an address where there are so many clients
 abbrev pub is_host : ℕ → Addr → Bool
-is_host clients a = is_same_address a (address_of Server) || (a.ip == 0x0A000002 && (nat_le 7002 a.port && nat_lt a.port (7002 + clients)))
-
--- the greatest numbers that a host sent of connection x
-abbrev pub numbers_at : ℕ → Option Place → List ℕ
-numbers_at x None = []
-numbers_at x (Some p) = numbers_of p.site x
-
--- the client that asked for a connection
-abbrev pub client_in : List Place → Option ℕ → Option Place
-client_in clients None = None
-client_in clients (Some i) = slice_get clients i
-
-abbrev pub client_of : Fleet → ℕ → Option Place
-client_of f x = client_in f.clients (slice_get f.asked x)
-
--- the greatest numbers that the other end of a connection of a host sent
-abbrev pub numbers_far : Fleet → Node → ℕ → List ℕ
-numbers_far f Server x = numbers_at x (client_of f x)
-numbers_far f (Client i) x = numbers_of f.server.site x
+is_host clients a = nets.is_host address_of clients a
 
 abbrev pub around : Fleet → Node → Around
-around f n = record { count = length f.asked; is_host = is_host (length f.clients); numbers = numbers_far f n }
+around f n = nets.around address_of f n
 
 -- what a host has put out after a call of service that gave a datagram
 abbrev pub sent_if : Bool → PeerRef × Addr × ℕ → List ℕ → Place → List Sent
@@ -81,11 +56,6 @@ abbrev pub sent_after : (Addr → Bool) → Happening → Place → List Sent
 sent_after hosts (Calls (call.Service (Some gave) buf)) p = sent_if (hosts gave.1) gave buf p
 sent_after hosts _ p = p.sent
 
--- an accepted Connect is its client's
-abbrev pub asked_after : Node → Happening → List ℕ → List ℕ
-asked_after (Client i) (Calls (call.Connect address channels info word (Ok name))) asked = asked ++ i ∷ []
-asked_after _ _ asked = asked
-
 -- what was put out, and where to it went
 abbrev pub text_of : Place → Sent → Option (Addr × List ℕ)
 text_of p (Of n) = option_map (λ d. (d.to, d.text)) (slice_get p.site.log n)
@@ -95,16 +65,10 @@ abbrev pub sent_by : Option Place → ℕ → Option (Addr × List ℕ)
 sent_by None k = None
 sent_by (Some p) k = option_flatten (option_map (text_of p) (slice_get p.sent k))
 
--- one thing happens at a host, the others staying as they were; it speaks to the host `from`, or hears it
+-- one thing happens at a host, with what that puts out
 pub record HappensAt (n from : Node) (what : Happening) (old new : Fleet) : Type 0 where
-  pub was : Place
-  pub there : place_of old n ≡ Some was
-  pub sender : Place
-  pub sends : place_of old from ≡ Some sender
-  pub is : Place
-  pub here : HappensAmong (around old n) sender.site what was.site is.site
-  pub sent : is.sent ≡ sent_after (is_host (length old.clients)) what was
-  pub rest : new ≡ record (with_place old n is) { asked = asked_after n what old.asked }
+  pub happens : nets.HappensAt address_of n from what old new
+  pub sent : happens.is.sent ≡ sent_after (is_host (length old.clients)) what happens.was
 
 -- the datagram of a host's log that its number k is, where it went to this address
 abbrev pub gone_to : Addr → ℕ → Option Logged → Option ℕ
@@ -209,5 +173,4 @@ Runs = RunsBy Steps
 
 -- a fleet to which nothing has happened
 abbrev pub open_fleet : Config → List Config → Fleet
-open_fleet server clients =
-    record { server = opened_at (address_of Server) server; clients = all_opened (λ i. address_of (Client i)) 0 clients; asked = [] }
+open_fleet server clients = nets.open_net address_of server clients

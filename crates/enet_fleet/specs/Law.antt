@@ -10,7 +10,7 @@ use Rattle.law_network.specs.Law.{IsPaired}
 use Rattle.law_network.specs.Log.{Logged}
 use Rattle.enet_site.specs.Places.{Place}
 use Rattle.enet_fleet.specs.declared.event.FleetEvent.{FleetEvent}
-use Rattle.enet_fleet.specs.declared.event.Node.{Node}
+use Rattle.law_headline.specs.declared.node.Node.{Node}
 use Rattle.enet_fleet.specs.Fleets.{Fleet, place_of, far_address, Runs, open_fleet}
 
 -- the client that asked for a connection and the server show its two ends

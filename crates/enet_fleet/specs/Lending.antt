@@ -3,7 +3,7 @@ use Rattle.std.specs.Prelude.{Option}
 use Rattle.std.specs.Borrow.{LendsIf, MutBor, Fml}
 use Rattle.enet_site.specs.Places.{Place}
 use Rattle.enet_site.specs.contracts.place.Place as place
-use Rattle.enet_fleet.specs.declared.event.Node.{Node}
+use Rattle.law_headline.specs.declared.node.Node.{Node}
 use Rattle.enet_fleet.specs.contracts.hosts.Hosts as hosts
 use Rattle.enet_fleet.specs.Fleets.{Fleet, with_place}
 

@@ -4,12 +4,12 @@ ghost use Rattle.std.specs.Prelude.{◌≡◌, ℕ, Some, IfOk, IfErr, OnErr};
 ghost use Rattle.law_network.specs.Steps.{Hears, Happens};
 ghost use Rattle.law_network.specs.World.{IsRefusedFor};
 ghost use Rattle.enet_fleet.specs.declared.event.FleetEvent.TheVariants as happen;
-ghost use Rattle.enet_fleet.specs.declared.event.Node.TheVariants as node;
+ghost use Rattle.law_headline.specs.declared.node.Node.TheVariants as node;
 ghost use Rattle.enet_fleet.specs.Fleets.{Steps, Refuses, logged_to, refused_there};
 ghost use Rattle.enet_fleet.specs.Reached.{IsReached};
 
-use crate::event::Node;
 use crate::hosts::{Hosts, SERVER, client_address};
+use law_headline::Node;
 use enet_codec::{Addr, Received, Refusal};
 use enet_site::{Place, Sent, Site};
 use law_network::Answer;

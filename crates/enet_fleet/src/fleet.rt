@@ -1,16 +1,18 @@
 //! A fleet.
 
-ghost use Rattle.std.specs.Prelude.{◌≡◌, ◌&&◌, nat_le, true, false, length, Err, IfOk, IfErr, OnErr};
+ghost use Rattle.std.specs.Prelude.{◌≡◌, ◌&&◌, nat_le, true, false, length, zip, Err, IfOk, IfErr, OnErr};
 ghost use Rattle.std.specs.List.{list_all};
 ghost use Rattle.std.specs.Option.{option_map};
 ghost use Rattle.enet_codec.specs.Config.{is_in_range};
 ghost use Rattle.law_network.specs.Headline.{submitted_at, taken_at, events_at};
-ghost use Rattle.enet_fleet.specs.Fleets.{Steps, Runs, open_fleet, place_of, sent_by};
+ghost use Rattle.enet_fleet.specs.Transcript.{IsOnTranscript};
+ghost use Rattle.enet_fleet.specs.Fleets.{Fleet as AllHosts, Steps, Runs, open_fleet, place_of, sent_by};
 ghost use Rattle.enet_fleet.specs.Headline.{HasHeadline, end_at, far_end};
 ghost use Rattle.enet_fleet.specs.Reached.{fit};
 
 use crate::each_connection_of_a_fleet;
-use crate::event::{End, FleetEvent, Node};
+use crate::event::{End, FleetEvent};
+use law_headline::Node;
 use crate::happening::happen;
 use crate::hosts::{Hosts, sent_by};
 use enet_codec::{Addr, Config, Event, Packet, Refusal};
@@ -96,6 +98,31 @@ impl Fleet {
             alloc,
             hosts: Hosts::open(alloc, server, clients)?,
         })
+    }
+
+    /// A fleet with these settings, to which these events happen in order: what was answered to each. E8 and E1 as `open`, and E1 where
+    /// there is no memory for the answers, before anything happens.
+    ///
+    /// `steps`: the answers are those of a fleet's run. `headline`: the headline on one page, of the events and their answers alone
+    /// (specs/Page of `law_headline`). What a client's user submitted on a channel, to the peer that an accepted Connect named, is
+    /// followed by what the server's user took of its peer of that connection, and the other way round: a subsequence, each packet whole
+    /// and once, that leaves out none flagged RELIABLE before its last. Each end's events are one life, and no two connections share a
+    /// name. At a host where no stranger's datagram was taken in, all that was taken is of these connections.
+    pub fn play(
+        alloc: Global,
+        server: Config,
+        clients: &[Config],
+        events: &[FleetEvent],
+    ) -> Result<Vec<Result<Answer, Refusal>>, Refusal>
+        ensures out_of_range { fit server clients.now ≡ false → result ≡ Err Refusal.BadConfig }
+        ensures in_range { fit server clients.now ≡ true → IfErr result (λ why. why ≡ Refusal.Memory) }
+        ensures steps { IfOk result (λ answers. (f : AllHosts) × Runs (open_fleet server clients.now) events.now answers.items f) }
+        ensures headline { IfOk result (λ answers. IsOnTranscript (zip events.now answers.items)) }
+    {
+        let mut fleet = Fleet::open(alloc, server, clients)?;
+        let answers = fleet.run(events);
+        fleet.close();
+        answers
     }
 
     /// The headline, a law of every fleet. Of each connection between the server and a client, whatever the other hosts and

@@ -6,7 +6,8 @@ ghost use Rattle.enet_fleet.specs.Reached.{IsReached};
 
 use crate::connecting::connect;
 use crate::delivering::deliver;
-use crate::event::{FleetEvent, Node};
+use crate::event::FleetEvent;
+use law_headline::Node;
 use crate::hosts::{Hosts, is_host};
 use crate::turning::turn;
 use bytes::Bytes;

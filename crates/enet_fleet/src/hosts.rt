@@ -5,12 +5,13 @@ ghost use Rattle.std.specs.Borrow.{sem};
 ghost use Rattle.std.specs.List.{list_all};
 ghost use Rattle.std.specs.Option.{option_copied, option_copied_mut, option_map};
 ghost use Rattle.enet_codec.specs.Config.{is_in_range};
-ghost use Rattle.enet_fleet.specs.declared.event.Node.TheVariants as node;
+ghost use Rattle.law_headline.specs.declared.node.Node.TheVariants as node;
 ghost use Rattle.enet_fleet.specs.Fleets.{place_of, address_of, is_host, client_in, open_fleet, sent_by};
 ghost use Rattle.enet_fleet.specs.Headline.{place_at};
 ghost use Rattle.enet_fleet.specs.Lending.{LendsPlace};
 
-use crate::event::{End, Node};
+use crate::event::End;
+use law_headline::Node;
 use enet_codec::{Addr, Config, Refusal};
 use enet_site::{Place, Sent, close_all, open_clients};
 use std::alloc::Global;

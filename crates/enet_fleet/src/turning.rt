@@ -3,14 +3,14 @@
 ghost use Rattle.std.specs.Prelude.{◌≡◌, IfOk, IfErr, OnErr};
 ghost use Rattle.law_network.specs.Headline.{AreEnds};
 ghost use Rattle.enet_fleet.specs.declared.event.FleetEvent.TheVariants as happen;
-ghost use Rattle.enet_fleet.specs.declared.event.Node.TheVariants as node;
+ghost use Rattle.law_headline.specs.declared.node.Node.TheVariants as node;
 ghost use Rattle.enet_fleet.specs.Fleets.{Steps};
 ghost use Rattle.enet_fleet.specs.Reached.{IsReached};
 ghost use Rattle.enet_fleet.specs.Private.Turning.{PutsOutByTurn, sent_of};
 
 use crate::around::{AroundClient, AroundServer};
-use crate::event::Node;
 use crate::hosts::Hosts;
+use law_headline::Node;
 use enet_codec::Refusal;
 use enet_records::Around;
 use enet_site::{Place, Sent, Turned};

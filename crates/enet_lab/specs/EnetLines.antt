@@ -8,7 +8,7 @@ use Rattle.enet_codec.specs.declared.event.DisconnectMode.TheVariants.{Now, Ask,
 use Rattle.enet_codec.specs.declared.event.PeerRef.{PeerRef}
 use Rattle.law_network.specs.declared.event.WorldEvent.TheVariants as world
 use Rattle.enet_fleet.specs.declared.event.FleetEvent.TheVariants as fleet
-use Rattle.enet_fleet.specs.declared.event.Node.TheVariants.{Server, Client}
+use Rattle.law_headline.specs.declared.node.Node.TheVariants.{Server, Client}
 use Rattle.enet_text.specs.Words.{words, number_below, peer_of, ip_of, bytes_of, id_of, of_one, of_two, of_three, of_four, of_five, ◌>>=◌}
 use Rattle.enet_lab.specs.declared.host.Host.{Host}
 use Rattle.enet_lab.specs.declared.host.Host.TheVariants.{OfWorld, OfFleet}

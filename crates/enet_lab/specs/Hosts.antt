@@ -6,8 +6,8 @@ use Rattle.enet_codec.specs.declared.address.Addr.{Addr}
 use Rattle.enet_slot.specs.Hearing.{is_same_address}
 use Rattle.law_network.specs.declared.event.Side.{Side}
 use Rattle.law_network.specs.declared.event.Side.TheVariants.{A, B}
-use Rattle.enet_fleet.specs.declared.event.Node.{Node}
-use Rattle.enet_fleet.specs.declared.event.Node.TheVariants.{Server, Client}
+use Rattle.law_headline.specs.declared.node.Node.{Node}
+use Rattle.law_headline.specs.declared.node.Node.TheVariants.{Server, Client}
 use Rattle.enet_fleet.specs.Fleets.{address_of, is_host}
 use Rattle.enet_text.specs.Words.{number_below}
 use Rattle.enet_text.specs.Texts.{address_text}

@@ -15,7 +15,7 @@ use Rattle.law_network.specs.World.{World, site_of, side_of}
 use Rattle.law_network.specs.World as world
 use Rattle.enet_world.specs.Worlds.{Begun, begun}
 use Rattle.enet_fleet.specs.declared.event.FleetEvent.{FleetEvent}
-use Rattle.enet_fleet.specs.declared.event.Node.{Node}
+use Rattle.law_headline.specs.declared.node.Node.{Node}
 use Rattle.enet_fleet.specs.Fleets.{Fleet, place_of, node_of, sent_by, open_fleet}
 use Rattle.enet_fleet.specs.Fleets as fleet
 use Rattle.enet_fleet.specs.Reached.{fit}

@@ -5,7 +5,7 @@ use Rattle.law_network.specs.declared.event.Answer.TheVariants as answers
 use Rattle.enet_site.specs.Places.{Place}
 use Rattle.enet_fleet.specs.contracts.hosts.Hosts.{the_view}
 use Rattle.enet_fleet.specs.declared.event.FleetEvent.TheVariants as happen
-use Rattle.enet_fleet.specs.declared.event.Node.TheVariants.{Server}
+use Rattle.law_headline.specs.declared.node.Node.TheVariants.{Server}
 use Rattle.enet_fleet.specs.Fleets.{Fleet}
 use Rattle.enet_fleet.specs.Reached.{IsReached}
 use Rattle.enet_fleet.proofs.Reaching.{at-its-address}

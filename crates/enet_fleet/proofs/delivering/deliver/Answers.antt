@@ -1,5 +1,5 @@
 use Rattle.std.proofs.Common.{refl}
-use Rattle.enet_fleet.specs.declared.event.Node.TheVariants.{Server}
+use Rattle.law_headline.specs.declared.node.Node.TheVariants.{Server}
 use Rattle.enet_fleet.proofs.Reaching.{refuses-aside}
 use Rattle.enet_fleet.proofs.delivering.deliver.Goals as goal
 

@@ -6,7 +6,7 @@ use Rattle.law_network.specs.declared.event.Answer.TheVariants as answers
 use Rattle.law_network.specs.World.{IsRefusedFor}
 use Rattle.enet_site.specs.Places.{Place}
 use Rattle.enet_fleet.specs.declared.event.FleetEvent.TheVariants as happen
-use Rattle.enet_fleet.specs.declared.event.Node.TheVariants.{Server, Client}
+use Rattle.law_headline.specs.declared.node.Node.TheVariants.{Server, Client}
 use Rattle.enet_fleet.specs.Fleets.{Fleet, address_of, logged_to, refused_there}
 use Rattle.enet_fleet.proofs.Reaching.{few-clients}
 use Rattle.enet_fleet.proofs.Stepping.{delivered, undelivered, at-client}

@@ -1,5 +1,5 @@
 use Rattle.std.proofs.Common.{sym}
-use Rattle.enet_fleet.specs.declared.event.Node.TheVariants.{Client}
+use Rattle.law_headline.specs.declared.node.Node.TheVariants.{Client}
 use Rattle.enet_fleet.proofs.Reaching.{refuses-aside}
 use Rattle.enet_fleet.proofs.delivering.refusal_between.Goals as goal
 

@@ -6,7 +6,7 @@ use Rattle.law_network.specs.Headline.{AreEnds}
 use Rattle.law_network.specs.Network.{numbers_of}
 use Rattle.enet_fleet.specs.contracts.hosts.Hosts.{the_view}
 use Rattle.enet_fleet.specs.declared.event.FleetEvent.TheVariants as happen
-use Rattle.enet_fleet.specs.declared.event.Node.TheVariants.{Client}
+use Rattle.law_headline.specs.declared.node.Node.TheVariants.{Client}
 use Rattle.enet_fleet.specs.Fleets.{Fleet, is_host}
 use Rattle.enet_fleet.specs.Reached.{IsReached}
 use Rattle.enet_fleet.specs.Private.Turning.{PutsOutByTurn}

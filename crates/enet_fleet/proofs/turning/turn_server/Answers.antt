@@ -4,7 +4,7 @@ use Rattle.law_network.specs.declared.event.Answer.TheVariants as answers
 use Rattle.law_network.specs.Headline.{AreEnds}
 use Rattle.enet_site.specs.Places.{Place}
 use Rattle.enet_fleet.specs.declared.event.FleetEvent.TheVariants as happen
-use Rattle.enet_fleet.specs.declared.event.Node.TheVariants.{Server}
+use Rattle.law_headline.specs.declared.node.Node.TheVariants.{Server}
 use Rattle.enet_fleet.specs.Fleets.{Fleet, is_host, numbers_at, client_in, Steps}
 use Rattle.enet_fleet.specs.Reached.{IsReached}
 use Rattle.enet_fleet.specs.Private.Turning.{PutsOutByTurn}

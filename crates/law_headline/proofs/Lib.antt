@@ -1,0 +1,4 @@
+pub mod Net
+pub mod Kept
+pub mod Covered
+pub mod Page

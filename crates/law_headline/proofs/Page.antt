@@ -1,0 +1,321 @@
+-- The page follows from the headline of the lists that are kept, and from their being those of the users.
+use Rattle.std.proofs.Common.{◌≡◌, ◌≢◌, ℕ, zero, suc, ◌+◌, ◌%◌, ◌<◌, ◌⊎◌, inl, inr, ◌==◌, ◌&&◌, ◌||◌, not, Bool, true, false, cond, List, [], ◌∷◌, ◌++◌, map, length, refl, sym, ap, subst, ◌∙◌, arith, Option, Some, None, Result, slice_get}
+use Rattle.std.proofs.lemmas.Bool.Decides.{nat_tests}
+use Rattle.enet_codec.specs.declared.event.Event.{Event}
+use Rattle.enet_codec.specs.declared.event.Event.TheVariants as events
+use Rattle.enet_codec.specs.declared.event.PeerRef.{PeerRef}
+use Rattle.enet_codec.specs.declared.packet.Packet.{Packet}
+use Rattle.enet_sender.specs.CommandChoice as command_choice
+use Rattle.enet_sender.specs.CommandChoice.{goes_reliable, carried_from, is_long, is_flagged_unreliable_fragment}
+use Rattle.enet_outbox.specs.Outbox.{is_unsequenced, is_flagged_unsequenced}
+use Rattle.enet_packets.specs.declared.incoming_packet.Dispatched.{Dispatched}
+use Rattle.enet_peer.specs.declared.parts.PeerEvent.{PeerEvent}
+use Rattle.enet_peer.specs.declared.parts.PeerEvent.TheVariants as told
+use Rattle.enet_slot.specs.Calls.{event_of}
+use Rattle.law_connection.specs.Follows.{FollowsCarried}
+use Rattle.law_connection.specs.LinkSteps.{Has, bodies_of}
+use Rattle.law_connection.specs.Connection.{of_channel, in_sequence}
+use Rattle.law_connection.specs.Law as law
+use Rattle.enet_codec.specs.declared.address.Addr.{Addr}
+use Rattle.law_network.specs.Headline as kept
+use Rattle.law_network.specs.Headline.{submitted_at, taken_at, mtu_at, received, AreOn, HasHeadlineAt, HasHeadlineBetween}
+use Rattle.law_network.specs.Log.{packets_at}
+use Rattle.law_network.specs.Network.{HostEnd, Site, end_of}
+use Rattle.law_network.specs.Shown.{on_channel}
+use Rattle.law_network.proofs.Channels.{same-come}
+use Rattle.law_network.proofs.Submitting.{same-some}
+use Rattle.law_headline.specs.Kept.{Tells, IsRecorded, IsCovered}
+use Rattle.law_headline.specs.Page.{Follows, came, AreLast, IsOneLife, User, submitted_if, taken_if, IsInOrder, IsHeadline, IsBehind, HoldsBehind}
+
+-- ---- order
+
+-- a packet that doesn't go reliable isn't flagged so
+even : (n : ℕ) → (n % 2 == 1) ≡ false → n % 2 ≡ 0
+even n h = grind (arith, nat_tests)
+
+or-left : (a b : Bool) → (a || b) ≡ false → a ≡ false
+or-left true b h = absurd (let y : true ≡ false = h in cc)
+or-left false b h = refl
+
+unflagged : (mtu count : ℕ) (p : command_choice.Packet) → goes_reliable mtu count p ≡ false → p.flags % 2 ≡ 0
+unflagged mtu count p h = even p.flags (or-left (p.flags % 2 == 1) (count == 65535) (or-left ((p.flags % 2 == 1) || count == 65535) (is_long mtu p && not (is_flagged_unreliable_fragment p)) h))
+
+-- nor is one that goes unsequenced
+and-not : (a b c : Bool) → (a && not b && not c) ≡ true → b ≡ false
+and-not true true c h = absurd (let y : false ≡ true = h in cc)
+and-not true false c h = refl
+and-not false b c h = absurd (let y : false ≡ true = h in cc)
+
+unsequenced-unflagged : (mtu : ℕ) (p : command_choice.Packet) → is_unsequenced mtu p ≡ true → p.flags % 2 ≡ 0
+unsequenced-unflagged mtu p h = even p.flags (and-not (is_flagged_unsequenced p) (p.flags % 2 == 1) (is_long mtu p) h)
+
+left-out : (mtu channel : ℕ) (p : Packet) → p.channel ≡ channel → (p.channel == channel && not (is_unsequenced mtu (record { flags = p.flags; body = p.body }))) ≡ false → p.flags % 2 ≡ 0
+left-out mtu channel p same h = unsequenced-unflagged mtu (record { flags = p.flags; body = p.body }) (by (p.channel == channel) (is_unsequenced mtu (record { flags = p.flags; body = p.body })) (let t : (p.channel == channel) ≡ true = grind (arith, nat_tests) in t) h)
+  where
+    by : (a b : Bool) → a ≡ true → (a && not b) ≡ false → b ≡ true
+    by true true t e = refl
+    by true false t e = absurd (let y : true ≡ false = e in cc)
+    by false b t e = absurd (let y : false ≡ true = t in cc)
+
+content : Packet → command_choice.Packet
+content p = record { flags = p.flags; body = p.body }
+
+-- what one packet of the list may be, by whether it goes in sequence
+abbrev Goes : Packet → List Packet → List ℕ → List (List ℕ) → Type 0
+Goes p ps b bs = ((p.body ≡ b) × Follows ps bs) ⊎ ((p.flags % 2 ≡ 0) × Follows ps (b ∷ bs))
+
+goes : (mtu count channel : ℕ) (p : Packet) (ps : List Packet) (b : List ℕ) (bs : List (List ℕ)) → p.channel ≡ channel
+    → ((n : ℕ) (ds : List (List ℕ)) → FollowsCarried (carried_from mtu n (of_channel mtu channel ps)) ds → Follows ps ds)
+    → (t : Bool) → (p.channel == channel && not (is_unsequenced mtu (record { flags = p.flags; body = p.body }))) ≡ t
+    → FollowsCarried (carried_from mtu count (cond t ((record { flags = p.flags; body = p.body }) ∷ of_channel mtu channel ps) (of_channel mtu channel ps))) (b ∷ bs) → Goes p ps b bs
+goes mtu count channel p ps b bs same more true e (inl here) = inl (here.0, more (cond (goes_reliable mtu count (record { flags = p.flags; body = p.body })) 0 (count + 1)) bs here.1)
+goes mtu count channel p ps b bs same more true e (inr skip) =
+    inr (unflagged mtu count (record { flags = p.flags; body = p.body }) skip.0, more (cond (goes_reliable mtu count (record { flags = p.flags; body = p.body })) 0 (count + 1)) (b ∷ bs) skip.1)
+goes mtu count channel p ps b bs same more false e rest = inr (left-out mtu channel p same e, more count (b ∷ bs) rest)
+
+follows : (mtu count channel : ℕ) (ps : List Packet) (bs : List (List ℕ)) → AreOn channel ps → FollowsCarried (carried_from mtu count (of_channel mtu channel ps)) bs → Follows ps bs
+follows mtu count channel ps [] all h = tt
+follows mtu count channel [] (b ∷ bs) all h = absurd h
+follows mtu count channel (p ∷ ps) (b ∷ bs) all h =
+    goes mtu count channel p ps b bs (all p (inl refl)) (λ n ds k. follows mtu n channel ps ds (λ q has. all q (inr has)) k) (p.channel == channel && not (is_unsequenced mtu (record { flags = p.flags; body = p.body }))) refl h
+
+came-is : (channel : ℕ) (es : List Event) → bodies_of (in_sequence channel (received es)) ≡ came channel es
+came-is channel [] = refl
+came-is channel (events.Connect p info ∷ es) = came-is channel es
+came-is channel (events.Receive p q ∷ es) = by (q.channel == channel && not (q.flags == 2)) (came-is channel es)
+  where
+    one : Dispatched
+    one = record { flags = q.flags; body = q.body }
+
+    by : (t : Bool) → bodies_of (in_sequence channel (received es)) ≡ came channel es
+        → bodies_of (cond t (one ∷ in_sequence channel (received es)) (in_sequence channel (received es))) ≡ cond t (q.body ∷ came channel es) (came channel es)
+    by true rest = ap (λ (l : List (List ℕ)). q.body ∷ l) rest
+    by false rest = rest
+came-is channel (events.Disconnect p info ∷ es) = came-is channel es
+came-is channel (events.Refused seat number why ∷ es) = came-is channel es
+
+-- what follows, of the lists that are the transcript's
+order : (channel : ℕ) (from to : Option HostEnd) (sent : List Packet) (es : List Event) → submitted_at channel from ≡ sent → taken_at channel to ≡ on_channel channel (received es) → kept.IsInOrder from to channel → Follows sent (came channel es)
+order channel from to sent es a b k =
+    let got : bodies_of (in_sequence channel (taken_at channel to)) ≡ came channel es = ap (λ (l : List Packet). bodies_of (in_sequence channel l)) b ∙ ap bodies_of (same-come channel (received es)) ∙ came-is channel es in
+    let f : Follows (submitted_at channel from) (bodies_of (in_sequence channel (taken_at channel to))) = follows (mtu_at from) 0 channel (submitted_at channel from) (bodies_of (in_sequence channel (taken_at channel to))) k.submitted k.follows in
+    subst (λ (l : List (List ℕ)). Follows sent l) got (subst (λ (l : List Packet). Follows l (bodies_of (in_sequence channel (taken_at channel to)))) a f)
+
+-- ---- life
+
+last : (name : PeerRef) (es : List PeerEvent) → law.AreLast es → AreLast (map (event_of name) es)
+last name [] h = tt
+last name (told.Connect info ∷ es) h = absurd h
+last name (told.Receive q ∷ es) h = last name es h
+last name (told.Disconnect info ∷ es) h = ap (map (event_of name)) h
+
+lives : (name : PeerRef) (es : List PeerEvent) → law.IsOneLife false es → IsOneLife (map (event_of name) es)
+lives name [] h = tt
+lives name (told.Connect info ∷ es) h = last name es h
+lives name (told.Receive q ∷ es) h = absurd h
+lives name (told.Disconnect info ∷ es) h = ap (map (event_of name)) h
+
+-- ---- ends
+
+has-end : (x : ℕ) (ends : List HostEnd) (e : HostEnd) → end_of x ends ≡ Some e → Has ends e × (e.connection ≡ x)
+has-end x [] e h = absurd (let y : ◌≡◌ {A = Option HostEnd} None (Some e) = h in cc)
+has-end x (f ∷ ends) e h = by (λ k. has-end x ends e k) (f.connection == x) refl h
+  where
+    by : (end_of x ends ≡ Some e → Has ends e × (e.connection ≡ x)) → (t : Bool) → (f.connection == x) ≡ t → cond t (Some f) (end_of x ends) ≡ Some e → Has (f ∷ ends) e × (e.connection ≡ x)
+    by more true is y = (let same : f ≡ e = same-some f e y in (inl same, ap (λ (z : HostEnd). z.connection) (sym same) ∙ (let n : f.connection ≡ x = grind (arith, nat_tests) in n)))
+    by more false is y = (let r = more y in (inr r.0, r.1))
+
+-- an end of a host whose user this is
+record IsEnd (u : User) (e : HostEnd) : Type 0 where
+  submitted_is : (channel : ℕ) → channel < 256 → submitted_at channel (Some e) ≡ u.submitted e.name channel
+  taken_is : (channel : ℕ) → channel < 256 → taken_at channel (Some e) ≡ on_channel channel (received (u.taken e.name))
+  life : IsOneLife (u.taken e.name)
+
+-- what is kept of a host is its user's, and has the headline
+pub record IsUsers (is_host : Addr → Bool) (u : User) (s : Site) : Type 0 where
+  pub recorded : IsRecorded u.submitted u.taken s
+  pub headline : HasHeadlineAt false is_host s
+  pub covered : u.guests ≡ false → IsCovered is_host u.submitted u.taken s
+
+is-end : (is_host : Addr → Bool) (u : User) (s : Site) → IsUsers is_host u s → (e : HostEnd) → Has s.ends e → IsEnd u e
+is-end is_host u s k e has =
+    let tells : Tells u.submitted u.taken e = k.recorded.ends e has in
+    let life = k.headline.one_life e has in
+    record {
+      submitted_is = λ channel low. tells.submitted_is channel low;
+      taken_is = λ channel low. k.headline.told e has channel low ∙ ap (λ (l : List Event). on_channel channel (received l)) tells.events_is;
+      life = subst IsOneLife (sym life.told ∙ tells.events_is) (lives e.name life.events life.life);
+    }
+
+-- what the server calls the peer of a connection
+abbrev called : Option HostEnd → Option PeerRef
+called None = None
+called (Some e) = Some e.name
+
+kept-by : (client server : User) (e : HostEnd) (o : Option HostEnd) → IsEnd client e → ((t : HostEnd) → o ≡ Some t → IsEnd server t) → HasHeadlineBetween (Some e) o → IsInOrder client server e.name (called o)
+kept-by client server e None one two k = record {
+  forth = λ channel low. tt;
+  back = λ channel low. order channel None (Some e) [] (client.taken e.name) refl (one.taken_is channel low) (k.back channel);
+  client_life = one.life;
+  server_life = tt;
+}
+kept-by client server e (Some t) one two k =
+    let far : IsEnd server t = two t refl in
+    record {
+      forth = λ channel low. order channel (Some e) (Some t) (client.submitted e.name channel) (server.taken t.name) (one.submitted_is channel low) (far.taken_is channel low) (k.forth channel);
+      back = λ channel low. order channel (Some t) (Some e) (server.submitted t.name channel) (client.taken e.name) (far.submitted_is channel low) (one.taken_is channel low) (k.back channel);
+      client_life = one.life;
+      server_life = far.life;
+    }
+
+-- connection x of a client that calls its peer so, and of the server
+pub record IsBegun (client : ℕ → Option Site) (server : Site) (x i : ℕ) (name : PeerRef) : Type 0 where
+  pub site : Site
+  pub is : client i ≡ Some site
+  pub end : HostEnd
+  pub has : Has site.ends end
+  pub connection : end.connection ≡ x
+  pub named : end.name ≡ name
+  pub between : HasHeadlineBetween (Some end) (end_of x server.ends)
+
+pub page : (is_host : Addr → Bool) (server : Site) (su : User) (client : ℕ → Option Site) (cu : ℕ → User) (asked : List (ℕ × PeerRef)) → IsUsers is_host su server → ((i : ℕ) (s : Site) → client i ≡ Some s → IsUsers is_host (cu i) s)
+    → ((x i : ℕ) (name : PeerRef) → slice_get asked x ≡ Some (i, name) → IsBegun client server x i name)
+    → ((e : HostEnd) → Has server.ends e → e.connection < length asked) → ((i : ℕ) (p : PeerRef) → client i ≡ None → (cu i).taken p ≡ [])
+    → ((i : ℕ) (s : Site) → client i ≡ Some s → (e : HostEnd) → Has s.ends e → (name : PeerRef) × (slice_get asked e.connection ≡ Some (i, name)))
+    → IsHeadline su cu asked
+page is_host server su client cu asked ks kc begun below none own = record { here = here; each = each; apart = apart; apart_here = apart-here; all_here = all-here; all_there = all-there }
+  where
+    here : ℕ → Option PeerRef
+    here x = called (end_of x server.ends)
+
+    each : (x i : ℕ) (there : PeerRef) → slice_get asked x ≡ Some (i, there) → IsInOrder (cu i) su there (here x)
+    each x i there is =
+        let b : IsBegun client server x i there = begun x i there is in
+        subst (λ (p : PeerRef). IsInOrder (cu i) su p (here x)) b.named
+        (kept-by (cu i) su b.end (end_of x server.ends) (is-end is_host (cu i) b.site (kc i b.site b.is) b.end b.has) (λ t at. is-end is_host su server ks t (has-end x server.ends t at).0) b.between)
+
+    apart : (x y i : ℕ) (there : PeerRef) → slice_get asked x ≡ Some (i, there) → slice_get asked y ≡ Some (i, there) → x ≡ y
+    apart x y i there a b =
+        let one : IsBegun client server x i there = begun x i there a in
+        let two : IsBegun client server y i there = begun y i there b in
+        let same : two.site ≡ one.site = same-some two.site one.site (sym two.is ∙ one.is) in
+        let has : Has one.site.ends two.end = subst (λ (s : Site). Has s.ends two.end) same two.has in
+        let is : one.end ≡ two.end = (kc i one.site one.is).headline.named one.end two.end one.has has (one.named ∙ sym two.named) in
+        sym one.connection ∙ ap (λ (e : HostEnd). e.connection) is ∙ two.connection
+
+    all-here : su.guests ≡ false → (p : PeerRef) → su.taken p ≢ [] → (x : ℕ) × (here x ≡ Some p) × (x < length asked)
+    all-here quiet p some =
+        let e = (ks.covered quiet).ends p (inr some) in
+        (e.0.connection, ap called (ks.headline.only e.0 e.1) ∙ ap (λ (q : PeerRef). Some q) e.2, below e.0 e.1)
+
+    there-by : (i : ℕ) (p : PeerRef) → (cu i).guests ≡ false → (cu i).taken p ≢ [] → (o : Option Site) → client i ≡ o → (x : ℕ) × (slice_get asked x ≡ Some (i, p))
+    there-by i p quiet some None is = absurd (some (none i p is))
+    there-by i p quiet some (Some s) is =
+        let e = ((kc i s is).covered quiet).ends p (inr some) in
+        let o = own i s is e.0 e.1 in
+        let b : IsBegun client server e.0.connection i o.0 = begun e.0.connection i o.0 o.1 in
+        let site : b.site ≡ s = same-some b.site s (sym b.is ∙ is) in
+        let same : b.end ≡ e.0 = same-some b.end e.0 (sym (subst (λ (n : ℕ). end_of n b.site.ends ≡ Some b.end) b.connection ((kc i b.site b.is).headline.only b.end b.has)) ∙ ap (λ (z : Site). end_of e.0.connection z.ends) site
+        ∙ (kc i s is).headline.only e.0 e.1) in
+        let name : o.0 ≡ p = sym b.named ∙ ap (λ (z : HostEnd). z.name) same ∙ e.2 in
+        (e.0.connection, o.1 ∙ ap (λ (q : PeerRef). Some (i, q)) name)
+
+    all-there : (i : ℕ) → (cu i).guests ≡ false → (p : PeerRef) → (cu i).taken p ≢ [] → (x : ℕ) × (slice_get asked x ≡ Some (i, p))
+    all-there i quiet p some = there-by i p quiet some (client i) refl
+
+    called-some : (o : Option HostEnd) (p : PeerRef) → called o ≡ Some p → (t : HostEnd) × (o ≡ Some t) × (t.name ≡ p)
+    called-some None p h = absurd (let y : ◌≡◌ {A = Option PeerRef} None (Some p) = h in cc)
+    called-some (Some t) p h = (t, refl, same-some t.name p h)
+
+    apart-here : (x y : ℕ) (p : PeerRef) → here x ≡ Some p → here y ≡ Some p → x ≡ y
+    apart-here x y p a b =
+        let one = called-some (end_of x server.ends) p a in
+        let two = called-some (end_of y server.ends) p b in
+        let h1 = has-end x server.ends one.0 one.1 in
+        let h2 = has-end y server.ends two.0 two.1 in
+        let is : one.0 ≡ two.0 = ks.headline.named one.0 two.0 h1.0 h2.0 (one.2 ∙ sym two.2) in
+        sym h1.1 ∙ ap (λ (e : HostEnd). e.connection) is ∙ h2.1
+
+-- ---- users of whom less is known
+
+pub longer : (ps qs : List Packet) (bs : List (List ℕ)) → Follows ps bs → Follows (ps ++ qs) bs
+longer ps qs [] h = tt
+longer [] qs (b ∷ bs) h = absurd h
+longer (p ∷ ps) qs (b ∷ bs) (inl same) = inl (same.0, longer ps qs bs same.1)
+longer (p ∷ ps) qs (b ∷ bs) (inr skip) = inr (skip.0, longer ps qs (b ∷ bs) skip.1)
+
+pub shorter : (ps : List Packet) (bs cs : List (List ℕ)) → Follows ps (bs ++ cs) → Follows ps bs
+shorter ps [] cs h = tt
+shorter [] (b ∷ bs) cs h = absurd h
+shorter (p ∷ ps) (b ∷ bs) cs (inl same) = inl (same.0, shorter ps bs cs same.1)
+shorter (p ∷ ps) (b ∷ bs) cs (inr skip) = inr (skip.0, shorter ps (b ∷ bs) cs skip.1)
+
+pub came-append : (channel : ℕ) (es fs : List Event) → came channel (es ++ fs) ≡ came channel es ++ came channel fs
+came-append channel [] fs = refl
+came-append channel (events.Connect p info ∷ es) fs = came-append channel es fs
+came-append channel (events.Receive p q ∷ es) fs = by (q.channel == channel && not (q.flags == 2)) (came-append channel es fs)
+  where
+    by : (t : Bool) → came channel (es ++ fs) ≡ came channel es ++ came channel fs
+        → cond t (q.body ∷ came channel (es ++ fs)) (came channel (es ++ fs)) ≡ cond t (q.body ∷ came channel es) (came channel es) ++ came channel fs
+    by true rest = ap (λ (l : List (List ℕ)). q.body ∷ l) rest
+    by false rest = rest
+came-append channel (events.Disconnect p info ∷ es) fs = came-append channel es fs
+came-append channel (events.Refused seat number why ∷ es) fs = came-append channel es fs
+
+none-first : (es fs : List Event) → es ++ fs ≡ [] → es ≡ []
+none-first [] fs h = refl
+none-first (e ∷ es) fs h = absurd (let y : ◌≡◌ {A = List Event} (e ∷ (es ++ fs)) [] = h in cc)
+
+last-first : (es fs : List Event) → AreLast (es ++ fs) → AreLast es
+last-first [] fs h = tt
+last-first (events.Connect p info ∷ es) fs h = absurd h
+last-first (events.Receive p q ∷ es) fs h = last-first es fs h
+last-first (events.Disconnect p info ∷ es) fs h = none-first es fs h
+last-first (events.Refused seat number why ∷ es) fs h = absurd h
+
+pub life-first : (es fs : List Event) → IsOneLife (es ++ fs) → IsOneLife es
+life-first [] fs h = tt
+life-first (events.Connect p info ∷ es) fs h = last-first es fs h
+life-first (events.Receive p q ∷ es) fs h = absurd h
+life-first (events.Disconnect p info ∷ es) fs h = none-first es fs h
+life-first (events.Refused seat number why ∷ es) fs h = absurd h
+
+-- order between users of whom less is known
+order-behind : (channel : ℕ) (ps qs rest : List Packet) (es fs more : List Event) → qs ≡ ps ++ rest → es ≡ fs ++ more → Follows ps (came channel es) → Follows qs (came channel fs)
+order-behind channel ps qs rest es fs more a b h =
+    subst (λ (l : List Packet). Follows l (came channel fs)) (sym a)
+    (longer ps rest (came channel fs) (shorter ps (came channel fs) (came channel more) (subst (λ (l : List (List ℕ)). Follows ps l) (ap (came channel) b ∙ came-append channel fs more) h)))
+
+life-behind : (es fs more : List Event) → es ≡ fs ++ more → IsOneLife es → IsOneLife fs
+life-behind es fs more b h = life-first fs more (subst IsOneLife b h)
+
+more-if : (u v : User) (o : Option PeerRef) (channel : ℕ) → IsBehind u v → (rest : List Packet) × (submitted_if v o channel ≡ submitted_if u o channel ++ rest)
+more-if u v None channel k = ([], refl)
+more-if u v (Some p) channel k = k.more p channel
+
+fewer-if : (u v : User) (o : Option PeerRef) → IsBehind u v → (rest : List Event) × (taken_if u o ≡ taken_if v o ++ rest)
+fewer-if u v None k = ([], refl)
+fewer-if u v (Some p) k = k.fewer p
+
+in-order-behind : (client server c s : User) (there : PeerRef) (here : Option PeerRef) → IsBehind client c → IsBehind server s → IsInOrder client server there here → IsInOrder c s there here
+in-order-behind client server c s there here kc ks h = record {
+  forth = λ channel low. (let a = kc.more there channel in let b = fewer-if server s here ks in
+      order-behind channel (client.submitted there channel) (c.submitted there channel) a.0 (taken_if server here) (taken_if s here) b.0 a.1 b.1 (h.forth channel low));
+  back = λ channel low. (let a = more-if server s here channel ks in let b = kc.fewer there in
+      order-behind channel (submitted_if server here channel) (submitted_if s here channel) a.0 (client.taken there) (c.taken there) b.0 a.1 b.1 (h.back channel low));
+  client_life = (let b = kc.fewer there in life-behind (client.taken there) (c.taken there) b.0 b.1 h.client_life);
+  server_life = (let b = fewer-if server s here ks in life-behind (taken_if server here) (taken_if s here) b.0 b.1 h.server_life);
+}
+
+pub holds-behind : HoldsBehind
+holds-behind server later clients laters asked ks kc h = record {
+  here = h.here;
+  each = λ x i there is. in-order-behind (clients i) server (laters i) later there (h.here x) (kc i) ks (h.each x i there is);
+  apart = h.apart;
+  apart_here = h.apart_here;
+  all_here = λ quiet p some. h.all_here (sym ks.same ∙ quiet) p (not-none server later p ks some);
+  all_there = λ i quiet p some. h.all_there i (sym (kc i).same ∙ quiet) p (not-none (clients i) (laters i) p (kc i) some);
+}
+  where
+    not-none : (u v : User) (p : PeerRef) → IsBehind u v → v.taken p ≢ [] → u.taken p ≢ []
+    not-none u v p k some none = some (none-first (v.taken p) (k.fewer p).0 (sym (k.fewer p).1 ∙ none))

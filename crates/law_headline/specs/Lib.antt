@@ -1,0 +1,4 @@
+pub mod Nets
+pub mod Law
+pub mod Kept
+pub mod Page

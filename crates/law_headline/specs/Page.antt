@@ -1,0 +1,85 @@
+-- The headline, said of what users submitted and took, and of nothing else.
+use Rattle.std.specs.Prelude.{◌≡◌, ◌≢◌, ◌<◌, ℕ, ◌%◌, ◌==◌, ◌&&◌, not, ◌⊎◌, Bool, false, if◌then◌else◌, List, [], ◌∷◌, ◌++◌, length, Option, Some, None, slice_get}
+use Rattle.enet_codec.specs.declared.event.Event.{Event}
+use Rattle.enet_codec.specs.declared.event.Event.TheVariants as events
+use Rattle.enet_codec.specs.declared.event.PeerRef.{PeerRef}
+use Rattle.enet_codec.specs.declared.packet.Packet.{Packet}
+use Rattle.law_network.specs.Network.{is_same_name}
+
+-- a subsequence of whole packets, each once, that leaves out none flagged RELIABLE (1) before its last
+abbrev pub Follows : List Packet → List (List ℕ) → Type 0
+Follows ps [] = Unit {0}
+Follows [] (b ∷ bs) = ⊥
+Follows (p ∷ ps) (b ∷ bs) = ((p.body ≡ b) × Follows ps bs) ⊎ ((p.flags % 2 ≡ 0) × Follows ps (b ∷ bs))
+
+-- whether an event is of the peer of this name
+abbrev pub is_of : PeerRef → Event → Bool
+is_of name (events.Connect peer info) = is_same_name name peer
+is_of name (events.Receive peer q) = is_same_name name peer
+is_of name (events.Disconnect peer info) = is_same_name name peer
+is_of name (events.Refused seat number why) = false
+
+-- the packets of a channel among events, those that came unsequenced (flags 2) left out
+abbrev pub came : ℕ → List Event → List (List ℕ)
+came channel [] = []
+came channel (events.Receive p q ∷ es) = if q.channel == channel && not (q.flags == 2) then q.body ∷ came channel es else came channel es
+came channel (_ ∷ es) = came channel es
+
+-- packets, then at most one Disconnect
+abbrev pub AreLast : List Event → Type 0
+AreLast [] = Unit {0}
+AreLast (events.Receive p q ∷ es) = AreLast es
+AreLast (events.Disconnect p info ∷ es) = es ≡ []
+AreLast (_ ∷ es) = ⊥
+
+-- at most one Connect, and only first; packets only after it; at most one Disconnect, and only last
+abbrev pub IsOneLife : List Event → Type 0
+IsOneLife [] = Unit {0}
+IsOneLife (events.Connect p info ∷ es) = AreLast es
+IsOneLife (events.Disconnect p info ∷ es) = es ≡ []
+IsOneLife (_ ∷ es) = ⊥
+
+-- the user of a host: what it submitted to a peer on a channel and was accepted, the events that it took of a peer, and whether a stranger's
+-- datagram was taken in there, by which a stranger may have a peer
+pub record User : Type 0 where
+  pub submitted : PeerRef → ℕ → List Packet
+  pub taken : PeerRef → List Event
+  pub guests : Bool
+
+abbrev pub submitted_if : User → Option PeerRef → ℕ → List Packet
+submitted_if u None channel = []
+submitted_if u (Some p) channel = u.submitted p channel
+
+abbrev pub taken_if : User → Option PeerRef → List Event
+taken_if u None = []
+taken_if u (Some p) = u.taken p
+
+-- a connection whose peer the client calls `there` and the server, if it has one, `here`
+pub record IsInOrder (client server : User) (there : PeerRef) (here : Option PeerRef) : Type 0 where
+  pub forth : (channel : ℕ) → channel < 256 → Follows (client.submitted there channel) (came channel (taken_if server here))
+  pub back : (channel : ℕ) → channel < 256 → Follows (submitted_if server here channel) (came channel (client.taken there))
+  pub client_life : IsOneLife (client.taken there)
+  pub server_life : IsOneLife (taken_if server here)
+
+-- the headline of a server and its clients; `asked` has, for each connection, which client asked for it and what it calls its peer
+pub record IsHeadline (server : User) (clients : ℕ → User) (asked : List (ℕ × PeerRef)) : Type 0 where
+  pub here : ℕ → Option PeerRef  -- what the server calls the peer of a connection, if it has one
+  pub each : (x client : ℕ) (there : PeerRef) → slice_get asked x ≡ Some (client, there) → IsInOrder (clients client) server there (here x)
+  -- no two connections share a name
+  pub apart : (x y client : ℕ) (there : PeerRef) → slice_get asked x ≡ Some (client, there) → slice_get asked y ≡ Some (client, there) → x ≡ y
+  pub apart_here : (x y : ℕ) (p : PeerRef) → here x ≡ Some p → here y ≡ Some p → x ≡ y
+  -- where no stranger is, all that was taken is of these connections
+  pub all_here : server.guests ≡ false → (p : PeerRef) → server.taken p ≢ [] → (x : ℕ) × (here x ≡ Some p) × (x < length asked)
+  pub all_there : (client : ℕ) → (clients client).guests ≡ false → (p : PeerRef) → (clients client).taken p ≢ [] → (x : ℕ) × (slice_get asked x ≡ Some (client, p))
+
+-- ---- users of whom less is known
+-- a user that submitted more, or took less: game threads have submitted more than their service was given yet, and took less than it put
+pub record IsBehind (u v : User) : Type 0 where
+  pub more : (p : PeerRef) (channel : ℕ) → (rest : List Packet) × (v.submitted p channel ≡ u.submitted p channel ++ rest)
+  pub fewer : (p : PeerRef) → (rest : List Event) × (u.taken p ≡ v.taken p ++ rest)
+  pub same : v.guests ≡ u.guests
+
+-- the headline holds of such users too
+abbrev pub HoldsBehind : Type 0
+HoldsBehind = (server later : User) (clients laters : ℕ → User) (asked : List (ℕ × PeerRef)) → IsBehind server later → ((i : ℕ) → IsBehind (clients i) (laters i))
+    → IsHeadline server clients asked → IsHeadline later laters asked

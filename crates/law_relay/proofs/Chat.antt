@@ -1,0 +1,157 @@
+-- Runs of a server as one, and what its clients take.
+use Rattle.std.proofs.Common.{◌≡◌, ℕ, Bool, true, List, [], ◌∷◌, ◌++◌, map, length, refl, sym, ap, subst, ◌∙◌, append_assoc, Option, Some, None, slice_get}
+use Rattle.std.specs.List.{All}
+use Rattle.std.proofs.lemmas.List.{append-nil, map-append}
+use Rattle.std.proofs.lemmas.List.Elements.{All-nil, All-append}
+use Rattle.enet_codec.specs.declared.address.Addr.{Addr}
+use Rattle.enet_codec.specs.declared.config.Config.{Config}
+use Rattle.enet_codec.specs.Config as config
+use Rattle.enet_codec.specs.declared.event.Event.{Event}
+use Rattle.enet_codec.specs.declared.event.PeerRef.{PeerRef}
+use Rattle.enet_submit.specs.declared.order.Order.{Order}
+use Rattle.enet_submit.specs.declared.order.Submission.{Submission}
+use Rattle.enet_host.specs.Host.{Host}
+use Rattle.enet_bridge.specs.Ends.{orders}
+use Rattle.enet_chat.specs.Relaying.{noted_all, relayed_all, SameForEach}
+use Rattle.enet_chat.proofs.Relays.{noted_more, on_for_each, joined}
+use Rattle.enet_service.specs.declared.report.Report.{Report}
+use Rattle.enet_service.specs.declared.run_length.RunLength.{RunLength}
+use Rattle.enet_service.specs.declared.service.Service.{Service}
+use Rattle.enet_codec.specs.declared.event.DisconnectMode.TheVariants.{Now}
+use Rattle.enet_service.specs.Hosting.{host_calls}
+use Rattle.enet_service.specs.Queues.{given, accepted}
+use Rattle.enet_service.specs.Turn.{Round}
+use Rattle.enet_service.specs.Run.{IsSound, all_gave, all_puts}
+use Rattle.enet_service.specs.ServiceRuns.{TakesTurns, beginning}
+use Rattle.enet_service.proofs.PhaseSteps.{chain_more}
+use Rattle.enet_service.proofs.Spells.{given_both, accepted_both}
+use Rattle.enet_serve.specs.declared.server.ChatServer.{ChatServer}
+use Rattle.enet_serve.specs.declared.server.Settings.{Settings}
+use Rattle.enet_serve.specs.Serving.{Serves, IsOpened, host_of, waiting_of, peers_of, backlog_of, orders_of}
+use Rattle.law_network.specs.Calls.{Call}
+use Rattle.law_headline.specs.Nets.{Net, open_net}
+use Rattle.law_headline.specs.Page.{User, IsHeadline, IsBehind}
+use Rattle.law_headline.proofs.Page.{holds-behind}
+use Rattle.law_service.specs.Spans.{Span, Spans, rounds_in}
+use Rattle.law_service.specs.EndToEnd.{Running, user_of, configs, AllMake, asked}
+use Rattle.law_service.proofs.Lifting.{each-life}
+use Rattle.law_service.proofs.EndToEnd.{end-to-end, behind-at}
+use Rattle.law_relay.specs.Relay.{Relaying}
+use Rattle.law_relay.proofs.Refusals.{has-answers, between-pairs-unless}
+use Rattle.law_relay.specs.Chat.{ServesAll, service_of, Served, EachServed, config_of, HasServed, EachHasServed, Played, hosts_of, users_of, users_by, ChatsInOrder, OfChatServer, OfChatThreads}
+
+none : (s : ChatServer) → Served s s
+none s = record {
+  rounds = [];
+  expanded = [];
+  asked_for = [];
+  turns = refl;
+  sound = All-nil IsSound;
+  events = append-nil (backlog_of s);
+  peers = refl;
+  for_each = λ peer. refl;
+  orders_done = append-nil (orders_of s);
+}
+
+one : (old : ChatServer) (run_length : RunLength) (new : ChatServer) (report : Report) → Serves old run_length new report → Served old new
+one old run_length new report s = record {
+  rounds = s.rounds;
+  expanded = s.expanded;
+  asked_for = s.asked_for;
+  turns = s.turns;
+  sound = s.sound;
+  events = s.events;
+  peers = s.peers;
+  for_each = s.for_each;
+  orders_done = s.orders_done;
+}
+
+more : (a b c : ChatServer) → Served a b → Served b c → Served a c
+more a b c p q = record {
+  rounds = p.rounds ++ q.rounds;
+  expanded = p.expanded ++ q.expanded;
+  asked_for = p.asked_for ++ q.asked_for;
+  turns = chain_more _ (service_of a) p.rounds (service_of b) q.rounds (service_of c) p.turns q.turns;
+  sound = All-append IsSound p.rounds q.rounds p.sound q.sound;
+  events = ap (λ (es : List Event). backlog_of a ++ es) (accepted_both p.rounds q.rounds)
+      ∙ joined (backlog_of a) (backlog_of b) (backlog_of c) (accepted (all_puts p.rounds)) (accepted (all_puts q.rounds)) p.expanded q.expanded p.events q.events;
+  peers = q.peers ∙ (ap (λ (ps : List PeerRef). noted_all ps q.expanded) p.peers ∙ sym (noted_more (peers_of a) p.expanded q.expanded));
+  for_each = on_for_each p.asked_for q.asked_for (peers_of a) (peers_of b) p.expanded q.expanded p.peers p.for_each q.for_each;
+  orders_done = joined (orders_of a) (orders_of b) (orders_of c) p.asked_for q.asked_for (orders (given (all_gave p.rounds))) (orders (given (all_gave q.rounds))) p.orders_done q.orders_done
+      ∙ ap (λ (os : List Order). os ++ orders_of c) (sym (ap orders (given_both p.rounds q.rounds) ∙ map-append (λ (x : Submission). x.order) (given (all_gave p.rounds)) (given (all_gave q.rounds))));
+}
+
+pub each-served : EachServed
+each-served old [] new h = subst (λ (s : ChatServer). Served old s) (sym h) (none old)
+each-served old (run ∷ runs) new h = more old h.0 new (one old run.0 h.0 run.1 h.1) (each-served h.0 runs new h.2)
+
+pub each-has-served : EachHasServed
+each-has-served settings fresh served runs left opened h leaves = record {
+  running = r;
+  relaying = record {
+    expanded = s.expanded;
+    backlog = backlog_of served ++ untaken;
+    asked_for = s.asked_for;
+    waits = orders_of served;
+    events = accepted_both s.rounds more-rounds ∙ ap (λ (es : List Event). es ++ untaken) (ap (λ (es : List Event). es ++ accepted (all_puts s.rounds)) (sym opened.backlog) ∙ s.events)
+        ∙ append_assoc s.expanded (backlog_of served) untaken;
+    for_each = subst (λ (ps : List PeerRef). SameForEach s.asked_for (relayed_all ps s.expanded)) opened.peers s.for_each;
+    orders_done = ap (λ (os : List Order). os ++ s.asked_for) (sym opened.orders) ∙ s.orders_done
+        ∙ ap (λ (xs : List Submission). orders xs ++ orders_of served) (sym (given_both s.rounds more-rounds ∙ ap (λ (xs : List Submission). given (all_gave s.rounds) ++ xs) leaves.no_orders ∙ append-nil (given (all_gave s.rounds))));
+  };
+  config = refl;
+  left_is = refl;
+  untaken = untaken;
+  backlog = refl;
+  waits = refl;
+  peers = s.peers ∙ ap (λ (ps : List PeerRef). noted_all ps s.expanded) opened.peers;
+}
+  where
+    s : Served fresh served
+    s = each-served fresh runs served h
+
+    more-rounds : List Round
+    more-rounds = rounds_in leaves.spans
+
+    untaken : List Event
+    untaken = accepted (all_puts more-rounds)
+
+    begins : service_of fresh ≡ beginning (config_of settings)
+    begins = (λ i. record { host = opened.host i; waiting = opened.waiting i })
+
+    turns : TakesTurns (beginning (config_of settings)) s.rounds (service_of served)
+    turns = subst (λ (t : Service Host). TakesTurns t s.rounds (service_of served)) begins s.turns
+
+    -- its runs, and what came after them
+    spans : List Span
+    spans = (record { rounds = s.rounds; how = Now; parted = [] }) ∷ leaves.spans
+
+    acts : Spans host_calls (beginning (config_of settings)) spans left
+    acts = (service_of served, (service_of served, turns, refl), leaves.acts)
+
+    r : Running
+    r = (let m = each-life (beginning (config_of settings)) spans left acts in
+        record { config = config_of settings; spans = spans; left = left; calls = m.0; turns = m.2 })
+
+-- the pairs of a headline
+chats : (hosts : Addr → Bool) (server : Running) (l : Relaying server) (users : ℕ → User) (asks : List (ℕ × PeerRef)) → IsHeadline (user_of hosts server) users asks → ChatsInOrder hosts server l users asks
+chats hosts server l users asks h = record {
+  headline = h;
+  answers = has-answers server;
+  pairs = λ x j there q is here. between-pairs-unless hosts server l (has-answers server) users asks h x j there q is here;
+}
+
+pub of-chat-server : OfChatServer
+of-chat-server at apart settings served left low s clients fits play = chats (hosts_of at clients) s.running s.relaying (users_of at clients) (asked play.ms)
+    (end-to-end at apart s.running clients (subst (λ (c : Config). config.is_in_range c ≡ true) (sym s.config) low) fits play.ms play.end
+    (subst (λ (c : Config). AllMake at play.ms (open_net at c (configs clients)) play.end) (sym s.config) play.make) play.of_server play.of_clients)
+
+same-user : (u : User) → IsBehind u u
+same-user u = record { more = λ p channel. ([], sym (append-nil (u.submitted p channel))); fewer = λ p. ([], sym (append-nil (u.taken p))); same = refl }
+
+pub of-chat-threads : OfChatThreads
+of-chat-threads at apart settings served left low s clients fits play threads =
+    let c = of-chat-server at apart settings served left low s clients fits play in
+    chats (hosts_of at clients) s.running s.relaying (users_by at clients threads) (asked play.ms)
+    (holds-behind (user_of (hosts_of at clients) s.running) (user_of (hosts_of at clients) s.running) (users_of at clients) (users_by at clients threads) (asked play.ms) (same-user (user_of (hosts_of at clients) s.running))
+    (λ i. behind-at (hosts_of at clients) (slice_get clients i) (threads i)) c.headline)

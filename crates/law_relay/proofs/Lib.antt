@@ -1,0 +1,4 @@
+pub mod Relay
+pub mod Pairs
+pub mod Refusals
+pub mod Chat

@@ -1,0 +1,14 @@
+use Rattle.law_relay.proofs.Chat.{each-served, each-has-served, of-chat-server, of-chat-threads}
+use Rattle.law_relay.proofs.chat_server_in_order.Goals as goal
+
+pub returns-clause-runs : goal.returns-clause-runs
+returns-clause-runs c = each-served
+
+pub returns-clause-served : goal.returns-clause-served
+returns-clause-served c = each-has-served
+
+pub returns-clause-chats : goal.returns-clause-chats
+returns-clause-chats c = of-chat-server
+
+pub returns-clause-threads : goal.returns-clause-threads
+returns-clause-threads c = of-chat-threads

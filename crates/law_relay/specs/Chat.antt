@@ -1,0 +1,118 @@
+-- The relay of a `ChatServer`, from its runs' contracts.
+use Rattle.std.specs.Prelude.{◌≡◌, refl, ℕ, Bool, true, List, [], ◌++◌, length, map, Option, Some, slice_get}
+use Rattle.std.specs.List.{All, list_all}
+use Rattle.enet_codec.specs.declared.address.Addr.{Addr}
+use Rattle.enet_codec.specs.declared.config.Config.{Config}
+use Rattle.enet_codec.specs.Config as config
+use Rattle.enet_codec.specs.Config.{standard_config}
+use Rattle.enet_codec.specs.declared.event.Event.{Event}
+use Rattle.enet_codec.specs.declared.event.PeerRef.{PeerRef}
+use Rattle.enet_submit.specs.declared.order.Order.{Order}
+use Rattle.enet_host.specs.Host.{Host}
+use Rattle.enet_bridge.specs.Ends.{orders}
+use Rattle.law_headline.specs.declared.node.Node.{Node}
+use Rattle.law_headline.specs.declared.node.Node.TheVariants.{Server, Client}
+use Rattle.enet_service.specs.declared.report.Report.{Report}
+use Rattle.enet_service.specs.declared.run_length.RunLength.{RunLength}
+use Rattle.enet_service.specs.declared.service.Service.{Service}
+use Rattle.enet_service.specs.Hosting.{host_calls}
+use Rattle.enet_service.specs.Phases.{Chain}
+use Rattle.enet_service.specs.Queues.{given, accepted}
+use Rattle.enet_service.specs.Turn.{Round}
+use Rattle.enet_service.specs.Run.{IsSound, all_gave, all_puts}
+use Rattle.enet_service.specs.ServiceRuns.{TakesTurns}
+use Rattle.enet_chat.specs.Relaying.{noted_all, relayed_all, SameForEach}
+use Rattle.enet_serve.specs.declared.server.ChatServer.{ChatServer}
+use Rattle.enet_serve.specs.declared.server.Settings.{Settings}
+use Rattle.enet_serve.specs.Serving.{Serves, IsOpened, is_in_range, host_of, waiting_of, peers_of, backlog_of, orders_of}
+use Rattle.law_network.specs.Calls.{Call}
+use Rattle.law_headline.specs.Nets.{Net, AreApart, is_host, open_net}
+use Rattle.law_headline.specs.Page.{User, IsHeadline, came}
+use Rattle.law_service.specs.Spans.{Span, Spans, rounds_in}
+use Rattle.law_service.specs.EndToEnd.{Running, user_of, user_in, user_at, ThreadAt, configs, AllMake, calls_at, asked}
+use Rattle.law_relay.specs.Relay.{Relaying, heard}
+use Rattle.law_relay.specs.Refusals.{Answers, all_asked, TakesChatUnless}
+
+-- runs of a server one after another, each as `ChatServer::serve` and `ChatServer::serve_alone` promise: how long it was to be, and its report
+abbrev pub ServesAll : ChatServer → List (RunLength × Report) → ChatServer → Type 0
+ServesAll old runs new = Chain (λ s run t. Serves s run.0 t run.1) old runs new
+
+abbrev pub service_of : ChatServer → Service Host
+service_of server = record { host = host_of server; waiting = waiting_of server }
+
+-- all runs as one
+pub record Served (old new : ChatServer) : Type 0 where
+  pub rounds : List Round
+  pub expanded : List Event
+  pub asked_for : List Order
+  pub turns : TakesTurns (service_of old) rounds (service_of new)
+  pub sound : All IsSound rounds
+  pub events : backlog_of old ++ accepted (all_puts rounds) ≡ expanded ++ backlog_of new
+  pub peers : peers_of new ≡ noted_all (peers_of old) expanded
+  pub for_each : SameForEach asked_for (relayed_all (peers_of old) expanded)
+  pub orders_done : orders_of old ++ asked_for ≡ orders (given (all_gave rounds)) ++ orders_of new
+
+abbrev pub EachServed : Type 0
+EachServed = (old : ChatServer) (runs : List (RunLength × Report)) (new : ChatServer) → ServesAll old runs new → Served old new
+
+abbrev pub config_of : Settings → Config
+config_of settings = standard_config settings.peers settings.channels
+
+-- Taking leave: turns that are given no order, and peers that the server parts from between them. Nobody takes what these turns tell
+pub record Leaves (old new : Service Host) : Type 0 where
+  pub spans : List Span
+  pub acts : Spans host_calls old spans new
+  pub no_orders : given (all_gave (rounds_in spans)) ≡ []
+
+abbrev pub stays : (s : Service Host) → Leaves s s
+stays s = record { spans = []; acts = refl; no_orders = refl }
+
+-- what a fresh server did in all its runs and in taking leave, with the calls of its host
+pub record HasServed (settings : Settings) (served : ChatServer) (left : Service Host) : Type 0 where
+  pub running : Running
+  pub relaying : Relaying running
+  pub config : running.config ≡ config_of settings
+  pub left_is : running.left ≡ left
+  pub untaken : List Event
+  pub backlog : relaying.backlog ≡ backlog_of served ++ untaken
+  pub waits : relaying.waits ≡ orders_of served
+  pub peers : peers_of served ≡ noted_all [] relaying.expanded
+
+abbrev pub EachHasServed : Type 0
+EachHasServed = (settings : Settings) (fresh served : ChatServer) (runs : List (RunLength × Report)) (left : Service Host) → IsOpened settings fresh → ServesAll fresh runs served → Leaves (service_of served) left
+    → HasServed settings served left
+
+-- Its service and any number of clients' services, and an interleaving of their hosts' calls in which the network is honest
+pub record Played (at : Node → Addr) (settings : Settings) (server : Running) (clients : List Running) : Type 0 where
+  pub ms : List (Node × Call)
+  pub end : Net
+  pub make : AllMake at ms (open_net at (config_of settings) (configs clients)) end
+  pub of_server : calls_at Server ms ≡ server.calls
+  pub of_clients : (i : ℕ) (r : Running) → slice_get clients i ≡ Some r → calls_at (Client i) ms ≡ r.calls
+
+abbrev pub hosts_of : (Node → Addr) → List Running → Addr → Bool
+hosts_of at clients = is_host at (length clients)
+
+abbrev pub users_of : (Node → Addr) → List Running → ℕ → User
+users_of at clients i = user_in (hosts_of at clients) (slice_get clients i)
+
+-- then the headline holds, and for each pair of clients j takes of what i submitted on channel 0 each once, in order and without a gap
+pub record ChatsInOrder (hosts : Addr → Bool) (server : Running) (relaying : Relaying server) (users : ℕ → User) (asks : List (ℕ × PeerRef)) : Type 0 where
+  pub headline : IsHeadline (user_of hosts server) users asks
+  pub answers : Answers server
+  pub pairs : (x j : ℕ) (there q : PeerRef) → slice_get asks x ≡ Some (j, there) → headline.here x ≡ Some q
+      → TakesChatUnless (user_of hosts server) users asks headline.here (heard q 0 [] relaying.expanded) (all_asked q 0 answers.answered) (came 0 ((users j).taken there))
+
+abbrev pub OfChatServer : Type 0
+OfChatServer = (at : Node → Addr) → AreApart at → (settings : Settings) (served : ChatServer) (left : Service Host) → is_in_range settings ≡ true → (s : HasServed settings served left)
+    → (clients : List Running) → list_all config.is_in_range (configs clients) ≡ true → (play : Played at settings s.running clients)
+    → ChatsInOrder (hosts_of at clients) s.running s.relaying (users_of at clients) (asked play.ms)
+
+-- and so of what the clients' game threads submitted and took
+abbrev pub users_by : (at : Node → Addr) (clients : List Running) → ((i : ℕ) → ThreadAt (slice_get clients i)) → ℕ → User
+users_by at clients threads i = user_at (hosts_of at clients) (slice_get clients i) (threads i)
+
+abbrev pub OfChatThreads : Type 0
+OfChatThreads = (at : Node → Addr) → AreApart at → (settings : Settings) (served : ChatServer) (left : Service Host) → is_in_range settings ≡ true → (s : HasServed settings served left)
+    → (clients : List Running) → list_all config.is_in_range (configs clients) ≡ true → (play : Played at settings s.running clients) → (threads : (i : ℕ) → ThreadAt (slice_get clients i))
+    → ChatsInOrder (hosts_of at clients) s.running s.relaying (users_by at clients threads) (asked play.ms)
