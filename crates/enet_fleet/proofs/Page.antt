@@ -5,6 +5,7 @@ use Rattle.std.specs.Option.{option_map}
 use Rattle.enet_codec.specs.declared.config.Config.{Config}
 use Rattle.enet_codec.specs.declared.event.PeerRef.{PeerRef}
 use Rattle.enet_codec.specs.declared.refusal.Refusal.{Refusal}
+use Rattle.enet_codec.specs.declared.refusal.Refusal.TheVariants.{BadConfig}
 use Rattle.law_connection.specs.LinkSteps.{Has}
 use Rattle.std.proofs.lemmas.Option.{slice_get_within}
 use Rattle.law_network.specs.declared.event.Answer.{Answer}
@@ -22,6 +23,7 @@ use Rattle.enet_fleet.specs.Headline.{HasHeadline, end_in, end_at}
 use Rattle.enet_fleet.specs.Reached.{fit}
 use Rattle.enet_fleet.proofs.Reaching.{fit-server, fit-clients}
 use Rattle.law_headline.proofs.Page.{IsUsers, IsBegun, page}
+use Rattle.law_headline.proofs.Telling.{get-unmapped, length-mapped}
 use Rattle.enet_fleet.specs.Transcript.{Happened, asked, user, IsOnTranscript}
 use Rattle.enet_fleet.specs.Told.{IsToldBy}
 use Rattle.enet_fleet.proofs.Told.{each-list}
@@ -32,15 +34,6 @@ site-of o = option_map (λ (p : Place). p.site) o
 has-site : (o : Option Place) (s : Site) → site-of o ≡ Some s → (p : Place) × (o ≡ Some p) × (p.site ≡ s)
 has-site None s h = absurd (let y : ◌≡◌ {A = Option Site} None (Some s) = h in cc)
 has-site (Some p) s h = (p, refl, same-some p.site s h)
-
-get-unmapped : {X Y : Type 0} (g : X → Y) (xs : List X) (k : ℕ) (y : Y) → slice_get (map g xs) k ≡ Some y → (x : X) × (slice_get xs k ≡ Some x) × (g x ≡ y)
-get-unmapped g [] k y h = absurd (let e : ◌≡◌ {A = Option _} None (Some y) = h in cc)
-get-unmapped g (z ∷ xs) zero y h = (z, refl, same-some (g z) y h)
-get-unmapped g (z ∷ xs) (suc k) y h = get-unmapped g xs k y h
-
-length-mapped : {X Y : Type 0} (g : X → Y) (xs : List X) → length (map g xs) ≡ length xs
-length-mapped g [] = refl
-length-mapped g (x ∷ xs) = ap (λ (n : ℕ). suc n) (length-mapped g xs)
 
 pub on-transcript : (f : Fleet) (hs : List Happened) → HasHeadline f → IsToldBy hs f → IsOnTranscript hs
 on-transcript f hs k told = page (is_host (length f.clients)) f.server.site (user Server hs) (λ i. site-of (slice_get f.clients i)) (λ i. user (Client i) hs) (asked hs)
@@ -100,12 +93,12 @@ answered items server clients events (Ok a) first f fits fresh runs k =
 answered items server clients events (Err why) first f fits fresh runs k = tt
 
 -- settings by which something else than that refusal came
-pub fitted : {V : Type 0} (server : Config) (clients : List Config) (r : Result V Refusal) (v : V) → (fit server clients ≡ false → r ≡ Err Rattle.enet_codec.specs.declared.refusal.Refusal.TheVariants.BadConfig) → r ≡ Ok v → fit server clients ≡ true
+pub fitted : {V : Type 0} (server : Config) (clients : List Config) (r : Result V Refusal) (v : V) → (fit server clients ≡ false → r ≡ Err BadConfig) → r ≡ Ok v → fit server clients ≡ true
 fitted server clients r v refused ok = by (fit server clients) refl
   where
     by : (b : Bool) → fit server clients ≡ b → fit server clients ≡ true
     by true e = e
-    by false e = absurd (let z : ◌≡◌ {A = Result _ Refusal} (Ok v) (Err Rattle.enet_codec.specs.declared.refusal.Refusal.TheVariants.BadConfig) = sym ok ∙ refused e in cc)
+    by false e = absurd (let z : ◌≡◌ {A = Result _ Refusal} (Ok v) (Err BadConfig) = sym ok ∙ refused e in cc)
 
 pub stepped : {V : Type 0} (items : V → List (Result Answer Refusal)) (server : Config) (clients : List Config) (events : List FleetEvent) (r : Result V Refusal) (first f : Fleet) → first ≡ open_fleet server clients
     → IfOk r (λ a. Runs first events (items a) f) → IfOk r (λ a. (g : Fleet) × Runs (open_fleet server clients) events (items a) g)

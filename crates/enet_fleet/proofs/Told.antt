@@ -6,7 +6,6 @@ use Rattle.std.proofs.lemmas.Bool.Decides.{nat_tests}
 use Rattle.std.proofs.lemmas.List.{map-append, length-set}
 use Rattle.std.proofs.lemmas.Option.{slice_get_within}
 use Rattle.enet_codec.specs.declared.address.Addr.{Addr}
-use Rattle.std.proofs.lemmas.Grind.{flat_map-append}
 use Rattle.enet_codec.specs.declared.config.Config.{Config}
 use Rattle.enet_codec.specs.declared.event.Event.{Event}
 use Rattle.enet_codec.specs.declared.event.PeerRef.{PeerRef}
@@ -19,7 +18,6 @@ use Rattle.law_network.specs.Calls as call
 use Rattle.law_network.specs.declared.event.Answer.{Answer}
 use Rattle.law_network.specs.declared.event.Answer.TheVariants as answers
 use Rattle.law_network.specs.Network.{HostEnd, Site, fresh_end, is_same_name}
-use Rattle.law_network.specs.Running.{RunsBy}
 use Rattle.law_network.specs.Steps.{Around, Happening, Calls, Hears, HappensAmong}
 use Rattle.law_network.proofs.Growing.{Grows, grows, more_of, stays-there}
 use Rattle.law_network.proofs.Lists.{same-or, get-set, get-set_other, get-within}
@@ -38,22 +36,13 @@ use Rattle.enet_fleet.proofs.Places.{apart, Sound}
 use Rattle.enet_fleet.proofs.Runs.{sound-step, sound-run}
 use Rattle.law_headline.specs.Page.{is_of}
 use Rattle.law_headline.specs.Kept.{submitted_by, taken_by, is_guest, IsRecorded, IsCovered, and_submitted, and_taken}
-use Rattle.law_headline.proofs.Kept.{stays-recorded}
-use Rattle.law_headline.proofs.Covered.{stays-covered}
+use Rattle.law_headline.proofs.Telling as telling
+use Rattle.law_headline.proofs.Telling.{push, runs-on, get-either, length-mapped}
 use Rattle.enet_fleet.specs.Transcript.{Happened, is_node, submits, takes, asks, submitted, taken, asked, brings_guest, guests}
 use Rattle.enet_fleet.specs.Told.{IsToldBy, EachListIsKept}
 
 abbrev HappensAt : Node → Node → Happening → Fleet → Fleet → Type 0
 HappensAt n from what old new = nets.HappensAt address_of n from what old new
-
--- a step with lists that go on: what holds of the lists so far and the state holds of all of them in the end
-runs-on : {W E A : Type 0} (S : W → E → A → W → Type 0) (P : List (E × A) → W → Type 0) → ((hs : List (E × A)) (w v : W) (e : E) (a : A) → S w e a v → P hs w → P (hs ++ (e, a) ∷ []) v)
-    → (es : List E) (xs : List A) (hs : List (E × A)) (w v : W) → RunsBy S w es xs v → P hs w → P (hs ++ zip es xs) v
-runs-on S P step [] [] hs w v r k = subst (λ (l : List (_ × _)). P l v) (sym (append-nil hs)) (subst (P hs) (sym r) k)
-runs-on S P step [] (x ∷ xs) hs w v r k = absurd r
-runs-on S P step (e ∷ es) [] hs w v r k = absurd r
-runs-on S P step (e ∷ es) (x ∷ xs) hs w v r k =
-    subst (λ (l : List (_ × _)). P l v) (append_assoc hs ((e, x) ∷ []) (zip es xs)) (runs-on S P step es xs (hs ++ (e, x) ∷ []) r.0 v r.2 (step hs w r.0 e x r.1 k))
 
 -- what one event adds
 
@@ -207,32 +196,14 @@ same-node (Client i) Server e = absurd (let z : false ≡ true = e in cc)
 
 -- one event
 
--- the lists of a name by one more
-push : {X Y : Type 0} (g : X → List Y) (hs : List X) (h : X) → flat_map g (hs ++ h ∷ []) ≡ flat_map g hs ++ g h
-push g hs h = flat_map-append g hs (h ∷ []) ∙ ap (λ (l : List _). flat_map g hs ++ l) (append-nil (g h))
+abbrev submits-all : Node → PeerRef → ℕ → Happened → List Packet
+submits-all n q channel h = submits n q channel h.0 h.1
 
-same-recorded : (s t : PeerRef → ℕ → List Packet) (u v : PeerRef → List Event) (x : Site) → ((q : PeerRef) (channel : ℕ) → s q channel ≡ t q channel) → ((q : PeerRef) → u q ≡ v q) → IsRecorded s u x → IsRecorded t v x
-same-recorded s t u v x a b k = subst (λ (r : PeerRef → ℕ → List Packet). IsRecorded r v x) (λ i q channel. a q channel i) (subst (λ (r : PeerRef → List Event). IsRecorded s r x) (λ i q. b q i) k)
+abbrev takes-all : Node → PeerRef → Happened → List Event
+takes-all n q h = takes n q h.0 h.1
 
 abbrev Recorded : Node → List Happened → Site → Type 0
 Recorded n hs s = IsRecorded (λ q channel. submitted n q channel hs) (λ q. taken n q hs) s
-
--- where nothing is added
-stays : (n : Node) (hs : List Happened) (event : FleetEvent) (answer : Result Answer Refusal) (s : Site) → ((q : PeerRef) (channel : ℕ) → submits n q channel event answer ≡ []) → ((q : PeerRef) → takes n q event answer ≡ [])
-    → Recorded n hs s → Recorded n (hs ++ (event, answer) ∷ []) s
-stays n hs event answer s a b k =
-    same-recorded (λ q channel. submitted n q channel hs) (λ q channel. submitted n q channel (hs ++ (event, answer) ∷ [])) (λ q. taken n q hs) (λ q. taken n q (hs ++ (event, answer) ∷ [])) s
-    (λ q channel. sym (push (λ (h : Happened). submits n q channel h.0 h.1) hs (event, answer) ∙ ap (λ (l : List Packet). submitted n q channel hs ++ l) (a q channel) ∙ append-nil (submitted n q channel hs)))
-    (λ q. sym (push (λ (h : Happened). takes n q h.0 h.1) hs (event, answer) ∙ ap (λ (l : List Event). taken n q hs ++ l) (b q) ∙ append-nil (taken n q hs))) k
-
--- where it happened
-goes : (f : Fleet) (n : Node) (hs : List Happened) (event : FleetEvent) (answer : Answer) (what : Happening) (from old new : Site) (w : Around) → Makes f event answer what → is_node (node_of event) n ≡ true → HappensAmong w from what old new
-    → Recorded n hs old → Recorded n (hs ++ (event, Ok answer) ∷ []) new
-goes f n hs event answer what from old new w m here happens k =
-    same-recorded (and_submitted (λ q channel. submitted n q channel hs) what) (λ q channel. submitted n q channel (hs ++ (event, Ok answer) ∷ [])) (and_taken (λ q. taken n q hs) what) (λ q. taken n q (hs ++ (event, Ok answer) ∷ [])) new
-    (λ q channel. sym (push (λ (h : Happened). submits n q channel h.0 h.1) hs (event, Ok answer) ∙ ap (λ (l : List Packet). submitted n q channel hs ++ l) ((adds f event answer what m n q here).packets channel)))
-    (λ q. sym (push (λ (h : Happened). takes n q h.0 h.1) hs (event, Ok answer) ∙ ap (λ (l : List Event). taken n q hs ++ l) (adds f event answer what m n q here).events))
-    (stays-recorded (λ q channel. submitted n q channel hs) (λ q. taken n q hs) w from old new what happens k)
 
 each-goes : (f g : Fleet) (hs : List Happened) (event : FleetEvent) (answer : Answer) (what : Happening) (from : Node) → Makes f event answer what → (h : HappensAt (node_of event) from what f g) → IsToldBy hs f
     → (n : Node) (p : Place) → place_of g n ≡ Some p → Recorded n (hs ++ (event, Ok answer) ∷ []) p.site
@@ -241,9 +212,10 @@ each-goes f g hs event answer what from m h k n p there = by (placed (node_of ev
     by : Placed (node_of event) n what f h.was h.is p → Recorded n (hs ++ (event, Ok answer) ∷ []) p.site
     by (is_here same was is) =
         subst (λ (q : Place). Recorded n (hs ++ (event, Ok answer) ∷ []) q.site) is
-        (goes f n hs event answer what h.sender.site h.was.site h.is.site (around f (node_of event)) m same h.here (k.each n h.was was))
+        (telling.told-goes (submits-all n) (takes-all n) hs (event, Ok answer) (around f (node_of event)) h.sender.site h.was.site h.is.site what (λ q channel. (adds f event answer what m n q same).packets channel)
+        (λ q. (adds f event answer what m n q same).events) h.here (k.each n h.was was))
     by (is_away other was) =
-        stays n hs event (Ok answer) p.site (λ q channel. elsewhere-submits n q channel event (Ok answer) other) (λ q. elsewhere-takes n q event (Ok answer) other) (k.each n p was)
+        telling.told-stays (submits-all n) (takes-all n) hs (event, Ok answer) p.site (λ q channel. elsewhere-submits n q channel event (Ok answer) other) (λ q. elsewhere-takes n q event (Ok answer) other) (k.each n p was)
 
 -- a client's end of a connection
 abbrev HasEndOf : Fleet → ℕ → ℕ → PeerRef → Type 0
@@ -287,16 +259,6 @@ end-begins (Client k) from what f g h i name e more =
     client-number : (k i : ℕ) → Client k ≡ Client i → k ≡ i
     client-number k i e = cc
 
-length-mapped : {X Y : Type 0} (g : X → Y) (xs : List X) → length (map g xs) ≡ length xs
-length-mapped g [] = refl
-length-mapped g (x ∷ xs) = ap (λ (n : ℕ). suc n) (length-mapped g xs)
-
--- of two lists, one after the other
-get-either : {X : Type 0} (xs ys : List X) (k : ℕ) (x : X) → slice_get (xs ++ ys) k ≡ Some x → (slice_get xs k ≡ Some x) ⊎ ((j : ℕ) × (slice_get ys j ≡ Some x) × (k ≡ length xs + j))
-get-either [] ys k x h = inr (k, h, (let e : k ≡ 0 + k = omega arith in e))
-get-either (z ∷ xs) ys zero x h = inl h
-get-either (z ∷ xs) ys (suc k) x h = elim (get-either xs ys k x h) [ inl e ↦ inl e | inr e ↦ inr (e.0, e.1, (let s : k ≡ length xs + e.0 = e.2 in omega arith)) ]
-
 at-most-one : (event : FleetEvent) (answer : Result Answer Refusal) (j : ℕ) (a : ℕ × PeerRef) → slice_get (asks event answer) j ≡ Some a → j ≡ 0
 at-most-one (happen.Connect client channels info word) (Ok (answers.Peer p)) zero a h = refl
 at-most-one (happen.Connect client channels info word) (Ok (answers.Peer p)) (suc j) a h = absurd (let e : ◌≡◌ {A = Option (ℕ × PeerRef)} None (Some a) = h in cc)
@@ -321,16 +283,6 @@ begun-goes f g hs event answer what from m h k x i name is =
 abbrev Covered : Fleet → Node → List Happened → Site → Type 0
 Covered f n hs s = IsCovered (is_host (length f.clients)) (λ q channel. submitted n q channel hs) (λ q. taken n q hs) s
 
-same-covered : (h : Addr → Bool) (s t : PeerRef → ℕ → List Packet) (u v : PeerRef → List Event) (x : Site) → ((q : PeerRef) (channel : ℕ) → s q channel ≡ t q channel) → ((q : PeerRef) → u q ≡ v q) → IsCovered h s u x → IsCovered h t v x
-same-covered h s t u v x a b k = subst (λ (r : PeerRef → ℕ → List Packet). IsCovered h r v x) (λ i q channel. a q channel i) (subst (λ (r : PeerRef → List Event). IsCovered h s r x) (λ i q. b q i) k)
-
-covered-stays : (f : Fleet) (n : Node) (hs : List Happened) (event : FleetEvent) (answer : Result Answer Refusal) (s : Site) → ((q : PeerRef) (channel : ℕ) → submits n q channel event answer ≡ []) → ((q : PeerRef) → takes n q event answer ≡ [])
-    → Covered f n hs s → Covered f n (hs ++ (event, answer) ∷ []) s
-covered-stays f n hs event answer s a b k =
-    same-covered (is_host (length f.clients)) (λ q channel. submitted n q channel hs) (λ q channel. submitted n q channel (hs ++ (event, answer) ∷ [])) (λ q. taken n q hs) (λ q. taken n q (hs ++ (event, answer) ∷ [])) s
-    (λ q channel. sym (push (λ (h : Happened). submits n q channel h.0 h.1) hs (event, answer) ∙ ap (λ (l : List Packet). submitted n q channel hs ++ l) (a q channel) ∙ append-nil (submitted n q channel hs)))
-    (λ q. sym (push (λ (h : Happened). takes n q h.0 h.1) hs (event, answer) ∙ ap (λ (l : List Event). taken n q hs ++ l) (b q) ∙ append-nil (taken n q hs))) k
-
 node-host : (f : Fleet) (n : Node) (p : Place) → place_of f n ≡ Some p → is_host (length f.clients) (address_of n) ≡ true
 node-host f Server p h = net.server-host address_of apart (length f.clients)
 node-host f (Client i) p h = net.client-host address_of apart (length f.clients) i (slice_get_within f.clients i p h)
@@ -338,11 +290,9 @@ node-host f (Client i) p h = net.client-host address_of apart (length f.clients)
 covered-goes : (f : Fleet) (n from : Node) (hs : List Happened) (event : FleetEvent) (answer : Answer) (what : Happening) (sender was is : Place) → Sound f → Makes f event answer what → is_node (node_of event) n ≡ true
     → place_of f from ≡ Some sender → place_of f n ≡ Some was → HappensAmong (around f n) sender.site what was.site is.site → brings_guest n event (Ok answer) ≡ false → Covered f n hs was.site → Covered f n (hs ++ (event, Ok answer) ∷ []) is.site
 covered-goes f n from hs event answer what sender was is s m here sends there happens none k =
-    same-covered (is_host (length f.clients)) (and_submitted (λ q channel. submitted n q channel hs) what) (λ q channel. submitted n q channel (hs ++ (event, Ok answer) ∷ [])) (and_taken (λ q. taken n q hs) what) (λ q. taken n q (hs ++ (event, Ok answer) ∷ [])) is.site
-    (λ q channel. sym (push (λ (h : Happened). submits n q channel h.0 h.1) hs (event, Ok answer) ∙ ap (λ (l : List Packet). submitted n q channel hs ++ l) ((adds f event answer what m n q here).packets channel)))
-    (λ q. sym (push (λ (h : Happened). takes n q h.0 h.1) hs (event, Ok answer) ∙ ap (λ (l : List Event). taken n q hs ++ l) (adds f event answer what m n q here).events))
-    (stays-covered (λ q channel. submitted n q channel hs) (λ q. taken n q hs) (around f n) sender.site was.site is.site what happens (brings f event answer what m n here none)
-    (ap (is_host (length f.clients)) by.address ∙ node-host f from sender sends) (are-ends (is_host (length f.clients)) was.site own.owned) k)
+    telling.covered-goes (submits-all n) (takes-all n) hs (event, Ok answer) (around f n) sender.site was.site is.site what (λ q channel. (adds f event answer what m n q here).packets channel)
+    (λ q. (adds f event answer what m n q here).events) happens (brings f event answer what m n here none) (ap (is_host (length f.clients)) by.address ∙ node-host f from sender sends)
+    (are-ends (is_host (length f.clients)) was.site own.owned) k
   where
     by : net.Holds address_of apart f.asked (length f.clients) from sender.site
     by = net.each-holds address_of apart f s from sender sends
@@ -368,7 +318,7 @@ covered-each f g hs event answer what from s m h k n p there quiet =
     by (is_here same was is) = subst (λ (q : Place). Covered f n (hs ++ (event, Ok answer) ∷ []) q.site) is
         (covered-goes f n from hs event answer what h.sender h.was h.is s m same h.sends was
         (subst (λ (w : Around). HappensAmong w h.sender.site what h.was.site h.is.site) (ap (around f) (same-node (node_of event) n same)) h.here) calm.1 (k.covered n h.was was calm.0))
-    by (is_away other was) = covered-stays f n hs event (Ok answer) p.site (λ q channel. elsewhere-submits n q channel event (Ok answer) other) (λ q. elsewhere-takes n q event (Ok answer) other) (k.covered n p was calm.0)
+    by (is_away other was) = telling.covered-stays (submits-all n) (takes-all n) (is_host (length f.clients)) hs (event, Ok answer) p.site (λ q channel. elsewhere-submits n q channel event (Ok answer) other) (λ q. elsewhere-takes n q event (Ok answer) other) (k.covered n p was calm.0)
 
 -- a host that isn't there takes nothing
 
@@ -404,10 +354,10 @@ told-step hs f g event (Ok answer) r s k = record {
   begun = λ x i name is. begun-goes f g hs event answer r.0 (from_of event) r.1 r.2.happens k x i name is;
 }
 told-step hs f g event (Err why) r s k = subst (IsToldBy (hs ++ (event, Err why) ∷ [])) (sym r.1) (record {
-  covered = λ n p there quiet. covered-stays f n hs event (Err why) p.site (λ q channel. refused-submits n q channel event why) (λ q. refused-takes n q event why)
+  covered = λ n p there quiet. telling.covered-stays (submits-all n) (takes-all n) (is_host (length f.clients)) hs (event, Err why) p.site (λ q channel. refused-submits n q channel event why) (λ q. refused-takes n q event why)
       (k.covered n p there (any-push (λ (z : Happened). brings_guest n z.0 z.1) hs (event, Err why) quiet).0);
   absent = λ n none q. push (λ (h : Happened). takes n q h.0 h.1) hs (event, Err why) ∙ (λ i. k.absent n none q i ++ refused-takes n q event why i);
-  each = λ n p there. stays n hs event (Err why) p.site (λ q channel. refused-submits n q channel event why) (λ q. refused-takes n q event why) (k.each n p there);
+  each = λ n p there. telling.told-stays (submits-all n) (takes-all n) hs (event, Err why) p.site (λ q channel. refused-submits n q channel event why) (λ q. refused-takes n q event why) (k.each n p there);
   asked_is = k.asked_is ∙ ap (map (λ (a : ℕ × PeerRef). a.0)) (sym same);
   begun = λ x i name is. k.begun x i name (ap (λ (l : List (ℕ × PeerRef)). slice_get l x) (sym same) ∙ is);
 })

@@ -1,2 +1,3 @@
 pub mod Stepping
 pub mod Reaching
+pub mod Told

@@ -1,10 +1,11 @@
 //! A world of two hosts.
 
-ghost use Rattle.std.specs.Prelude.{◌≡◌, ◌&&◌, true, false, slice_get, IfOk, IfErr, OnErr};
+ghost use Rattle.std.specs.Prelude.{◌≡◌, ◌&&◌, true, false, slice_get, zip, Err, IfOk, IfErr, OnErr};
 ghost use Rattle.std.specs.Option.{option_copied, option_map};
 ghost use Rattle.enet_codec.specs.Config.{is_in_range};
 ghost use Rattle.law_network.specs.Headline.{HasHeadline, end_at, submitted_at, taken_at, events_at};
-ghost use Rattle.law_network.specs.World.{Steps, Runs, site_of, other};
+ghost use Rattle.law_network.specs.World.{World as TwoHosts, Steps, Runs, open_world, site_of, other};
+ghost use Rattle.enet_world.specs.Transcript.{IsOnTranscript};
 ghost use Rattle.enet_world.specs.Worlds.{begun};
 
 use crate::hosts::Hosts;
@@ -83,6 +84,30 @@ impl World {
             joined: true,
             hosts: Hosts::joined(alloc, cfg_a, cfg_b)?,
         })
+    }
+
+    /// Two hosts with these settings, to which these events happen in order: what was answered to each. E8 and E1 as by `open`, and E1
+    /// where there is no memory for the answers, before anything happens.
+    ///
+    /// `steps`: the answers are those of a world's run. `headline`: the headline on one page, of the events and their answers alone
+    /// (specs/Transcript), whichever user asked for a connection: what one user submitted on a channel to its peer is followed by
+    /// what the other took of its peer of that connection, a subsequence, each packet whole and once, that leaves out none flagged
+    /// RELIABLE before its last. Each end's events are one life, no two connections share a name, and all that was taken is of these.
+    pub fn play(
+        alloc: Global,
+        cfg_a: Config,
+        cfg_b: Config,
+        events: &[WorldEvent],
+    ) -> Result<Vec<Result<Answer, Refusal>>, Refusal>
+        ensures out_of_range { (is_in_range cfg_a && is_in_range cfg_b) ≡ false → result ≡ Err Refusal.BadConfig }
+        ensures in_range { (is_in_range cfg_a && is_in_range cfg_b) ≡ true → IfErr result (λ why. why ≡ Refusal.Memory) }
+        ensures steps { IfOk result (λ answers. (w : TwoHosts) × Runs (open_world cfg_a cfg_b) events.now answers.items w) }
+        ensures headline { IfOk result (λ answers. IsOnTranscript (zip events.now answers.items)) }
+    {
+        let mut world = World::open(alloc, cfg_a, cfg_b)?;
+        let answers = world.run(events);
+        world.close();
+        answers
     }
 
     /// The headline, a law of every world. Of each connection, whatever was connected before, at the same time or after, slots used

@@ -2,3 +2,4 @@ pub mod Net
 pub mod Kept
 pub mod Covered
 pub mod Page
+pub mod Telling

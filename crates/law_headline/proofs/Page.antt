@@ -117,7 +117,7 @@ lives name (told.Disconnect info ∷ es) h = ap (map (event_of name)) h
 
 -- ---- ends
 
-has-end : (x : ℕ) (ends : List HostEnd) (e : HostEnd) → end_of x ends ≡ Some e → Has ends e × (e.connection ≡ x)
+pub has-end : (x : ℕ) (ends : List HostEnd) (e : HostEnd) → end_of x ends ≡ Some e → Has ends e × (e.connection ≡ x)
 has-end x [] e h = absurd (let y : ◌≡◌ {A = Option HostEnd} None (Some e) = h in cc)
 has-end x (f ∷ ends) e h = by (λ k. has-end x ends e k) (f.connection == x) refl h
   where
@@ -126,7 +126,7 @@ has-end x (f ∷ ends) e h = by (λ k. has-end x ends e k) (f.connection == x) r
     by more false is y = (let r = more y in (inr r.0, r.1))
 
 -- an end of a host whose user this is
-record IsEnd (u : User) (e : HostEnd) : Type 0 where
+pub record IsEnd (u : User) (e : HostEnd) : Type 0 where
   submitted_is : (channel : ℕ) → channel < 256 → submitted_at channel (Some e) ≡ u.submitted e.name channel
   taken_is : (channel : ℕ) → channel < 256 → taken_at channel (Some e) ≡ on_channel channel (received (u.taken e.name))
   life : IsOneLife (u.taken e.name)
@@ -137,7 +137,7 @@ pub record IsUsers (is_host : Addr → Bool) (u : User) (s : Site) : Type 0 wher
   pub headline : HasHeadlineAt false is_host s
   pub covered : u.guests ≡ false → IsCovered is_host u.submitted u.taken s
 
-is-end : (is_host : Addr → Bool) (u : User) (s : Site) → IsUsers is_host u s → (e : HostEnd) → Has s.ends e → IsEnd u e
+pub is-end : (is_host : Addr → Bool) (u : User) (s : Site) → IsUsers is_host u s → (e : HostEnd) → Has s.ends e → IsEnd u e
 is-end is_host u s k e has =
     let tells : Tells u.submitted u.taken e = k.recorded.ends e has in
     let life = k.headline.one_life e has in
@@ -148,11 +148,11 @@ is-end is_host u s k e has =
     }
 
 -- what the server calls the peer of a connection
-abbrev called : Option HostEnd → Option PeerRef
+abbrev pub called : Option HostEnd → Option PeerRef
 called None = None
 called (Some e) = Some e.name
 
-kept-by : (client server : User) (e : HostEnd) (o : Option HostEnd) → IsEnd client e → ((t : HostEnd) → o ≡ Some t → IsEnd server t) → HasHeadlineBetween (Some e) o → IsInOrder client server e.name (called o)
+pub kept-by : (client server : User) (e : HostEnd) (o : Option HostEnd) → IsEnd client e → ((t : HostEnd) → o ≡ Some t → IsEnd server t) → HasHeadlineBetween (Some e) o → IsInOrder client server e.name (called o)
 kept-by client server e None one two k = record {
   forth = λ channel low. tt;
   back = λ channel low. order channel None (Some e) [] (client.taken e.name) refl (one.taken_is channel low) (k.back channel);
@@ -167,6 +167,10 @@ kept-by client server e (Some t) one two k =
       client_life = one.life;
       server_life = far.life;
     }
+
+pub called-some : (o : Option HostEnd) (p : PeerRef) → called o ≡ Some p → (t : HostEnd) × (o ≡ Some t) × (t.name ≡ p)
+called-some None p h = absurd (let y : ◌≡◌ {A = Option PeerRef} None (Some p) = h in cc)
+called-some (Some t) p h = (t, refl, same-some t.name p h)
 
 -- connection x of a client that calls its peer so, and of the server
 pub record IsBegun (client : ℕ → Option Site) (server : Site) (x i : ℕ) (name : PeerRef) : Type 0 where
@@ -222,10 +226,6 @@ page is_host server su client cu asked ks kc begun below none own = record { her
 
     all-there : (i : ℕ) → (cu i).guests ≡ false → (p : PeerRef) → (cu i).taken p ≢ [] → (x : ℕ) × (slice_get asked x ≡ Some (i, p))
     all-there i quiet p some = there-by i p quiet some (client i) refl
-
-    called-some : (o : Option HostEnd) (p : PeerRef) → called o ≡ Some p → (t : HostEnd) × (o ≡ Some t) × (t.name ≡ p)
-    called-some None p h = absurd (let y : ◌≡◌ {A = Option PeerRef} None (Some p) = h in cc)
-    called-some (Some t) p h = (t, refl, same-some t.name p h)
 
     apart-here : (x y : ℕ) (p : PeerRef) → here x ≡ Some p → here y ≡ Some p → x ≡ y
     apart-here x y p a b =
