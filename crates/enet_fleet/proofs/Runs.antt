@@ -43,7 +43,7 @@ abbrev pub is_connect : Call → Bool
 is_connect (call.Connect address channels info word answer) = true
 is_connect c = false
 
-plain : (n : Node) (c : Call) → is_connect c ≡ false → AllowsCall n Server c
+pub plain : (n : Node) (c : Call) → is_connect c ≡ false → AllowsCall n Server c
 plain (Client i) c h = refl
 plain Server (call.Connect address channels info word answer) h = absurd (let e : true ≡ false = h in cc)
 plain Server c h = refl
@@ -113,8 +113,10 @@ goes-across f s n p there d h = by n (net.each-holds address_of apart f s n p th
     by Server k = (let a = net.asked-sent address_of apart f.asked (length f.clients) Server p.site d k h in (a.0, k.sent d h ∙ ap (net.place_in address_of apart) a.1))
     by (Client i) k = k.sent d h
 
-pub across-run : OfEachRun AreAcross
-across-run server clients one all events answers f r n p there d h =
-    let s : Sound f = sound-run server clients one all events answers f r in
+pub are-across : (f : Fleet) → Sound f → AreAcross f
+are-across f s n p there d h =
     let k = net.each-holds address_of apart f s n p there in
     far-known f n d.connection (net.asked-sent address_of apart f.asked (length f.clients) n p.site d k h) ∙ ap (λ (a : Addr). Some a) (sym (k.sent d h))
+
+pub across-run : OfEachRun AreAcross
+across-run server clients one all events answers f r = are-across f (sound-run server clients one all events answers f r)
