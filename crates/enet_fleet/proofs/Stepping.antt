@@ -16,7 +16,7 @@ use Rattle.law_network.specs.declared.event.Answer.{Answer}
 use Rattle.law_network.specs.declared.event.Answer.TheVariants as answers
 use Rattle.law_network.specs.Network.{Site}
 use Rattle.law_network.specs.Steps.{Happening, Calls, Hears, Happens, HappensAmong, Called}
-use Rattle.law_network.specs.World.{IsRefusedFor, RefusesCall}
+use Rattle.law_network.specs.World.{IsRefusedFor, RefusesCall, RefusesTake}
 use Rattle.enet_site.specs.declared.put_out.Sent.TheVariants.{Of, Away}
 use Rattle.enet_site.specs.declared.put_out.Turned.{Turned}
 use Rattle.enet_site.specs.declared.put_out.Turned.TheVariants as turn
@@ -27,7 +27,7 @@ use Rattle.enet_fleet.specs.declared.event.FleetEvent.{FleetEvent}
 use Rattle.enet_fleet.specs.declared.event.FleetEvent.TheVariants as happen
 use Rattle.enet_fleet.specs.declared.event.Node.{Node}
 use Rattle.enet_fleet.specs.declared.event.Node.TheVariants.{Server, Client}
-use Rattle.enet_fleet.specs.Fleets.{Fleet, place_of, with_place, address_of, is_host, numbers_far, around, asked_after, sent_if, sent_after, HappensAt, logged_to, next_number, brings, lacks, RefusesAt, refused_there, refused_delivery, RefusesThere, RefusesIf, Refuses, Steps}
+use Rattle.enet_fleet.specs.Fleets.{Fleet, place_of, with_place, address_of, is_host, numbers_far, around, asked_after, sent_if, sent_after, HappensAt, logged_to, next_number, brings, lacks, RefusesAt, RefusesTakeAt, refused_there, refused_delivery, RefusesThere, RefusesIf, Refuses, Steps}
 use Rattle.enet_fleet.specs.Private.Turning.{PutsOutByTurn, sent_of}
 use Rattle.enet_fleet.proofs.Runs.{is_connect}
 
@@ -87,6 +87,9 @@ called n c f was new plain there here sent = done n Server (Calls c) f was f.ser
 
 pub refuses-at : (f : Fleet) (n : Node) (was : Place) (c : Call) → place_of f n ≡ Some was → RefusesCall c was.site → RefusesAt (place_of f n) c
 refuses-at f n was c there h = subst (λ (o : Option Place). RefusesAt o c) (sym there) h
+
+pub refuses-take : (f : Fleet) (n : Node) (was : Place) (why : Refusal) → place_of f n ≡ Some was → RefusesTake why was.site.host → RefusesTakeAt (place_of f n) why
+refuses-take f n was why there h = subst (λ (o : Option Place). RefusesTakeAt o why) (sym there) h
 
 pub refused : (f : Fleet) (event : FleetEvent) (why : Refusal) (n : Node) (was : Place) (new : Site) → lacks f event ≡ false → RefusesThere f event why
     → place_of f n ≡ Some was → new ≡ was.site → Steps f event (Err why) (with_place f n (record was { site = new }))

@@ -15,7 +15,7 @@ use Rattle.law_network.specs.Log.{Logged}
 use Rattle.law_network.specs.Network.{Site, numbers_of, delivery_refusal}
 use Rattle.law_network.specs.Running.{RunsBy}
 use Rattle.law_network.specs.Steps.{Around, Happening, Calls, Hears, HappensAmong}
-use Rattle.law_network.specs.World.{IsRefusedFor, RefusesCall}
+use Rattle.law_network.specs.World.{IsRefusedFor, RefusesCall, RefusesTake}
 use Rattle.enet_site.specs.declared.put_out.Sent.{Sent}
 use Rattle.enet_site.specs.declared.put_out.Sent.TheVariants.{Of, Away}
 use Rattle.enet_site.specs.Places.{Place, opened_at, all_opened}
@@ -169,6 +169,11 @@ abbrev pub RefusesAt : Option Place → Call → Type 0
 RefusesAt None c = ⊥
 RefusesAt (Some p) c = RefusesCall c p.site
 
+-- or the next event to its user
+abbrev pub RefusesTakeAt : Option Place → Refusal → Type 0
+RefusesTakeAt None why = ⊥
+RefusesTakeAt (Some p) why = RefusesTake why p.site.host
+
 -- a delivery: E13 where the datagram went to no such host
 abbrev pub refused_there : Site → Site → Option ℕ → Option Refusal
 refused_there from to None = Some NoSuchDatagram
@@ -187,7 +192,7 @@ RefusesThere f (happen.Deliver to from k) why = IsRefusedFor why (refused_delive
 RefusesThere f (happen.Stranger to addr bytes) why = ⊥
 RefusesThere f (happen.Turn node) why = why ≡ Memory
 RefusesThere f (happen.Tick node ms) why = ⊥
-RefusesThere f (happen.Take node) why = why ≡ Memory
+RefusesThere f (happen.Take node) why = RefusesTakeAt (place_of f node) why
 RefusesThere f (happen.Disconnect node peer how info) why = RefusesAt (place_of f node) (call.Disconnect how peer info (Err why))
 
 -- why an event is refused: E17 comes first

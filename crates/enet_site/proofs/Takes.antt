@@ -1,18 +1,23 @@
 -- An event is taken, at its site.
-use Rattle.std.proofs.Common.{◌≡◌, ℕ, List, [], ◌∷◌, ◌++◌, length, sym, ap, subst, ◌∙◌, Option, Some, None, Result, Ok, Err, IfOk, OnErr, slice_set}
+use Rattle.std.proofs.Common.{◌≡◌, ℕ, List, [], ◌∷◌, ◌++◌, length, sym, ap, subst, ◌∙◌, Option, Some, None, Result, Ok, Err, IfOk, IfErr, OnErr, slice_set}
+use Rattle.std.proofs.lemmas.List.Folds.{list_any_at}
+use Rattle.std.proofs.lemmas.Option.{get_or_from_slice_get, slice_get_within}
 use Rattle.std.specs.List.{position}
 use Rattle.enet_codec.specs.declared.event.Event.{Event}
 use Rattle.enet_codec.specs.declared.event.Event.TheVariants as events
 use Rattle.enet_codec.specs.declared.event.PeerRef.{PeerRef}
 use Rattle.enet_codec.specs.declared.packet.Packet.{Packet}
 use Rattle.enet_codec.specs.declared.refusal.Refusal.{Refusal}
+use Rattle.enet_codec.specs.declared.refusal.Refusal.TheVariants.{Memory}
+use Rattle.enet_slot.specs.Calls.{tells}
 use Rattle.enet_host.specs.Host.{Host}
 use Rattle.enet_host.specs.Calls.{Takes}
-use Rattle.enet_host.specs.Foretelling.{teller_of, packet_of, Foretells}
+use Rattle.enet_host.specs.Foretelling.{teller_of, packet_of, Foretells, IsTeller}
 use Rattle.law_network.specs.Calls as call
 use Rattle.law_network.specs.Log.{Logged}
 use Rattle.law_network.specs.Network.{HostEnd, is_same_name, with_end}
 use Rattle.law_network.specs.Steps.{with_event, after_event}
+use Rattle.law_network.specs.World.{RefusesTake}
 use Rattle.enet_records.specs.Records.{Records, IsKept, AreApart, AreKept}
 use Rattle.enet_records.proofs.Ends.{Placed, with-one, with-none}
 use Rattle.enet_records.proofs.Keeps.{kept-set, event-kept}
@@ -62,3 +67,13 @@ taken-off (Some event) old new was log ends xs name view same found tells takes 
   where
     stays : was.ends ≡ after_event event was.ends
     stays = sym (named-one event name was.ends (tells (Some event) new takes) ∙ with-none (with_event event) name was.ends (none-of was log ends xs name view same found))
+
+-- a peer tells, so an event may be refused
+pub refused-of : (r : Result (Option Event) Refusal) (h : Host) (name : PeerRef) → IsTeller h name → IfErr r (λ why. why ≡ Memory) → IfErr r (λ why. RefusesTake why h)
+refused-of (Ok event) h name tells-first memory = tt
+refused-of (Err why) h name tells-first memory =
+    let first = tells-first.first in (
+      memory,
+      list_any_at tells h.slots name.slot first.slot (slice_get_within h.slots name.slot first.slot first.there)
+          (ap tells (get_or_from_slice_get h.slots name.slot first.slot first.slot first.there) ∙ first.here),
+    )

@@ -8,7 +8,7 @@ ghost use Rattle.law_network.specs.Headline.{AreEnds, submitted_at, taken_at, ev
 ghost use Rattle.law_network.specs.Network.{end_of, delivery_refusal};
 ghost use Rattle.law_network.specs.Calls as call;
 ghost use Rattle.law_network.specs.Steps.{Calls, Hears, Happens, Called};
-ghost use Rattle.law_network.specs.World.{joined_end, IsRefusedFor, RefusesCall};
+ghost use Rattle.law_network.specs.World.{joined_end, IsRefusedFor, RefusesCall, RefusesTake};
 ghost use Rattle.enet_site.specs.Sites.{CallsAt};
 ghost use Rattle.enet_site.specs.Turning.{TurnsAmong};
 
@@ -185,9 +185,9 @@ impl Site {
         self.host.tick(ms);
     }
 
-    /// Its user takes the next event; None where there is none. E1 where memory is refused, with nothing changed.
+    /// Its user takes the next event; None where there is none. E1 where one waits and memory is refused, with nothing changed.
     pub fn take(&mut self) -> Result<Option<Event>, Refusal>
-        ensures memory { IfErr result (λ why. why ≡ Refusal.Memory) }
+        ensures refused { IfErr result (λ why. RefusesTake why self.old.host) }
         ensures unchanged { OnErr result (self.new ≡ self.old) }
         ensures takes { IfOk result (λ event. CallsAt (call.NextEvent event) self.old self.new) }
     {

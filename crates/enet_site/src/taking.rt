@@ -4,6 +4,7 @@ ghost use Rattle.std.specs.Prelude.{◌≡◌, Some, None, IfSome, IfNone, IfOk,
 ghost use Rattle.enet_host.specs.Calls.{Takes};
 ghost use Rattle.enet_host.specs.Foretelling.{teller_of, packet_of, Foretells};
 ghost use Rattle.law_network.specs.Calls as call;
+ghost use Rattle.law_network.specs.World.{RefusesTake};
 ghost use Rattle.enet_site.specs.Sites.{IsWhole};
 ghost use Rattle.enet_site.specs.Private.Sites.{CallsOn, told};
 
@@ -79,10 +80,11 @@ fn take_of(host: &mut HostCore, end: &mut End) -> Result<Option<Event>, Refusal>
     Ok(host.next_event())
 }
 
-/// Takes the next event, and keeps it at its end, if there is one of its peer. E1 where memory is refused, with nothing changed.
+/// Takes the next event, and keeps it at its end, if there is one of its peer. E1 where one waits and memory is refused, with nothing
+/// changed.
 pub(crate) fn take(host: &mut HostCore, own: &mut Records) -> Result<Option<Event>, Refusal>
     requires { IsWhole host.old own.old.ends }
-    ensures memory { IfErr result (λ why. why ≡ Refusal.Memory) }
+    ensures refused { IfErr result (λ why. RefusesTake why host.old) }
     ensures host { OnErr result (host.new ≡ host.old) }
     ensures unchanged { OnErr result (own.new ≡ own.old) }
     ensures takes { IfOk result (λ event. CallsOn 0 (call.NextEvent event) (record { host = host.old; records = own.old }) (record { host = host.new; records = own.new })) }

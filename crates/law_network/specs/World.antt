@@ -1,10 +1,13 @@
 -- A world of two hosts, and its events one by one.
-use Rattle.std.specs.Prelude.{◌≡◌, ℕ, min, List, [], ◌∷◌, length, Option, Some, None, Result, Ok, Err, slice_get}
+use Rattle.std.specs.Prelude.{◌≡◌, ℕ, min, true, List, [], ◌∷◌, length, Option, Some, None, Result, Ok, Err, slice_get}
+use Rattle.std.specs.List.{list_any}
 use Rattle.enet_codec.specs.declared.address.Addr.{Addr}
 use Rattle.enet_codec.specs.declared.config.Config.{Config}
 use Rattle.enet_codec.specs.declared.event.PeerRef.{PeerRef}
 use Rattle.enet_codec.specs.declared.refusal.Refusal.{Refusal}
 use Rattle.enet_codec.specs.declared.refusal.Refusal.TheVariants.{Memory}
+use Rattle.enet_slot.specs.Calls.{tells}
+use Rattle.enet_host.specs.Host.{Host}
 use Rattle.enet_host.specs.Opening as host
 use Rattle.law_network.specs.Calls.{Call, Acts}
 use Rattle.law_network.specs.Calls as call
@@ -72,13 +75,17 @@ Makes w (happen.Disconnect side peer how info) answers.Done e = e ≡ Calls (cal
 Makes w _ _ e = ⊥
 
 -- why an event is refused: a host call by what its host says, a delivery by the first refusal that applies. Memory may be wanting where nothing
--- else is refused, but for a tick and a disconnect
+-- else is refused, but for a tick, a disconnect, and a take where no event waits
 abbrev pub IsRefusedFor : Refusal → Option Refusal → Type 0
 IsRefusedFor why (Some first) = why ≡ first
 IsRefusedFor why None = why ≡ Memory
 
 abbrev pub RefusesCall : Call → Site → Type 0
 RefusesCall c s = Acts c s.host s.host
+
+-- the next event is only refused for want of memory, and only where some peer has one
+abbrev pub RefusesTake : Refusal → Host → Type 0
+RefusesTake why h = (why ≡ Memory) × (list_any tells h.slots ≡ true)
 
 abbrev pub Refuses : World → WorldEvent → Refusal → Type 0
 Refuses w (happen.Connect side channels info word) why = RefusesCall (call.Connect (address_of (other side)) channels info word (Err why)) (site_of w side)
@@ -88,7 +95,7 @@ Refuses w (happen.Deliver side k) why =
     IsRefusedFor why (delivery_refusal (site_of w (other side)) (site_of w side) (slice_get (site_of w (other side)).log k))
 Refuses w (happen.Turn side) why = why ≡ Memory
 Refuses w (happen.Tick side ms) why = ⊥
-Refuses w (happen.Take side) why = why ≡ Memory
+Refuses w (happen.Take side) why = RefusesTake why (site_of w side).host
 Refuses w (happen.Disconnect side peer how info) why = RefusesCall (call.Disconnect how peer info (Err why)) (site_of w side)
 
 -- a step: an event that is refused changes nothing, any other makes its one call on its side

@@ -59,7 +59,7 @@ pub enum WorldEvent {
         /// Milliseconds; more than 60,000 count as 60,000.
         ms: u32,
     },
-    /// The user of a side takes its next event: E1.
+    /// The user of a side takes its next event: E1, only where one waits.
     Take {
         /// The side whose user takes.
         side: Side,

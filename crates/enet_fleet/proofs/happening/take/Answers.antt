@@ -3,7 +3,7 @@ use Rattle.std.proofs.lemmas.Result.{err_from_is_err_and}
 use Rattle.enet_site.specs.Places.{Place}
 use Rattle.enet_fleet.specs.declared.event.FleetEvent.TheVariants as happen
 use Rattle.enet_fleet.specs.Fleets.{Fleet, place_of}
-use Rattle.enet_fleet.proofs.Stepping.{some-there, refused, taken}
+use Rattle.enet_fleet.proofs.Stepping.{some-there, refuses-take, refused, taken}
 use Rattle.enet_fleet.proofs.happening.take.Goals as goal
 
 pub returns-in_err-event : goal.returns-in_err-event
@@ -13,7 +13,7 @@ returns-in_err-event c =
     let there : place_of f c.args.node ≡ Some was = sym c.in-Some.ensures.there ∙ ap (λ (p : Place). Some p) (sym c.here.view_is) in
     let p = err_from_is_err_and c.from_residual.result c.from_residual.ensures.1 in
     rw (p.1, p.2)
-    (refused f (happen.Take c.args.node) c.in_err-event.field-0.0 c.args.node was c.take.new.self (some-there (place_of f c.args.node) was there) c.in_err-event.ensures.memory there c.in_err-event.ensures.unchanged)
+    (refused f (happen.Take c.args.node) c.in_err-event.field-0.0 c.args.node was c.take.new.self (some-there (place_of f c.args.node) was there) (refuses-take f c.args.node was c.in_err-event.field-0.0 there c.in_err-event.ensures.refused) there c.in_err-event.ensures.unchanged)
 
 pub returns : goal.returns
 returns c =

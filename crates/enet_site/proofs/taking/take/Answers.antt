@@ -1,5 +1,5 @@
 use Rattle.enet_site.proofs.Submits.{place-of}
-use Rattle.enet_site.proofs.Takes.{told-by, kept-told, taken-on, taken-off}
+use Rattle.enet_site.proofs.Takes.{told-by, kept-told, taken-on, taken-off, refused-of}
 use Rattle.enet_site.proofs.taking.take.Goals as goal
 
 pub returns-in_default-position_of-clause-takes : goal.returns-in_default-position_of-clause-takes
@@ -24,3 +24,6 @@ returns-clause-takes c =
     c.own.view_is c.own.invariant.apart
     (place-of c.own.inside.ends.items c.deref.result.now c.in-Some.name c.in-Some-position_of.place c.index_mut-end.result.now c.deref.ensures.value c.in-Some-position_of.ensures.first c.index_mut-end.ensures.value)
     c.in-Some.ensures.foretells c.take_of.ensures.takes c.take_of.ensures.keeps
+
+pub returns-clause-refused : goal.returns-clause-refused
+returns-clause-refused c = refused-of c.take_of.result c.args.host.now c.in-Some.name c.in-Some.ensures.first c.take_of.ensures.memory
