@@ -19,7 +19,8 @@ pub(crate) fn take_leave<R: Wait + Clock>(
     alloc: Global,
     bound: &mut BoundService<MioWire>,
 ) {
-    if see_off(rt, alloc, bound).is_ok() && bound.service.host.part_from_all(DisconnectMode::Now) > 0
+    if see_off(rt, alloc, bound).is_ok()
+        && bound.service.host.part_from_all(DisconnectMode::Now) > 0
     {
         let _ = take_turn(rt, alloc, bound);
     }
