@@ -484,6 +484,18 @@ static void idle(void)
     all_leave();
 }
 
+// 14 seconds of one short packet each tenth of a second, with an outage of the way among them.
+static void outage(void)
+{
+    all_join(0, count - 1);
+    chat(5);
+    for (double end = now() + 14; now() < end; pass_for(0.1))
+        each_submits(HELLO);
+    chat(5);
+    compare_orders();
+    all_leave();
+}
+
 // Of two slots, client 1's is given out again once the relay has waited for it in vain, which takes at least 5 seconds.
 static void vanish(void)
 {
@@ -529,6 +541,7 @@ static const struct {
     { "large", large, 2, 2 },  // packets of 4,096 pieces, both ways at once
     { "again", again, 2, 2 },  // eight reconnections from one port
     { "idle", idle, 2, 2 },    // 12 seconds without a packet
+    { "outage", outage, 2, MOST }, // on a way that is down for some seconds in its midst
     { "vanish", vanish, 3, 3 }, // the relay must have two slots
     { "full", full, 5, 5 },    // the relay must have four slots
 };

@@ -1,7 +1,8 @@
-// proxy PORT SERVER SEED: stands between clients and a server, all on 127.0.0.1, until it is stopped. What comes to PORT goes to
+// proxy PORT SERVER SEED [OUTAGE]: stands between clients and a server, all on 127.0.0.1, until it is stopped. What comes to PORT goes to
 // port SERVER, from a socket of its own for each client, and what comes back there goes to that client. Of all datagrams, both ways,
 // 8 % are dropped, 5 % go twice, and 10 % are held back for 1 to 8 ms while others pass, as drawn from SEED. No command is dropped more
-// than twice and no acknowledgement of it either, since a connection ends where one command goes six times in vain.
+// than twice and no acknowledgement of it either, since a connection ends where one command goes six times in vain. Where OUTAGE is given,
+// none of this is done: each datagram takes 20 ms, and from 4 seconds after the first one on all are dropped for OUTAGE milliseconds.
 #include <arpa/inet.h>
 #include <poll.h>
 #include <sys/socket.h>
@@ -26,6 +27,8 @@ static int known = 1;
 static Held *held[WAITING];
 static int waiting;
 static uint64_t seed;
+static double outage; // how long all are dropped, in seconds; 0 where some are, as drawn
+static double begun;  // when the first datagram came
 static uint8_t dropped[MARKS]; // how often a command was dropped; some share a mark
 
 static struct sockaddr_in local(long port)
@@ -99,8 +102,28 @@ static int count_dropped(const Held *datagram, uint8_t most, uint8_t more)
     return found;
 }
 
+static void hold_back(const Held *datagram, double seconds)
+{
+    Held *copy = malloc(sizeof *copy);
+    if (copy == NULL)
+        give_up("proxy: no memory");
+    *copy = *datagram;
+    copy->due = now() + seconds;
+    held[waiting++] = copy;
+}
+
+// Holds the datagram back for 20 ms, or drops it while the outage lasts.
+static void pass_on_but_for_outage(const Held *datagram)
+{
+    if (begun == 0)
+        begun = now();
+    double time = now() - begun - 4;
+    if ((time < 0 || time >= outage) && waiting < WAITING)
+        hold_back(datagram, 20e-3);
+}
+
 // Drops the datagram, sends it once or twice, or holds it back.
-static void pass_on(Held *datagram)
+static void pass_on(const Held *datagram)
 {
     uint64_t chance = draw(&seed) % 100;
     if (chance < 8 && count_dropped(datagram, 2, 0) == 0) {
@@ -109,16 +132,10 @@ static void pass_on(Held *datagram)
     }
     if (chance >= 8 && chance < 13)
         put(datagram);
-    if (chance >= 90 && waiting < WAITING) {
-        Held *copy = malloc(sizeof *copy);
-        if (copy == NULL)
-            give_up("proxy: no memory");
-        *copy = *datagram;
-        copy->due = now() + 1e-3 * (double)(1 + draw(&seed) % 8);
-        held[waiting++] = copy;
-        return;
-    }
-    put(datagram);
+    if (chance >= 90 && waiting < WAITING)
+        hold_back(datagram, 1e-3 * (double)(1 + draw(&seed) % 8));
+    else
+        put(datagram);
 }
 
 // Takes all that came to socket `index`.
@@ -134,7 +151,9 @@ static void take(int index, const struct sockaddr_in *server)
         int client = index == 0 ? client_at(&from, server) : index;
         datagram.socket = sockets[index == 0 ? client : 0].fd;
         datagram.to = index == 0 ? (struct sockaddr_in){ 0 } : clients[client];
-        if (client != 0)
+        if (client != 0 && outage > 0)
+            pass_on_but_for_outage(&datagram);
+        else if (client != 0)
             pass_on(&datagram);
     }
 }
@@ -160,6 +179,7 @@ int main(int count, char **words)
     struct sockaddr_in here = local(number_of(count, words, 1, 1, 65535));
     struct sockaddr_in server = local(number_of(count, words, 2, 1, 65535));
     seed = (uint64_t)number_of(count, words, 3, 0, INT32_MAX);
+    outage = count > 4 ? 1e-3 * (double)number_of(count, words, 4, 1, 60000) : 0;
     sockets[0] = (struct pollfd){ .fd = open_socket(), .events = POLLIN };
     if (bind(sockets[0].fd, (const struct sockaddr *)&here, sizeof here) != 0)
         give_up("proxy: port %s can't be had", words[1]);

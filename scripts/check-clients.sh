@@ -1,6 +1,7 @@
 #!/usr/bin/env bash
 # Clients of the reference library talk through a relay, in the scenarios of clients/client.c: first straight, then by way of
-# clients/proxy.c, which drops, repeats and reorders datagrams; and a crowd of them (clients/crowd.c) straight, where each queue of the
+# clients/proxy.c, which drops, repeats and reorders datagrams; eight by way of one that drops all for 4 seconds, in which no connection may
+# end; and a crowd of them (clients/crowd.c) straight, where each queue of the
 # relay has 64 places, so that both are full at once and neither of its two threads may wait for the other. Clients of `demo` visit a server of the
 # reference library, and so does `example_echo`, whose own server a client of that library visits (clients/echo.c). Three of that library
 # play at `example_game` side by side until each has won (clients/guess.c), and it ends. Two guests (clients/guests.c) are told when a
@@ -31,18 +32,18 @@ end_attempt() {
     client=
 }
 
-# The scenario $2 with $3 clients and a relay of $4 slots, on ports $5 and $6. $1 is its name here, which says whether it is lossy; $7
-# seeds the proxy. The status is the client's, or 1 where the relay or the proxy ended; what went wrong is on standard output.
+# The scenario $2 with $3 clients and a relay of $4 slots, on ports $5 and $6. $1 is its name here, which says whether the way is lossy or
+# has an outage; $7 seeds the proxy. The status is the client's, or 1 where the relay or the proxy ended; what went wrong is on standard output.
 attempt() {
-    local words=() places=65536 to=$5 status
+    local words=() places=65536 to=$5 down='' status
     [ "$program" = reference ] && words+=(reference)
     [ "$2" = crowd ] && places=64
     relay "$program" "$5" "$4" "$room" "$places" > /dev/null 2> "$room/$1.relay" &
     relay=$!
-    if [[ $1 == *lossy ]]; then
-        words+=(lossy)
+    if [[ $1 != *straight ]]; then
         to=$6
-        "$room/proxy" "$6" "$5" "$7" 2> "$room/$1.proxy" &
+        if [[ $1 == *lossy ]]; then words+=(lossy); else down=4000; fi
+        "$room/proxy" "$6" "$5" "$7" $down 2> "$room/$1.proxy" &
         proxy=$!
     fi
     if [ "$2" = crowd ]; then
@@ -73,7 +74,7 @@ scenario() {
     esac
 }
 
-# Starts the scenario $1 with $2 clients and a relay of $3 slots, straight or lossy ($4), which serves in $5 threads where it is given.
+# Starts the scenario $1 with $2 clients and a relay of $3 slots, straight, lossy or down for 4 seconds ($4), which serves in $5 threads where it is given.
 start() {
     free_port
     local first=$port name=$1-$2${5:+-threads-$5}-$4
@@ -279,8 +280,10 @@ guests() {
 all() {
     local name clients slots way
     start crowd 300 300 straight
+    start outage 8 8 down
     if [ "$program" != reference ]; then
         start crowd 300 300 straight 1
+        start outage 8 8 down 1
         start talk 8 8 straight 1
         start talk 8 8 lossy 1
         start large 2 2 lossy 1

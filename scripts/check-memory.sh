@@ -1,63 +1,92 @@
 #!/usr/bin/env bash
-# Refuses each growth of six worked rows and of a fleet's row in turn, and prints what came of it. The fleet's row is run with calls
-# behind it, too, that take no memory: it may have no more growths then.
-# The program is built once, by `rt try`, in which the growth number LAST fails; case k of a row is told to make LAST - k growths
-# before its calls, so that the refused one is growth k of what follows. It ends with status 4 where there are fewer than k.
-# LAST is the argument, 128 where none is given; it must be above the number of a row's growths. The last line is 'N growths
-# refused in turn: ..'; the status is 0 where each run ended as expected.
-cd "$(dirname "$0")/../crates/check_memory" || exit 1
-last=${1:-128}
-rows=../../scripts/rows
-names='one-reliable-packet reliable-out-of-order unreliable-waits-for-reliable
-long-reliable-packet-goes-as-reliable-fragments ask-to-disconnect-with-packets-untaken
-connect-handshake fleet fleet-and-on'
+# Refuses each growth of memory in turn while worked rows run: of hosts (the scripts that stand in crates/check_hosts), of two hosts with a
+# network between them, of a fleet, and of the making of both queues. The fleet's row is run with calls behind it, too, that take no memory: it
+# may have no more growths then. Before that each row runs with ample memory, where no call may be refused.
+# The programs are those that `rt ci`, or `rt run` in crates/check_memory and crates/check_hosts, leaves. clients/faults.c, loaded into them,
+# refuses growth k of run k, until the one that is refused stands behind the row: that run ends with status 4. A refused call has to be
+# answered by a refusal and to change nothing that reading calls tell, and the row goes on by repeating it once (check_memory and check_hosts
+# compare). Prints for each row how many growths were refused; the last line is 'N passed, M failed', in rows, and the status 1 where one failed.
+# It ends within a minute. A row has at most so many growths as the argument says, 1,000 where none is given.
+cd "$(dirname "$0")/.." || exit 1
+. scripts/clients.sh
+most=${1:-1000}
+passed=0
+failed=0
+
+fail() {
+    echo "FAILED $1: $2"
+    failed=$((failed + 1))
+}
+
+# Runs the program $1 with growth $2 refused (none where that is 0), and the standard input $room/input.
+run_with() {
+    FAULTS_AT=$2 LD_PRELOAD=$room/faults.so timeout 60 "crates/$1/out/$1" < "$room/input" > "$room/out" 2>&1
+}
+
+# Whether the program said of $1 scripts that they went as expected, of which one or none met a refusal.
+is_as_expected() {
+    [ "$(grep -c 'as expected, [0-9]* growths refused$' "$room/out")" -eq "$1" ] && [ "$(wc -l < "$room/out")" -eq "$1" ] &&
+        [ "$(grep -c 'as expected, [1-9][0-9]* growths refused$' "$room/out")" -le 1 ]
+}
+
+# Runs the program $2, which has $3 scripts, with each of its growths refused in turn. The row is told as $1.
+row() {
+    local k status answered=0 own=0 silent=0
+    run_with "$2" 0
+    status=$?
+    if [ "$status" -ne 0 ] || ! is_as_expected "$3" || grep -q '[1-9][0-9]* growths refused$' "$room/out"; then
+        fail "$1" "with ample memory it ends with status $status: $(head -c 400 "$room/out")"
+        return
+    fi
+    for ((k = 1; k <= most; k++)); do
+        run_with "$2" "$k"
+        status=$?
+        [ "$status" -ne 4 ] || break
+        if [ "$status" -eq 2 ]; then
+            own=$((own + 1))
+        elif [ "$status" -ne 0 ] || ! is_as_expected "$3"; then
+            fail "$1" "growth $k refused: status $status: $(head -c 400 "$room/out")"
+            return
+        elif grep -q '[1-9][0-9]* growths refused$' "$room/out"; then
+            answered=$((answered + 1))
+        else
+            silent=$((silent + 1))
+        fi
+    done
+    growths[$1]=$((k - 1))
+    if [ "$k" -gt "$most" ] || [ "$answered" -eq 0 ]; then
+        fail "$1" "of $((k - 1)) growths $answered were answered by a refusal"
+        return
+    fi
+    echo "$1: $answered growths answered by a refusal and the call repeated, $silent that no answer needs, $own of the program itself"
+    passed=$((passed + 1))
+}
+
+# The same of a script of the lab.
+lab_row() {
+    { echo 0; cat "scripts/rows/$1.lab"; echo =; cat "scripts/rows/$1.out"; } > "$room/input"
+    row "$1" check_memory 1
+}
+
 room=$(mktemp -d) || exit 1
 trap 'rm -rf "$room"' EXIT
-mkdir "$room/cases"
-for name in $names; do
-    case $name in
-        fleet*) echo "${name//-/ }" ;;
-        *) cat "$rows/$name.lab"; echo =; cat "$rows/$name.out" ;;
-    esac > "$room/input"
-    for ((k = 1; k <= last; k++)); do
-        { printf '%05d\n' $((last - k)); cat "$room/input"; } > "$room/cases/$name.$(printf '%05d' "$k")"
+declare -A growths
+if ! [ -x crates/check_memory/out/check_memory -a -x crates/check_hosts/out/check_hosts ]; then
+    fail 'check_memory or check_hosts' "it isn't there: run 'rt ci', or 'rt run' in its folder"
+elif ! build_clients "$room"; then
+    fail clients "the C programs can't be built"
+else
+    for name in one-reliable-packet reliable-out-of-order unreliable-waits-for-reliable unreliable-keeps-its-place-between \
+        long-reliable-packet-goes-as-reliable-fragments ask-to-disconnect-with-packets-untaken connect-handshake; do
+        lab_row "$name"
     done
-done
-rt try --steps 1 --fail-alloc "$last" --cases "$room/cases" > "$room/out" 2> "$room/lines"
-grep -q '^case=' "$room/lines" || cat "$room/lines"
-
-# What the runs printed comes case by case under '== NAME', each case's last line on standard error.
-awk -v last="$last" -v names="$names" '
-    FNR == NR {
-        if (match($0, /^case=[^ ]+/)) {
-            case_name = substr($0, 6, RLENGTH - 5)
-            ended[case_name] = match($0, /run=ended status=[0-9]+/) ? substr($0, RSTART + 17, RLENGTH - 17) : "none"
-        }
-        next
-    }
-    /^== / { case_name = $2; next }
-    / differs$/ { print case_name ": " $0; next }
-    /^as expected, / { expected[case_name] = 1; repeated[case_name] = $3 > 0; next }
-    END {
-        count = split(names, rows)
-        for (i = 1; i <= count; i++) {
-            told = over = 0
-            for (k = 1; k <= last; k++) {
-                name = sprintf("%s.%05d", rows[i], k)
-                if (ended[name] == 4) { over = 1; break }
-                tried++
-                if (ended[name] == 2) own++
-                else if (ended[name] != 0 || !expected[name]) { print name ": ended with " ended[name]; wrong++ }
-                else if (repeated[name]) { answered++; told++ }
-                else silent++
-            }
-            printf "%s: %d refused calls repeated\n", rows[i], told
-            growths[rows[i]] = k - 1
-            if (over && k == 1) { print rows[i] " has no growths"; wrong++ }
-            if (!over) { print rows[i] " has more growths than " last - 1; wrong++ }
-        }
-        if (growths["fleet"] != growths["fleet-and-on"]) { print "calls that take no memory of a fleet have growths"; wrong++ }
-        printf "%d growths refused in turn: %d answered by a refusal and repeated, %d that no answer needs, %d of the program itself, %d wrong\n", tried, answered, silent, own, wrong
-        exit (wrong > 0)
-    }
-' "$room/lines" "$room/out"
+    for name in fleet 'fleet and on' queues; do
+        printf '0\n%s' "$name" > "$room/input"
+        row "$name" check_memory 1
+    done
+    [ "${growths[fleet]}" = "${growths['fleet and on']}" ] || fail fleet 'calls of it that take no memory have growths'
+    echo 0 > "$room/input"
+    row hosts check_hosts 5
+fi
+echo "$passed passed, $failed failed"
+[ "$failed" -eq 0 ]

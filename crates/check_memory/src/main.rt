@@ -9,12 +9,14 @@
 //!
 //! In place of the script may stand `fleet`, a row of a fleet that stands in fleet.rt with its answers, or `fleet and on`, where calls
 //! follow that take no memory, so that both have as many growths. Behind `run`, `fleet` is one list of events too. A line of that row is told by its number, the making being line 1.
+//! `queues` opens a submit queue, which is told as line 1, and an event queue, line 2, and settles them.
 //!
 //! What no script of the lab can say, bandwidths and the throttle's numbers, `check_hosts` has a script of.
 #![tactic(auto)]
 
 mod fault;
 mod fleet;
+mod queues;
 mod row;
 mod seen;
 
@@ -50,6 +52,7 @@ fn run_input(alloc: Global, number: &str, input: &str) -> Result<u32, Fault> {
     match script.trim_end() {
         "fleet" => fleet::run(alloc, false),
         "fleet and on" => fleet::run(alloc, true),
+        "queues" => queues::run(alloc),
         _ => row::run(alloc, script, answers),
     }
 }

@@ -191,8 +191,8 @@ fn two_datagrams(alloc: Global) -> Result<Vec<Step>, AllocError> {
     Ok(steps)
 }
 
-// What a run came to, and how many calls of its wire failed.
-type Ran = (Result<Report, Fault>, u64);
+// What a run came to, how many calls of its wire failed, and how many of these for want of memory.
+type Ran = (Result<Report, Fault>, u64, u64);
 
 // A run of three turns over a wire on which these steps come to pass.
 fn run_over<R: Wait + Clock>(
@@ -203,7 +203,7 @@ fn run_over<R: Wait + Clock>(
 ) -> Option<Ran> {
     let mut wire = wire(alloc, steps).ok()?;
     let sums = three_turns(rt, &mut wire, stand);
-    Some((sums, wire.failures()))
+    Some((sums, wire.failures(), wire.starved()))
 }
 
 // A run with two datagrams, and one with a fault.
@@ -221,8 +221,8 @@ fn runs<R: Wait + Clock>(rt: &R, alloc: Global) -> Option<[Ran; 2]> {
 #[test]
 fn a_run_and_its_faults(rt: HostRuntime) {
     let expected = [
-        (Ok(done(0, 2, 2, 0, 2)), 0),
-        (wire_fault(done(0, 0, 0, 0, 0)), 1),
+        (Ok(done(0, 2, 2, 0, 2)), 0, 0),
+        (wire_fault(done(0, 0, 0, 0, 0)), 1, 0),
     ];
     assert!(rt; runs(&rt, rt.alloc()) == Some(expected));
 }

@@ -46,7 +46,7 @@ fn serve<R: Wait + Clock>(
     service: &mut Service<HostCore>,
 ) -> Option<(u32, u32, u32)> {
     let mut source = source(alloc, Vec::new(alloc)).ok()?;
-    let mut sink = MemorySink::new(alloc, 9);
+    let mut sink = MemorySink::new(alloc, 9).ok()?;
     let sums = run(rt, service, wire, &mut source, &mut sink, 20).ok()?;
     Some((sums.received, sums.sent, sums.lost))
 }

@@ -62,7 +62,7 @@ pub(crate) fn stand_of(alloc: Global, orders: Vec<Order>, room: usize) -> Option
     let source = source(alloc, orders).ok()?;
     Some(Stand {
         source,
-        sink: MemorySink::new(alloc, room),
+        sink: MemorySink::new(alloc, room).ok()?,
         service: joined(alloc).ok()?,
     })
 }

@@ -30,8 +30,8 @@ submitted_at sender = sent sender.seat
 abbrev pub asked : OrderSender → List Order
 asked sender = orders (submitted_at sender) ++ waiting_at sender
 
--- at a moment of the call the queue held as many orders as it has places, and what the seat submitted is just its part of all that was taken
--- and held then
+-- a state of the queue in which it holds as many orders as it has places, and what the seat submitted is just its part of all that was taken
+-- and is held
 abbrev pub FoundFull : OrderSender → Type 0
 FoundFull sender = Held (capacity_of (sender_queue sender)) (SeatSees (sender_queue sender) sender.seat)
 
@@ -43,6 +43,6 @@ taker_of receiver = receiver.taker
 abbrev pub received : EventReceiver → List Numbered
 received receiver = (taker_of receiver).taken
 
--- at a moment of the call nothing was held, and what the event receiver took is just its part of all that was posted until then
+-- a state of the queue in which nothing is held, and what the event receiver took is just its part of all that was posted
 abbrev pub FoundNone : EventReceiver → Type 0
 FoundNone receiver = Held 0 (λ held. (posted : List Numbered) × TakerFits (taker_of receiver) posted held)

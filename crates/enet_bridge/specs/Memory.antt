@@ -1,5 +1,5 @@
 -- A source and a sink in memory.
-use Rattle.std.specs.Prelude.{◌≡◌, ℕ, ◌<◌, List, [], ◌∷◌, ◌++◌, length, Bool, true, false, Option, Some, None}
+use Rattle.std.specs.Prelude.{◌≡◌, ℕ, ◌<◌, ◌≤◌, List, [], ◌∷◌, ◌++◌, length, Bool, true, false, Option, Some, None}
 use Rattle.enet_codec.specs.declared.event.Event.{Event}
 use Rattle.enet_submit.specs.declared.order.Submission.{Submission}
 
@@ -14,7 +14,7 @@ pub record Shelf : Type 0 where
   pub capacity : ℕ
   pub events : List Event
 
--- an event was put last, where there was a place for it, or handed back
+-- an event was put last, where there was a place for it; else it was handed back
 abbrev pub ShelfPuts : Shelf → Event → Bool → Shelf → Type 0
 ShelfPuts old event true new = (length old.events < old.capacity) × (new ≡ record old { events = old.events ++ event ∷ [] })
-ShelfPuts old event false new = new ≡ old
+ShelfPuts old event false new = (old.capacity ≤ length old.events) × (new ≡ old)

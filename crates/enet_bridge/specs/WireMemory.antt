@@ -1,18 +1,19 @@
 -- A wire in memory.
-use Rattle.std.specs.Prelude.{◌≡◌, ◌⊎◌, ℕ, Bool, true, false, List, [], ◌∷◌, take, Option, Some, None}
+use Rattle.std.specs.Prelude.{◌≡◌, ℕ, ◌+◌, Bool, true, false, List, [], ◌∷◌, take, Option, Some, None}
 use Rattle.enet_codec.specs.declared.address.Addr.{Addr}
 use Rattle.enet_bridge.specs.declared.told.Told.{Told}
 use Rattle.enet_bridge.specs.declared.told.Step.{Step}
 use Rattle.enet_bridge.specs.declared.told.Step.TheVariants.{Datagram, Block, Wait, Fault}
 
--- what it is still to do, what it told, and how often it failed
+-- what it is still to do, what it told, how often it failed, and how often of these for want of memory
 pub record Memory : Type 0 where
   pub script : List Step
   pub told : List Told
   pub faults : ℕ
+  pub starved : ℕ
 
 abbrev pub fresh : List Step → Memory
-fresh script = record { script = script; told = []; faults = 0 }
+fresh script = record { script = script; told = []; faults = 0; starved = 0 }
 
 -- the datagram in front, as far as 4,096 bytes hold it, and the script after it
 abbrev pub NextIs : List Step → Option (Addr × List ℕ) → List Step → Type 0
@@ -37,6 +38,10 @@ Waits (Wait n ∷ rest) ms after = (ms ≡ n) × (after ≡ rest)
 Waits (Fault ∷ rest) ms after = ⊥
 Waits script ms after = (ms ≡ 0) × (after ≡ script)
 
--- a call fails: by a fault in front, or for want of memory
-abbrev pub Fails : List Step → List Step → Type 0
-Fails script after = (script ≡ Fault ∷ after) ⊎ (after ≡ script)
+-- a call fails where the script has a fault in front, which goes; else for want of memory alone, which is counted
+abbrev pub FailsBy : List Step → Memory → Memory → Type 0
+FailsBy (Fault ∷ rest) old new = (new.script ≡ rest) × (new.starved ≡ old.starved)
+FailsBy script old new = (new.script ≡ script) × (new.starved ≡ old.starved + 1)
+
+abbrev pub Fails : Memory → Memory → Type 0
+Fails old new = FailsBy old.script old new

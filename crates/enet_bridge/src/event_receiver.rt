@@ -105,7 +105,7 @@ impl<'a> EventReceiver<'a> {
         EventReceiver { queue, taker }
     }
 
-    /// The oldest event of the queue, None where it was empty at a moment of the call.
+    /// The oldest event of the queue, None where a step of this call found it empty.
     pub fn take<R: Wait>(&mut self, rt: &R) -> Option<Numbered>
         ensures taken { IfSome result (λ x. received self.new ≡ received self.old ++ x ∷ []) }
         ensures none { IfNone result (received self.new ≡ received self.old) }

@@ -3,13 +3,16 @@
 //! wait.
 //!
 //! Proved: a source gives and a sink takes just what its queue or its list says, in order; what an order sender was asked is, in order,
-//! what it submitted and what waits, none is lost or doubled, and it tells of a full queue only where that was full at a moment of the
-//! call. Orders that find none waiting are never refused. Each wire counts its faults exactly, E14 comes exactly where the count rises, a
-//! spent wire does nothing, and a wire that tells its calls tells them truly. The wire in memory does what its script says; a want of
-//! memory is a fault of it.
-//! Only tested, by `check_queues`: that an order sender gets on once there is room; that datagrams pass through the socket, which stands at
-//! the address that was asked for, that its milliseconds add up, and what the system says of an address that is taken; by
-//! scripts/check-clients.sh: a reception that fails once.
+//! what it submitted and what waits, and none is lost or doubled; with Full, and where there is no event or order, comes a state of the
+//! queue, full or empty, that fits all that the seat, the taker or the drain knows. Orders that find none waiting are never refused. Each
+//! wire counts its faults exactly, E14 comes exactly where the count rises, a spent wire does nothing, and a wire that tells its calls tells
+//! them truly. The wire in memory does what its script says: a call fails where the script has a fault, and else only with the word that
+//! memory was wanting ([`MemoryWire::starved`]). A sink in memory hands an event back only where it is full.
+//! Only tested, by `check_queues`: that an order sender gets on once there is room, and that a queue with something in it gives it (no clause
+//! ties the state that comes with Full or with nothing to the call: a queue that answers Full for good, once its seat has submitted as many
+//! orders as it has places, or that never gives anything, meets them all); that datagrams pass through the socket, which stands at the
+//! address that was asked for, that its milliseconds add up, and that an address that is taken is E14, with what the system says; by
+//! `check_service`, that a wire in memory isn't starved where there is memory; by scripts/check-clients.sh: a reception that fails once.
 //! Neither: that a bell wakes a thread, whether the service is idle or expects orders, how long a wait takes, when a datagram comes, how
 //! many datagrams the system keeps, which of its errors are faults, and that `reason` is that of the last fault.
 #![tactic(auto)]

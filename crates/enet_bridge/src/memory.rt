@@ -15,20 +15,25 @@ use std::time::Clock;
 /// A wire that does what its script says, step by step, and keeps what its calls did. A step that isn't meant for a call stays
 /// in front: then nothing comes, every send is taken, and a wait gives 0.
 ///
-/// Where it finds no memory to keep what a call did, that call fails, with the script as it was.
+/// A call fails where the script has a fault in front. It fails, too, where there is no memory to keep what it did; the script stays
+/// then, and [`MemoryWire::starved`] tells how often that was.
 #[derive(Drop)]
 pub struct MemoryWire {
     script: VecDeque<Step>,
     told: Vec<Told>,
     failures: u64,
+    starved: u64,
 }
 
 impl Model for MemoryWire {
+    ghost use Rattle.std.specs.Prelude.{◌≤◌};
     ghost use Rattle.enet_bridge.specs.WireMemory.{Memory};
 
     ghost Value = { Memory };
 
-    ghost view = { λ w. record { script = w.script.items; told = w.told.items; faults = w.failures } };
+    ghost view = { λ w. record { script = w.script.items; told = w.told.items; faults = w.failures; starved = w.starved } };
+
+    ghost invariant = { λ w. w.starved ≤ w.failures };
 }
 
 impl MemoryWire {
@@ -43,6 +48,7 @@ impl MemoryWire {
             script,
             told: Vec::new(alloc),
             failures: 0,
+            starved: 0,
         }
     }
 
@@ -52,10 +58,38 @@ impl MemoryWire {
     {
         self.told.as_slice()
     }
+
+    /// How many of its calls failed for want of memory.
+    pub fn starved(&self) -> u64
+        ensures { result ≡ self.now.starved }
+    {
+        self.starved
+    }
+}
+
+impl MemoryWire {
+    ghost use Rattle.std.specs.Prelude.{◌≡◌, ◌+◌, ◌<◌, Err};
+    ghost use Rattle.enet_bridge.specs.WireMemory.{Fails};
+
+    // Fails where there is no memory: as the script says, where it has a fault in front.
+    fn fail_for_memory<T>(&mut self) -> Result<T, Refusal>
+        requires { self.old.faults < 18446744073709551615 }
+        ensures answer { result ≡ Err Refusal.WireFault }
+        ensures count { self.new.faults ≡ self.old.faults + 1 }
+        ensures told { self.new.told ≡ self.old.told }
+        ensures fails { Fails self.old self.new }
+    {
+        if let Some(Step::Fault) = self.script.front() {
+            let _ = self.script.pop_front();
+        } else {
+            self.starved += 1;
+        }
+        fault(&mut self.failures)
+    }
 }
 
 impl Wire for MemoryWire {
-    ghost use Rattle.std.specs.Prelude.{◌≡◌, ◌≤◌, ◌++◌, ◌<◌, Some, None, Ok, false, IfOk, IfSome, IfErr};
+    ghost use Rattle.std.specs.Prelude.{◌≡◌, ◌≤◌, ◌++◌, ◌<◌, Some, None, Ok, false, IfOk, OnOk, IfSome, IfErr};
     ghost use Rattle.enet_bridge.specs.Wires.{came, went, waited, unless_spent, faults_after, last_fault};
     ghost use Rattle.enet_bridge.specs.WireMemory.{NextIs, Takes, Waits, Fails, given_of};
 
@@ -70,13 +104,14 @@ impl Wire for MemoryWire {
         ensures faults { self.new.faults ≡ faults_after self.old.faults result }
         ensures spent { self.old.faults ≡ last_fault → (result ≡ Ok None) × (self.new ≡ self.old) }
         ensures script { self.old.faults < last_fault → IfOk result (λ given. NextIs self.old.script (given_of given buf.new) self.new.script) }
-        ensures fails { IfErr result (λ why. Fails self.old.script self.new.script) }
+        ensures fails { IfErr result (λ why. Fails self.old self.new) }
+        ensures fed { OnOk result (self.new.starved ≡ self.old.starved) }
     {
         if self.failures == u64::MAX {
             return Ok(None);
         }
         if self.told.reserve(1).is_err() {
-            return fault(&mut self.failures);
+            return self.fail_for_memory();
         }
         match next_datagram(&mut self.script) {
             Ok(Some((from, bytes))) => {
@@ -98,14 +133,15 @@ impl Wire for MemoryWire {
         ensures faults { self.new.faults ≡ faults_after self.old.faults result }
         ensures spent { self.old.faults ≡ last_fault → (result ≡ Ok false) × (self.new ≡ self.old) }
         ensures script { self.old.faults < last_fault → IfOk result (λ taken. Takes self.old.script taken self.new.script) }
-        ensures fails { IfErr result (λ why. Fails self.old.script self.new.script) }
+        ensures fails { IfErr result (λ why. Fails self.old self.new) }
+        ensures fed { OnOk result (self.new.starved ≡ self.old.starved) }
     {
         if self.failures == u64::MAX {
             return Ok(false);
         }
         let kept = Bytes::copy_from_slice(*self.told.allocator(), bytes);
         let (Ok(bytes), Ok(())) = (kept, self.told.reserve(1)) else {
-            return fault(&mut self.failures);
+            return self.fail_for_memory();
         };
         match next_outcome(&mut self.script) {
             Ok(true) => {
@@ -126,13 +162,14 @@ impl Wire for MemoryWire {
         ensures faults { self.new.faults ≡ faults_after self.old.faults result }
         ensures spent { self.old.faults ≡ last_fault → (result ≡ Ok 0) × (self.new ≡ self.old) }
         ensures script { self.old.faults < last_fault → IfOk result (λ ms. Waits self.old.script ms self.new.script) }
-        ensures fails { IfErr result (λ why. Fails self.old.script self.new.script) }
+        ensures fails { IfErr result (λ why. Fails self.old self.new) }
+        ensures fed { OnOk result (self.new.starved ≡ self.old.starved) }
     {
         if self.failures == u64::MAX {
             return Ok(0);
         }
         if self.told.reserve(1).is_err() {
-            return fault(&mut self.failures);
+            return self.fail_for_memory();
         }
         match next_wait(&mut self.script) {
             Ok(ms) => {

@@ -55,12 +55,15 @@ impl<'a> OrderSender<'a> {
     }
 
     /// Adds orders behind those that wait, in their order: all of them, or for want of memory (E1) none. Where none waits it is
-    /// never refused.
+    /// never refused. It submits none.
     pub fn ask_all(&mut self, orders: VecDeque<Order>) -> Result<(), Refusal>
         ensures added { OnOk result (asked self.new ≡ asked self.old ++ orders.items) }
         ensures same { OnErr result (asked self.new ≡ asked self.old) }
         ensures memory { IfErr result (λ why. why ≡ Refusal.Memory) }
         ensures in_place { waiting_at self.old ≡ [] → IsOk result }
+        ensures submitted { submitted_at self.new ≡ submitted_at self.old }
+        ensures waits { OnOk result (waiting_at self.new ≡ waiting_at self.old ++ orders.items) }
+        ensures stays { OnErr result (waiting_at self.new ≡ waiting_at self.old) }
         ensures queue { sender_queue self.new ≡ sender_queue self.old }
     {
         if self.waiting.is_empty() {

@@ -2,7 +2,7 @@
 ghost use Rattle.std.specs.Prelude.{◌≡◌};
 
 use crate::event_receiver::TakerBell;
-use enet_codec::Event;
+use enet_codec::{Event, Refusal};
 use enet_events::{EventQueue, Poster};
 use std::alloc::Global;
 use std::collections::VecDeque;
@@ -27,7 +27,7 @@ pub trait Sink {
     fn announce(&self);
 }
 
-/// A list of events, of bounded length.
+/// A list of events, of bounded length. It takes all its memory when it is made.
 #[derive(Drop)]
 pub struct MemorySink {
     capacity: usize,
@@ -35,24 +35,29 @@ pub struct MemorySink {
 }
 
 impl Model for MemorySink {
+    ghost use Rattle.std.specs.Prelude.{◌≤◌};
+    ghost use Rattle.std.specs.VecDeque.{deque_capacity};
     ghost use Rattle.enet_bridge.specs.Memory.{Shelf};
 
     ghost Value = { Shelf };
 
     ghost view = { λ s. record { capacity = s.capacity; events = s.events.items } };
+
+    ghost invariant = { λ s. s.capacity ≤ deque_capacity s.events };
 }
 
 impl MemorySink {
-    ghost use Rattle.std.specs.Prelude.{◌≡◌, ◌++◌, [], None};
+    ghost use Rattle.std.specs.Prelude.{◌≡◌, ◌++◌, [], None, IfOk, IfErr};
     ghost use Rattle.std.specs.Option.{option_to_list};
 
-    /// An empty list for so many events.
-    pub fn new(alloc: Global, capacity: usize) -> MemorySink
-        ensures { result ≡ record { capacity = capacity; events = [] } }
+    /// An empty list for so many events. E1 where there is no memory for them.
+    pub fn new(alloc: Global, capacity: usize) -> Result<MemorySink, Refusal>
+        ensures new { IfOk result (λ sink. sink ≡ record { capacity = capacity; events = [] }) }
+        ensures memory { IfErr result (λ why. why ≡ Refusal.Memory) }
     {
-        MemorySink {
-            capacity,
-            events: VecDeque::new(alloc),
+        match VecDeque::with_capacity(alloc, capacity) {
+            Ok(events) => Ok(MemorySink { capacity, events }),
+            Err(_) => Err(Refusal::Memory),
         }
     }
 
@@ -71,15 +76,12 @@ impl Sink for MemorySink {
 
     ghost puts = { ShelfPuts };
 
-    /// Hands the event back too where there is no memory for it.
     fn put<R: Wait>(&mut self, _rt: &R, event: Event) -> Result<(), Event> {
         if self.events.len() >= self.capacity {
             return Err(event);
         }
-        match self.events.push_back(event) {
-            Ok(()) => Ok(()),
-            Err(back) => Err(back.value),
-        }
+        self.events.push_back_reserved(event);
+        Ok(())
     }
 
     fn announce(&self) {}

@@ -84,7 +84,7 @@ pub struct MioWire {
 impl MioWire {
     /// A socket at this address, with a receive buffer and a send buffer of 4 MB each where the system grants that.
     ///
-    /// E14 where the address can't be had, or the system grants nothing to wait by; E1 for want of memory.
+    /// E14 where the address can't be had, or the system grants nothing to wait by; else E1 for want of memory.
     pub fn bind<R: Net + AllocGlobal>(rt: &R, addr: Addr) -> Result<MioWire, Refusal>
         ensures new { IfOk result (λ wire. failures_of wire ≡ 0) }
         ensures silent { IfOk result (λ wire. reason_of wire ≡ None) }
@@ -103,9 +103,6 @@ impl MioWire {
         ensures refused { IfErr result (λ unopened. (unopened.why ≡ Refusal.WireFault) ⊎ (unopened.why ≡ Refusal.Memory)) }
         ensures said { IfErr result (λ unopened. (unopened.why ≡ Refusal.WireFault) ↔ IsSome unopened.reason) }
     {
-        let Ok(events) = Events::with_capacity(rt.alloc(), 4) else {
-            return Err(Unopened::from(Refusal::Memory));
-        };
         let (socket, poll, bell) = match opened(rt, addr) {
             Ok(opened) => opened,
             Err(reason) => {
@@ -115,7 +112,10 @@ impl MioWire {
                 });
             }
         };
-        let Ok(bell) = Arc::new(rt.alloc(), bell) else {
+        let (Ok(events), Ok(bell)) = (
+            Events::with_capacity(rt.alloc(), 4),
+            Arc::new(rt.alloc(), bell),
+        ) else {
             return Err(Unopened::from(Refusal::Memory));
         };
         Ok(MioWire {

@@ -1,5 +1,5 @@
 -- What the relay's thread makes of the events that it takes.
-use Rattle.std.specs.Prelude.{◌≡◌, ◌⊎◌, ◌<◌, Bool, true, List, [], ◌∷◌, ◌++◌, map, length}
+use Rattle.std.specs.Prelude.{◌≡◌, ◌⊎◌, ℕ, ◌<◌, ◌≤◌, Bool, true, List, [], ◌∷◌, ◌++◌, map, length}
 use Rattle.std.specs.List.{filter}
 use Rattle.enet_codec.specs.declared.event.PeerRef.{PeerRef}
 use Rattle.enet_codec.specs.declared.event.Event.{Event}
@@ -11,7 +11,8 @@ use Rattle.enet_chat.specs.Peers.{is_same}
 use Rattle.enet_chat.specs.Chat.{noted, relayed}
 use Rattle.enet_bridge.specs.declared.order_sender.OrderSender.{OrderSender}
 use Rattle.enet_bridge.specs.declared.event_receiver.EventReceiver.{EventReceiver}
-use Rattle.enet_bridge.specs.Holding.{sender_queue, receiver_queue, waiting_at, submitted_at, asked, received}
+use Rattle.enet_bridge.specs.Ends.{orders}
+use Rattle.enet_bridge.specs.Holding.{sender_queue, receiver_queue, waiting_at, submitted_at, asked, received, FoundFull}
 use Rattle.enet_chat.specs.declared.relaying.Relay.{Relay}
 
 -- the peers that a relay knows, the events that it took and has not expanded, and its ends of the queues
@@ -31,12 +32,31 @@ receiver_of relay = relay.receiver
 abbrev pub AreBehind : List Event → List Order → Type 0
 AreBehind backlog waiting = (backlog ≡ []) ⊎ (0 < length waiting)
 
+-- events are left only where there are so many orders
+abbrev pub AreFarBehind : ℕ → List Event → List Order → Type 0
+AreFarBehind many backlog orders = (backlog ≡ []) ⊎ (many ≤ length orders)
+
+-- no event is left and no order waits; or some order does, and the queue was found full
 abbrev pub IsThrough : Relay → Type 0
-IsThrough relay = AreBehind (backlog_of relay) (waiting_at (sender_of relay))
+IsThrough relay =
+    ((backlog_of relay ≡ []) × (waiting_at (sender_of relay) ≡ []))
+    ⊎ ((0 < length (waiting_at (sender_of relay))) × FoundFull (sender_of relay))
 
 -- its seat submitted as many orders as it may
 abbrev pub IsSpent : Relay → Type 0
 IsSpent relay = length (submitted_at (sender_of relay)) ≡ limit_of (sender_queue (sender_of relay))
+
+-- why orders wait: the queue was found full, or the seat is spent
+abbrev pub IsHeldUp : Relay → Type 0
+IsHeldUp relay = FoundFull (sender_of relay) ⊎ IsSpent relay
+
+-- no order waits but for that
+abbrev pub HasSubmitted : Relay → Type 0
+HasSubmitted relay = (waiting_at (sender_of relay) ≡ []) ⊎ IsHeldUp relay
+
+-- all that had been asked for was submitted before anything else was asked for, but for that
+abbrev pub SubmitsFirst : Relay → Relay → Type 0
+SubmitsFirst old new = (orders (submitted_at (sender_of new)) ≡ asked (sender_of old)) ⊎ IsHeldUp new
 
 -- events without their numbers
 abbrev pub events : List Numbered → List Event

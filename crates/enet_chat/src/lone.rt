@@ -27,7 +27,7 @@ pub struct LoneRelay {
 impl LoneRelay {
     ghost use Rattle.std.specs.Prelude.{◌≡◌, ◌≤◌, ◌<◌, [], true, false, length, take, drop, OnOk, IfOk, IfErr};
     ghost use Rattle.enet_chat.specs.Lone.{Expands, counted_on};
-    ghost use Rattle.enet_chat.specs.Relaying.{AreBehind};
+    ghost use Rattle.enet_chat.specs.Relaying.{AreBehind, AreFarBehind};
     ghost use Rattle.enet_chat.specs.Private.Relaying.{ArePackets};
 
     /// A relay that goes on from these peers, these events and these orders, and counts on from what `gauge` shows.
@@ -58,6 +58,7 @@ impl LoneRelay {
     pub fn expand(&mut self) -> Result<(), Refusal>
         ensures expands { Expands self.old self.new }
         ensures behind { OnOk result (AreBehind self.new.events self.new.orders) }
+        ensures far_behind { OnOk result (AreFarBehind 256 self.new.events self.new.orders) }
         ensures memory { IfErr result (λ why. why ≡ Refusal.Memory) }
     {
         while self.orders.len() < MOST_PER_TURN as usize {

@@ -93,11 +93,11 @@ enum Found {
 }
 
 impl<'a> Relay<'a> {
-    ghost use Rattle.std.specs.Prelude.{◌≡◌, ◌≢◌, ◌⊎◌, ◌<◌, ◌≤◌, ◌++◌, [], true, false, length, take, OnOk, IfOk, IfErr};
+    ghost use Rattle.std.specs.Prelude.{◌≡◌, ◌≢◌, ◌⊎◌, ◌<◌, ◌≤◌, ◌++◌, [], true, false, length, take, OnOk, OnErr, IfOk, IfErr};
     ghost use Rattle.enet_submit.specs.Words.{IsFinishedOf, all_sent};
     ghost use Rattle.enet_bridge.specs.Ends.{orders};
-    ghost use Rattle.enet_bridge.specs.Holding.{asked, waiting_at, received, sender_queue, receiver_queue, FoundNone};
-    ghost use Rattle.enet_chat.specs.Relaying.{peers_of, backlog_of, sender_of, receiver_of, Relays, IsThrough, IsSpent};
+    ghost use Rattle.enet_bridge.specs.Holding.{asked, waiting_at, submitted_at, received, sender_queue, receiver_queue, FoundFull, FoundNone};
+    ghost use Rattle.enet_chat.specs.Relaying.{peers_of, backlog_of, sender_of, receiver_of, Relays, IsThrough, IsSpent, IsHeldUp, HasSubmitted, SubmitsFirst};
     ghost use Rattle.enet_chat.specs.Private.Relaying.{ArePackets};
 
     /// A relay that goes on from these peers and these events.
@@ -163,6 +163,7 @@ impl<'a> Relay<'a> {
         ensures relays { Relays self.old self.new }
         ensures none_left { OnOk result (FoundNone (receiver_of self.new)) }
         ensures through { OnOk result (IsThrough self.new) }
+        ensures submitted { HasSubmitted self.new }
         ensures why { IfErr result (λ why. (why ≡ Refusal.Memory) ⊎ (why ≡ Refusal.SeatSpent)) }
         ensures spent { IfErr result (λ why. why ≡ Refusal.SeatSpent → IsSpent self.new) }
     {
@@ -190,6 +191,8 @@ impl<'a> Relay<'a> {
         ensures relays { Relays self.old self.new }
         ensures none { IfOk result (λ over. over ≡ true → FoundNone (receiver_of self.new)) }
         ensures through { IfOk result (λ over. over ≡ true → IsThrough self.new) }
+        ensures submits { SubmitsFirst self.old self.new }
+        ensures submitted { OnErr result (HasSubmitted self.new) }
         ensures why { IfErr result (λ why. (why ≡ Refusal.Memory) ⊎ (why ≡ Refusal.SeatSpent)) }
         ensures spent { IfErr result (λ why. why ≡ Refusal.SeatSpent → IsSpent self.new) }
     {
@@ -228,6 +231,7 @@ impl<'a> Relay<'a> {
     // Rests with some events kept, until more come or the service's turn is over.
     fn rest_with_some<R: Wait>(&mut self, rt: &R, bell: &TakerBell, pace: &mut Pace)
         ensures relays { Relays self.old self.new }
+        ensures same { sender_of self.new ≡ sender_of self.old }
     {
         self.tell_new(bell);
         bell.want();
@@ -241,24 +245,52 @@ impl<'a> Relay<'a> {
         ensures relays { Relays self.old self.new }
         ensures none { IfOk result (λ found. found ≡ Found.Nothing → FoundNone (receiver_of self.new)) }
         ensures through { IfOk result (λ found. found ≡ Found.Nothing → IsThrough self.new) }
+        ensures submits { SubmitsFirst self.old self.new }
+        ensures submitted { OnErr result (HasSubmitted self.new) }
         ensures why { IfErr result (λ why. (why ≡ Refusal.Memory) ⊎ (why ≡ Refusal.SeatSpent)) }
         ensures spent { IfErr result (λ why. why ≡ Refusal.SeatSpent → IsSpent self.new) }
     {
         match self.submit(rt) {
-            Pumped::Spent => return Err(Refusal::SeatSpent),
-            Pumped::Full => {
-                if !over && !bell.hears_of_one_held_back() {
-                    return Ok(Found::NoRoom);
-                }
-            }
-            Pumped::All => {
-                if self.keeps(over) {
-                    return self.take_more(rt);
-                }
-                if self.expand()? {
-                    return Ok(Found::Work);
-                }
-            }
+            Pumped::Spent => Err(Refusal::SeatSpent),
+            Pumped::Full => self.step_without_room(rt, bell, over),
+            Pumped::All => self.step_on(rt, over),
+        }
+    }
+
+    // Takes events though orders wait for room, where the service holds one back or has ended.
+    fn step_without_room<R: Wait>(
+        &mut self,
+        rt: &R,
+        bell: &TakerBell,
+        over: bool,
+    ) -> Result<Found, Refusal>
+        ensures relays { Relays self.old self.new }
+        ensures none { IfOk result (λ found. found ≡ Found.Nothing → FoundNone (receiver_of self.new)) }
+        ensures sender { sender_of self.new ≡ sender_of self.old }
+        ensures why { IfErr result (λ why. why ≡ Refusal.Memory) }
+    {
+        if !over && !bell.hears_of_one_held_back() {
+            return Ok(Found::NoRoom);
+        }
+        self.take_some(rt)
+    }
+
+    // Expands events or takes some, where no order waits.
+    fn step_on<R: Wait>(&mut self, rt: &R, over: bool) -> Result<Found, Refusal>
+        requires { waiting_at (sender_of self.old) ≡ [] }
+        ensures relays { Relays self.old self.new }
+        ensures none { IfOk result (λ found. found ≡ Found.Nothing → FoundNone (receiver_of self.new)) }
+        ensures all { IfOk result (λ found. found ≡ Found.Nothing → (backlog_of self.new ≡ []) × (waiting_at (sender_of self.new) ≡ [])) }
+        ensures submitted { submitted_at (sender_of self.new) ≡ submitted_at (sender_of self.old) }
+        ensures queue { sender_queue (sender_of self.new) ≡ sender_queue (sender_of self.old) }
+        ensures stays { OnErr result (waiting_at (sender_of self.new) ≡ []) }
+        ensures why { IfErr result (λ why. why ≡ Refusal.Memory) }
+    {
+        if self.keeps(over) {
+            return self.take_more(rt);
+        }
+        if self.expand()? {
+            return Ok(Found::Work);
         }
         self.take_some(rt)
     }
@@ -272,6 +304,7 @@ impl<'a> Relay<'a> {
     // Takes some events beside those that are kept.
     fn take_more<R: Wait>(&mut self, rt: &R) -> Result<Found, Refusal>
         ensures relays { Relays self.old self.new }
+        ensures sender { sender_of self.new ≡ sender_of self.old }
         ensures kept { IfOk result (λ found. found ≢ Found.Nothing) }
         ensures why { IfErr result (λ why. why ≡ Refusal.Memory) }
     {
@@ -284,7 +317,9 @@ impl<'a> Relay<'a> {
     // Submits what waits, and tells the service where there is no room or much was submitted.
     fn submit<R: Wait>(&mut self, rt: &R) -> Pumped
         ensures relays { Relays self.old self.new }
-        ensures full { result ≡ Pumped.Full → 0 < length (waiting_at (sender_of self.new)) }
+        ensures kept { asked (sender_of self.new) ≡ asked (sender_of self.old) }
+        ensures all { result ≡ Pumped.All → waiting_at (sender_of self.new) ≡ [] }
+        ensures full { result ≡ Pumped.Full → (0 < length (waiting_at (sender_of self.new))) × FoundFull (sender_of self.new) }
         ensures spent { result ≡ Pumped.Spent → IsSpent self.new }
     {
         let before = self.sender.len();
@@ -302,7 +337,8 @@ impl<'a> Relay<'a> {
     fn take_some<R: Wait>(&mut self, rt: &R) -> Result<Found, Refusal>
         ensures relays { Relays self.old self.new }
         ensures none { IfOk result (λ found. found ≡ Found.Nothing → FoundNone (receiver_of self.new)) }
-        ensures same { IfOk result (λ found. found ≡ Found.Nothing → (backlog_of self.new ≡ backlog_of self.old) × (sender_of self.new ≡ sender_of self.old)) }
+        ensures backlog { IfOk result (λ found. found ≡ Found.Nothing → backlog_of self.new ≡ backlog_of self.old) }
+        ensures sender { sender_of self.new ≡ sender_of self.old }
         ensures why { IfErr result (λ why. why ≡ Refusal.Memory) }
     {
         if let Found::Nothing = self.take(rt)? {
@@ -320,7 +356,8 @@ impl<'a> Relay<'a> {
     fn take<R: Wait>(&mut self, rt: &R) -> Result<Found, Refusal>
         ensures relays { Relays self.old self.new }
         ensures none { IfOk result (λ found. found ≡ Found.Nothing → FoundNone (receiver_of self.new)) }
-        ensures same { IfOk result (λ found. found ≡ Found.Nothing → (backlog_of self.new ≡ backlog_of self.old) × (sender_of self.new ≡ sender_of self.old)) }
+        ensures backlog { IfOk result (λ found. found ≡ Found.Nothing → backlog_of self.new ≡ backlog_of self.old) }
+        ensures sender { sender_of self.new ≡ sender_of self.old }
         ensures why { IfErr result (λ why. why ≡ Refusal.Memory) }
     {
         if self.backlog.reserve(1).is_err() {
@@ -339,7 +376,9 @@ impl<'a> Relay<'a> {
     // together, and any other event alone.
     fn expand(&mut self) -> Result<bool, Refusal>
         ensures relays { Relays self.old self.new }
-        ensures none { IfOk result (λ found. found ≡ false → backlog_of self.new ≡ []) }
+        ensures none { IfOk result (λ found. found ≡ false → (backlog_of self.new ≡ []) × (sender_of self.new ≡ sender_of self.old)) }
+        ensures submitted { submitted_at (sender_of self.new) ≡ submitted_at (sender_of self.old) }
+        ensures stays { OnErr result (waiting_at (sender_of self.new) ≡ waiting_at (sender_of self.old)) }
         ensures why { IfErr result (λ why. why ≡ Refusal.Memory) }
     {
         let count = packets_first(&self.backlog, MOST_EVENTS);
@@ -355,6 +394,8 @@ impl<'a> Relay<'a> {
         requires within { count ≤ length (backlog_of self.old) }
         requires packets { ArePackets (take count (backlog_of self.old)) }
         ensures relays { Relays self.old self.new }
+        ensures submitted { submitted_at (sender_of self.new) ≡ submitted_at (sender_of self.old) }
+        ensures stays { OnErr result (waiting_at (sender_of self.new) ≡ waiting_at (sender_of self.old)) }
         ensures why { IfErr result (λ why. why ≡ Refusal.Memory) }
     {
         let orders = batch_orders(self.alloc, &self.table, &self.backlog, count)?;
@@ -368,7 +409,9 @@ impl<'a> Relay<'a> {
     // Expands the oldest event that was taken and wasn't yet, if there is one.
     fn expand_one(&mut self) -> Result<bool, Refusal>
         ensures relays { Relays self.old self.new }
-        ensures none { IfOk result (λ found. found ≡ false → backlog_of self.new ≡ []) }
+        ensures none { IfOk result (λ found. found ≡ false → (backlog_of self.new ≡ []) × (sender_of self.new ≡ sender_of self.old)) }
+        ensures submitted { submitted_at (sender_of self.new) ≡ submitted_at (sender_of self.old) }
+        ensures stays { OnErr result (waiting_at (sender_of self.new) ≡ waiting_at (sender_of self.old)) }
         ensures why { IfErr result (λ why. why ≡ Refusal.Memory) }
     {
         let Some(event) = self.backlog.front() else {

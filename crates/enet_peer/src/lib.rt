@@ -10,8 +10,8 @@
 //! `throttle_configure`, `throttle_limit`, `ping_interval`, `timeout`, `reserve`). A peer of which `is_asleep` answers true has
 //! nothing to send and nothing to tell (`Sleeps`).
 //! `bandwidth` and `throttle_configure` ask for room for a command of channel 0xFF, which `reserve` makes; the second also
-//! for a connected peer. Calls without an answer for want of memory take none. S11 comes only where something of a command is
-//! kept or one acknowledgement more waits, and for an ACKNOWLEDGE that asks to be acknowledged.
+//! for a connected peer. What has no answer for want of memory does the same whatever memory is left. S11 comes only where something
+//! of a command is kept or one acknowledgement more waits, and for an ACKNOWLEDGE that asks to be acknowledged.
 //! Laws: what every peer keeps (`reachable_stays`, specs/Reachable): once the connection has ended for this end no packet is
 //! queued and nothing is sent and unacknowledged, an acknowledgement waits in AckDisconnect, one unsequenced DISCONNECT in
 //! Parting, nothing in Ended and Free; a sender's channel is its place; no receiver keeps what it dispatched. A DISCONNECT

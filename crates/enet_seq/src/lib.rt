@@ -3,7 +3,8 @@
 //! Proved: each of the five functions gives what its definition says (`in_window`, `acknowledges`, `ahead`, `after`,
 //! `fragment_in_window`); which distances are inside the window and which numbers are acknowledged (`window_reach`); that
 //! distances and sums undo one another (`distances_and_sums`); and that a number that goes over the wire modulo 65536 is
-//! read as the number that was meant, or as nothing (`wire_numbers_as_meant`), for fragments too. No call takes memory.
+//! read as the number that was meant where that is at most 24,576 ahead of the front, and as nothing where it is 1 to 32,768
+//! behind (`wire_numbers_as_meant`), and so, a little closer, a fragment's start. No call takes memory.
 //! Only tested, in `check_numbers`: that the definitions agree with values worked out by hand.
 #![tactic(auto)]
 

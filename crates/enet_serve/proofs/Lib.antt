@@ -1,2 +1,3 @@
 pub mod TurnByTurn
 pub mod More
+pub mod Room

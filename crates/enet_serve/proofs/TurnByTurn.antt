@@ -1,7 +1,7 @@
 -- A run whose relay shares its service's thread: turn by turn.
-use Rattle.std.proofs.Common.{◌≡◌, List, [], ◌∷◌, ◌++◌, Bool, true, false, Option, Some, None, refl, sym, ◌∙◌, ap, subst, append_assoc}
+use Rattle.std.proofs.Common.{◌≡◌, ℕ, ◌+◌, ◌≤◌, ◌⊎◌, inl, inr, length, arith, List, [], ◌∷◌, ◌++◌, Bool, true, false, Option, Some, None, refl, sym, ◌∙◌, ap, subst, append_assoc}
 use Rattle.std.specs.List.{All}
-use Rattle.std.proofs.lemmas.List.{append-nil, map-append}
+use Rattle.std.proofs.lemmas.List.{append-nil, map-append, length-append}
 use Rattle.std.proofs.lemmas.List.Elements.{All-nil, All-append}
 use Rattle.enet_codec.specs.declared.event.PeerRef.{PeerRef}
 use Rattle.enet_codec.specs.declared.event.Event.{Event}
@@ -10,7 +10,7 @@ use Rattle.enet_submit.specs.declared.order.Submission.{Submission}
 use Rattle.enet_bridge.specs.Ends.{orders}
 use Rattle.enet_chat.specs.Lone.{IsGiven, IsPut, Expands}
 use Rattle.enet_chat.specs.declared.lone.LoneRelay.{LoneRelay}
-use Rattle.enet_chat.specs.Relaying.{noted_all, relayed_all, SameForEach, AreBehind}
+use Rattle.enet_chat.specs.Relaying.{noted_all, relayed_all, SameForEach, AreBehind, AreFarBehind}
 use Rattle.enet_chat.proofs.Relays.{noted_more, on_for_each, joined}
 use Rattle.enet_service.specs.Phases.{Chain}
 use Rattle.enet_service.specs.Queues.{given, accepted}
@@ -42,14 +42,16 @@ put_behind before ((event, true) ∷ puts) after (between, put, rest) =
 put_behind before ((event, false) ∷ puts) after (between, put, rest) = put_behind between puts after rest ∙ ap (λ (es : List Event). es ++ accepted puts) put
 
 -- no turn yet
-pub goes_nowhere : (a b : Pair) → b.service ≡ a.service → Expands a.relay b.relay → AreBehind b.relay.events b.relay.orders → Goes a [] b
-goes_nowhere a b same expands behind = record {
+pub goes_nowhere : (a b : Pair) → b.service ≡ a.service → Expands a.relay b.relay → AreBehind b.relay.events b.relay.orders → AreFarBehind 256 b.relay.events b.relay.orders
+    → Goes a [] b
+goes_nowhere a b same expands behind far_behind = record {
   expanded = expands.expanded;
   asked_for = expands.asked_for;
   turns = same;
   sound = All-nil IsSound;
   events = append-nil a.relay.events ∙ expands.in_order;
   behind = behind;
+  far_behind = far_behind;
   peers = expands.peers;
   for_each = expands.for_each;
   orders_done = sym expands.orders;
@@ -65,6 +67,7 @@ goes_on a b c xs ys p q = record {
   events = ap (λ (es : List Event). a.relay.events ++ es) (accepted_both xs ys)
       ∙ joined a.relay.events b.relay.events c.relay.events (accepted (all_puts xs)) (accepted (all_puts ys)) p.expanded q.expanded p.events q.events;
   behind = q.behind;
+  far_behind = q.far_behind;
   peers = q.peers ∙ (ap (λ (ps : List PeerRef). noted_all ps q.expanded) p.peers ∙ sym (noted_more a.relay.table p.expanded q.expanded));
   for_each = on_for_each p.asked_for q.asked_for a.relay.table b.relay.table p.expanded q.expanded p.peers p.for_each q.for_each;
   orders_done = joined a.relay.orders b.relay.orders c.relay.orders p.asked_for q.asked_for (orders (given (all_gave xs))) (orders (given (all_gave ys))) p.orders_done q.orders_done
@@ -74,14 +77,15 @@ goes_on a b c xs ys p q = record {
 -- turns, and what was expanded after them
 pub goes_turns : (a b : Pair) (between : LoneRelay) (rounds : List Round) → TakesTurns a.service rounds b.service → All IsSound rounds → between.table ≡ a.relay.table
     → Chain IsGiven a.relay.orders (all_gave rounds) between.orders → Puts a.relay.events (all_puts rounds) between.events → Expands between b.relay
-    → AreBehind b.relay.events b.relay.orders → Goes a rounds b
-goes_turns a b between rounds turns sound table gave puts expands behind = record {
+    → AreBehind b.relay.events b.relay.orders → AreFarBehind 256 b.relay.events b.relay.orders → Goes a rounds b
+goes_turns a b between rounds turns sound table gave puts expands behind far_behind = record {
   expanded = expands.expanded;
   asked_for = expands.asked_for;
   turns = turns;
   sound = sound;
   events = sym (put_behind a.relay.events (all_puts rounds) between.events puts) ∙ expands.in_order;
   behind = behind;
+  far_behind = far_behind;
   peers = expands.peers ∙ ap (λ (ps : List PeerRef). noted_all ps expands.expanded) table;
   for_each = subst (λ (ps : List PeerRef). SameForEach expands.asked_for (relayed_all ps expands.expanded)) table expands.for_each;
   orders_done = ap (λ (os : List Order). os ++ expands.asked_for) (given_front a.relay.orders (all_gave rounds) between.orders gave)
@@ -89,10 +93,15 @@ goes_turns a b between rounds turns sound table gave puts expands behind = recor
       ∙ ap (λ (os : List Order). orders (given (all_gave rounds)) ++ os) (sym expands.orders));
 }
 
+-- more orders than those that wait
+pub far_behind_more : (many : ℕ) (events : List Event) (before waiting : List Order) → AreFarBehind many events waiting → AreFarBehind many events (before ++ waiting)
+far_behind_more many events before waiting (inl none) = inl none
+far_behind_more many events before waiting (inr enough) = inr (omega (arith, enough, length-append before waiting))
+
 -- what the relay began with was kept by the server, and what it leaves is
 pub serves : (old new : ChatServer) (began ended : LoneRelay) (run_length : RunLength) (rounds : List Round) (report : Report)
     → IsOf old.kept began → IsOf new.kept ended → new.queue_capacity ≡ old.queue_capacity → Lasts run_length rounds → report ≡ total rounds
-    → Goes (pair old.bound.service began) rounds (pair new.bound.service ended) → Serves old run_length new report
+    → Goes (pair old.bound.service began) rounds (pair new.bound.service ended) → Serves 256 old run_length new report
 serves old new began ended run_length rounds report i o capacity lasts totals g = record {
   rounds = rounds;
   expanded = g.expanded;
@@ -104,6 +113,8 @@ serves old new began ended run_length rounds report i o capacity lasts totals g 
   totals = totals;
   events = ap (λ (es : List Event). es ++ accepted (all_puts rounds)) (sym i.events) ∙ (g.events ∙ ap (λ (es : List Event). g.expanded ++ es) o.events);
   behind = subst (λ (es : List Event). AreBehind es new.kept.orders.items) o.events (subst (λ (os : List Order). AreBehind ended.events os) o.orders_are g.behind);
+  far_behind = far_behind_more 256 new.kept.backlog.items (orders (given (all_gave rounds))) new.kept.orders.items
+      (subst (λ (es : List Event). AreFarBehind 256 es new.kept.orders.items) o.events (subst (λ (os : List Order). AreFarBehind 256 ended.events os) o.orders_are g.far_behind));
   peers = sym o.peers ∙ (g.peers ∙ ap (λ (ps : List PeerRef). noted_all ps g.expanded) i.peers);
   for_each = subst (λ (ps : List PeerRef). SameForEach g.asked_for (relayed_all ps g.expanded)) i.peers g.for_each;
   orders_done = ap (λ (os : List Order). os ++ g.asked_for) (sym i.orders_are) ∙ (g.orders_done ∙ ap (λ (os : List Order). orders (given (all_gave rounds)) ++ os) o.orders_are);

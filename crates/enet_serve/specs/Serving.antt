@@ -16,7 +16,7 @@ use Rattle.enet_service.specs.declared.report.Report.{Report}
 use Rattle.enet_service.specs.Queues.{given, accepted}
 use Rattle.enet_service.specs.Turn.{Round}
 use Rattle.enet_service.specs.Run.{IsSound, all_gave, all_puts, total}
-use Rattle.enet_chat.specs.Relaying.{noted_all, relayed_all, SameForEach, AreBehind}
+use Rattle.enet_chat.specs.Relaying.{noted_all, relayed_all, SameForEach, AreBehind, AreFarBehind}
 use Rattle.enet_service.specs.declared.run_length.RunLength.{RunLength}
 use Rattle.enet_service.specs.ServiceRuns.{Lasts, TakesTurns, IsCapacity}
 use Rattle.enet_serve.specs.declared.server.ChatServer.{ChatServer}
@@ -66,8 +66,8 @@ pub record IsOpened (settings : Settings) (server : ChatServer) : Type 0 where
 -- From one run to the next. In none of its turns the wire failed, and the report is their sums. The events that the turns put are
 -- expanded behind those that waited, once and in order, or wait. The orders that were asked for are for every peer what those events
 -- give for it, in order (SameForEach); they come behind those that waited, and were handed to the turns, once and in order, or wait.
--- Events wait only where orders do
-pub record Serves (old : ChatServer) (run_length : RunLength) (new : ChatServer) (report : Report) : Type 0 where
+-- Events wait only where orders do, and where so many orders were handed to the turns or wait
+pub record Serves (many : ℕ) (old : ChatServer) (run_length : RunLength) (new : ChatServer) (report : Report) : Type 0 where
   pub rounds : List Round
   pub expanded : List Event
   pub asked_for : List Order
@@ -78,6 +78,7 @@ pub record Serves (old : ChatServer) (run_length : RunLength) (new : ChatServer)
   pub totals : report ≡ total rounds
   pub events : backlog_of old ++ accepted (all_puts rounds) ≡ expanded ++ backlog_of new
   pub behind : AreBehind (backlog_of new) (orders_of new)
+  pub far_behind : AreFarBehind many (backlog_of new) (orders (given (all_gave rounds)) ++ orders_of new)
   pub peers : peers_of new ≡ noted_all (peers_of old) expanded
   pub for_each : SameForEach asked_for (relayed_all (peers_of old) expanded)
   pub orders_done : orders_of old ++ asked_for ≡ orders (given (all_gave rounds)) ++ orders_of new

@@ -22,7 +22,7 @@ pub(crate) struct Alone<'a> {
 impl Alone<'_> {
     ghost use Rattle.std.specs.Prelude.{◌≡◌, ◌≢◌, ◌+◌, ◌⊎◌, List, length, OnOk, IfOk, IfErr};
     ghost use Rattle.enet_bridge.specs.Socket.{failures_of};
-    ghost use Rattle.enet_chat.specs.Relaying.{AreBehind};
+    ghost use Rattle.enet_chat.specs.Relaying.{AreBehind, AreFarBehind};
     ghost use Rattle.enet_service.specs.Turn.{Round};
     ghost use Rattle.enet_service.specs.Run.{total};
     ghost use Rattle.enet_service.specs.ServiceRuns.{Lasts, LastsForTime};
@@ -38,7 +38,8 @@ impl Alone<'_> {
         run_length: RunLength,
         watch: &mut W,
     ) -> Result<Report, Refusal>
-        requires { AreBehind self.old.relay.events self.old.relay.orders }
+        requires behind { AreBehind self.old.relay.events self.old.relay.orders }
+        requires far_behind { AreFarBehind 256 self.old.relay.events self.old.relay.orders }
         ensures goes { IfOk result (λ report. (rounds : List Round) × Lasts run_length rounds × (report ≡ total rounds)
             × Goes (pair bound.old.service self.old.relay) rounds (pair bound.new.service self.new.relay)) }
         ensures why { IfErr result (λ why. (why ≡ Refusal.WireFault) ⊎ (why ≡ Refusal.Memory)) }
@@ -60,7 +61,8 @@ impl Alone<'_> {
         time: Duration,
         watch: &mut W,
     ) -> Result<Report, Refusal>
-        requires { AreBehind self.old.relay.events self.old.relay.orders }
+        requires behind { AreBehind self.old.relay.events self.old.relay.orders }
+        requires far_behind { AreFarBehind 256 self.old.relay.events self.old.relay.orders }
         ensures goes { IfOk result (λ report. (rounds : List Round) × LastsForTime rounds × (report ≡ total rounds)
             × Goes (pair bound.old.service self.old.relay) rounds (pair bound.new.service self.new.relay)) }
         ensures why { IfErr result (λ why. (why ≡ Refusal.WireFault) ⊎ (why ≡ Refusal.Memory)) }
@@ -88,7 +90,8 @@ impl Alone<'_> {
         turns: u64,
         watch: &mut W,
     ) -> Result<Report, Refusal>
-        requires { AreBehind self.old.relay.events self.old.relay.orders }
+        requires behind { AreBehind self.old.relay.events self.old.relay.orders }
+        requires far_behind { AreFarBehind 256 self.old.relay.events self.old.relay.orders }
         ensures goes { IfOk result (λ report. (rounds : List Round) × (length rounds ≡ turns) × (report ≡ total rounds)
             × Goes (pair bound.old.service self.old.relay) rounds (pair bound.new.service self.new.relay)) }
         ensures why { IfErr result (λ why. (why ≡ Refusal.WireFault) ⊎ (why ≡ Refusal.Memory)) }
@@ -115,7 +118,8 @@ impl Alone<'_> {
         bound: &mut BoundService<MioWire>,
         turns: u64,
     ) -> Result<Report, Fault>
-        requires { AreBehind self.old.relay.events self.old.relay.orders }
+        requires behind { AreBehind self.old.relay.events self.old.relay.orders }
+        requires far_behind { AreFarBehind 256 self.old.relay.events self.old.relay.orders }
         ensures goes { IfOk result (λ report. (rounds : List Round) × (length rounds ≡ turns) × (report ≡ total rounds)
             × Goes (pair bound.old.service self.old.relay) rounds (pair bound.new.service self.new.relay)) }
         ensures why { IfErr result (λ fault. (fault.why ≡ Refusal.WireFault) ⊎ (fault.why ≡ Refusal.Memory)) }

@@ -1,7 +1,7 @@
 //! How the clients of a server are told that it ends.
 
-use enet_codec::DisconnectMode;
-use enet_service::{BoundService, Fault, MemorySink, MemorySource, MioWire, run};
+use enet_codec::{DisconnectMode, Event};
+use enet_service::{BoundService, Fault, MemorySource, MioWire, Sink, run};
 use std::alloc::Global;
 use std::collections::VecDeque;
 use std::io;
@@ -12,9 +12,6 @@ use std::time::{Duration, Instant};
 /// So many milliseconds the clients have for their acknowledgements.
 const MOMENT: u64 = 1_000;
 
-/// So many events a turn tells at most.
-const MOST_EVENTS: usize = 1_024;
-
 /// Ends each connection behind all that was sent over it, and takes turns until all have ended, for a second at most. Who isn't gone by
 /// then is sent one DISCONNECT that wants no answer. Where the wire fails it ends.
 pub(crate) fn take_leave<R: Wait + Clock>(
@@ -22,11 +19,11 @@ pub(crate) fn take_leave<R: Wait + Clock>(
     alloc: Global,
     bound: &mut BoundService<MioWire>,
 ) {
-    if see_off(rt, alloc, bound).is_err() || bound.service.host.is_alone() {
-        return;
+    if see_off(rt, alloc, bound).is_ok()
+        && bound.service.host.part_from_all(DisconnectMode::Now) > 0
+    {
+        let _ = take_turn(rt, alloc, bound);
     }
-    bound.service.host.part_from_all(DisconnectMode::Now);
-    let _ = take_turn(rt, alloc, bound);
 }
 
 // Takes turns until no peer is left, or the moment is over. Who connects meanwhile is asked to go, too.
@@ -37,9 +34,9 @@ fn see_off<R: Wait + Clock>(
 ) -> Result<(), Fault> {
     let start = Instant::now(rt);
     for _ in rt.forever() {
-        bound.service.host.part_from_all(DisconnectMode::Later);
+        let peers = bound.service.host.part_from_all(DisconnectMode::Later);
         take_turn(rt, alloc, bound)?;
-        if bound.service.host.is_alone() || is_over(rt, &start) {
+        if peers == 0 || is_over(rt, &start) {
             return Ok(());
         }
     }
@@ -57,6 +54,23 @@ fn is_over<R: Clock>(rt: &R, start: &io::Result<Instant>) -> bool {
     }
 }
 
+/// Takes each event, and drops it.
+#[derive(Drop)]
+struct Nobody;
+
+impl Sink for Nobody {
+    ghost use Rattle.std.specs.Prelude.{◌≡◌, true};
+
+    ghost puts = { λ s event taken t. taken ≡ true };
+
+    fn put<R: Wait>(&mut self, _rt: &R, event: Event) -> Result<(), Event> {
+        drop(event);
+        Ok(())
+    }
+
+    fn announce(&self) {}
+}
+
 // A turn without orders, whose events nobody takes.
 fn take_turn<R: Wait + Clock>(
     rt: &R,
@@ -64,8 +78,7 @@ fn take_turn<R: Wait + Clock>(
     bound: &mut BoundService<MioWire>,
 ) -> Result<(), Fault> {
     let mut source = MemorySource::new(VecDeque::new(alloc));
-    let mut sink = MemorySink::new(alloc, MOST_EVENTS);
     let BoundService { wire, service } = bound;
-    run(rt, service, wire, &mut source, &mut sink, 1)?;
+    run(rt, service, wire, &mut source, &mut Nobody, 1)?;
     Ok(())
 }

@@ -4,8 +4,8 @@
 //! Proved: one call of [`ChatServer::serve`] or [`ChatServer::serve_alone`] (`Serves`) is turns of the service, as many as were asked for
 //! where a number was, in none of which the wire failed, and its report their sums. Each event that the turns told was expanded by the rule
 //! of the relay, once and in order, or waits for the next call; each order that the events gave was handed to a turn, once and for every
-//! receiver in order, or waits, too; and events wait only where orders do. So nothing is lost or doubled on the way, nor from one call to
-//! the next. Where it ends early, E14 says that the wire failed, and only E14 does; no run begins where the queues' places are out of
+//! receiver in order, or waits, too; and events wait only where orders do, and where more orders were handed to the turns or wait than
+//! the queue has places, in one thread 256 at least. So nothing is lost or doubled on the way, nor from one call to the next. Where it ends early, E14 says that the wire failed, and only E14 does; no run begins where the queues' places are out of
 //! range. A server opens with the standard host of its settings, with nothing waiting ([`ChatServer::open`]). After a call that was refused
 //! nothing else is said of the server. What the relay keeps is as before once leave was taken. Of each client of the demonstration
 //! (`Visits`): its service took so many turns, in none of which the wire failed; the turns were given the first part of what the client

@@ -46,6 +46,7 @@ pub struct ChatServer {
 
 impl ChatServer {
     ghost use Rattle.std.specs.Prelude.{◌≡◌, ◌≢◌, ◌+◌, ◌⊎◌, ◌↔◌, IsSome, true, false, None, OnOk, IfOk, IfErr, Err};
+    ghost use Rattle.enet_submit.specs.Words.{capacity_of};
     ghost use Rattle.enet_service.specs.ServiceRuns.{AreNew, IsCapacity};
     ghost use Rattle.enet_serve.specs.Serving.{Serves, EndsRun, IsNotServed, IsOpened, is_in_range, host_of, faults_of, peers_of, backlog_of, orders_of, queue_capacity_of};
 
@@ -95,7 +96,7 @@ impl ChatServer {
     where
         R: Threads + Wait + Clock + Sync,
         W: Watch + Send,
-        ensures serves { IfOk result (Serves self.old run_length self.new) }
+        ensures serves { IfOk result (Serves (queue_capacity_of self.old + 1) self.old run_length self.new) }
         ensures refused { IfErr result (IsNotServed self.old) }
         ensures range { OnOk result (IsCapacity (queue_capacity_of self.old)) }
         ensures sound { OnOk result (faults_of self.new ≡ faults_of self.old) }
@@ -133,7 +134,7 @@ impl ChatServer {
     where
         R: Wait + Clock,
         W: Watch,
-        ensures serves { IfOk result (Serves self.old run_length self.new) }
+        ensures serves { IfOk result (Serves 256 self.old run_length self.new) }
         ensures refused { IfErr result (λ why. (why ≡ Refusal.WireFault) ⊎ (why ≡ Refusal.Memory)) }
         ensures sound { OnOk result (faults_of self.new ≡ faults_of self.old) }
         ensures failed { IfErr result (λ why. why ≡ Refusal.WireFault → faults_of self.new ≡ faults_of self.old + 1) }
@@ -162,8 +163,9 @@ impl ChatServer {
         gauge: &Gauge,
         watch: &mut W,
     ) -> Result<Report, Refusal>
-        requires { AreNew shared.queue.now shared.events.now ends }
-        ensures serves { IfOk result (Serves self.old run_length self.new) }
+        requires new { AreNew shared.queue.now shared.events.now ends }
+        requires places { capacity_of shared.queue.now ≡ queue_capacity_of self.old }
+        ensures serves { IfOk result (Serves (queue_capacity_of self.old + 1) self.old run_length self.new) }
         ensures refused { IfErr result EndsRun }
         ensures sound { OnOk result (faults_of self.new ≡ faults_of self.old) }
         ensures failed { IfErr result (λ why. why ≡ Refusal.WireFault → faults_of self.new ≡ faults_of self.old + 1) }

@@ -21,7 +21,7 @@
 //! [`Watch`], and that turns for a time end once the other thread has left. Neither: that a wait or a call of a queue returns, when the
 //! source is told to expect orders, that two threads ran, what a network gives, and when; that a run for a time lasts that time; when
 //! [`settle`] answers E16; what the host and the queues are after a [`beside_turns`] that ended with E14; which peers
-//! [`WatchedHost::part_from_all`] asks to go. That turns go by what their wire gave, and by the milliseconds of its waits, is said of each
+//! [`WatchedHost::part_from_all`] asks to go (how many, it says). That turns go by what their wire gave, and by the milliseconds of its waits, is said of each
 //! wire that tells its calls: a socket tells nothing, and is used by the same functions.
 #![tactic(auto)]
 

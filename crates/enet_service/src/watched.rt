@@ -62,7 +62,7 @@ impl Model for WatchedHost {
 }
 
 impl WatchedHost {
-    ghost use Rattle.std.specs.Prelude.{◌≡◌, true, false, List, IfOk, IfErr, Err};
+    ghost use Rattle.std.specs.Prelude.{◌≡◌, true, false, List, length, IfOk, IfErr, Err};
     ghost use Rattle.enet_codec.specs.Config.{is_in_range};
     ghost use Rattle.enet_codec.specs.declared.event.PeerRef.{PeerRef};
     ghost use Rattle.enet_host.specs.Opening.{opened};
@@ -114,11 +114,6 @@ impl WatchedHost {
         self.refused
     }
 
-    /// Whether no connection stands that was told.
-    pub fn is_alone(&self) -> bool {
-        self.met.iter().all(|met| met.is_none())
-    }
-
     /// Forgets what was noted.
     pub(crate) fn forget(&mut self)
         ensures { self.new ≡ self.old }
@@ -128,18 +123,21 @@ impl WatchedHost {
         self.refused = 0;
     }
 
-    /// Ends each connection that was told, in this way. A peer that is going already isn't asked again.
-    pub fn part_from_all(&mut self, how: DisconnectMode)
-        ensures parts { (peers : List PeerRef) × PartsFrom how self.old peers self.new }
+    /// Ends each connection that was told, in this way, and answers how many there are. A peer that is going already isn't asked again.
+    pub fn part_from_all(&mut self, how: DisconnectMode) -> usize
+        ensures parts { (peers : List PeerRef) × (result ≡ length peers) × PartsFrom how self.old peers self.new }
     {
+        let mut parted = 0;
         for slot in 0..self.met.len() {
             if let Some(Some(met)) = self.met.get(slot) {
                 let peer = met.peer;
                 let _ = self
                     .host
                     .apply_order(Order::Disconnect { peer, how, info: 0 });
+                parted += 1;
             }
         }
+        parted
     }
 
     fn note(&mut self, note: Note)

@@ -2,7 +2,7 @@
 //!
 //! Proved: `Groups::new`, `check` and `mark` are exact by the definitions of a base and a set of marks; over whole runs of
 //! groups numbered without bound, each is dispatched at most once where none comes over 32,768 late, and groups that come in
-//! order are all dispatched (`runs_of_groups`). No call takes memory.
+//! order, each at most 31,744 past the one before, are all dispatched (`runs_of_groups`). No call takes memory.
 //! Only tested, in `check_numbers`: that the definitions agree with values worked out by hand. Not promised: any order of
 //! unsequenced packets.
 #![tactic(auto)]

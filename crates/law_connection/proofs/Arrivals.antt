@@ -33,6 +33,7 @@ use Rattle.law_connection.specs.Linked.{sends_in, dispatches_in, sender_in, rece
 use Rattle.law_connection.specs.Invariant.{AreInPlace, IsTidy, is_young}
 use Rattle.law_connection.proofs.Runs.{less-or-not}
 use Rattle.law_connection.proofs.Relinking.{relinks, stays, sending-of, receiving-of, sending-by}
+use Rattle.law_connection.proofs.GivingWay.{met_by, met-flat, both-met}
 use Rattle.law_connection.proofs.Commands.{Holds, holds-quiet, holds-stops, outcome-if, holds-answered, holds-acknowledged, holds-disconnect, holds-inbox, stops-ended, quiet-out}
 use Rattle.law_connection.proofs.SequencedData.{Logged, holds-sequenced, holds-passed}
 
@@ -51,18 +52,26 @@ data-state state.Free body n e = absurd (let x : false ≡ true = e in cc)
 data-state state.Ended body n e = absurd (let x : false ≡ true = e in cc)
 data-state state.Parting body n e = absurd (let x : false ≡ true = e in cc)
 
--- sequenced data, by the state
-data-by : (own other : End) (p : Peering) (put : Put) (c : DataCommand) (sent : Option ℕ) → Logged other put c → IsTidy own.submitted p → ((is_later p.state ≡ false) × (dispatches_in p.state ≡ true)) ⊎ ((is_later p.state ≡ true) × (dispatches_in p.state ≡ false))
+-- sequenced data, by the state; `way` says whether the inbox gives way first
+data-by : (own other : End) (p : Peering) (way : Bool) (put : Put) (c : DataCommand) (sent : Option ℕ) → Logged other put c → IsTidy own.submitted p
+    → ((is_later p.state ≡ false) × (dispatches_in p.state ≡ true)) ⊎ ((is_later p.state ≡ true) × (dispatches_in p.state ≡ false))
     → Holds own other p → Holds own other (cond (is_later p.state) (by_answer p put.message sent (passed_over_on p.inbox c (slice_get p.inbox.receivers put.message.head.channel)))
-    (by_arrival p put.message sent (sequenced_on p.inbox put.message.head.channel c (slice_get p.inbox.receivers put.message.head.channel)))).after
-data-by own other p put c sent logged tidy (inl s) h =
-    let later : Outcome = by_answer p put.message sent (passed_over_on p.inbox c (slice_get p.inbox.receivers put.message.head.channel)) in
-    let takes : Outcome = by_arrival p put.message sent (sequenced_on p.inbox put.message.head.channel c (slice_get p.inbox.receivers put.message.head.channel)) in
-    subst (λ b. Holds own other (cond b later takes).after) (sym s.0) (holds-sequenced own other p put c sent s.1 logged tidy.receivers h)
-data-by own other p put c sent logged tidy (inr s) h =
-    let later : Outcome = by_answer p put.message sent (passed_over_on p.inbox c (slice_get p.inbox.receivers put.message.head.channel)) in
-    let takes : Outcome = by_arrival p put.message sent (sequenced_on p.inbox put.message.head.channel c (slice_get p.inbox.receivers put.message.head.channel)) in
-    subst (λ b. Holds own other (cond b later takes).after) (sym s.0) (holds-passed own other p put c sent s.1 logged h)
+    (by_arrival p put.message sent (sequenced_on (met_by way p.inbox) put.message.head.channel c (slice_get (met_by way p.inbox).receivers put.message.head.channel)))).after
+data-by own other p way put c sent logged tidy at h = by at
+  where
+    b : Inbox
+    b = met_by way p.inbox
+
+    later : Outcome
+    later = by_answer p put.message sent (passed_over_on p.inbox c (slice_get p.inbox.receivers put.message.head.channel))
+
+    takes : Outcome
+    takes = by_arrival p put.message sent (sequenced_on b put.message.head.channel c (slice_get b.receivers put.message.head.channel))
+
+    by : ((is_later p.state ≡ false) × (dispatches_in p.state ≡ true)) ⊎ ((is_later p.state ≡ true) × (dispatches_in p.state ≡ false)) → Holds own other (cond (is_later p.state) later takes).after
+    by (inl s) = subst (λ t. Holds own other (cond t later takes).after) (sym s.0)
+        (holds-sequenced own other (record p { inbox = b }) put c sent s.1 logged (met-flat way p.inbox tidy.receivers) (both-met way own other p h))
+    by (inr s) = subst (λ t. Holds own other (cond t later takes).after) (sym s.0) (holds-passed own other p put c sent s.1 logged h)
 
 logged-of : (other : End) (put : Put) (c : DataCommand) → IsClean other → Has other.log put → data_of put.message ≡ Some c → put.message.head.number ≡ c.number
     → (put.message.head.channel < 255 → is_late (sent_on put.message.head.channel other) put.sent_then c.number ≡ false) → Logged other put c
@@ -112,9 +121,10 @@ holds-unsequenced : (own other : End) (p : Peering) (h : Head) (group : ℕ) (pa
     → Holds own other (on_data p (record { head = h; body = send_unsequenced group payload }) sent).after
 holds-unsequenced own other p h group payload sent far k =
     let m : Message = record { head = h; body = send_unsequenced group payload } in
+    let b : Inbox = met_by false p.inbox in
     let a : DataEffect = arrival p.inbox m in
     outcome-if own other (is_later p.state) (by_answer p m sent (passed_over p.inbox m)) (by_arrival p m sent a) (λ t. by-result own other p m sent (passed_over p.inbox m) far k)
-    (by-result own other (record p { inbox = a.after }) m sent a.answer far (holds-inbox own other p a (unsequenced-taken p.inbox h.channel group payload) k))
+    (by-result own other (record p { inbox = a.after }) m sent a.answer far (holds-inbox own other (record p { inbox = b }) a (unsequenced-taken b h.channel group payload) (both-met false own other p k)))
 
 -- the client's connection stands
 
@@ -217,19 +227,19 @@ holds-coming own other p h sent_then now sent (send_reliable payload) there clea
     let m : Message = record { head = h; body = send_reliable payload } in
     let c : DataCommand = record { reliable = true; number = h.number; unreliable = 0; fragment = None; body = payload } in
     outcome-if own other (is_allowed p.state m.body) (by_body p now sent m m.body) (stopped p stop.NotConnected)
-    (λ t. data-by own other p (made h sent_then m.body) c sent (logged-of other (made h sent_then m.body) c clean there refl refl (λ few. late few c refl)) tidy (data-state p.state m.body refl t) k) k
+    (λ t. data-by own other p false (made h sent_then m.body) c sent (logged-of other (made h sent_then m.body) c clean there refl refl (λ few. late few c refl)) tidy (data-state p.state m.body refl t) k) k
 holds-coming own other p h sent_then now sent (send_unreliable n payload) there clean tidy late late' k =
     let m : Message = record { head = h; body = send_unreliable n payload } in
     let c : DataCommand = record { reliable = false; number = h.number; unreliable = n; fragment = None; body = payload } in
     outcome-if own other (is_allowed p.state m.body) (by_body p now sent m m.body) (stopped p stop.NotConnected)
-    (λ t. data-by own other p (made h sent_then m.body) c sent (logged-of other (made h sent_then m.body) c clean there refl refl (λ few. late few c refl)) tidy (data-state p.state m.body refl t) k) k
+    (λ t. data-by own other p false (made h sent_then m.body) c sent (logged-of other (made h sent_then m.body) c clean there refl refl (λ few. late few c refl)) tidy (data-state p.state m.body refl t) k) k
 holds-coming own other p h sent_then now sent (send_fragment f payload) there clean tidy late late' k =
     let m : Message = record { head = h; body = send_fragment f payload } in
     let c : DataCommand = record { reliable = true; number = h.number; unreliable = 0; fragment = Some f; body = payload } in
     outcome-if own other (is_allowed p.state m.body) (by_body p now sent m m.body) (stopped p stop.NotConnected)
-    (λ t. data-by own other p (made h sent_then m.body) c sent (logged-of other (made h sent_then m.body) c clean there refl refl (λ few. late few c refl)) tidy (data-state p.state m.body refl t) k) k
+    (λ t. data-by own other p false (made h sent_then m.body) c sent (logged-of other (made h sent_then m.body) c clean there refl refl (λ few. late few c refl)) tidy (data-state p.state m.body refl t) k) k
 holds-coming own other p h sent_then now sent (send_unreliable_fragment f payload) there clean tidy late late' k =
     let m : Message = record { head = h; body = send_unreliable_fragment f payload } in
     let c : DataCommand = record { reliable = false; number = h.number; unreliable = f.start; fragment = Some f; body = payload } in
     outcome-if own other (is_allowed p.state m.body) (by_body p now sent m m.body) (stopped p stop.NotConnected)
-    (λ t. data-by own other p (made h sent_then m.body) c sent (logged-of other (made h sent_then m.body) c clean there refl refl (λ few. late few c refl)) tidy (data-state p.state m.body refl t) k) k
+    (λ t. data-by own other p false (made h sent_then m.body) c sent (logged-of other (made h sent_then m.body) c clean there refl refl (λ few. late few c refl)) tidy (data-state p.state m.body refl t) k) k

@@ -25,7 +25,7 @@ use Rattle.enet_receiver.proofs.Sequenced.{sequenced-nothing}
 use Rattle.enet_receiver.specs.Sequenced.{HasSequenced}
 use Rattle.law_connection.proofs.Runs.{reached-none, and-right}
 use Rattle.law_connection.proofs.Relinking.{relinks, stays}
-use Rattle.law_connection.proofs.TidyPeers.{AreFlat}
+use Rattle.law_connection.proofs.GivingWay.{AreFlat}
 use Rattle.law_connection.proofs.InOrder.{new-senders, new-places, new-receivers}
 
 -- tidy from the start

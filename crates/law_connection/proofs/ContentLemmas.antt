@@ -14,7 +14,7 @@ use Rattle.enet_fragment.specs.Whole.{is_whole}
 use Rattle.enet_packets.specs.declared.incoming_packet.IncomingPacket.{IncomingPacket}
 use Rattle.enet_packets.specs.declared.incoming_packet.Dispatched.{Dispatched}
 use Rattle.enet_packets.specs.Packets.{line_at, with_line, fresh, last_fresh, handed_out}
-use Rattle.enet_receiver.specs.Receiver.{Receiver, flushed_from, flushed, without, with_passed, with_dispatched}
+use Rattle.enet_receiver.specs.Receiver.{Receiver, flushed_from, flushed, without, with_passed, with_dispatched, without_waiting}
 use Rattle.enet_sender.specs.CommandChoice.{ChosenPacket}
 pub use Rattle.law_connection.specs.Meant.{Matches, OfReliable, OfUnreliable}
 pub use Rattle.law_connection.specs.LinkSteps.{bodies_of}
@@ -206,3 +206,14 @@ Ready-dispatched mtu cs r c e w k =
 
 pub Ready-flush : (mtu : ℕ) (cs : List ChosenPacket) (r : Receiver) → Ready mtu cs r → Ready mtu cs (flushed r)
 Ready-flush mtu cs r k = Ready-flushed mtu cs (r.unreliable + 1) r k (λ q x _. above_same r.unreliable q)
+
+-- what waits is given up
+
+pub none-wait : (n k : ℕ) → get (line_at empty n) k ≡ None
+none-wait n k =
+    let line : get (empty {X = FinMap nat_cmp IncomingPacket} {R = nat_cmp}) n ≡ None = get-empty nat_cmp n in
+    let none : get (empty {X = IncomingPacket} {R = nat_cmp}) k ≡ None = get-empty nat_cmp k in
+    ap (λ (o : Option (FinMap nat_cmp IncomingPacket)). get (unwrap_or o empty) k) line ∙ none
+
+pub Ready-given_up : (mtu : ℕ) (cs : List ChosenPacket) (r : Receiver) → Ready mtu cs r → Ready mtu cs (without_waiting r)
+Ready-given_up mtu cs r k = record { cut = k.cut; held = k.held; waiting = λ n q x t. absurd (let some' : Some x ≡ None = sym t ∙ none-wait n q in cc); passed = k.passed }

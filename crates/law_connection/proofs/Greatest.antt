@@ -10,8 +10,8 @@ use Rattle.enet_sender.specs.Sender.{Occasion, Sender, Next, next}
 use Rattle.law_connection.specs.Greatest.{greatest_after, greatest_over}
 use Rattle.law_connection.specs.FirstSends.{first_sends, first_sends_of, numbers_sent}
 use Rattle.law_connection.specs.Link.{PutOut}
-use Rattle.law_connection.specs.WireLink.{WireLink, with_reach, submits, sends, drops, marks, puts_out, arrives, logs_answer, answered, stops_sending, stops_receiving, drops_answers}
-use Rattle.law_connection.specs.LinkSteps.{Event, Submit, Send, Drop, Mark, PutsOut, Arrive, ArriveAnswered, PutsAnswer, Acknowledge, StopSending, StopReceiving, DropAnswers, Happens, Runs, fresh_link}
+use Rattle.law_connection.specs.WireLink.{WireLink, with_reach, submits, sends, drops, marks, puts_out, arrives, logs_answer, answered, gives_up, stops_sending, stops_receiving, drops_answers}
+use Rattle.law_connection.specs.LinkSteps.{Event, Submit, Send, Drop, Mark, PutsOut, Arrive, ArriveAnswered, PutsAnswer, Acknowledge, GivesUp, StopSending, StopReceiving, DropAnswers, Happens, Runs, fresh_link}
 use Rattle.law_connection.proofs.Counting.{counted}
 use Rattle.law_connection.proofs.QueueLemmas.{reliable_count}
 use Rattle.law_connection.proofs.Shown.{Sound}
@@ -75,6 +75,7 @@ grows-happens mtu (Arrive command most full) v w big s h = still v w (ap (λ (x 
 grows-happens mtu (ArriveAnswered command most full) v w big s h = still v w (ap (λ (x : WireLink). x.greatest) h.after)
 grows-happens mtu (PutsAnswer number rest) v w big s h = still v w (ap (λ (x : WireLink). x.greatest) h.after)
 grows-happens mtu (Acknowledge answer) v w big s h = still v w (ap (λ (x : WireLink). x.greatest) h.after)
+grows-happens mtu GivesUp v w big s h = still v w (ap (λ (x : WireLink). x.greatest) h)
 grows-happens mtu (StopSending left) v w big s h = still v w (ap (λ (x : WireLink). x.greatest) h.after)
 grows-happens mtu (StopReceiving left kept gone) v w big s h = still v w (ap (λ (x : WireLink). x.greatest) h.after)
 grows-happens mtu DropAnswers v w big s h = still v w (ap (λ (x : WireLink). x.greatest) h)
@@ -168,6 +169,7 @@ told-happens mtu (Arrive command most full) v w big s h t = subst Told (sym h.af
 told-happens mtu (ArriveAnswered command most full) v w big s h t = subst Told (sym h.after) (same-told v (arrives v most command.command full true) refl refl refl t)
 told-happens mtu (PutsAnswer number rest) v w big s h t = subst Told (sym h.after) (same-told v (logs_answer v number rest) refl refl refl t)
 told-happens mtu (Acknowledge answer) v w big s h t = subst Told (sym h.after) (same-told v (answered v answer) refl refl refl t)
+told-happens mtu GivesUp v w big s h t = subst Told (sym h) (same-told v (gives_up v) refl refl refl t)
 told-happens mtu (StopSending left) v w big s h t = subst Told (sym h.after) (same-told v (stops_sending v left) refl refl refl t)
 told-happens mtu (StopReceiving left kept gone) v w big s h t = subst Told (sym h.after) (same-told v (stops_receiving v left kept) refl refl refl t)
 told-happens mtu DropAnswers v w big s h t = subst Told (sym h) (same-told v (drops_answers v) refl refl refl t)

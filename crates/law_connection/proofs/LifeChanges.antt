@@ -24,7 +24,7 @@ use Rattle.enet_peer.specs.declared.parts.PeerState.{PeerState}
 use Rattle.enet_peer.specs.declared.parts.PeerState.TheVariants as state
 use Rattle.enet_peer.specs.Calls.{is_connected, next_event}
 use Rattle.enet_inbox.specs.DataEffect.{handed_over, unsequenced_taken}
-use Rattle.enet_inbox.specs.Inbox.{is_full_for}
+use Rattle.enet_inbox.specs.Inbox.{is_full_for, given_way}
 use Rattle.enet_receiver.specs.Foresight.{after_command}
 use Rattle.law_connection.specs.LinkSteps.{Has}
 use Rattle.law_connection.proofs.Lists.{Has-slice_get}
@@ -229,6 +229,7 @@ lives joined es = record {
   welcomes = λ p v terms e big word h. (let a : LivesIn state.Connecting joined es p = subst (λ (s : PeerState). LivesIn s joined es p) e h in let u = a.1 in inr (a.0, u.none, 0, refl));
   acknowledges = λ p j number in-time h. lives-outbox joined es p (outbox.after_acknowledgement p.outbox j number) (λ gone. absurd (let x : true ≡ false = sym gone ∙ in-time in cc)) h;
   marks = λ p now h. lives-outbox joined es p (outbox.marked p.outbox now) (λ gone still. still-marked p.outbox now still) h;
+  gives_way = λ p on h. lives-connected joined es p (record p { inbox = given_way p.inbox }) refl refl on h;
   takes = λ p j r c on there h. lives-connected joined es p (record p { inbox = handed_over p.inbox j (after_command r (Some c) (is_full_for p.inbox r c)) }) refl refl on h;
   takes_unsequenced = λ p j group payload on h. lives-connected joined es p (record p { inbox = unsequenced_taken p.inbox j group payload }) refl refl on h;
   puts_control = λ p now timeout n due h. lives-outbox joined es p (record p.outbox { control = n.commands }) (λ gone still. still-put p.outbox now timeout n due still) h;

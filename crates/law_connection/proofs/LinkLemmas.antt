@@ -4,15 +4,15 @@ use Rattle.std.proofs.lemmas.Bool.Decides.{nat_tests}
 use Rattle.std.specs.Prelude.{nat_lt}
 use Rattle.enet_seq.specs.Numbering.{unbounded}
 use Rattle.enet_fragment.specs.declared.data.DataCommand.{DataCommand}
-use Rattle.enet_receiver.specs.Receiver.{Receiver}
+use Rattle.enet_receiver.specs.Receiver.{Receiver, without_waiting}
 use Rattle.enet_receiver.specs.DataOutcome.{received, outcome, is_handled}
 use Rattle.enet_sender.specs.CommandChoice.{ChosenPacket}
 use Rattle.law_connection.specs.Link.{PutOut, Answer, is_late, number_below, wired}
-use Rattle.law_connection.specs.Private.Link.{Link, accept, send, put_out, takes_in, queue_answer, put_answer, after_acknowledgement, closed}
+use Rattle.law_connection.specs.Private.Link.{Link, accept, send, put_out, takes_in, queue_answer, put_answer, after_acknowledgement, gives_up, closed}
 use Rattle.law_connection.proofs.Lists.{Has, Has-push_cases, Has-push_left, Has-push, Has-filter, Has-from_filter}
 use Rattle.law_connection.proofs.ContentLemmas.{Ready}
 use Rattle.law_connection.proofs.PieceLemmas.{IsPieceOf}
-use Rattle.law_connection.proofs.ReceiverLemmas.{IsReceived, Within, Grows, Lacks}
+use Rattle.law_connection.proofs.ReceiverLemmas.{IsReceived, Within, Grows, Grows-same, Lacks}
 use Rattle.law_connection.proofs.ArrivalLemmas.{Arrived, Arrived-command}
 
 pub number_below_true : (number sent_then : ℕ) → number ≤ sent_then → sent_then < number + 65536 → number_below sent_then (number % 65536) ≡ number
@@ -362,6 +362,14 @@ Numbers-acknowledged l a g there late = record {
 
     known : IsKnown l a.number
     known = let k = g.acks a there in k.known
+
+-- the receiver gives up what waits, and nothing that was received
+pub Numbers-gives_up : (l : Link) → Numbers l → Numbers (gives_up l)
+Numbers-gives_up l g = Numbers-receiver l (without_waiting l.receiver) g (λ o. (
+  (let w = g.within o in record { front = w.front; held = w.held }),
+  (let same = Grows-same l.receiver in record { front = same.front; received = same.received }),
+  g.gap o,
+))
 
 -- the receiver stops dispatching
 pub Numbers-closed : (l : Link) → Numbers l → Numbers (closed l)

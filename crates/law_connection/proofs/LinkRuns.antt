@@ -1,30 +1,30 @@
 -- Every run of a link keeps what holds of it.
-use Rattle.std.proofs.Common.{◌≡◌, ℕ, ◌+◌, ◌%◌, ◌<◌, ◌≤◌, Bool, true, false, List, [], ◌∷◌, map, refl, sym, ap, subst, ◌∙◌, inl, inr, arith, Option, Some, None}
-use Rattle.std.specs.Prelude.{◌&&◌, unwrap_or}
+use Rattle.std.proofs.Common.{◌≡◌, ℕ, ◌+◌, ◌%◌, ◌<◌, ◌≤◌, Bool, true, false, List, [], ◌∷◌, map, refl, sym, ap, subst, ◌∙◌, inl, inr, arith, Some, None}
+use Rattle.std.specs.Prelude.{◌&&◌}
 use Rattle.std.specs.Ordering.{nat_cmp}
-use Rattle.std.specs.FinMap.{FinMap, empty, get, get-empty}
+use Rattle.std.specs.FinMap.{empty, get, get-empty}
 use Rattle.enet_seq.specs.Numbering.{wire, unbounded}
 use Rattle.enet_fragment.specs.declared.data.DataCommand.{DataCommand}
 use Rattle.enet_packets.specs.declared.incoming_packet.IncomingPacket.{IncomingPacket}
-use Rattle.enet_packets.specs.Packets.{line_at}
 use Rattle.enet_receiver.specs.Receiver.{nothing_received}
 use Rattle.enet_receiver.specs.DataOutcome.{outcome, is_handled, place_read, came_at, came_before}
 use Rattle.enet_sender.specs.CommandChoice.{ChosenPacket}
 use Rattle.enet_sender.specs.declared.sent.Sent.{Sent}
 use Rattle.law_connection.specs.Link.{PutOut, is_late, number_below}
 use Rattle.law_connection.specs.WireLink.{WireLink}
-use Rattle.law_connection.specs.LinkSteps.{Has, Event, Submit, Send, Drop, Mark, PutsOut, Arrive, ArriveAnswered, PutsAnswer, Acknowledge, StopSending, StopReceiving, DropAnswers, Happens, Runs, fresh_link, bodies_of}
+use Rattle.law_connection.specs.LinkSteps.{Has, Event, Submit, Send, Drop, Mark, PutsOut, Arrive, ArriveAnswered, PutsAnswer, Acknowledge, GivesUp, StopSending, StopReceiving, DropAnswers, Happens, Runs, fresh_link, bodies_of}
 use Rattle.law_connection.specs.Keeps.{Keeps}
 use Rattle.law_connection.specs.Meant.{OfReliable, OfUnreliable, place_meant, IsReadAsMeant, IsReadAsItself}
 use Rattle.law_connection.proofs.ArrivalLemmas.{place_as_meant}
 use Rattle.law_connection.proofs.Compared.{compared_as_meant}
+use Rattle.law_connection.proofs.ContentLemmas.{none-wait}
 use Rattle.law_connection.proofs.WireReceiver.{Shows-nothing}
 use Rattle.law_connection.proofs.LinkLemmas.{in_time, number_below_true, order}
 use Rattle.law_connection.proofs.Reading.{reads-piece}
 use Rattle.law_connection.proofs.Counting.{counted}
 use Rattle.law_connection.proofs.Shown.{Sound, Images, Sound-follows}
 use Rattle.law_connection.proofs.SoundSender.{Sound-submits, Sound-sends, Sound-drops, Sound-marks}
-use Rattle.law_connection.proofs.Sound.{Sound-puts_out, Sound-arrives, Sound-arrives_answered, Sound-logs_answer, Sound-answered, Sound-stops_sending, Sound-stops_receiving, Sound-drops_answers}
+use Rattle.law_connection.proofs.Sound.{Sound-puts_out, Sound-arrives, Sound-arrives_answered, Sound-logs_answer, Sound-answered, Sound-gives_up, Sound-stops_sending, Sound-stops_receiving, Sound-drops_answers}
 use Rattle.law_connection.specs.Follows.{Follows}
 
 nothing_at : (n : ℕ) → get (empty {X = IncomingPacket} {R = nat_cmp}) n ≡ None
@@ -47,8 +47,7 @@ Sound-fresh mtu = record {
   ready = record {
     cut = λ c h. absurd h;
     held = λ n e h. absurd (let f = nothing_at n in cc);
-    waiting = λ n k e h. absurd (let f : get (empty {X = FinMap nat_cmp IncomingPacket} {R = nat_cmp}) n ≡ None = get-empty nat_cmp n in
-        let g : get (line_at nothing_received.waiting n) k ≡ None = ap (λ (o : Option (FinMap nat_cmp IncomingPacket)). get (unwrap_or o empty) k) f ∙ nothing_at k in (let x : Some e ≡ None = sym h ∙ g in cc));
+    waiting = λ n k e h. absurd (let x : Some e ≡ None = sym h ∙ none-wait n k in cc);
     passed = record { passed = []; left = []; whole = refl; consumed = refl; count = refl; last = refl };
   };
   shows = record {
@@ -85,6 +84,7 @@ Sound-happens mtu (ArriveAnswered command most full) v w big s h =
     handled false b t = absurd (cc)
 Sound-happens mtu (PutsAnswer number rest) v w big s h = subst (λ x. Sound mtu x) (sym h.after) (Sound-logs_answer mtu v number rest s h.oldest)
 Sound-happens mtu (Acknowledge answer) v w big s h = subst (λ x. Sound mtu x) (sym h.after) (Sound-answered mtu v answer s h.between h.logged h.in_time)
+Sound-happens mtu GivesUp v w big s h = subst (λ x. Sound mtu x) (sym h) (Sound-gives_up mtu v s)
 Sound-happens mtu (StopSending left) v w big s h = subst (λ x. Sound mtu x) (sym h.after) (Sound-stops_sending mtu v left s h.between)
 Sound-happens mtu (StopReceiving left kept gone) v w big s h = subst (λ x. Sound mtu x) (sym h.after) (Sound-stops_receiving mtu v left kept gone s h.dispatched)
 Sound-happens mtu DropAnswers v w big s h = subst (λ x. Sound mtu x) (sym h) (Sound-drops_answers mtu v s)

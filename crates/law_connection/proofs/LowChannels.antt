@@ -8,7 +8,7 @@ use Rattle.enet_codec.specs.declared.packet.Packet.{Packet}
 use Rattle.enet_packets.specs.declared.incoming_packet.Dispatched.{Dispatched}
 use Rattle.enet_receiver.specs.Foresight.{ReceivingEnd, after_command}
 use Rattle.enet_receiver.specs.Foresight as receiving
-use Rattle.enet_inbox.specs.Inbox.{Inbox, cleared_receiver, is_full_for}
+use Rattle.enet_inbox.specs.Inbox.{Inbox, cleared_receiver, is_full_for, given_way_receiver}
 use Rattle.enet_inbox.specs.DataEffect.{packet_of, emptied}
 use Rattle.enet_peer.specs.Peering.{Peering}
 use Rattle.enet_peer.specs.Endings.{disconnecting, dropped, ended, freed, parting}
@@ -54,6 +54,7 @@ lows = record {
   welcomes = λ p v terms e big word h. record { channels = take-few terms.channels p.inbox.receivers h.channels; untaken = h.untaken };
   acknowledges = λ p j number here h. record { channels = h.channels; untaken = h.untaken };
   marks = λ p now h. record { channels = h.channels; untaken = h.untaken };
+  gives_way = λ p on h. record { channels = subst (λ n. n ≤ 255) (sym (length-map p.inbox.receivers given_way_receiver)) h.channels; untaken = h.untaken };
   takes = λ p j r c on there h. record {
     channels = subst (λ n. n ≤ 255) (sym (length-set p.inbox.receivers j (emptied (after_command r (Some c) (is_full_for p.inbox r c))))) h.channels;
     untaken = low-append p.inbox.untaken (map (packet_of j) (after_command r (Some c) (is_full_for p.inbox r c)).receiver.dispatched) h.untaken

@@ -16,12 +16,12 @@ use Rattle.law_connection.specs.Link.{PutOut, Answer, wired}
 use Rattle.law_connection.specs.Private.Link.{Link, put_out, takes_in, queue_answer, put_answer, closed}
 use Rattle.law_connection.specs.Link as link
 use Rattle.law_connection.specs.Private.Link as private_link
-use Rattle.law_connection.specs.WireLink.{WireLink, with_reach, puts_out, arrives, logs_answer, answered, stops_sending, stops_receiving, drops_answers}
+use Rattle.law_connection.specs.WireLink.{WireLink, with_reach, puts_out, arrives, logs_answer, answered, gives_up, stops_sending, stops_receiving, drops_answers}
 use Rattle.law_connection.proofs.Lists.{Has, Has-push_cases, Has-push_left, Has-push}
-use Rattle.law_connection.proofs.WireReceiver.{ShowsReceiver, Shows-received}
-use Rattle.law_connection.proofs.ContentLemmas.{Ready}
+use Rattle.law_connection.proofs.WireReceiver.{ShowsReceiver, Shows-received, Shows-given_up}
+use Rattle.law_connection.proofs.ContentLemmas.{Ready, Ready-given_up}
 use Rattle.law_connection.proofs.PieceLemmas.{IsPieceOf, says}
-use Rattle.law_connection.proofs.LinkLemmas.{either, Numbers-put_out, put_out-reliable, put_out-unreliable, Numbers-takes_in, known-takes_in, arrives as arrival, Numbers-queue_answer, Numbers-put_answer, Numbers-acknowledged, Numbers-closed}
+use Rattle.law_connection.proofs.LinkLemmas.{either, Numbers-put_out, put_out-reliable, put_out-unreliable, Numbers-takes_in, known-takes_in, arrives as arrival, Numbers-queue_answer, Numbers-put_answer, Numbers-acknowledged, Numbers-gives_up, Numbers-closed}
 use Rattle.law_connection.proofs.Rising.{IsRising-filter}
 use Rattle.law_connection.proofs.Shown.{Images, IsRising, Pending, Logged, Shows, Sound}
 use Rattle.law_connection.proofs.Firsts.{drop_first, without-first}
@@ -293,6 +293,33 @@ Sound-answered mtu v a s nothing there late =
         making = λ d x. absurd (subst (λ (y : List DataCommand). Has y d) nothing x);
         commands = λ x j. let y = h.commands x j in record { meant = y.meant; command = y.command; there = y.there };
         incoming = h.incoming;
+        dispatched = h.dispatched;
+        answers = h.answers;
+        acks = h.acks;
+      };
+    }
+
+-- what waits is given up
+pub Sound-gives_up : (mtu : ℕ) (v : WireLink) → Sound mtu v → Sound mtu (gives_up v)
+Sound-gives_up mtu v s =
+    let l = s.link in
+    let h = s.shows in
+    record {
+      link = private_link.gives_up l;
+      numbers = Numbers-gives_up l s.numbers;
+      ready = Ready-given_up mtu l.carried l.receiver s.ready;
+      shows = record {
+        carried = h.carried;
+        plain = h.plain;
+        greatest = h.greatest;
+        is_open = h.is_open;
+        queues = h.queues;
+        images = h.images;
+        rising = h.rising;
+        pieces = h.pieces;
+        making = λ x j. let y = h.making x j in record { meant = y.meant; piece = y.piece; command = y.command; reliable = y.reliable; unreliable = y.unreliable };
+        commands = λ x j. let y = h.commands x j in record { meant = y.meant; command = y.command; there = y.there };
+        incoming = λ o. Shows-given_up v.incoming l.receiver (h.incoming o);
         dispatched = h.dispatched;
         answers = h.answers;
         acks = h.acks;

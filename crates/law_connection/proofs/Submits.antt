@@ -14,7 +14,7 @@ use Rattle.enet_sender.specs.Due.{SendingEnd}
 use Rattle.enet_outbox.specs.Outbox.{Outbox, is_unsequenced, with_unsequenced, with_sequenced}
 use Rattle.enet_peer.specs.Peering.{Peering}
 use Rattle.law_connection.specs.WireLink.{WireLink, submits}
-use Rattle.law_connection.specs.LinkSteps.{Event, Submit, Send, Drop, Mark, PutsOut, Arrive, ArriveAnswered, PutsAnswer, Acknowledge, StopSending, StopReceiving, DropAnswers, Happens, Runs, fresh_link}
+use Rattle.law_connection.specs.LinkSteps.{Event, Submit, Send, Drop, Mark, PutsOut, Arrive, ArriveAnswered, PutsAnswer, Acknowledge, GivesUp, StopSending, StopReceiving, DropAnswers, Happens, Runs, fresh_link}
 use Rattle.law_connection.specs.Connection.{End, of_channel}
 use Rattle.law_connection.specs.Steps.{with_submission}
 use Rattle.law_connection.specs.Law.{mtu_of}
@@ -39,6 +39,7 @@ happens-any a b (Arrive c most full) v w h none = (h, ap (λ (x : WireLink). x.s
 happens-any a b (ArriveAnswered c most full) v w h none = (h, ap (λ (x : WireLink). x.submitted) (sym h.after) ∙ none)
 happens-any a b (PutsAnswer number rest) v w h none = (h, ap (λ (x : WireLink). x.submitted) (sym h.after) ∙ none)
 happens-any a b (Acknowledge answer) v w h none = (h, ap (λ (x : WireLink). x.submitted) (sym h.after) ∙ none)
+happens-any a b GivesUp v w h none = (h, ap (λ (x : WireLink). x.submitted) (sym h) ∙ none)
 happens-any a b (StopSending l) v w h none = (h, ap (λ (x : WireLink). x.submitted) (sym h.after) ∙ none)
 happens-any a b (StopReceiving l kept gone) v w h none = (h, ap (λ (x : WireLink). x.submitted) (sym h.after) ∙ none)
 happens-any a b DropAnswers v w h none = (h, ap (λ (x : WireLink). x.submitted) (sym h) ∙ none)

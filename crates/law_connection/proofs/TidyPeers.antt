@@ -27,12 +27,9 @@ use Rattle.enet_senders.specs.Controlling.{after_acknowledgement}
 use Rattle.law_connection.proofs.Packing.{idle-next, places-set}
 use Rattle.law_connection.proofs.Moves.{senders-after, after-places, marked-at, marked-places}
 use Rattle.law_connection.proofs.Arrivals.{get-take, narrowed-places}
+use Rattle.law_connection.proofs.GivingWay.{AreFlat, given_way-flat}
 use Rattle.law_connection.proofs.PeerChanges.{Core, core, Changes}
 use Rattle.law_connection.proofs.Runs.{few-set, get-map, take-few}
-
--- the receivers of a peer between two commands
-abbrev pub AreFlat : List ReceivingEnd → Type 0
-AreFlat rs = (i : ℕ) (r : ReceivingEnd) → slice_get rs i ≡ Some r → (r.receiver.dispatched ≡ []) × HasSequenced r.receiver
 
 abbrev AreIdle : List SendingEnd → Type 0
 AreIdle ss = (i : ℕ) → sender_in (slice_get ss i) ≡ nothing_sent
@@ -186,6 +183,13 @@ tidies qs = record {
     few = subst (λ n. n ≤ 255) (sym (length-map p.outbox.senders (marked_sender now))) h.few;
     receivers = h.receivers;
     young = λ t. (let y = h.young t in (y.0, (λ i. marked-at now p.outbox.senders i ∙ ap (with_marked now) (y.1 i)), y.2));
+    big = h.big;
+  };
+  gives_way = λ p on h. record {
+    places = h.places;
+    few = h.few;
+    receivers = given_way-flat p.inbox.receivers h.receivers;
+    young = λ t. absurd (let x : true ≡ false = sym t ∙ connected-old p.state on in cc);
     big = h.big;
   };
   takes = λ p j r c on there h. record {

@@ -18,7 +18,7 @@ use Rattle.enet_packets.specs.declared.incoming_packet.IncomingPacket.{IncomingP
 use Rattle.enet_packets.specs.Packets.{line_at, with_line, fresh, last_fresh, handed_out}
 use Rattle.enet_receiver.specs.DataOutcome.{is_piece, is_piece_of_its_packet, own_place, place_read, came_at, came_if, came_before, agrees_with, came, is_behind, outcome_of, outcome_at, outcome, earlier_or_new, with_more, with_added, added_at, received_with, received, is_handled, acknowledged, dispatch_count}
 use Rattle.enet_receiver.specs.declared.took.Took.TheVariants.{Memory, Bad, Outside, Again, Waiting, Held}
-use Rattle.enet_receiver.specs.Receiver.{Receiver, nothing_received, cleared, flushed_from, flushed, without, with_passed, with_dispatched, next_whole, released_with, released, all_released}
+use Rattle.enet_receiver.specs.Receiver.{Receiver, nothing_received, cleared, without_waiting, flushed_from, flushed, without, with_passed, with_dispatched, next_whole, released_with, released, all_released}
 pub use Rattle.law_connection.specs.Image.{IsSized, AllSized, ShowsReceiver}
 use Rattle.law_connection.proofs.Makings.{count_of-nothing, count_of-with}
 use Rattle.enet_receiver.proofs.Maps.{get-remove_other, get-remove_same, get-insert_other, get-insert_same, get_inserted, two_numbers}
@@ -467,6 +467,20 @@ Shows-cleared v r s = record {
   near = λ d far. nothing_at (r.front + d);
   sized = λ n c h. absurd (let f = nothing_at n in cc);
   sized_true = λ n c h. absurd (let f = nothing_at n in cc);
+  waiting = λ d low. no_line_at ((r.front + d) % 65536) ∙ sym (no_line_at (r.front + d));
+  near_waiting = λ d far. no_line_at (r.front + d);
+}
+
+pub Shows-given_up : (v r : Receiver) → ShowsReceiver v r → ShowsReceiver (without_waiting v) (without_waiting r)
+Shows-given_up v r s = record {
+  front = s.front;
+  unreliable = s.unreliable;
+  dispatched = s.dispatched;
+  held = s.held;
+  low = s.low;
+  near = s.near;
+  sized = s.sized;
+  sized_true = s.sized_true;
   waiting = λ d low. no_line_at ((r.front + d) % 65536) ∙ sym (no_line_at (r.front + d));
   near_waiting = λ d far. no_line_at (r.front + d);
 }

@@ -188,6 +188,7 @@ words w = record {
   welcomes = λ p v terms e big word h. record { terms = word ∙ h.offer e; offer = λ t. absurd (let y : state.Connected ≡ state.Connecting = t in cc); says = none-say w p.outbox.control.number };
   acknowledges = λ p j number here h. stays-of w p (record p { outbox = outbox.after_acknowledgement p.outbox j number }) refl refl refl (acknowledged-says w p.outbox j number h.says) h;
   marks = λ p now h. stays-of w p (record p { outbox = outbox.marked p.outbox now }) refl refl refl (marked-all w now p.outbox.control h.says) h;
+  gives_way = λ p on h. record { terms = h.terms; offer = h.offer; says = h.says };
   takes = λ p j r c on there h. record { terms = h.terms; offer = h.offer; says = h.says };
   takes_unsequenced = λ p j group payload on h. record { terms = h.terms; offer = h.offer; says = h.says };
   puts_control = λ p now timeout n due h. stays-of w p (record p { outbox = record p.outbox { control = n.commands } }) refl refl refl (next-says w now timeout p.outbox.control n due h.says).0 h;

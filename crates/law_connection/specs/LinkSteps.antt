@@ -8,7 +8,7 @@ use Rattle.enet_receiver.specs.Receiver.{Receiver, nothing_received}
 use Rattle.enet_receiver.specs.DataOutcome.{acknowledged}
 pub use Rattle.enet_receiver.specs.Members.{Has}
 use Rattle.law_connection.specs.Link.{PutOut, Answer, is_late}
-use Rattle.law_connection.specs.WireLink.{WireLink, submits, sends, drops, marks, puts_out, arrives, logs_answer, answered, stops_sending, stops_receiving, drops_answers}
+use Rattle.law_connection.specs.WireLink.{WireLink, submits, sends, drops, marks, puts_out, arrives, logs_answer, answered, gives_up, stops_sending, stops_receiving, drops_answers}
 
 -- `now` is a moment, in milliseconds. Of what comes, `max_packet` is the greatest packet that is taken in, in bytes, and `full`
 -- says that too many wait
@@ -22,6 +22,7 @@ pub data Event : Type 0 where
   ArriveAnswered : (command : PutOut) (max_packet : ℕ) (full : Bool) → Event  -- and is acknowledged
   PutsAnswer : (number : ℕ) (rest : List ℕ) → Event  -- the oldest waiting acknowledgement is put out
   Acknowledge : (answer : Answer) → Event  -- an acknowledgement of the log comes
+  GivesUp : Event  -- the receiving end gives up the unreliable packets that wait or are in the making
   StopSending : (left : Sender) → Event  -- the sending end stops, whatever it keeps
   StopReceiving : (left : Receiver) (kept gone : List Dispatched) → Event  -- the receiving end stops, and may drop what wasn't taken
   DropAnswers : Event  -- its waiting acknowledgements are dropped
@@ -97,6 +98,7 @@ Happens mtu (Arrive command max_packet full) v w = ArrivesUnanswered command max
 Happens mtu (ArriveAnswered command max_packet full) v w = ArrivesAnswered command max_packet full v w
 Happens mtu (PutsAnswer number rest) v w = PutsAnswers number rest v w
 Happens mtu (Acknowledge answer) v w = Acknowledges answer v w
+Happens mtu GivesUp v w = w ≡ gives_up v
 Happens mtu (StopSending left) v w = StopsSending left v w
 Happens mtu (StopReceiving left kept gone) v w = StopsReceiving left kept gone v w
 Happens mtu DropAnswers v w = w ≡ drops_answers v

@@ -5,7 +5,7 @@ use Rattle.enet_sender.specs.CommandChoice.{Packet}
 use Rattle.enet_fragment.specs.declared.data.DataCommand.{DataCommand}
 use Rattle.enet_sender.specs.Sender.{Sender, Next, submitted, with_skipped, with_marked, after_acknowledgement}
 use Rattle.enet_packets.specs.declared.incoming_packet.Dispatched.{Dispatched}
-use Rattle.enet_receiver.specs.Receiver.{Receiver}
+use Rattle.enet_receiver.specs.Receiver.{Receiver, without_waiting}
 use Rattle.enet_receiver.specs.DataOutcome.{received}
 use Rattle.law_connection.specs.Link.{PutOut, Answer}
 use Rattle.law_connection.specs.Greatest.{greatest_after}
@@ -64,6 +64,10 @@ answered v a = record v { outgoing = after_acknowledgement v.outgoing a.number }
 -- the sending end stops, whatever it then keeps
 abbrev pub stops_sending : WireLink → Sender → WireLink
 stops_sending v o = record v { is_sending = false; outgoing = o }
+
+-- the receiving end gives up the unreliable packets that wait or are in the making
+abbrev pub gives_up : WireLink → WireLink
+gives_up v = record v { incoming = without_waiting v.incoming }
 
 -- the receiving end no longer dispatches, and may forget what it holds and what wasn't taken
 abbrev pub stops_receiving : WireLink → Receiver → List Dispatched → WireLink

@@ -4,8 +4,8 @@
 //! sender, receiver and everything that was ever put out both ways.
 //!
 //! Proved over every list of events from the empty link (submissions, first sends, resends, drops by the throttle, datagrams
-//! put out, arrivals at any later time and any number of times, acknowledgements, ends that stop) in which no command and no
-//! acknowledgement comes more than 32,768 late, for an mtu above 28 and packets of at most 16,384 pieces, with no invariant
+//! put out, arrivals at any later time and any number of times, acknowledgements, a receiving end that gives up the unreliable
+//! packets that wait or are in the making, ends that stop) in which no command and no acknowledgement comes more than 32,768 late, for an mtu above 28 and packets of at most 16,384 pieces, with no invariant
 //! as a premise: what was dispatched is a subsequence of what was submitted, each packet whole and once, leaving out no
 //! reliable packet before its last (`one_link`, clause `follows`); an acknowledgement removes only what was dispatched or is
 //! held, unless the receiver no longer dispatches, the receiver's front stays within 24,575 numbers of the greatest number
@@ -22,7 +22,7 @@ ghost use Rattle.enet_rtt.specs.declared.expiry.Patience.{Patience};
 ghost use Rattle.enet_rtt.specs.declared.expiry.Expiry.{Expiry};
 ghost use Rattle.enet_fragment.specs.declared.data.DataCommand.{DataCommand};
 ghost use Rattle.enet_fragment.specs.DataCommand.{piece_of};
-ghost use Rattle.enet_receiver.specs.Receiver.{Receiver, nothing_received};
+ghost use Rattle.enet_receiver.specs.Receiver.{Receiver, nothing_received, without_waiting};
 ghost use Rattle.enet_receiver.specs.Receiver as receiver;
 ghost use Rattle.enet_receiver.specs.DataOutcome.{outcome, received, dispatch_count};
 ghost use Rattle.enet_receiver.specs.DataOutcome as reception;
@@ -40,7 +40,8 @@ ghost use Rattle.law_connection.specs.Keeps.{Keeps};
 
 /// One channel of one connection, over every list of events: submissions, first sends, resends, datagrams put out, commands
 /// and acknowledgements that come at any later time, any number of times and in any order, or never, packets that the
-/// throttle drops, an end that stops sending or receiving. No command and no acknowledgement comes more than 32,768 late.
+/// throttle drops, a receiving end that gives up the unreliable packets that wait or are in the making, an end that stops
+/// sending or receiving. No command and no acknowledgement comes more than 32,768 late.
 ///
 /// `follows`: what was dispatched is a subsequence of what was submitted, each packet whole, that leaves out no reliable
 /// packet before its last. `keeps`: an acknowledgement removes only what was dispatched or is held, unless the receiver no
@@ -75,7 +76,7 @@ pub fn greatest_sent()
 
 /// A receiver that keeps wire numbers does with every command what one with unbounded numbers does: it begins as the other's
 /// image (`nothing`), and a command has the same outcome, is acknowledged where it is at the other, dispatches as many
-/// packets, and leaves it the other's image (`receiver`), as a clearing does. The command's number, and the start of a
+/// packets, and leaves it the other's image (`receiver`), as giving up what waits (`given_up`) and a clearing do. The command's number, and the start of a
 /// reliable one's packet, are numbers of 16 bits. `max_packet` is the greatest packet that is taken in, in bytes, and `full`
 /// says that too many bytes wait.
 pub fn wire_receiver()
@@ -88,6 +89,7 @@ pub fn wire_receiver()
         → reception.acknowledged wire max_packet v c full ≡ reception.acknowledged unbounded max_packet r c full }
     ensures dispatches { (max_packet : ℕ) (v r : Receiver) (c : DataCommand) (full : Bool) → c.number < 65536 → (c.reliable ≡ true → (piece_of c).start < 65536) → ShowsReceiver v r
         → dispatch_count wire max_packet v c full ≡ dispatch_count unbounded max_packet r c full }
+    ensures given_up { (v r : Receiver) → ShowsReceiver v r → ShowsReceiver (without_waiting v) (without_waiting r) }
     ensures cleared { (v r : Receiver) → ShowsReceiver v r → ShowsReceiver (receiver.cleared v) (receiver.cleared r) }
 {}
 

@@ -1,18 +1,11 @@
 -- A command that stops its datagram leaves its peer as it was, save for want of a sent time.
-use Rattle.std.proofs.Common.{◌≡◌, ℕ, ◌⊎◌, inl, inr, Bool, true, false, cond, ◌&&◌, not, nat_le, nat_lt, List, length, refl, ap, Option, Some, None, Result, Ok, Err}
-use Rattle.std.specs.List.{slice_get}
+use Rattle.std.proofs.Common.{◌≡◌, ℕ, ◌⊎◌, inl, inr, Bool, true, false, cond, ◌&&◌, refl, ap, Option, Some, None, Result, Ok, Err}
 use Rattle.enet_codec.specs.declared.stop.Stop.{Stop}
 use Rattle.enet_codec.specs.declared.stop.Stop.TheVariants as stop
-use Rattle.enet_codec.specs.Message.{Message, Body, acknowledge, connect, verify_connect, disconnect, ping, bandwidth_limit, throttle_configure, send_unsequenced}
-use Rattle.enet_fragment.specs.declared.data.DataCommand.{DataCommand}
-use Rattle.enet_fragment.specs.DataCommand.{data_of}
-use Rattle.enet_receiver.specs.declared.took.Took.{Took}
-use Rattle.enet_receiver.specs.declared.took.Took.TheVariants as took
-use Rattle.enet_receiver.specs.Foresight.{ReceivingEnd, outcome_for}
-use Rattle.enet_unsequenced.specs.Groups.{dispatches}
-use Rattle.enet_inbox.specs.Inbox.{Inbox, is_full, is_full_for}
-use Rattle.enet_inbox.specs.DataEffect.{DataEffect, by_took, sequenced_on, sequenced, unsequenced, unsequenced_taken, handled, arrival_of, arrival, passed_over}
-use Rattle.enet_inbox.specs.DataEffect as inbox
+use Rattle.enet_codec.specs.Message.{Message, Body, acknowledge, connect, verify_connect, disconnect, ping, bandwidth_limit, throttle_configure}
+use Rattle.enet_inbox.specs.Inbox.{Inbox}
+use Rattle.enet_inbox.specs.DataEffect.{DataEffect, arrival, passed_over}
+use Rattle.enet_inbox.proofs.Stops.{arrival_stays}
 use Rattle.enet_peer.specs.Peering.{Peering}
 use Rattle.enet_peer.specs.Endings.{is_later}
 use Rattle.enet_peer.specs.CommandEffect.{Outcome, stopped, answered, answered_at, is_answered_in, by_answer, by_arrival, on_data, by_body, obeyed, is_connect, is_allowed, on_acknowledge, on_verify_in, on_disconnect_in, on_bandwidth, on_throttle}
@@ -21,43 +14,6 @@ use Rattle.std.specs.Prelude.{is_some}
 -- a stop leaves the inbox as it was
 abbrev pub Stays : Inbox → DataEffect → Type 0
 Stays b a = (why : Stop) → a.answer ≡ Err why → a.after ≡ b
-
-stays-if : (b : Inbox) (t : Bool) (x y : DataEffect) → Stays b x → Stays b y → Stays b (cond t x y)
-stays-if b true x y f g = f
-stays-if b false x y f g = g
-
-stays-stopped : (b : Inbox) (why : Stop) → Stays b (inbox.stopped b why)
-stays-stopped b why w e = refl
-
-stays-handled : (b c : Inbox) (may : Bool) → Stays b (handled c may)
-stays-handled b c may w e = absurd (cc)
-
-stays-took : (t : Took) (b : Inbox) (channel : ℕ) (r : ReceivingEnd) (c : DataCommand) → Stays b (by_took t b channel r c)
-stays-took took.Bad b channel r c = stays-stopped b stop.BadFragment
-stays-took took.Waiting b channel r c = stays-stopped b stop.Waiting
-stays-took took.Memory b channel r c = stays-stopped b stop.Memory
-stays-took took.Outside b channel r c = λ w e. refl
-stays-took took.Again b channel r c = λ w e. refl
-stays-took took.Held b channel r c = λ w e. absurd (cc)
-
-stays-on : (b : Inbox) (channel : ℕ) (c : DataCommand) (o : Option ReceivingEnd) → Stays b (sequenced_on b channel c o)
-stays-on b channel c None = stays-stopped b stop.BadChannel
-stays-on b channel c (Some r) = stays-took (outcome_for r (Some c) (is_full_for b r c)) b channel r c
-
-stays-sequenced : (b : Inbox) (channel : ℕ) (o : Option DataCommand) → Stays b (sequenced b channel o)
-stays-sequenced b channel None = stays-stopped b stop.BadCommand
-stays-sequenced b channel (Some c) = stays-on b channel c (slice_get b.receivers channel)
-
-stays-unsequenced : (b : Inbox) (channel group : ℕ) (payload : List ℕ) → Stays b (unsequenced b channel group payload)
-stays-unsequenced b channel group payload =
-    stays-if b (nat_le (length b.receivers) channel) (inbox.stopped b stop.BadChannel) _ (stays-stopped b stop.BadChannel)
-    (stays-if b (nat_lt b.max_packet (length payload)) (inbox.stopped b stop.BadFragment) _ (stays-stopped b stop.BadFragment)
-    (stays-if b (not (dispatches b.seen group)) (handled b true) _ (stays-handled b b true)
-    (stays-if b (is_full b) (inbox.stopped b stop.Waiting) _ (stays-stopped b stop.Waiting) (stays-handled b (unsequenced_taken b channel group payload) true))))
-
-stays-arrival : (b : Inbox) (m : Message) (body : Body) → Stays b (arrival_of b m body)
-stays-arrival b m (send_unsequenced group payload) = stays-unsequenced b m.head.channel group payload
-stays-arrival b m body = stays-sequenced b m.head.channel (data_of m)
 
 -- a stop leaves the peer as it was, save that of a missing sent time
 abbrev pub Keeps : Peering → Outcome → Type 0
@@ -88,7 +44,7 @@ keeps-arrived p m sent a stays (Ok may) e = keeps-answered p (record p { inbox =
 keeps-data : (p : Peering) (m : Message) (sent : Option ℕ) → Keeps p (on_data p m sent)
 keeps-data p m sent =
     keeps-if p (is_later p.state) (by_answer p m sent (passed_over p.inbox m)) (by_arrival p m sent (arrival p.inbox m)) (keeps-passed p m sent (passed_over p.inbox m))
-    (keeps-arrived p m sent (arrival p.inbox m) (stays-arrival p.inbox m m.body) (arrival p.inbox m).answer refl)
+    (keeps-arrived p m sent (arrival p.inbox m) (arrival_stays p.inbox m) (arrival p.inbox m).answer refl)
 
 keeps-body : (p : Peering) (now : ℕ) (sent : Option ℕ) (m : Message) (body : Body) → Keeps p (by_body p now sent m body)
 keeps-body p now sent m (acknowledge number time) = keeps-answered p (on_acknowledge p now m.head.channel number time) m sent true

@@ -124,7 +124,7 @@ fn settled_at_once(alloc: Global) -> Result<bool, Refusal> {
     Ok(queue.settle(poster, takers).is_ok())
 }
 
-// `rt try --test --fail-alloc N` with N from 1 to 5 refuses each growth of `open` in turn.
+// `scripts/check-memory.sh` refuses each growth of `open` in turn, in a program.
 #[test]
 fn opens_or_lacks_memory(rt: HostRuntime) {
     let settled = settled_at_once(rt.alloc());

@@ -6,7 +6,7 @@ use Rattle.enet_submit.specs.declared.order.Order.{Order}
 use Rattle.enet_bridge.specs.Ends.{orders}
 use Rattle.enet_host.specs.Host.{Host}
 use Rattle.enet_chat.specs.declared.lone.LoneRelay.{LoneRelay}
-use Rattle.enet_chat.specs.Relaying.{noted_all, relayed_all, SameForEach, AreBehind}
+use Rattle.enet_chat.specs.Relaying.{noted_all, relayed_all, SameForEach, AreBehind, AreFarBehind}
 use Rattle.enet_service.specs.declared.service.Service.{Service}
 use Rattle.enet_service.specs.Queues.{given, accepted}
 use Rattle.enet_service.specs.Turn.{Round}
@@ -36,6 +36,7 @@ pub record Goes (old : Pair) (rounds : List Round) (new : Pair) : Type 0 where
   pub sound : All IsSound rounds
   pub events : old.relay.events ++ accepted (all_puts rounds) ≡ expanded ++ new.relay.events
   pub behind : AreBehind new.relay.events new.relay.orders
+  pub far_behind : AreFarBehind 256 new.relay.events new.relay.orders
   pub peers : new.relay.table ≡ noted_all old.relay.table expanded
   pub for_each : SameForEach asked_for (relayed_all old.relay.table expanded)
   pub orders_done : old.relay.orders ++ asked_for ≡ orders (given (all_gave rounds)) ++ new.relay.orders

@@ -3,7 +3,7 @@ use Rattle.std.specs.Prelude.{ℕ, Bool, false, ◌+◌, ◌%◌, not, ◌==◌,
 use Rattle.enet_seq.specs.Numbering.{unbounded}
 use Rattle.enet_sender.specs.CommandChoice.{ChosenPacket}
 use Rattle.enet_fragment.specs.declared.data.DataCommand.{DataCommand}
-use Rattle.enet_receiver.specs.Receiver.{Receiver}
+use Rattle.enet_receiver.specs.Receiver.{Receiver, without_waiting}
 use Rattle.enet_receiver.specs.DataOutcome.{received}
 use Rattle.law_connection.specs.Link.{PutOut, Answer, wired}
 
@@ -44,6 +44,10 @@ put_answer l a rest = record l { answers = rest; acks = l.acks ++ (record { numb
 -- an acknowledgement of the log comes: the sent command with its wire number is removed
 abbrev pub after_acknowledgement : Link → Answer → Link
 after_acknowledgement l a = record l { unacked = filter (λ m. not (m % 65536 == a.number % 65536)) l.unacked }
+
+-- the receiver gives up the unreliable packets that wait or are in the making
+abbrev pub gives_up : Link → Link
+gives_up l = record l { receiver = without_waiting l.receiver }
 
 -- the receiver no longer dispatches
 abbrev pub closed : Link → Link

@@ -1,4 +1,4 @@
-use Rattle.law_connection.proofs.WireReceiver.{Shows-nothing, Shows-received, Shows-acknowledged, Shows-dispatches, Shows-cleared}
+use Rattle.law_connection.proofs.WireReceiver.{Shows-nothing, Shows-received, Shows-acknowledged, Shows-dispatches, Shows-given_up, Shows-cleared}
 use Rattle.law_connection.proofs.link.wire_receiver.Goals as goal
 
 pub returns-clause-nothing : goal.returns-clause-nothing
@@ -15,6 +15,9 @@ returns-clause-acknowledged k = Shows-acknowledged
 
 pub returns-clause-dispatches : goal.returns-clause-dispatches
 returns-clause-dispatches k = Shows-dispatches
+
+pub returns-clause-given_up : goal.returns-clause-given_up
+returns-clause-given_up k = Shows-given_up
 
 pub returns-clause-cleared : goal.returns-clause-cleared
 returns-clause-cleared k = Shows-cleared

@@ -15,7 +15,7 @@ loop-init g c = (
   [],
   0,
   refl,
-  goes_nowhere _ _ refl (expands_none _ _ refl refl refl refl refl) c.requires,
+  goes_nowhere _ _ refl (expands_none _ _ refl refl refl refl refl) c.requires.behind c.requires.far_behind,
   c.nothing-total.ensures,
 )
 

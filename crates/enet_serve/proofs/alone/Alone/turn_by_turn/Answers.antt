@@ -8,7 +8,7 @@ use Rattle.enet_serve.proofs.TurnByTurn.{goes_nowhere, goes_on}
 use Rattle.enet_serve.proofs.alone.Alone.turn_by_turn.Goals as goal
 
 pub loop-turn-init : goal.loop-turn-init
-loop-turn-init g c = (refl, [], goes_nowhere _ _ refl (expands_none _ _ refl refl refl refl refl) c.requires, refl, c.nothing-total.ensures)
+loop-turn-init g c = (refl, [], goes_nowhere _ _ refl (expands_none _ _ refl refl refl refl refl) c.requires.behind c.requires.far_behind, refl, c.nothing-total.ensures)
 
 pub loop-turn-preserved : goal.loop-turn-preserved
 loop-turn-preserved g c =

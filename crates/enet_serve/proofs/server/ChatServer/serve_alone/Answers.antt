@@ -13,4 +13,4 @@ returns-clause-serves g c =
     let kept : IsOf old.kept began = subst (λ (kept : Carryover). IsOf kept began) c.replace-kept.ensures.value c.begin_alone.ensures in
     serves old _ began ended c.args.run_length ran.0 c.in_ok-report.report kept c.end_alone.ensures refl ran.1 ran.2
     (goes_on (pair old.bound.service began) (pair old.bound.service c.expand.new.self) (pair c.run.new.bound.service ended) [] ran.0
-    (goes_nowhere (pair old.bound.service began) (pair old.bound.service c.expand.new.self) refl c.expand.ensures.expands c.in_ok-expand.ensures.behind) ran.3)
+    (goes_nowhere (pair old.bound.service began) (pair old.bound.service c.expand.new.self) refl c.expand.ensures.expands c.in_ok-expand.ensures.behind c.in_ok-expand.ensures.far_behind) ran.3)

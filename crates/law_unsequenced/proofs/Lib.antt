@@ -1,0 +1,5 @@
+pub mod Parts
+pub mod Staying
+pub mod Sending
+pub mod Taking
+pub mod Laws

@@ -1,0 +1,2 @@
+pub mod Unsequenced
+pub mod Law
