@@ -19,7 +19,7 @@ use Rattle.law_network.proofs.Addresses.{equal-address}
 use Rattle.law_network.proofs.Submitting.{same-some}
 use Rattle.law_network.proofs.Owned.{none-held}
 use Rattle.law_network.proofs.Running.{runs-keep}
-use Rattle.law_network.proofs.Runs.{few-of, both, none-at, lawful-either}
+use Rattle.law_network.proofs.Runs.{few-of, both, none-at, lawful-either, submitted-either}
 use Rattle.enet_site.specs.declared.put_out.Sent.{Sent}
 use Rattle.enet_site.specs.declared.put_out.Sent.TheVariants.{Of, Away}
 use Rattle.enet_site.specs.Places.{Place, opened_at, all_opened}
@@ -153,7 +153,7 @@ sound-run server clients one all events answers f r = sound-runs events answers 
 pub are-lawful : (f : Fleet) → Sound f → AreLawful f
 are-lawful f s x i asked =
     let r = s.pairs x i asked in
-    (r.0, r.1, record { one = r.2.one; two = r.2.two; here = r.2.here; there = r.2.there; lawful = lawful-either false r.2.one r.2.two r.2.kept })
+    (r.0, r.1, record { one = r.2.one; two = r.2.two; here = r.2.here; there = r.2.there; lawful = lawful-either false r.2.one r.2.two r.2.kept; unsequenced = submitted-either false r.2.one r.2.two r.2.kept })
 
 pub each-run : OfEachRun AreLawful
 each-run server clients one all events answers f r = are-lawful f (sound-run server clients one all events answers f r)
