@@ -353,7 +353,7 @@ on-transcript w hs sound k told = record { here = here; each = each; apart = apa
     here-is x a is = ap (here-by x) is
 
     flipped : (one two : Option HostEnd) → HasHeadlineBetween one two → HasHeadlineBetween two one
-    flipped one two h = record { forth = h.back; back = h.forth }
+    flipped one two h = record { forth = h.back; back = h.forth; unsequenced_forth = h.unsequenced_back; unsequenced_back = h.unsequenced_forth }
 
     between : (x : ℕ) (s : Side) → HasHeadlineBetween (end_of x (site_of w s).ends) (end_of x (site_of w (other s)).ends)
     between x A = k.ends x

@@ -21,7 +21,7 @@ use Rattle.law_network.proofs.Lists.{get-within, same-or, get-set, get-set_other
 use Rattle.law_network.proofs.Names.{IsThere, named-there, there-slot}
 use Rattle.law_network.proofs.Once.{AreAt, IsOfSender, at-goes, begins-once}
 use Rattle.law_network.proofs.Owned.{AreOwned, owned-goes, none-held}
-use Rattle.law_network.proofs.Runs.{wider, stays-put, new-pair, few-of, both, none-at, lawful-either}
+use Rattle.law_network.proofs.Runs.{wider, stays-put, new-pair, few-of, both, none-at, lawful-either, submitted-either}
 use Rattle.law_network.proofs.Sent.{AreSent, sent-goes, more-brought}
 use Rattle.law_network.proofs.Submitting.{same-some}
 use Rattle.law_network.proofs.Worlds.{IsHost, Pair, AreAllOf, BeginsOnce, AreShown, ComesOf, IsJoined, swapped, pair-goes, host-goes, shown-end, count-grows, end-none}
@@ -592,7 +592,7 @@ module _ (home : Node → Addr) (apart : AreApart home) where
   pub are-lawful : (f : Net) → Sound f → (x i : ℕ) → slice_get f.asked x ≡ Some i → (p : Place) × (slice_get f.clients i ≡ Some p) × IsPaired false p.site f.server.site x
   are-lawful f s x i asked =
       let r = s.pairs x i asked in
-      (r.0, r.1, record { one = r.2.one; two = r.2.two; here = r.2.here; there = r.2.there; lawful = lawful-either false r.2.one r.2.two r.2.kept })
+      (r.0, r.1, record { one = r.2.one; two = r.2.two; here = r.2.here; there = r.2.there; lawful = lawful-either false r.2.one r.2.two r.2.kept; unsequenced = submitted-either false r.2.one r.2.two r.2.kept })
 
   -- a connection that hasn't begun has no end
   none-asked : (f : Net) → Sound f → (x : ℕ) → slice_get f.asked x ≡ None → end_of x f.server.site.ends ≡ None

@@ -15,7 +15,7 @@ use Rattle.law_connection.specs.Law.{mtu_in, mtu_of}
 use Rattle.law_connection.specs.Linked.{receiver_in}
 use Rattle.law_connection.specs.Numbers.{is_sending, is_dispatching, sender_on, receiver_on, Sending, Receiving, AreAgreed, sending_on, receiving_on, IsPutOn, AgreeOn}
 use Rattle.law_connection.proofs.Emits.{Has-from_map}
-use Rattle.law_connection.proofs.Laws.{agree}
+use Rattle.law_unsequenced.proofs.Laws.{agree}
 use Rattle.enet_host.specs.Host.{Host, named}
 use Rattle.law_network.specs.IsolationLaw.{held_if}
 use Rattle.law_network.specs.declared.mark.MarkKind.TheVariants.{Data}

@@ -15,11 +15,11 @@ use Rattle.law_network.specs.Network.{Site}
 use Rattle.law_network.specs.Steps.{Around, Happening, Calls, Hears, HappensAmong, BringsOne, beside}
 use Rattle.law_network.specs.World.{World, site_of, other, HappensAt, AllHappen, side_of, Runs, Refuses}
 use Rattle.law_network.specs.World as world
-use Rattle.law_network.proofs.Once.{call-from}
+use Rattle.law_network.proofs.Worlds.{acts-of}
 
 -- one thing leads its host by its call
 pub by-call : (w : Around) (from old new : Site) (what : Happening) → HappensAmong w from what old new → Steps (call_by from what) old.host new.host
-by-call w from old new (Calls c) h = (new.host, (call-from w from old new (Calls c) h).acts, refl)
+by-call w from old new (Calls c) h = (new.host, acts-of w from old new c h, refl)
 by-call w from old new (Hears k answer) h = brought (slice_get from.log k) h
   where
     brought : (found : Option Logged) → BringsOne from found answer old new → Steps (received_from from.address answer found) old.host new.host

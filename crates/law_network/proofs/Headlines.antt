@@ -1,5 +1,5 @@
 -- The headline of both hosts of a world, from the law of each connection.
-use Rattle.std.proofs.Common.{◌≡◌, ◌≢◌, ◌<◌, ◌≤◌, ℕ, ◌⊎◌, inl, inr, ◌&&◌, ◌==◌, Bool, true, false, List, [], ◌∷◌, map, refl, sym, ap, subst, ◌∙◌, arith, Option, Some, None}
+use Rattle.std.proofs.Common.{◌≡◌, ◌≢◌, ◌<◌, ◌≤◌, ℕ, ◌⊎◌, inl, inr, ◌&&◌, ◌==◌, Bool, true, false, List, [], ◌∷◌, map, refl, sym, ap, subst, ◌∙◌, arith, eq-eqb, Option, Some, None}
 use Rattle.enet_codec.specs.declared.address.Addr.{Addr}
 use Rattle.enet_codec.specs.declared.event.PeerRef.{PeerRef}
 use Rattle.enet_codec.specs.declared.packet.Packet.{Packet}
@@ -13,11 +13,13 @@ use Rattle.law_connection.specs.LinkSteps.{Has, bodies_of}
 use Rattle.law_connection.specs.Connection.{End, of_channel, packets_of, in_sequence}
 use Rattle.law_connection.specs.Law.{mtu_in, IsOneLife, IsInOrder as IsInOrderBetween}
 use Rattle.law_connection.specs.Steps.{no_end}
+use Rattle.law_connection.proofs.Lists.{Has-filter, Has-from_filter}
+use Rattle.law_unsequenced.specs.Law.{GoesAs, EachSubmitted}
 use Rattle.enet_slot.specs.Calls.{event_of}
 use Rattle.enet_host.specs.Host.{named}
 use Rattle.law_network.specs.declared.event.Side.{Side}
 use Rattle.law_network.specs.declared.event.Side.TheVariants.{A, B}
-use Rattle.law_network.specs.Headline.{submitted_at, taken_at, events_at, received, mtu_at, AreOn, IsInOrder, HasHeadlineAt, HasHeadlineBetween, HasHeadline}
+use Rattle.law_network.specs.Headline.{submitted_at, taken_at, events_at, received, mtu_at, AreOn, IsInOrder, WereSubmitted, HasHeadlineAt, HasHeadlineBetween, HasHeadline}
 use Rattle.law_network.specs.Law.{ShowsAt, LawfulEither, IsPaired, OfEachRun, OfEachJoinedRun, OfEachList, OfEachJoinedList}
 use Rattle.law_network.specs.Log.{ChannelPackets}
 use Rattle.law_network.specs.Network.{HostEnd, Site, end_of}
@@ -102,6 +104,26 @@ between o u from to k ko h channel = elim (less-or-not channel 256) [
         let second = subst (λ (l : List command_choice.Packet). Follows (mtu_at o) l (bodies_of (in_sequence channel (packets_of to.events)))) sent first in
         subst (λ (l : List Dispatched). Follows (mtu_at o) (of_channel (mtu_at o) channel (submitted_at channel o)) (bodies_of l)) came second
 
+-- of unsequenced packets
+
+-- nothing was submitted, or all went by the mtu that is kept
+goes-by : (m n : ℕ) (qs : List Packet) (p q : Packet) → (qs ≡ []) ⊎ (m ≡ n) → Has qs p → GoesAs m p q → GoesAs n p q
+goes-by m n qs p q (inl none) there g = absurd (subst (λ (l : List Packet). Has l p) none there)
+goes-by m n qs p q (inr same) there g = subst (λ (k : ℕ). GoesAs k p q) same g
+
+were-submitted : (o u : Option HostEnd) (from to : End) → Hands o from → Hands u to → EachSubmitted from to → (channel : ℕ) → WereSubmitted o u channel
+were-submitted o u from to k ko h channel q t two = by (less-or-not channel 256)
+  where
+    by : (channel < 256) ⊎ (256 ≤ channel) → (p : Packet) × Has (submitted_at channel o) p × GoesAs (mtu_at o) p q
+    by (inl low) =
+        let there : Has (on_channel channel (packets_of to.events)) q = subst (λ (l : List Packet). Has l q) (ko.taken channel low) t in
+        let on : q.channel ≡ channel = on-them channel (packets_of to.events) q there in
+        let r = h q (Has-from_filter (λ (x : Packet). x.channel == channel) (packets_of to.events) q there) two in
+        let g = r.2 in
+        let here : Has (on_channel channel from.submitted) r.0 = Has-filter (λ (x : Packet). x.channel == channel) from.submitted r.0 r.1 (eq-eqb r.0.channel channel (g.channel ∙ on)) in
+        (r.0, subst (λ (l : List Packet). Has l r.0) (sym (k.submitted channel low)) here, goes-by (mtu_in from.peer) (mtu_at o) from.submitted r.0 q k.mtu r.1 g)
+    by (inr far) = absurd (subst (λ (l : List Packet). Has l q) (ko.outside channel far).1 t)
+
 -- both hosts
 
 swapped-law : (j : Bool) (a b : End) → LawfulEither j a b → LawfulEither j b a
@@ -124,6 +146,8 @@ pub headline-between : (j : Bool) (a b : Site) (count x : ℕ) → IsHost a coun
 headline-between j a b count x k ko p = record {
   forth = between (end_of x a.ends) (end_of x b.ends) p.one p.two one two (order-of j p.one p.two p.lawful);
   back = between (end_of x b.ends) (end_of x a.ends) p.two p.one two one (order-of j p.two p.one (swapped-law j p.one p.two p.lawful));
+  unsequenced_forth = were-submitted (end_of x a.ends) (end_of x b.ends) p.one p.two one two p.unsequenced.0;
+  unsequenced_back = were-submitted (end_of x b.ends) (end_of x a.ends) p.two p.one two one p.unsequenced.1;
 }
   where
     one : Hands (end_of x a.ends) p.one
@@ -137,6 +161,8 @@ pub headline-none : HasHeadlineBetween None None
 headline-none = record {
   forth = between None None no_end no_end hands-none hands-none (λ channel. tt);
   back = between None None no_end no_end hands-none hands-none (λ channel. tt);
+  unsequenced_forth = λ channel q t. absurd t;
+  unsequenced_back = λ channel q t. absurd t;
 }
 
 -- one host
@@ -178,7 +204,7 @@ headline-at joined is_host s count k owned paired = record {
 -- both hosts
 
 pub swapped-pair : (j : Bool) (a b : Site) (x : ℕ) → IsPaired j a b x → IsPaired j b a x
-swapped-pair j a b x p = record { one = p.two; two = p.one; here = p.there; there = p.here; lawful = swapped-law j p.one p.two p.lawful }
+swapped-pair j a b x p = record { one = p.two; two = p.one; here = p.there; there = p.here; lawful = swapped-law j p.one p.two p.lawful; unsequenced = (p.unsequenced.1, p.unsequenced.0) }
 
 life-none : (j : Bool) → IsOneLife j []
 life-none true = tt
@@ -194,6 +220,7 @@ paired joined w s x = elim (less-or-not x w.count) [
     here = inr (none w.a s.a far, refl);
     there = inr (none w.b s.b far, refl);
     lawful = inl (record { forth = λ channel. tt; back = λ channel. tt; life_one = life-none (joined && x == 0); life_two = life-none (joined && x == 0) });
+    unsequenced = ((λ q t. absurd t), (λ q t. absurd t));
   }
 ]
   where

@@ -9,7 +9,8 @@ use Rattle.enet_peer.specs.declared.parts.PeerState.TheVariants as state
 use Rattle.enet_peer.specs.Peering.{joined}
 use Rattle.law_connection.specs.Connection.{End}
 use Rattle.law_connection.specs.Steps.{with_peer, no_end, asking_pair}
-use Rattle.law_connection.proofs.Laws.{lawful, asking-kept, joined-kept}
+use Rattle.law_unsequenced.specs.Law.{EachSubmitted}
+use Rattle.law_unsequenced.proofs.Laws.{lawful, each-submitted, asking-kept, joined-kept}
 use Rattle.law_connection.proofs.Runs.{reached-none}
 use Rattle.law_connection.proofs.Words.{word-none, word-asking, word-joined}
 use Rattle.law_connection.specs.LinkSteps.{Has}
@@ -336,10 +337,14 @@ pub lawful-either : (j : Bool) (one two : End) → KeptEither j one two → Lawf
 lawful-either j one two (inl k) = inl (lawful j (record { one = one; two = two }) k)
 lawful-either j one two (inr k) = inr (lawful j (record { one = two; two = one }) k)
 
+pub submitted-either : (j : Bool) (one two : End) → KeptEither j one two → EachSubmitted one two × EachSubmitted two one
+submitted-either j one two (inl k) = each-submitted j (record { one = one; two = two }) k
+submitted-either j one two (inr k) = (let s = each-submitted j (record { one = two; two = one }) k in (s.1, s.0))
+
 pub are-lawful : (joined : Bool) (w : World) → Sound (λ x. joined && x == 0) w → AreLawful joined w
 are-lawful joined w s x low =
     let p = s.pairs x low in
-    record { one = p.one; two = p.two; here = p.here; there = p.there; lawful = lawful-either (joined && x == 0) p.one p.two p.kept }
+    record { one = p.one; two = p.two; here = p.here; there = p.there; lawful = lawful-either (joined && x == 0) p.one p.two p.kept; unsequenced = submitted-either (joined && x == 0) p.one p.two p.kept }
 
 -- every world is sound
 

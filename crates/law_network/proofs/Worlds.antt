@@ -13,11 +13,10 @@ use Rattle.enet_peer.specs.Peering.{Peering}
 use Rattle.law_connection.specs.LinkSteps.{Has}
 use Rattle.law_connection.proofs.Lists.{Has-push_cases, Has-slice_get}
 use Rattle.law_connection.specs.Connection.{End, sent_on}
-use Rattle.law_connection.specs.Invariant.{Invariant as KeptBetween}
 use Rattle.law_connection.specs.Steps.{One, Two, Event, no_end}
-use Rattle.law_connection.proofs.Laws.{kept-at as kept-event}
 use Rattle.law_connection.proofs.Runs.{reached-none}
 use Rattle.law_connection.proofs.Words.{IsWord, word-happens}
+use Rattle.law_unsequenced.proofs.Laws.{Kept as KeptBetween, kept-at as kept-event}
 use Rattle.enet_slot.specs.Slot.{SlotState, name_of, greatest}
 use Rattle.enet_host.specs.Host.{Host}
 use Rattle.enet_host.specs.Opening.{host_basis, Connects, no_channel, no_slot, no_memory, asks}

@@ -12,6 +12,7 @@ use Rattle.law_connection.specs.Follows.{Follows}
 use Rattle.law_connection.specs.LinkSteps.{Has, bodies_of}
 use Rattle.law_connection.specs.Connection.{of_channel, in_sequence}
 use Rattle.law_connection.specs.Law.{IsOneLife}
+use Rattle.law_unsequenced.specs.Law.{GoesAs}
 use Rattle.enet_host.specs.Host.{named}
 use Rattle.enet_host.specs.Calls.{address_named}
 use Rattle.enet_slot.specs.Calls.{event_of}
@@ -63,6 +64,10 @@ pub record IsInOrder (from to : Option HostEnd) (channel : ℕ) : Type 0 where
   pub taken : AreOn channel (taken_at channel to)
   pub follows : Follows (mtu_at from) (of_channel (mtu_at from) channel (submitted_at channel from)) (bodies_of (in_sequence channel (taken_at channel to)))
 
+-- each unsequenced packet that the user of one end took of a channel was submitted on it by the user of the other to go so, with just its bytes
+abbrev pub WereSubmitted : (from to : Option HostEnd) (channel : ℕ) → Type 0
+WereSubmitted from to channel = (q : Packet) → Has (taken_at channel to) q → q.flags ≡ 2 → (p : Packet) × Has (submitted_at channel from) p × GoesAs (mtu_at from) p q
+
 -- events that the user of an end took are one life's, all of the peer of this name: at most one Connect, and only first; packets only after it, or
 -- from the start where the connection stands from the start; at most one Disconnect, and only last
 pub record IsLife (joined : Bool) (name : PeerRef) (taken : List Event) : Type 0 where
@@ -95,6 +100,8 @@ pub record HasHeadlineAt (joined : Bool) (is_host : Addr → Bool) (s : Site) : 
 pub record HasHeadlineBetween (one two : Option HostEnd) : Type 0 where
   pub forth : (channel : ℕ) → IsInOrder one two channel
   pub back : (channel : ℕ) → IsInOrder two one channel
+  pub unsequenced_forth : (channel : ℕ) → WereSubmitted one two channel
+  pub unsequenced_back : (channel : ℕ) → WereSubmitted two one channel
 
 -- the headline of each connection, end and channel of a world
 pub record HasHeadline (joined : Bool) (w : World) : Type 0 where

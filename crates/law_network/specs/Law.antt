@@ -13,6 +13,7 @@ use Rattle.law_connection.specs.LinkSteps.{Has}
 use Rattle.law_connection.specs.Connection.{End, sent_on}
 use Rattle.law_connection.specs.Law.{IsLawful}
 use Rattle.law_connection.specs.Steps.{Event, Happens as HappensLaw, no_end, asking_pair}
+use Rattle.law_unsequenced.specs.Law.{EachSubmitted}
 use Rattle.enet_slot.specs.Giving.{limits_of}
 use Rattle.enet_slot.specs.Slot.{greatest}
 use Rattle.enet_host.specs.Host.{Host}
@@ -97,13 +98,14 @@ ShowsAt s x own = ((e : HostEnd) × Has s.ends e × (e.connection ≡ x) × Show
 abbrev pub LawfulEither : Bool → End → End → Type 0
 LawfulEither joined a b = IsLawful joined (record { one = a; two = b }) ⊎ IsLawful joined (record { one = b; two = a })
 
--- two hosts show the ends of connection x, of which the law of one connection holds
+-- two hosts show the ends of connection x, of which the law of one connection holds, and that of its unsequenced packets
 pub record IsPaired (joined : Bool) (a b : Site) (x : ℕ) : Type 0 where
   pub one : End
   pub two : End
   pub here : ShowsAt a x one
   pub there : ShowsAt b x two
   pub lawful : LawfulEither joined one two
+  pub unsequenced : EachSubmitted one two × EachSubmitted two one
 
 -- the law of one connection holds of each connection so far; `joined` says that connection 0 stands from the start
 abbrev pub AreLawful : Bool → World → Type 0

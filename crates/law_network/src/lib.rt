@@ -66,8 +66,8 @@ pub fn each_thing_at(host: &HostCore)
 /// that the network brings, none of them of an earlier connection or late.
 ///
 /// `opened`: where all slots are free at first, both hosts show of each connection two ends of which the law of one connection
-/// holds: what the user of one took of a channel follows what the user of the other submitted on it, and each user's events
-/// are one life. Connections may stand one after another, at once, and in slots that are used again, and connect ids may be
+/// holds: what the user of one took of a channel follows what the user of the other submitted on it, each unsequenced packet
+/// that was taken was submitted, and each user's events are one life. Connections may stand one after another, at once, and in slots that are used again, and connect ids may be
 /// given again.
 ///
 /// `joined`: so it is where both hosts have connection 0 from the start.
@@ -84,7 +84,7 @@ pub fn one_world()
 /// The headline over the same worlds, of the lists that are kept of each connection, end and channel, whatever the network
 /// lost, repeated or brought out of order: what the user of one end took of a channel, unsequenced packets apart, is a
 /// subsequence of what the user of the other submitted on it, each packet whole and once, that leaves out no reliable packet
-/// before its last; each user takes at most one Connect, before all else, and nothing after a Disconnect, all of the end's own
+/// before its last; each unsequenced packet that it took was submitted there to go so; each user takes at most one Connect, before all else, and nothing after a Disconnect, all of the end's own
 /// peer, and the packets that are kept are those of these events. Each peer of a host is that of an end, so what is submitted or
 /// taken is kept; no two ends of a host share a connection or a name; the mtu by which an end's packets go is its peer's.
 ///

@@ -1,16 +1,16 @@
 -- The law, by induction over the events of a connection.
-use Rattle.std.proofs.Common.{◌≡◌, ◌≢◌, ℕ, ◌+◌, ◌≤◌, Bool, true, false, ltb, leb, ◌||◌, List, [], ◌∷◌, ◌++◌, map, length, refl, sym, ap, subst, ◌∙◌, inl, inr, ◌⊎◌, Option, Some, None, slice_get}
-use Rattle.std.specs.List.{AllPairs}
+use Rattle.std.proofs.Common.{◌≡◌, ◌≢◌, ℕ, ◌+◌, ◌<◌, ◌≤◌, Bool, true, false, cond, ◌==◌, eq-eqb, List, [], ◌∷◌, ◌++◌, map, refl, sym, ap, subst, ◌∙◌, inl, inr, ◌⊎◌, Option, Some, None, slice_get}
+use Rattle.std.specs.Prelude.{filter}
 use Rattle.std.proofs.lemmas.List.{append-nil, append_assoc}
 use Rattle.enet_codec.specs.declared.packet.Packet.{Packet}
 use Rattle.enet_codec.specs.declared.command.Offer.{Offer}
-use Rattle.enet_unsequenced.specs.Groups.{nothing_seen, dispatched}
+use Rattle.enet_unsequenced.specs.Groups.{nothing_seen}
 use Rattle.enet_unsequenced.proofs.OnceLemmas.{each_once}
 use Rattle.enet_connect.specs.declared.terms.Terms.{Terms}
 use Rattle.enet_receiver.specs.Foresight.{ReceivingEnd}
 use Rattle.enet_receiver.specs.Sequenced.{HasSequenced}
 use Rattle.enet_outbox.specs.declared.parts.Unsequenced.{Unsequenced}
-use Rattle.enet_outbox.specs.Outbox.{Outbox}
+use Rattle.enet_outbox.specs.Outbox.{Outbox, is_unsequenced}
 use Rattle.enet_outbox.specs.Emission.{filled}
 use Rattle.enet_peer.specs.Peering.{Peering, joined, connecting, answering}
 use Rattle.enet_peer.specs.declared.parts.Limits.{Limits}
@@ -19,18 +19,20 @@ use Rattle.enet_peer.specs.Calls.{pace_of, gone_on, submitted, ticked, next_even
 use Rattle.enet_peer.specs.CommandEffect.{obeyed}
 use Rattle.law_connection.specs.LinkSteps.{Has}
 use Rattle.law_connection.specs.Connection.{Put, End, Connection, packets_of}
-use Rattle.law_connection.specs.Steps.{Side, One, Two, Event, Answer, Submit, Emit, Come, Tick, Take, Disconnect, Set, Happens, HappensAt, Runs, JoinedEnd, with_peer, with_setting, no_end, joined_pair, asking_pair}
+use Rattle.law_connection.specs.Steps.{Side, One, Two, Event, Answer, Submit, Emit, Come, Tick, Take, Disconnect, Set, Happens, HappensAt, Runs, with_peer, with_setting, no_end, joined_pair, asking_pair}
+use Rattle.law_connection.specs.Law.{mtu_of, IsLawful}
+use Rattle.law_connection.specs.Numbers.{Agree}
 use Rattle.law_connection.specs.Invariant.{PeerFits, IsFit, Invariant, is_young}
 use Rattle.law_connection.proofs.Events.{took}
 use Rattle.law_connection.proofs.FitEnds.{fit-peer}
-use Rattle.law_connection.proofs.Laws.{kept-at, joined-kept, asking-kept, big-of}
+use Rattle.law_connection.proofs.Laws.{kept-at as kept-event, joined-kept as connection-joined, asking-kept as connection-asking, lawful as connection-lawful, agree as connection-agree, big-of}
 use Rattle.law_connection.proofs.Emits.{Has-from_map}
-use Rattle.law_connection.proofs.Lists.{Has-append_cases}
-use Rattle.law_unsequenced.specs.Unsequenced.{come_unsequenced, submitted_by, taken_by, come_by, come_at, come_to, carried, IsNth, TakenAs, ComeAs, Each}
-use Rattle.law_unsequenced.specs.Law.{AreInTime, AreDistinct, IsFair, AreFair, JoinedLaw, AskingLaw}
+use Rattle.law_connection.proofs.Lists.{Has-append_cases, Has-filter, Has-from_filter}
+use Rattle.law_unsequenced.specs.Unsequenced.{going_unsequenced, come_unsequenced, submitted_by, taken_by, come_by, come_at, come_to, carried, TakenAs, ComeAs, Each}
+use Rattle.law_unsequenced.specs.Law.{AreInTime, AreDistinct, GoesAs, EachSubmitted, IsFair, AreFair, JoinedLaw, AskingLaw}
 use Rattle.law_unsequenced.proofs.Parts.{IsPart, part-front, part-has, part-of_map, each-part, each-map, each-found, pairs-part}
-use Rattle.law_unsequenced.proofs.Staying.{core, Stays, Comes, Becomes, packet_in, ticked-stays, left-stays, set-stays, gone_on-stays, obeyed-becomes}
-use Rattle.law_unsequenced.proofs.Sending.{IsOne, one-more, SendsAt, Goes, sent_in, goes-on, goes-emitted, goes-submitted, goes-answered}
+use Rattle.law_unsequenced.proofs.Staying.{core, Stays, Becomes, packet_in, ticked-stays, left-stays, set-stays, gone_on-stays, obeyed-becomes}
+use Rattle.law_unsequenced.proofs.Sending.{IsOne, one-more, SendsAt, Goes, goes-on, goes-emitted, goes-submitted, goes-answered}
 use Rattle.law_unsequenced.proofs.Taking.{Gets, seen_in, untaken_in, gets-more, gets-took, all-dispatched}
 
 -- from one end to another, to which these came
@@ -43,6 +45,23 @@ pub record Flows (from to : End) (come : List Unsequenced) : Type 0 where
 
 as-taken : (qs : List Packet) (n : ℕ) (u : Unsequenced) → ComeAs qs n u → TakenAs qs n (packet_in u)
 as-taken qs n u h = h.1
+
+abbrev goes : ℕ → Packet → Bool
+goes mtu q = is_unsequenced mtu (record { flags = q.flags; body = q.body })
+
+Has-here : {X : Type 0} (before later : List X) (x : X) → Has (before ++ x ∷ later) x
+Has-here [] later x = inl refl
+Has-here (y ∷ before) later x = inr (Has-here before later x)
+
+-- what passed a test passes it
+true-in : {X : Type 0} (p : X → Bool) (xs : List X) (x : X) → Has (filter p xs) x → p x ≡ true
+true-in p [] x h = absurd h
+true-in p (y ∷ ys) x h = by (p y) refl h (λ k. true-in p ys x k)
+  where
+    by : (b : Bool) → p y ≡ b → Has (cond b (y ∷ filter p ys) (filter p ys)) x → (Has (filter p ys) x → p x ≡ true) → p x ≡ true
+    by true e (inl same) rest = subst (λ z. p z ≡ true) same e
+    by true e (inr more) rest = rest more
+    by false e more rest = rest more
 
 fair : (from to : End) (come : List Unsequenced) → Flows from to come → IsFair from to come
 fair from to come h = record { taken = was-submitted; came = each-found (ComeAs qs) come h.came; once = at-most-once }
@@ -57,11 +76,19 @@ fair from to come h = record { taken = was-submitted; came = each-found (ComeAs 
     part : IsPart (taken_by to) (map packet_in g.kept)
     part = part-front (taken_by to) (untaken_in to.peer) (map packet_in g.kept) g.got
 
-    was-submitted : (q : Packet) → Has (taken_by to) q → (n : ℕ) × TakenAs qs n q
-    was-submitted q t =
-        let r = Has-from_map packet_in g.kept q (part-has (taken_by to) (map packet_in g.kept) q part t) in
+    -- one of the packets that go unsequenced
+    found : (mtu : ℕ) (all : List Packet) (q : Packet) (n : ℕ) → TakenAs (going_unsequenced mtu all) n q → (p : Packet) × Has all p × GoesAs mtu p q
+    found mtu all q n t =
+        let p : Packet = t.packet in
+        let there : Has (going_unsequenced mtu all) p = subst (λ l. Has l p) (sym t.split) (Has-here t.before t.later p) in
+        (p, Has-from_filter (goes mtu) all p there, record { unsequenced = true-in (goes mtu) all p there; channel = t.channel_is; body = t.body_is })
+
+    was-submitted : (q : Packet) → Has (packets_of to.events) q → q.flags ≡ 2 → (p : Packet) × Has from.submitted p × GoesAs (mtu_of from) p q
+    was-submitted q t two =
+        let there : Has (taken_by to) q = Has-filter (λ (x : Packet). x.flags == 2) (packets_of to.events) q t (eq-eqb q.flags 2 two) in
+        let r = Has-from_map packet_in g.kept q (part-has (taken_by to) (map packet_in g.kept) q part there) in
         let one = h.came r.0 (part-has g.kept come r.0 g.part r.1) in
-        (one.0, subst (TakenAs qs one.0) r.2 (as-taken qs one.0 r.0 one.1))
+        found (mtu_of from) from.submitted q one.0 (subst (TakenAs qs one.0) r.2 (as-taken qs one.0 r.0 one.1))
 
     at-most-once : (numbers : List ℕ) → Each (ComeAs qs) numbers come → AreInTime numbers → (took : List ℕ) × Each (TakenAs qs) took (taken_by to) × AreDistinct took
     at-most-once numbers each in_time =
@@ -199,7 +226,31 @@ both-runs joined (e ∷ es) c d a b r k f =
     let at-one : List Unsequenced = come_at One e.0 e.1 in
     both-same ((a ++ at-two) ++ come_to Two es) ((b ++ at-one) ++ come_to One es) (a ++ (at-two ++ come_to Two es)) (b ++ (at-one ++ come_to One es)) d
     (sym (append_assoc a at-two (come_to Two es))) (sym (append_assoc b at-one (come_to One es)))
-    (both-runs joined es r.0 d (a ++ at-two) (b ++ at-one) r.2 (kept-at joined e.0 e.1 c r.0 r.1 k) (both-at joined e.0 e.1 c r.0 a b r.1 k f))
+    (both-runs joined es r.0 d (a ++ at-two) (b ++ at-one) r.2 (kept-event joined e.0 e.1 c r.0 r.1 k) (both-at joined e.0 e.1 c r.0 a b r.1 k f))
+
+-- what every run of a connection keeps, of unsequenced packets too
+pub record Kept (joined : Bool) (c : Connection) : Type 0 where
+  pub connection : Invariant joined c
+  pub to_one : List Unsequenced  -- what came to the one end, and to the other
+  pub to_two : List Unsequenced
+  pub both : Both to_two to_one c
+
+pub kept-at : (joined : Bool) (side : Side) (e : Event) (c d : Connection) → HappensAt side e c d → Kept joined c → Kept joined d
+kept-at joined side e c d h k = record {
+  connection = kept-event joined side e c d h k.connection;
+  to_one = k.to_one ++ come_at One side e;
+  to_two = k.to_two ++ come_at Two side e;
+  both = both-at joined side e c d k.to_two k.to_one h k.connection k.both;
+}
+
+pub lawful : (joined : Bool) (c : Connection) → Kept joined c → IsLawful joined c
+lawful joined c k = connection-lawful joined c k.connection
+
+pub agree : (joined : Bool) (c : Connection) → Kept joined c → Agree c
+agree joined c k = connection-agree joined c k.connection
+
+pub each-submitted : (joined : Bool) (c : Connection) → Kept joined c → EachSubmitted c.one c.two × EachSubmitted c.two c.one
+each-submitted joined c k = (let b = k.both in let forth = fair c.one c.two k.to_two b.forth in let back = fair c.two c.one k.to_one b.back in (forth.taken, back.taken))
 
 -- at first
 
@@ -222,22 +273,32 @@ sends-first p group none = record {
 both-fair : (events : List (Side × Event)) (c : Connection) → Both (come_to Two events) (come_to One events) c → AreFair events c
 both-fair events c f = (fair c.one c.two (come_to Two events) f.forth, fair c.two c.one (come_to One events) f.back)
 
-pub joined-law : JoinedLaw
-joined-law one two events c big1 big2 few1 few2 r =
-    let e1 : End = with_peer no_end (joined one.now one.terms one.limits) in
-    let e2 : End = with_peer no_end (joined two.now two.terms two.limits) in
-    both-fair events c (both-runs true events (joined_pair one two) c [] [] r
-    (joined-kept one.now two.now one.terms two.terms one.limits two.limits (big-of one.terms.mtu big1) (big-of two.terms.mtu big2) few1 few2)
-    (record {
-      forth = first e1 e2 (sends-first (joined one.now one.terms one.limits) refl refl) refl refl refl;
-      back = first e2 e1 (sends-first (joined two.now two.terms two.limits) refl refl) refl refl refl;
-    }))
+joined-first : (now1 now2 : ℕ) (t1 t2 : Terms) (l1 l2 : Limits) → Both [] [] (joined_pair (record { now = now1; terms = t1; limits = l1 }) (record { now = now2; terms = t2; limits = l2 }))
+joined-first now1 now2 t1 t2 l1 l2 =
+    let e1 : End = with_peer no_end (joined now1 t1 l1) in
+    let e2 : End = with_peer no_end (joined now2 t2 l2) in
+    record { forth = first e1 e2 (sends-first (joined now1 t1 l1) refl refl) refl refl refl; back = first e2 e1 (sends-first (joined now2 t2 l2) refl refl) refl refl refl }
 
-pub asking-law : AskingLaw
-asking-law now offer limits events c r =
+asking-first : (now : ℕ) (offer : Offer) (limits : Limits) → Both [] [] (asking_pair now offer limits)
+asking-first now offer limits =
     let e1 : End = with_peer no_end (connecting now offer limits) in
-    both-fair events c (both-runs false events (asking_pair now offer limits) c [] [] r (asking-kept now offer limits)
-    (record {
+    record {
       forth = first e1 no_end (sends-first (connecting now offer limits) refl refl) refl refl refl;
       back = first no_end e1 (record { logged = λ x u there c. absurd there; queued = tt }) refl refl refl;
-    }))
+    }
+
+pub joined-kept : (now1 now2 : ℕ) (t1 t2 : Terms) (l1 l2 : Limits) → 28 < t1.mtu → 28 < t2.mtu → t1.channels ≤ 255 → t2.channels ≤ 255 → Kept true (joined_pair (record { now = now1; terms = t1; limits = l1 }) (record { now = now2; terms = t2; limits = l2 }))
+joined-kept now1 now2 t1 t2 l1 l2 big1 big2 few1 few2 =
+    record { connection = connection-joined now1 now2 t1 t2 l1 l2 big1 big2 few1 few2; to_one = []; to_two = []; both = joined-first now1 now2 t1 t2 l1 l2 }
+
+pub asking-kept : (now : ℕ) (offer : Offer) (limits : Limits) → Kept false (asking_pair now offer limits)
+asking-kept now offer limits = record { connection = connection-asking now offer limits; to_one = []; to_two = []; both = asking-first now offer limits }
+
+pub joined-law : JoinedLaw
+joined-law one two events c big1 big2 few1 few2 r =
+    both-fair events c (both-runs true events (joined_pair one two) c [] [] r
+    (connection-joined one.now two.now one.terms two.terms one.limits two.limits (big-of one.terms.mtu big1) (big-of two.terms.mtu big2) few1 few2)
+    (joined-first one.now two.now one.terms two.terms one.limits two.limits))
+
+pub asking-law : AskingLaw
+asking-law now offer limits events c r = both-fair events c (both-runs false events (asking_pair now offer limits) c [] [] r (connection-asking now offer limits) (asking-first now offer limits))

@@ -1,5 +1,5 @@
 -- Each unsequenced packet that an end has queued or put out is one that its user submitted.
-use Rattle.std.proofs.Common.{◌≡◌, ℕ, ◌+◌, ◌%◌, Bool, true, false, cond, ltb, leb, ◌||◌, List, [], ◌∷◌, ◌++◌, map, length, refl, sym, ap, subst, ◌∙◌, inl, inr, ◌⊎◌, arith, Option, Some, None, slice_set}
+use Rattle.std.proofs.Common.{◌≡◌, ℕ, ◌+◌, ◌%◌, Bool, true, false, cond, List, [], ◌∷◌, ◌++◌, map, length, refl, sym, ap, subst, ◌∙◌, inl, inr, ◌⊎◌, arith, Option, Some, None}
 use Rattle.std.specs.List.{slice_get}
 use Rattle.std.proofs.lemmas.List.{append-nil, length-append}
 use Rattle.std.proofs.lemmas.List.Elements.{filter-append}
@@ -7,15 +7,12 @@ use Rattle.enet_codec.specs.declared.packet.Packet.{Packet}
 use Rattle.enet_codec.specs.declared.command.Fragment.{Fragment}
 use Rattle.enet_codec.specs.declared.command.Offer.{Offer}
 use Rattle.enet_codec.specs.Message.{Message}
-use Rattle.enet_seq.specs.Numbering.{wire}
 use Rattle.enet_seq.specs.Windows.{after}
 use Rattle.enet_connect.specs.declared.server.Server.{Server}
-use Rattle.enet_fragment.specs.declared.data.DataCommand.{DataCommand}
 use Rattle.enet_fragment.specs.DataCommand.{message_of, wire_body}
 use Rattle.enet_senders.specs.declared.control.Control.{Control}
 use Rattle.enet_senders.specs.declared.control.Control.TheVariants as control
 use Rattle.enet_senders.specs.Controlling as controlling
-use Rattle.enet_sender.specs.Sender as sender
 use Rattle.enet_sender.specs.Due.{SendingEnd}
 use Rattle.enet_sender.specs.CommandChoice as command_choice
 use Rattle.enet_outbox.specs.declared.parts.Pace.{Pace}
@@ -28,11 +25,11 @@ use Rattle.enet_peer.specs.declared.parts.Limits.{Limits}
 use Rattle.enet_peer.specs.Calls.{pace_of, gone_on, submitted}
 use Rattle.law_connection.specs.LinkSteps.{Has}
 use Rattle.law_connection.specs.Connection.{Put, End, put_by}
-use Rattle.law_connection.specs.Steps.{with_emission, with_submission}
+use Rattle.law_connection.specs.Steps.{with_emission}
 use Rattle.law_connection.specs.Law.{mtu_in}
 use Rattle.law_connection.proofs.Lists.{Has-push_cases, Has-append_cases}
 use Rattle.law_connection.proofs.Emits.{Has-from_map}
-use Rattle.law_unsequenced.specs.Unsequenced.{going_unsequenced, carried_in, carried, IsNth, ComeAs}
+use Rattle.law_unsequenced.specs.Unsequenced.{going_unsequenced, carried_in, carried, ComeAs}
 use Rattle.law_unsequenced.proofs.Parts.{nth-more}
 use Rattle.law_unsequenced.proofs.Staying.{core, Stays, gone_on-stays}
 

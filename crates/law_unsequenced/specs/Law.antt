@@ -1,11 +1,13 @@
 -- What holds of the unsequenced packets of every connection, whatever happens to it.
-use Rattle.std.specs.Prelude.{◌≡◌, ◌≢◌, ℕ, ◌+◌, ◌≤◌, List, AllPairs}
+use Rattle.std.specs.Prelude.{◌≡◌, ◌≢◌, ℕ, ◌+◌, ◌≤◌, true, List, AllPairs}
 use Rattle.enet_codec.specs.declared.command.Offer.{Offer}
 use Rattle.enet_codec.specs.declared.packet.Packet.{Packet}
 use Rattle.enet_outbox.specs.declared.parts.Unsequenced.{Unsequenced}
+use Rattle.enet_outbox.specs.Outbox.{is_unsequenced}
 use Rattle.enet_peer.specs.declared.parts.Limits.{Limits}
 use Rattle.law_connection.specs.LinkSteps.{Has}
-use Rattle.law_connection.specs.Connection.{End, Connection}
+use Rattle.law_connection.specs.Connection.{End, Connection, packets_of}
+use Rattle.law_connection.specs.Law.{mtu_of}
 use Rattle.law_connection.specs.Steps.{Side, One, Two, Event, Runs, JoinedEnd, joined_pair, asking_pair}
 use Rattle.law_unsequenced.specs.Unsequenced.{submitted_by, taken_by, come_to, TakenAs, ComeAs, Each}
 
@@ -16,11 +18,20 @@ AreInTime numbers = AllPairs (λ earlier later. earlier ≤ later + 32768) numbe
 abbrev pub AreDistinct : List ℕ → Type 0
 AreDistinct numbers = AllPairs (λ earlier later. earlier ≢ later) numbers
 
+-- a packet that goes unsequenced, in datagrams of at most `mtu` bytes, comes as another: on its channel, whole
+pub record GoesAs (mtu : ℕ) (p q : Packet) : Type 0 where
+  pub unsequenced : is_unsequenced mtu (record { flags = p.flags; body = p.body }) ≡ true
+  pub channel : p.channel ≡ q.channel
+  pub body : p.body ≡ q.body
+
+-- each unsequenced packet that the user of one end took was submitted by the user of the other
+abbrev pub EachSubmitted : End → End → Type 0
+EachSubmitted from to = (q : Packet) → Has (packets_of to.events) q → q.flags ≡ 2 → (p : Packet) × Has from.submitted p × GoesAs (mtu_of from) p q
+
 -- from one end to another, to which these commands came
 pub record IsFair (from to : End) (come : List Unsequenced) : Type 0 where
-  -- each packet that was taken was submitted
-  pub taken : (q : Packet) → Has (taken_by to) q → (n : ℕ) × TakenAs (submitted_by from) n q
-  -- each that came was submitted
+  pub taken : EachSubmitted from to
+  -- each command that came carries a packet that was submitted
   pub came : (numbers : List ℕ) × Each (ComeAs (submitted_by from)) numbers come
   -- and where none comes over 32,768 late, each is taken at most once
   pub once : (numbers : List ℕ) → Each (ComeAs (submitted_by from)) numbers come → AreInTime numbers

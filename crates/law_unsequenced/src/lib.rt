@@ -1,9 +1,10 @@
 //! The law of the unsequenced packets of one connection between two peers, whatever the network loses, repeats or reorders. No code but
 //! the law.
 //!
-//! It speaks of the runs of `law_connection`, whose laws leave unsequenced packets out: of two peers and any list of events at either,
-//! not of hosts. Proved: each unsequenced packet that is taken was submitted, and is taken at most once where none comes over 32,768
-//! late (`each_was_submitted`). Not promised, as of the protocol: any order of these packets, or that one comes.
+//! It speaks of the runs of `law_connection`, whose laws leave unsequenced packets out: of two peers and any list of events at either.
+//! Proved: each unsequenced packet that is taken was submitted, and is taken at most once where none comes over 32,768 late
+//! (`each_was_submitted`). Of hosts `law_network` says the former, and nothing says the latter. Not promised: any order of these
+//! packets, or that one comes.
 #![tactic(auto)]
 
 ghost use Rattle.law_unsequenced.specs.Law.{JoinedLaw, AskingLaw};
