@@ -138,12 +138,7 @@ fn place_of_late(sent: &VecDeque<SentControl>, now: u32) -> Option<usize>
 }
 
 /// Whether the peer, heard last at `heard`, has timed out over a sent command.
-pub fn any_ends(
-    sent: &VecDeque<SentControl>,
-    now: u32,
-    patience: &Patience,
-    heard: u32,
-) -> bool
+pub fn any_ends(sent: &VecDeque<SentControl>, now: u32, patience: &Patience, heard: u32) -> bool
     ensures { result ≡ list_any (ends now patience.now heard) sent.now.items }
 {
     sent.iter()
@@ -182,12 +177,7 @@ pub fn mark(sent: &mut VecDeque<SentControl>, now: u32)
 }
 
 /// What a moment brings, the peer having been heard last at `heard`.
-pub fn lateness(
-    sent: &VecDeque<SentControl>,
-    now: u32,
-    patience: &Patience,
-    heard: u32,
-) -> Expiry
+pub fn lateness(sent: &VecDeque<SentControl>, now: u32, patience: &Patience, heard: u32) -> Expiry
     ensures { (c : Commands) → c.sent ≡ sent.now.items → result ≡ lateness now patience.now heard c }
 {
     if place_of_end(sent, now, patience, heard).is_some() {

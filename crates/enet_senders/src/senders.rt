@@ -170,8 +170,8 @@ fn keep_first(channels: &mut Vec<Outgoing>, pending: &mut Pending, count: usize)
     ensures ends { ends_in pending.new channels.new.items ≡ take count (ends_in pending.old channels.old.items) }
     ensures kept { KeepsAllIn pending.new channels.new.items }
 {
-    for channel in count..channels.len() {
-        clear_on(channels, pending, channel);
+    for dropped in count..channels.len() {
+        clear_on(channels, pending, dropped);
     }
     channels.truncate(count);
 }
@@ -349,8 +349,8 @@ impl Senders {
         acknowledge_on(&mut self.channels, &mut self.pending, channel, number)
     }
 
-    /// Whether at the moment `now`, in milliseconds, a sent command of a channel has waited out its timeout, and its peer
-    /// has timed out over it by `patience`.
+    /// Whether at the moment `now`, in milliseconds, a sent command of a channel has waited out its timeout, and its peer,
+    /// heard last at `heard`, has timed out over it by `patience`.
     pub fn any_ends(&self, now: u32, patience: &Patience, heard: u32) -> bool
         ensures { result ≡ list_any (λ (s : SendingEnd). list_any (ends now patience.now heard) s.sender.sent) self.now }
     {
