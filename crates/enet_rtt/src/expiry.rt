@@ -1,6 +1,7 @@
 //! When a sent command is due for resending, and when its peer has timed out.
 
-ghost use Rattle.std.specs.Prelude.{◌≡◌, ◌-◌, ◌^◌, false, nat_le};
+ghost use Rattle.std.specs.Prelude.{◌≡◌, ◌-◌, ◌^◌, ◌&&◌, ◌||◌, false, nat_le};
+ghost use Rattle.enet_rtt.specs.Clock.{since_later};
 ghost use Rattle.enet_rtt.specs.Expiry.{expiry, standard_patience, patience_with_defaults, or_default_number};
 
 use crate::clock::elapsed;
@@ -73,14 +74,27 @@ pub fn expired(
     if elapsed(now, last) < timeout {
         return Expiry::No;
     }
-    let age = elapsed(now, first);
-    let silence = age.min(elapsed(now, heard));
-    let is_over = age >= patience.maximum;
-    if is_over || is_at_limit(attempts, patience.limit) && silence >= patience.minimum {
+    let silence = since_later(now, first, heard);
+    if gives_up(patience, elapsed(now, first), silence, attempts) {
         Expiry::End
     } else {
         Expiry::Resend
     }
+}
+
+// Whether a peer has timed out over a command that went first `age` milliseconds ago, after a silence of so many.
+fn gives_up(patience: &Patience, age: u32, silence: u32, attempts: u8) -> bool
+    ensures { result ≡ (nat_le patience.now.maximum age || (nat_le patience.now.limit (2 ^ (attempts - 1)) && nat_le patience.now.minimum silence)) }
+{
+    let is_silent = silence >= patience.minimum;
+    age >= patience.maximum || is_at_limit(attempts, patience.limit) && is_silent
+}
+
+// The milliseconds since the later of two moments.
+fn since_later(now: u32, a: u32, b: u32) -> u32
+    ensures { result ≡ since_later now a b }
+{
+    elapsed(now, a).min(elapsed(now, b))
 }
 
 // Whether 2^(attempts - 1) is the limit or more.
