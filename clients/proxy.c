@@ -1,8 +1,11 @@
-// proxy PORT SERVER SEED [OUTAGE]: stands between clients and a server, all on 127.0.0.1, until it is stopped. What comes to PORT goes to
+// proxy PORT SERVER SEED [down MS] [loss PERCENT] [rate KBIT]: stands between clients and a server, all on 127.0.0.1, until it is stopped. What comes to PORT goes to
 // port SERVER, from a socket of its own for each client, and what comes back there goes to that client. Of all datagrams, both ways,
 // 8 % are dropped, 5 % go twice, and 10 % are held back for 1 to 8 ms while others pass, as drawn from SEED. No command is dropped more
-// than twice and no acknowledgement of it either, since a connection ends where one command goes six times in vain. Where OUTAGE is given,
-// none of this is done: each datagram takes 20 ms, and from 4 seconds after the first one on all are dropped for OUTAGE milliseconds.
+// than twice and no acknowledgement of it either, since a connection ends where one command goes six times in vain.
+//
+// Where one of the last words is given, it is a line in place of that, on which each datagram takes 20 ms: from 4 seconds after the first one
+// on all are dropped for so many milliseconds (`down`); of all so many percent are dropped, as drawn (`loss`); and all together have so many
+// kilobits a second, each way, with 28 bytes of headers a datagram, where what would wait for more than 100 ms is dropped (`rate`).
 #include <arpa/inet.h>
 #include <poll.h>
 #include <sys/socket.h>
@@ -27,8 +30,10 @@ static int known = 1;
 static Held *held[WAITING];
 static int waiting;
 static uint64_t seed;
-static double outage; // how long all are dropped, in seconds; 0 where some are, as drawn
-static double begun;  // when the first datagram came
+static int is_line;              // whether it is a line that drops them
+static double down, loss, rate; // of that line: seconds, the share from 0 to 1, and bytes a second; 0 where there is no such fault
+static double begun;            // when the first datagram came
+static double free_at[2];       // when the line has sent all that it took, to the server and to the clients
 static uint8_t dropped[MARKS]; // how often a command was dropped; some share a mark
 
 static struct sockaddr_in local(long port)
@@ -102,24 +107,33 @@ static int count_dropped(const Held *datagram, uint8_t most, uint8_t more)
     return found;
 }
 
-static void hold_back(const Held *datagram, double seconds)
+static void hold_until(const Held *datagram, double due)
 {
     Held *copy = malloc(sizeof *copy);
     if (copy == NULL)
         give_up("proxy: no memory");
     *copy = *datagram;
-    copy->due = now() + seconds;
+    copy->due = due;
     held[waiting++] = copy;
 }
 
-// Holds the datagram back for 20 ms, or drops it while the outage lasts.
-static void pass_on_but_for_outage(const Held *datagram)
+// What the line does with a datagram.
+static void pass_over_line(const Held *datagram)
 {
+    double time = now(), sent = time, *next = &free_at[datagram->to.sin_port != 0];
     if (begun == 0)
-        begun = now();
-    double time = now() - begun - 4;
-    if ((time < 0 || time >= outage) && waiting < WAITING)
-        hold_back(datagram, 20e-3);
+        begun = time;
+    if ((time >= begun + 4 && time < begun + 4 + down) || waiting == WAITING)
+        return;
+    if (loss > 0 && (double)(draw(&seed) % 100) < 100 * loss)
+        return;
+    if (rate > 0) {
+        *next = *next > time ? *next : time;
+        if (*next > time + 100e-3)
+            return;
+        sent = *next += (double)(datagram->length + 28) / rate;
+    }
+    hold_until(datagram, sent + 20e-3);
 }
 
 // Drops the datagram, sends it once or twice, or holds it back.
@@ -133,7 +147,7 @@ static void pass_on(const Held *datagram)
     if (chance >= 8 && chance < 13)
         put(datagram);
     if (chance >= 90 && waiting < WAITING)
-        hold_back(datagram, 1e-3 * (double)(1 + draw(&seed) % 8));
+        hold_until(datagram, now() + 1e-3 * (double)(1 + draw(&seed) % 8));
     else
         put(datagram);
 }
@@ -151,8 +165,8 @@ static void take(int index, const struct sockaddr_in *server)
         int client = index == 0 ? client_at(&from, server) : index;
         datagram.socket = sockets[index == 0 ? client : 0].fd;
         datagram.to = index == 0 ? (struct sockaddr_in){ 0 } : clients[client];
-        if (client != 0 && outage > 0)
-            pass_on_but_for_outage(&datagram);
+        if (client != 0 && is_line)
+            pass_over_line(&datagram);
         else if (client != 0)
             pass_on(&datagram);
     }
@@ -179,7 +193,18 @@ int main(int count, char **words)
     struct sockaddr_in here = local(number_of(count, words, 1, 1, 65535));
     struct sockaddr_in server = local(number_of(count, words, 2, 1, 65535));
     seed = (uint64_t)number_of(count, words, 3, 0, INT32_MAX);
-    outage = count > 4 ? 1e-3 * (double)number_of(count, words, 4, 1, 60000) : 0;
+    is_line = count > 4;
+    for (int i = 4; i < count; i += 2) {
+        double number = (double)number_of(count, words, i + 1, 1, 1000000);
+        if (strcmp(words[i], "down") == 0)
+            down = 1e-3 * number;
+        else if (strcmp(words[i], "loss") == 0)
+            loss = 1e-2 * number;
+        else if (strcmp(words[i], "rate") == 0)
+            rate = 1e3 / 8 * number;
+        else
+            give_up("proxy: %s is no word", words[i]);
+    }
     sockets[0] = (struct pollfd){ .fd = open_socket(), .events = POLLIN };
     if (bind(sockets[0].fd, (const struct sockaddr *)&here, sizeof here) != 0)
         give_up("proxy: port %s can't be had", words[1]);

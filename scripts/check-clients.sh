@@ -35,15 +35,15 @@ end_attempt() {
 # The scenario $2 with $3 clients and a relay of $4 slots, on ports $5 and $6. $1 is its name here, which says whether the way is lossy or
 # has an outage; $7 seeds the proxy. The status is the client's, or 1 where the relay or the proxy ended; what went wrong is on standard output.
 attempt() {
-    local words=() places=65536 to=$5 down='' status
+    local words=() line=() places=65536 to=$5 status
     [ "$program" = reference ] && words+=(reference)
     [ "$2" = crowd ] && places=64
     relay "$program" "$5" "$4" "$room" "$places" > /dev/null 2> "$room/$1.relay" &
     relay=$!
     if [[ $1 != *straight ]]; then
         to=$6
-        if [[ $1 == *lossy ]]; then words+=(lossy); else down=4000; fi
-        "$room/proxy" "$6" "$5" "$7" $down 2> "$room/$1.proxy" &
+        if [[ $1 == *lossy ]]; then words+=(lossy); else line=(down 4000); fi
+        "$room/proxy" "$6" "$5" "$7" "${line[@]}" 2> "$room/$1.proxy" &
         proxy=$!
     fi
     if [ "$2" = crowd ]; then

@@ -1,11 +1,23 @@
 #!/usr/bin/env bash
-# Tries the edits of edits/CRATE/, which the gate leaves alone: `check-edits.sh [--read] [CRATE..]`, where no crate is named each that
-# has some. First `rt lib` proves the crates as they stand, with what is below them, over what earlier checks left in out/; where that
-# is nothing, it takes an hour and more. Then the edits are tried in a copy of the repository, in place of the crate's must-fail/:
-# `rt must-fail` has to refuse each for what the code does, and not only because a proof file names what the edit took away. A crate's
-# first edit costs its whole proof, each further one 10 to 40 seconds. With --read nothing is proved: in half a minute it shows which
-# edits no longer fit the text. Prints what went wrong, and for each crate how many edits were refused, and in how many seconds. The last
-# line is 'N passed, M failed'; the status is 1 where one failed, or where nothing was tried.
+# Tries the edits of edits/CRATE/, which the gate leaves alone, and those of crates/CRATE/must-fail/: `check-edits.sh [--read] [CRATE..]`, where
+# no crate is named each that has some. `rt check` proves the crates as they stand, in a copy of the repository, over what checks in any clone
+# on this machine kept; where that is nothing, it takes an hour and more. Then each edit is made there and checked, in 10 to 40 seconds, and
+# is told by how the prover refuses it:
+#
+#     false   It names values that all facts known at a goal allow and at which the goal is false, and has computed it there ('the facts known
+#             there allow values at which this goal is false'). No proof of the edited code gets past that, as long as nothing else is known.
+#     limit   Its search for a proof ended at a limit of time or steps ('`search` gave up at one of its limits'), and found no such values.
+#     open    Its search ended without a proof, for want of a lemma perhaps, and found no such values.
+#     proof   A lemma that was written for the code as it was doesn't fit. Where an answer to a goal doesn't, the edit is checked once more
+#             without that answer, and is told by what comes of it then.
+#     name    Nothing but a proof file that names what the edit took away is wrong.
+#
+# Only the first shows that a contract doesn't allow the edit: a goal that is limit, open or proof may be true and three lines away from its
+# proof. So is, for one, that of a call which answers 'no memory' where it likes: no clause says when memory is wanting. Passed are those that
+# are false; limit, open and proof neither pass nor fail, and are named. An edit fails of which only a name is gone, that is still proved, that
+# can't be made or read, or came to no result. With --read nothing is proved: in half a minute it shows which edits no longer fit the text, and
+# each that fits passes. Prints what failed, and for each crate how many edits became what, in how many seconds. The last line is 'N passed, M
+# failed'; the status is 1 where one failed, or nothing was tried.
 cd "$(dirname "$0")/.." || exit 1
 passed=0
 failed=0
@@ -15,69 +27,132 @@ fail() {
     failed=$((failed + 1))
 }
 
-# Whether edits/ has some of the crate $1, and it is proved as it stands.
-is_ready() {
-    if [[ $1 == */* ]] || [ ! -d "crates/$1" ] || [ ! -d "edits/$1" ]; then
-        fail "$1" "edits/ has none of a crate of this name"
-    elif [ "$way" = try ] && ! (cd "crates/$1" && rt lib --jobs 1) > "$room/said" 2>&1; then
-        fail "$1" "it isn't proved as it stands: $(grep -m 3 error "$room/said" || tail -n 3 "$room/said")"
-    else
-        return 0
-    fi
+# Whether there are edits of the crate $1.
+has_edits() {
+    [[ $1 != */* ]] && [ -d "crates/$1" ] && [ -d "edits/$1" -o -d "crates/$1/must-fail" ] && return
+    fail "$1" "there are no edits of a crate of this name"
     return 1
 }
 
-# Copies what `rt` reads of the repository, with the edits of these crates, and of out/ the built libraries, as links to the same files
-# where the file system has them: `rt` removes a library before it builds it anew, and uses it only where it is built of the text at hand.
+# Copies what `rt` reads of the repository, with all edits of these crates in must-fail/.
 copy() {
-    local crate library
-    mkdir "$copy" && tar -cf - --exclude='crates/*/out' crates crates.txt | tar -xf - -C "$copy" || return 1
+    local crate
+    mkdir "$copy" && tar -cf - --exclude='crates/*/out' crates crates.txt HANDLES | tar -xf - -C "$copy" || return 1
     for crate; do
-        rm -rf "$copy/crates/$crate/must-fail"
-        cp -r "edits/$crate" "$copy/crates/$crate/must-fail" || return 1
-    done
-    [ "$way" = try ] || return 0
-    for library in crates/*/out/rlib; do
-        mkdir "$copy/${library%/rlib}"
-        cp -al "$library" "$copy/$library" 2> "$room/links" && continue
-        rm -rf "${copy:?}/$library"
-        cp -a "$library" "$copy/$library" || return 1
+        mkdir -p "$copy/crates/$crate/must-fail"
+        [ ! -d "edits/$crate" ] || cp "edits/$crate"/* "$copy/crates/$crate/must-fail/" || return 1
     done
 }
 
-# What `rt` said of the edit $1, up to what it said of the next one.
-said_of() {
-    awk -v label="must-fail $1: " 'index($0, label) { on = 1; print; next } /^rt: / { on = 0 } on' "$room/said"
+# Makes the edit of the file $1 in the folder, where it may stand: each `old:` once in its file. What doesn't fit is on standard error.
+make_edit() {
+    awk '
+        function give_up(why) { print why > "/dev/stderr"; bad = 1; exit 1 }
+        function text_of(path, line, text) {
+            while ((getline line < path) > 0) text = text line "\n"
+            close(path)
+            return text
+        }
+        /^file: / { path = substr($0, 7) }
+        /^old: / { old = substr($0, 6) }
+        /^new:/ {
+            text = text_of(path)
+            at = old == "" ? 0 : index(text, old)
+            rest = substr(text, at + length(old))
+            if (at == 0 || index(rest, old) > 0) give_up("an `old:` text does not stand once in " path)
+            printf "%s%s%s", substr(text, 1, at - 1), substr($0, 6), rest > path
+            close(path)
+            made = 1
+        }
+        END { if (!made && !bad) give_up("it has no pair of `old:` and `new:`") }
+    ' "$1"
 }
 
-# Has `rt must-fail` try the edits of the crate $1.
+# What became of an edit, by the status $1 with which `rt check` ended, and what it said in $room/said.
+outcome() {
+    local names='has no field|is not in scope|has no `|was not admitted'
+    if [ "$1" -eq 0 ]; then
+        echo 'not refused: the crate is still proved'
+    elif ! grep -q '^logic=not-proved' "$room/said"; then
+        echo "no result: $(grep -m 1 'error' "$room/said" || tail -n 1 "$room/said")"
+    elif grep -q '; the facts known there allow values at which this goal is false' "$room/said"; then
+        echo false
+    elif grep -Eq '`(search|grind)` gave up at one of its limits' "$room/said"; then
+        echo limit
+    elif grep -q '^note: [^ ]*: it is not proved that ' "$room/said"; then
+        echo open
+    elif grep -E '^(\./)?proofs/[^ ]+: error' "$room/said" | grep -Evq "$names"; then
+        echo proof
+    elif grep -Eq '^(\./)?proofs/[^ ]+: error' "$room/said"; then
+        echo name
+    else
+        echo "no result: $(grep -m 1 'error' "$room/said" || tail -n 1 "$room/said")"
+    fi
+}
+
+# Takes the answers away that don't fit their goals, by what `rt check` said. False where there are none.
+drop_answers() {
+    local file goal found=1
+    while read -r file goal; do
+        awk -v goal="$goal" 'BEGIN { RS = ""; ORS = "\n\n" } { text = "\n" $0 } index(text, "\npub " goal " :") == 0' "$file" > "$room/answers" &&
+            cp "$room/answers" "$file" && found=0
+    done < <(sed -nE 's/^(\.\/)?(proofs\/[^ ]*\/Answers\.antt):[0-9]+:[0-9]+: error: `([^`]+)`.*/\2 \3/p' "$room/said" | sort -u)
+    return "$found"
+}
+
+# Tries the edit of the file $1 of the crate $2, in its folder of the copy, over what the check of the crate as it stands kept.
+try_edit() {
+    local name=$2/${1##*/} what
+    rm -rf src specs proofs out
+    cp -a "$room/whole/." . || return 1
+    if ! make_edit "$1" 2> "$room/said"; then
+        fail "$name" "$(<"$room/said")"
+        return
+    fi
+    rt check --jobs 1 > "$room/said" 2>&1
+    what=$(outcome $?)
+    if [ "$what" = proof ] && drop_answers; then
+        rt check --jobs 1 > "$room/said" 2>&1
+        what=$(outcome $?)
+    fi
+    case $what in
+        false) passed=$((passed + 1)) ;;
+        limit | open | proof) echo "$name: $what: $(grep -m 1 -E ': error|^note: ' "$room/said" | cut -c 1-200)" ;;
+        *) fail "$name" "$what" ;;
+    esac
+    became[$what]=$((${became[$what]:-0} + 1))
+}
+
+# Tries all edits of the crate $1.
 try_all() {
-    local begun=$SECONDS refused=0 wrong=$failed edit name said status
-    (cd "$copy" && rt must-fail "$1") > "$room/said" 2>&1
-    status=$?
-    for edit in "edits/$1"/*; do
-        name=$1/${edit##*/}
-        said=$(said_of "$name")
-        case $said in
-            *": refused, as it must be: "*) refused=$((refused + 1)) ;;
-            *": refused, as it must be") fail "$name" "refused, but no clause is broken: only what a proof file names is gone" ;;
-            '') fail "$name" "it wasn't tried" ;;
-            *) fail "$name" "${said#*"$name: "}" ;;
-        esac
-    done
-    [ "$status" -eq 0 ] || [ "$failed" -gt "$wrong" ] || fail "$1" "'rt must-fail' ended with status $status: $(tail -n 3 "$room/said")"
-    passed=$((passed + refused))
-    echo "$1: $refused refused in $((SECONDS - begun)) seconds"
+    local begun=$SECONDS edit what told=''
+    local -A became=()
+    pushd "$copy/crates/$1" > /dev/null || return
+    if ! rt check --jobs 1 > "$room/said" 2>&1; then
+        fail "$1" "it isn't proved as it stands: $(grep -m 3 error "$room/said" || tail -n 3 "$room/said")"
+    else
+        rm -rf "$room/whole"
+        mkdir "$room/whole"
+        cp -a src specs proofs out "$room/whole/" 2> "$room/said"
+        for edit in must-fail/*; do
+            try_edit "$edit" "$1"
+        done
+        for what in false limit open proof; do
+            told="$told, ${became[$what]:-0} $what"
+        done
+        echo "$1:${told#,} in $((SECONDS - begun)) seconds"
+    fi
+    popd > /dev/null || return
 }
 
 # Has `rt fmt` read the edits of the crate $1: it tells of each that it can't apply.
 read_all() {
     local edit said
     (cd "$copy/crates/$1" && rt fmt) > "$room/said" 2>&1 || { fail "$1" "$(tail -n 3 "$room/said")"; return; }
-    for edit in "edits/$1"/*; do
+    for edit in "$copy/crates/$1/must-fail"/*; do
         said=$(grep -F "must-fail/${edit##*/} " "$room/said")
         [[ $edit == *.edit ]] || said="its name has to end in .edit"
-        if [ -z "$said" ]; then passed=$((passed + 1)); else fail "$edit" "$said"; fi
+        if [ -z "$said" ]; then passed=$((passed + 1)); else fail "$1/${edit##*/}" "$said"; fi
     done
 }
 
@@ -87,17 +162,16 @@ copy=$room/copy
 way=try
 [ "$1" != --read ] || { way='read'; shift; }
 if [ $# -eq 0 ]; then
-    for crate in edits/*; do
-        set -- "$@" "${crate#edits/}"
-    done
+    mapfile -t crates < <({ ls edits; ls -d crates/*/must-fail | cut -d / -f 2; } | sort -u)
+    set -- "${crates[@]}"
 fi
-ready=()
+known=()
 for crate; do
-    if is_ready "$crate"; then ready+=("$crate"); fi
+    if has_edits "$crate"; then known+=("$crate"); fi
 done
-if [ ${#ready[@]} -gt 0 ]; then
-    if copy "${ready[@]}"; then
-        for crate in "${ready[@]}"; do
+if [ ${#known[@]} -gt 0 ]; then
+    if copy "${known[@]}"; then
+        for crate in "${known[@]}"; do
             "${way}_all" "$crate"
         done
     else

@@ -1,5 +1,5 @@
 -- What a data command makes of an inbox.
-use Rattle.std.specs.Prelude.{◌≡◌, ℕ, not, Bool, true, false, nat_lt, nat_le, if◌then◌else◌, Option, Some, None, Result, Ok, Err, List, [], ◌∷◌, ◌++◌, length, map, slice_get, slice_set}
+use Rattle.std.specs.Prelude.{◌≡◌, ℕ, not, ◌&&◌, Bool, true, false, is_ok, nat_lt, nat_le, if◌then◌else◌, Option, Some, None, Result, Ok, Err, List, [], ◌∷◌, ◌++◌, length, map, slice_get, slice_set}
 use Rattle.enet_codec.specs.declared.packet.Packet.{Packet}
 use Rattle.enet_codec.specs.declared.stop.Stop.{Stop}
 use Rattle.enet_codec.specs.declared.stop.Stop.TheVariants as stop
@@ -12,7 +12,7 @@ use Rattle.enet_packets.specs.declared.incoming_packet.Dispatched.{Dispatched}
 use Rattle.enet_receiver.specs.declared.took.Took.{Took}
 use Rattle.enet_receiver.specs.declared.took.Took.TheVariants as took
 use Rattle.enet_receiver.specs.Foresight.{ReceivingEnd, outcome_for, after_command}
-use Rattle.enet_inbox.specs.Inbox.{Inbox, is_full, is_full_for}
+use Rattle.enet_inbox.specs.Inbox.{Inbox, is_full, is_full_for, given_way}
 
 -- what a data command makes of an inbox with ample memory: why it stops the datagram, or whether it may be acknowledged, and the
 -- inbox after it
@@ -79,9 +79,22 @@ arrival_of b m body = sequenced b m.head.channel (data_of m)
 abbrev pub plain_arrival : Inbox → Message → DataEffect
 plain_arrival b m = arrival_of b m m.body
 
+-- whether a command finds no room to begin its packet
+abbrev pub is_waiting : Result Bool Stop → Bool
+is_waiting (Err stop.Waiting) = true
+is_waiting _ = false
+
+-- whether a command that finds no room finds it once the unreliable packets that wait give way
+abbrev pub makes_room : Inbox → Message → Bool
+makes_room b m = is_waiting (plain_arrival b m).answer && is_ok (plain_arrival (given_way b) m).answer
+
+-- the inbox that a command meets: where that makes room for it, the unreliable packets that wait are given up
+abbrev pub met : Inbox → Message → Inbox
+met b m = if makes_room b m then given_way b else b
+
 -- a data command comes
 abbrev pub arrival : Inbox → Message → DataEffect
-arrival b m = plain_arrival b m
+arrival b m = plain_arrival (met b m) m
 
 -- a data command that is passed over, as by a peer that dispatches nothing more: tests of channel and length alone
 abbrev pub passed_length : Inbox → List ℕ → Bool → Result Bool Stop
@@ -121,7 +134,7 @@ is_kept_of b m (send_unsequenced group payload) = dispatches b.seen group
 is_kept_of b m body = is_kept_sequenced b m.head.channel (data_of m)
 
 abbrev pub is_kept : Inbox → Message → Bool
-is_kept b m = is_kept_of b m m.body
+is_kept b m = is_kept_of (met b m) m m.body
 
 -- what a call did, where `kept` says whether something of the command is kept: want of memory changes nothing, and comes only
 -- where nothing else stops the command and something of it is kept

@@ -13,7 +13,8 @@ use Rattle.enet_receiver.specs.declared.took.Foresight.{Foresight}
 use Rattle.enet_receiver.specs.Foresight.{ReceivingEnd}
 use Rattle.enet_receiver.specs.Foresight as receiving
 use Rattle.enet_inbox.specs.declared.arriving.Foreseen.{Foreseen}
-use Rattle.enet_inbox.specs.Inbox.{Inbox, is_full, is_full_for}
+use Rattle.enet_inbox.specs.Inbox.{Inbox, is_full, is_full_for, given_way}
+use Rattle.enet_inbox.specs.DataEffect.{plain_arrival, makes_room}
 
 abbrev pub inbox_of : ℕ → ℕ → List ReceivingEnd → Seen → List Packet → Inbox
 inbox_of max_packet max_waiting receivers seen untaken =
@@ -38,9 +39,9 @@ unsequenced_verdict b channel group payload =
 
 -- what becomes of a data command, as it is handed on
 abbrev pub seen_by : Took → Foresight → Result Foreseen Stop
-seen_by took.Held f = Ok (record { acknowledged = f.acknowledged; kept = true; dispatches = f.dispatches })
-seen_by took.Again f = Ok (record { acknowledged = f.acknowledged; kept = false; dispatches = f.dispatches })
-seen_by took.Outside f = Ok (record { acknowledged = f.acknowledged; kept = false; dispatches = f.dispatches })
+seen_by took.Held f = Ok (record { acknowledged = f.acknowledged; kept = true; makes_room = false; dispatches = f.dispatches })
+seen_by took.Again f = Ok (record { acknowledged = f.acknowledged; kept = false; makes_room = false; dispatches = f.dispatches })
+seen_by took.Outside f = Ok (record { acknowledged = f.acknowledged; kept = false; makes_room = false; dispatches = f.dispatches })
 seen_by took.Bad f = Err stop.BadFragment
 seen_by took.Waiting f = Err stop.Waiting
 seen_by took.Memory f = Err stop.Memory
@@ -57,14 +58,23 @@ foreseen_sequenced b channel o = seen_of (foresight_of b channel o)
 
 abbrev pub seen_new : Result Bool Stop → Result Foreseen Stop
 seen_new (Err why) = Err why
-seen_new (Ok is_new) = Ok (record { acknowledged = true; kept = is_new; dispatches = if is_new then 1 else 0 })
+seen_new (Ok is_new) = Ok (record { acknowledged = true; kept = is_new; makes_room = false; dispatches = if is_new then 1 else 0 })
 
 abbrev pub foreseen_of : Inbox → Message → Body → Result Foreseen Stop
 foreseen_of b m (send_unsequenced group payload) = seen_new (unsequenced_verdict b m.head.channel group payload)
 foreseen_of b m body = foreseen_sequenced b m.head.channel (data_of m)
 
+-- what becomes of a data command where nothing gives way to it
+abbrev pub plain_foreseen : Inbox → Message → Result Foreseen Stop
+plain_foreseen b m = foreseen_of b m m.body
+
+-- what becomes of a command once the unreliable packets that wait have given way, by its answer then
+abbrev pub with_room : Result Bool Stop → Result Foreseen Stop
+with_room (Err why) = Err why
+with_room (Ok may) = Ok (record { acknowledged = may; kept = true; makes_room = true; dispatches = 0 })
+
 abbrev pub foreseen : Inbox → Message → Result Foreseen Stop
-foreseen b m = foreseen_of b m m.body
+foreseen b m = if makes_room b m then with_room (plain_arrival (given_way b) m).answer else plain_foreseen b m
 
 -- its answer: why it stops the datagram, or whether it may be acknowledged
 abbrev pub told : Result Foreseen Stop → Result Bool Stop

@@ -14,7 +14,9 @@ pub struct Foreseen {
     pub acknowledged: bool,
     /// Whether something of it is kept.
     pub kept: bool,
-    /// How many packets it dispatches.
+    /// Whether it makes room for itself, so that the unreliable packets that wait are given up.
+    pub makes_room: bool,
+    /// How many packets it dispatches; 0 where it makes room for itself, since that isn't looked at before.
     pub dispatches: u32,
 }
 
@@ -32,6 +34,7 @@ pub(crate) fn seen(foresight: Foresight) -> Result<Foreseen, Stop>
     Ok(Foreseen {
         acknowledged: foresight.acknowledged,
         kept,
+        makes_room: false,
         dispatches: foresight.dispatches,
     })
 }

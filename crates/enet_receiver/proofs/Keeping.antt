@@ -7,7 +7,7 @@ use Rattle.enet_seq.specs.Windows.{ahead, after}
 use Rattle.enet_fragment.specs.PartialPacket.{count_of}
 use Rattle.enet_packets.specs.declared.incoming_packet.IncomingPacket.{IncomingPacket}
 use Rattle.enet_packets.specs.Packets.{line_at, still_ahead}
-use Rattle.enet_receiver.specs.Receiver.{Receiver, without, with_passed, with_dispatched, released, all_released, flushed_from, flushed_last, front_line, cleared}
+use Rattle.enet_receiver.specs.Receiver.{Receiver, without, with_passed, with_dispatched, released, all_released, flushed_from, flushed_last, front_line, cleared, without_waiting}
 use Rattle.enet_packets.specs.declared.incoming_packet.Dispatched.{Dispatched}
 use Rattle.enet_receiver.specs.ReceiverParts.{receiver_of}
 use Rattle.enet_receiver.specs.Invariant.{IsWaiting, Keeps}
@@ -101,6 +101,14 @@ Keeps-new most out small = record {
   packet = small;
   wire = omega arith;
   held = λ q c e. absurd (let n = get-empty {X = IncomingPacket} nat_cmp q in cc);
+  waiting = λ q c e. absurd (let n = get-empty {X = Line} nat_cmp q in cc);
+}
+
+pub Keeps-without_waiting : (most : ℕ) (r : Receiver) → Keeps most r → Keeps most (without_waiting r)
+Keeps-without_waiting most r k = record {
+  packet = k.packet;
+  wire = k.wire;
+  held = k.held;
   waiting = λ q c e. absurd (let n = get-empty {X = Line} nat_cmp q in cc);
 }
 

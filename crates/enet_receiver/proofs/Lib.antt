@@ -19,3 +19,4 @@ pub mod Taken
 pub mod PassedOn
 pub mod Answered
 pub mod Sequenced
+pub mod Alone

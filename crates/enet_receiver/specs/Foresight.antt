@@ -7,7 +7,7 @@ use Rattle.enet_fragment.specs.DataCommand.{data_of}
 use Rattle.enet_receiver.specs.declared.took.Took.{Took}
 use Rattle.enet_receiver.specs.declared.took.Took.TheVariants.{Held, Bad, Memory}
 use Rattle.enet_receiver.specs.declared.took.Foresight.{Foresight}
-use Rattle.enet_receiver.specs.Receiver.{Receiver, nothing_received}
+use Rattle.enet_receiver.specs.Receiver.{Receiver, nothing_received, without_waiting}
 use Rattle.enet_receiver.specs.DataOutcome.{outcome, received, acknowledged, dispatch_count}
 
 -- a receiver of a channel, for packets of at most so many bytes
@@ -19,6 +19,10 @@ pub record ReceivingEnd : Type 0 where
 -- to which nothing came
 abbrev pub new_end : ℕ → ℕ → ReceivingEnd
 new_end channel max_packet = record { channel = channel; max_packet = max_packet; receiver = nothing_received }
+
+-- once the unreliable packets that wait or are in the making are given up
+abbrev pub alone : ReceivingEnd → ReceivingEnd
+alone e = record e { receiver = without_waiting e.receiver }
 
 -- which of the four commands a message is
 abbrev pub is_reliable : Body → Bool

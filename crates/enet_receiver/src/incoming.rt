@@ -13,9 +13,10 @@ ghost use Rattle.enet_receiver.specs.ReceiverParts.{with_first};
 ghost use Rattle.enet_receiver.specs.Private.ReceiverParts.{with_kept, grown_at, answered_with};
 ghost use Rattle.enet_receiver.specs.Private.InPlace.{ComesAlone, GoesAtOnce, with_moved, only_packet_from};
 ghost use Rattle.enet_receiver.specs.Private.Walk.{Completes};
+ghost use Rattle.enet_packets.specs.Packets.{bytes_in};
 ghost use Rattle.enet_receiver.specs.Receiver.{held_bytes, cleared};
 ghost use Rattle.enet_receiver.specs.DataOutcome.{outcome, outcome_of, place_read, came_at, came_before, is_behind, is_next, is_handled, dispatch_count};
-ghost use Rattle.enet_receiver.specs.Foresight.{new_end, data_if, is_reliable, is_unreliable, is_fragment, is_unreliable_fragment, outcome_for, after_command, WouldBeHeld, Receives, foreseen};
+ghost use Rattle.enet_receiver.specs.Foresight.{new_end, data_if, is_reliable, is_unreliable, is_fragment, is_unreliable_fragment, outcome_for, after_command, WouldBeHeld, Receives, foreseen, alone};
 
 use crate::arriving_data::ArrivingData;
 use crate::foreseeing::{Completed, dispatches};
@@ -31,6 +32,7 @@ use enet_seq::{acknowledges, after, fragment_in_window, in_window};
 use std::alloc::Global;
 use std::collections::VecDeque;
 use std::marker::Model;
+use std::mem;
 
 /// One channel's receiver: it dispatches reliable packets in the order of their numbers, and unreliable ones in their places
 /// between them, and holds those that came early. Contracts see it as a `ReceivingEnd`.
@@ -267,6 +269,40 @@ impl Incoming {
         self.hand_out(arriving)
     }
 
+    /// Takes a command in, as `take_in` does, where the unreliable packets that wait or are in the making make room for it: they
+    /// are given up first. False, with nothing changed, where memory is refused.
+    pub fn take_in_instead(&mut self, arriving: ArrivingData<'_>) -> bool
+        requires { WouldBeHeld (alone self.old) (Some (data_command arriving)) }
+        ensures taken { IsTrue result → ((full : Bool) → outcome_for (alone self.old) (Some (data_command arriving.entry)) full ≡ Took.Held
+            → self.new ≡ after_command (alone self.old) (Some (data_command arriving.entry)) full) }
+        ensures unchanged { result ≡ false → self.new ≡ self.old }
+    {
+        let aside = mem::replace(&mut self.waiting, Waiting::new(self.alloc));
+        if self.take_in(arriving) {
+            return true;
+        }
+        self.waiting = aside;
+        false
+    }
+
+    /// How many packets `take_in_instead` would dispatch. Nothing changes.
+    pub fn dispatches_instead(&mut self, arriving: ArrivingData<'_>) -> u32
+        ensures count { result ≡ (foreseen (alone self.old) (Some (data_command arriving.entry)) false).dispatches }
+        ensures unchanged { self.new ≡ self.old }
+    {
+        let aside = mem::replace(&mut self.waiting, Waiting::new(self.alloc));
+        let foresight = self.foresee_data(arriving, false);
+        self.waiting = aside;
+        foresight.dispatches
+    }
+
+    /// Gives the unreliable packets up that wait or are in the making.
+    pub fn give_way(&mut self)
+        ensures { self.new ≡ alone self.old }
+    {
+        self.waiting.clear();
+    }
+
     /// Whether a command is of the packet just past the front, the next that is dispatched.
     pub fn is_next(&self, arriving: ArrivingData<'_>) -> bool
         ensures { result ≡ is_next self.now.receiver (data_command arriving.entry) }
@@ -280,6 +316,20 @@ impl Incoming {
         ensures { result ≡ held_bytes self.now.receiver }
     {
         self.held.bytes() + self.waiting.bytes()
+    }
+
+    /// The bytes that `held` counts of unreliable packets.
+    pub fn waiting(&self) -> u64
+        ensures { result ≡ bytes_in self.now.receiver.waiting }
+    {
+        self.waiting.bytes()
+    }
+
+    /// The channel whose receiver it is.
+    pub fn channel(&self) -> u8
+        ensures { result ≡ self.now.channel }
+    {
+        self.channel
     }
 
     /// The next dispatched packet, in the order in which they were dispatched; None where none is left. It takes no memory.

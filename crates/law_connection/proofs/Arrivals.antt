@@ -15,7 +15,7 @@ use Rattle.enet_receiver.specs.Receiver.{Receiver, nothing_received}
 use Rattle.enet_receiver.specs.Foresight.{ReceivingEnd}
 use Rattle.enet_inbox.specs.Inbox.{Inbox, is_full}
 use Rattle.enet_unsequenced.specs.Groups.{dispatches}
-use Rattle.enet_inbox.specs.DataEffect.{DataEffect, handled, stopped as refused, unsequenced, unsequenced_taken, passed_over_on, sequenced_on, passed_over, arrival}
+use Rattle.enet_inbox.specs.DataEffect.{DataEffect, handled, stopped as refused, unsequenced, unsequenced_taken, passed_over_on, sequenced_on, passed_over, met, arrival}
 use Rattle.enet_sender.specs.Sender.{Sender, nothing_sent}
 use Rattle.enet_sender.specs.Due.{SendingEnd}
 use Rattle.enet_outbox.specs.Outbox.{cleared_sender}
@@ -33,7 +33,7 @@ use Rattle.law_connection.specs.Linked.{sends_in, dispatches_in, sender_in, rece
 use Rattle.law_connection.specs.Invariant.{AreInPlace, IsTidy, is_young}
 use Rattle.law_connection.proofs.Runs.{less-or-not}
 use Rattle.law_connection.proofs.Relinking.{relinks, stays, sending-of, receiving-of, sending-by}
-use Rattle.law_connection.proofs.GivingWay.{met_by, met-flat, both-met}
+use Rattle.law_connection.proofs.GivingWay.{met-flat, both-met}
 use Rattle.law_connection.proofs.Commands.{Holds, holds-quiet, holds-stops, outcome-if, holds-answered, holds-acknowledged, holds-disconnect, holds-inbox, stops-ended, quiet-out}
 use Rattle.law_connection.proofs.SequencedData.{Logged, holds-sequenced, holds-passed}
 
@@ -52,15 +52,15 @@ data-state state.Free body n e = absurd (let x : false ≡ true = e in cc)
 data-state state.Ended body n e = absurd (let x : false ≡ true = e in cc)
 data-state state.Parting body n e = absurd (let x : false ≡ true = e in cc)
 
--- sequenced data, by the state; `way` says whether the inbox gives way first
-data-by : (own other : End) (p : Peering) (way : Bool) (put : Put) (c : DataCommand) (sent : Option ℕ) → Logged other put c → IsTidy own.submitted p
+-- sequenced data, by the state
+data-by : (own other : End) (p : Peering) (put : Put) (c : DataCommand) (sent : Option ℕ) → Logged other put c → IsTidy own.submitted p
     → ((is_later p.state ≡ false) × (dispatches_in p.state ≡ true)) ⊎ ((is_later p.state ≡ true) × (dispatches_in p.state ≡ false))
     → Holds own other p → Holds own other (cond (is_later p.state) (by_answer p put.message sent (passed_over_on p.inbox c (slice_get p.inbox.receivers put.message.head.channel)))
-    (by_arrival p put.message sent (sequenced_on (met_by way p.inbox) put.message.head.channel c (slice_get (met_by way p.inbox).receivers put.message.head.channel)))).after
-data-by own other p way put c sent logged tidy at h = by at
+    (by_arrival p put.message sent (sequenced_on (met p.inbox put.message) put.message.head.channel c (slice_get (met p.inbox put.message).receivers put.message.head.channel)))).after
+data-by own other p put c sent logged tidy at h = by at
   where
     b : Inbox
-    b = met_by way p.inbox
+    b = met p.inbox put.message
 
     later : Outcome
     later = by_answer p put.message sent (passed_over_on p.inbox c (slice_get p.inbox.receivers put.message.head.channel))
@@ -70,7 +70,7 @@ data-by own other p way put c sent logged tidy at h = by at
 
     by : ((is_later p.state ≡ false) × (dispatches_in p.state ≡ true)) ⊎ ((is_later p.state ≡ true) × (dispatches_in p.state ≡ false)) → Holds own other (cond (is_later p.state) later takes).after
     by (inl s) = subst (λ t. Holds own other (cond t later takes).after) (sym s.0)
-        (holds-sequenced own other (record p { inbox = b }) put c sent s.1 logged (met-flat way p.inbox tidy.receivers) (both-met way own other p h))
+        (holds-sequenced own other (record p { inbox = b }) put c sent s.1 logged (met-flat p.inbox put.message tidy.receivers) (both-met own other p put.message h))
     by (inr s) = subst (λ t. Holds own other (cond t later takes).after) (sym s.0) (holds-passed own other p put c sent s.1 logged h)
 
 logged-of : (other : End) (put : Put) (c : DataCommand) → IsClean other → Has other.log put → data_of put.message ≡ Some c → put.message.head.number ≡ c.number
@@ -121,10 +121,10 @@ holds-unsequenced : (own other : End) (p : Peering) (h : Head) (group : ℕ) (pa
     → Holds own other (on_data p (record { head = h; body = send_unsequenced group payload }) sent).after
 holds-unsequenced own other p h group payload sent far k =
     let m : Message = record { head = h; body = send_unsequenced group payload } in
-    let b : Inbox = met_by false p.inbox in
+    let b : Inbox = met p.inbox m in
     let a : DataEffect = arrival p.inbox m in
     outcome-if own other (is_later p.state) (by_answer p m sent (passed_over p.inbox m)) (by_arrival p m sent a) (λ t. by-result own other p m sent (passed_over p.inbox m) far k)
-    (by-result own other (record p { inbox = a.after }) m sent a.answer far (holds-inbox own other (record p { inbox = b }) a (unsequenced-taken b h.channel group payload) (both-met false own other p k)))
+    (by-result own other (record p { inbox = a.after }) m sent a.answer far (holds-inbox own other (record p { inbox = b }) a (unsequenced-taken b h.channel group payload) (both-met own other p m k)))
 
 -- the client's connection stands
 
@@ -227,19 +227,19 @@ holds-coming own other p h sent_then now sent (send_reliable payload) there clea
     let m : Message = record { head = h; body = send_reliable payload } in
     let c : DataCommand = record { reliable = true; number = h.number; unreliable = 0; fragment = None; body = payload } in
     outcome-if own other (is_allowed p.state m.body) (by_body p now sent m m.body) (stopped p stop.NotConnected)
-    (λ t. data-by own other p false (made h sent_then m.body) c sent (logged-of other (made h sent_then m.body) c clean there refl refl (λ few. late few c refl)) tidy (data-state p.state m.body refl t) k) k
+    (λ t. data-by own other p (made h sent_then m.body) c sent (logged-of other (made h sent_then m.body) c clean there refl refl (λ few. late few c refl)) tidy (data-state p.state m.body refl t) k) k
 holds-coming own other p h sent_then now sent (send_unreliable n payload) there clean tidy late late' k =
     let m : Message = record { head = h; body = send_unreliable n payload } in
     let c : DataCommand = record { reliable = false; number = h.number; unreliable = n; fragment = None; body = payload } in
     outcome-if own other (is_allowed p.state m.body) (by_body p now sent m m.body) (stopped p stop.NotConnected)
-    (λ t. data-by own other p false (made h sent_then m.body) c sent (logged-of other (made h sent_then m.body) c clean there refl refl (λ few. late few c refl)) tidy (data-state p.state m.body refl t) k) k
+    (λ t. data-by own other p (made h sent_then m.body) c sent (logged-of other (made h sent_then m.body) c clean there refl refl (λ few. late few c refl)) tidy (data-state p.state m.body refl t) k) k
 holds-coming own other p h sent_then now sent (send_fragment f payload) there clean tidy late late' k =
     let m : Message = record { head = h; body = send_fragment f payload } in
     let c : DataCommand = record { reliable = true; number = h.number; unreliable = 0; fragment = Some f; body = payload } in
     outcome-if own other (is_allowed p.state m.body) (by_body p now sent m m.body) (stopped p stop.NotConnected)
-    (λ t. data-by own other p false (made h sent_then m.body) c sent (logged-of other (made h sent_then m.body) c clean there refl refl (λ few. late few c refl)) tidy (data-state p.state m.body refl t) k) k
+    (λ t. data-by own other p (made h sent_then m.body) c sent (logged-of other (made h sent_then m.body) c clean there refl refl (λ few. late few c refl)) tidy (data-state p.state m.body refl t) k) k
 holds-coming own other p h sent_then now sent (send_unreliable_fragment f payload) there clean tidy late late' k =
     let m : Message = record { head = h; body = send_unreliable_fragment f payload } in
     let c : DataCommand = record { reliable = false; number = h.number; unreliable = f.start; fragment = Some f; body = payload } in
     outcome-if own other (is_allowed p.state m.body) (by_body p now sent m m.body) (stopped p stop.NotConnected)
-    (λ t. data-by own other p false (made h sent_then m.body) c sent (logged-of other (made h sent_then m.body) c clean there refl refl (λ few. late few c refl)) tidy (data-state p.state m.body refl t) k) k
+    (λ t. data-by own other p (made h sent_then m.body) c sent (logged-of other (made h sent_then m.body) c clean there refl refl (λ few. late few c refl)) tidy (data-state p.state m.body refl t) k) k

@@ -1,7 +1,7 @@
 -- A receiver to which nothing came dispatches the first reliable packet at once, and so its peer has it. (Finite maps don't compute, so a run that takes
 -- a packet needs this.)
-use Rattle.std.proofs.Common.{◌≡◌, ℕ, zero, suc, ◌+◌, true, false, cond, List, [], ◌∷◌, ◌++◌, map, refl, sym, ap, subst, ◌∙◌, arith, Option, Some, None}
-use Rattle.std.specs.Prelude.{◌&&◌}
+use Rattle.std.proofs.Common.{◌≡◌, ℕ, zero, suc, ◌+◌, Bool, true, false, cond, List, [], ◌∷◌, ◌++◌, map, refl, sym, ap, subst, ◌∙◌, arith, Option, Some, None}
+use Rattle.std.specs.Prelude.{◌&&◌, is_ok}
 use Rattle.std.specs.Ordering.{nat_cmp}
 use Rattle.std.specs.FinMap.{get, len, entries, get-empty}
 use Rattle.enet_codec.specs.declared.packet.Packet.{Packet}
@@ -22,8 +22,8 @@ use Rattle.enet_receiver.specs.Foresight.{ReceivingEnd, new_end}
 use Rattle.enet_receiver.specs.DataOutcome.{outcome, outcome_of, is_piece, agrees_with, received, received_with, earlier_or_new, with_more, with_added}
 use Rattle.enet_receiver.proofs.Maps.{get-insert_same}
 use Rattle.enet_receiver.proofs.Released.{released-keeps, nothing_held}
-use Rattle.enet_inbox.specs.Inbox.{empty_inbox, is_full_for}
-use Rattle.enet_inbox.specs.DataEffect.{packet_of, by_took}
+use Rattle.enet_inbox.specs.Inbox.{Inbox, empty_inbox, is_full_for, given_way}
+use Rattle.enet_inbox.specs.DataEffect.{packet_of, by_took, is_waiting, met, plain_arrival}
 use Rattle.enet_peer.specs.declared.parts.PeerState.TheVariants as state
 use Rattle.enet_peer.specs.Peering.{Peering}
 use Rattle.enet_peer.specs.CommandEffect.{Outcome, obeyed, by_arrival}
@@ -97,8 +97,17 @@ by-outcome p t = by_arrival (ready p) first_message (Some 0) (by_took t (empty_i
 not-full : is_full_for (empty_inbox 1 1000 1000) receiving first_command ≡ false
 not-full = refl
 
+-- it is taken in, so nothing gives way to it
+met-empty : met (empty_inbox 1 1000 1000) first_message ≡ empty_inbox 1 1000 1000
+met-empty =
+    let b : Inbox = empty_inbox 1 1000 1000 in
+    let room : Bool = is_ok (plain_arrival (given_way b) first_message).answer in
+    ap (λ (t : Took). cond (is_waiting (by_took t b 0 receiving first_command).answer && room) (given_way b) b) first-outcome
+
 comes : (p : Peering) → obeyed (ready p) 0 (Some 0) first_message ≡ by-outcome p Held
-comes p = ap (λ full. by-outcome p (outcome wire 1000 nothing_received first_command full)) not-full ∙ ap (by-outcome p) first-outcome
+comes p =
+    ap (λ (b : Inbox). by_arrival (ready p) first_message (Some 0) (plain_arrival b first_message)) met-empty
+    ∙ ap (λ full. by-outcome p (outcome wire 1000 nothing_received first_command full)) not-full ∙ ap (by-outcome p) first-outcome
 
 -- it has the packet, with whatever else was dispatched behind it
 pub rest : List Packet

@@ -1,11 +1,13 @@
 -- An inbox gives way before a command that comes: on each channel the receiving end gives up what waits. Nothing else of the peer changes.
 use Rattle.std.proofs.Common.{◌≡◌, ℕ, zero, suc, Bool, true, false, cond, List, [], ◌∷◌, map, refl, sym, ap, subst, ◌∙◌, Some}
 use Rattle.std.specs.List.{slice_get}
+use Rattle.enet_codec.specs.Message.{Message}
 use Rattle.enet_receiver.specs.Receiver.{Receiver, without_waiting}
 use Rattle.enet_receiver.specs.Foresight.{ReceivingEnd}
 use Rattle.enet_receiver.specs.Sequenced.{HasSequenced}
 use Rattle.enet_receiver.proofs.Sequenced.{sequenced-cleared}
 use Rattle.enet_inbox.specs.Inbox.{Inbox, given_way_receiver, given_way}
+use Rattle.enet_inbox.specs.DataEffect.{makes_room, met}
 use Rattle.enet_peer.specs.Peering.{Peering}
 use Rattle.law_connection.specs.WireLink.{WireLink, gives_up}
 use Rattle.law_connection.specs.LinkSteps.{GivesUp}
@@ -19,10 +21,6 @@ use Rattle.law_connection.proofs.Relinking.{relinks, receiving-of, sending-by, o
 -- the receivers of a peer between two commands
 abbrev pub AreFlat : List ReceivingEnd → Type 0
 AreFlat rs = (i : ℕ) (r : ReceivingEnd) → slice_get rs i ≡ Some r → (r.receiver.dispatched ≡ []) × HasSequenced r.receiver
-
--- the inbox that a command meets: one that gave way, or the one that was there
-abbrev pub met_by : Bool → Inbox → Inbox
-met_by way b = cond way (given_way b) b
 
 given_way-at : (rs : List ReceivingEnd) (i : ℕ) → receiver_in (slice_get (map given_way_receiver rs) i) ≡ without_waiting (receiver_in (slice_get rs i))
 given_way-at [] i = refl
@@ -53,12 +51,18 @@ both-given_way own other p is b = record {
     q : Peering
     q = record p { inbox = given_way p.inbox }
 
--- whether it gives way or not
+-- what a command meets: an inbox that gave way, or the one that was there
 
-pub met-flat : (way : Bool) (b : Inbox) → AreFlat b.receivers → AreFlat (met_by way b).receivers
-met-flat true b flat = given_way-flat b.receivers flat
-met-flat false b flat = flat
+pub met-flat : (b : Inbox) (m : Message) → AreFlat b.receivers → AreFlat (met b m).receivers
+met-flat b m flat = by (makes_room b m)
+  where
+    by : (way : Bool) → AreFlat (cond way (given_way b) b).receivers
+    by true = given_way-flat b.receivers flat
+    by false = flat
 
-pub both-met : (way : Bool) (own other : End) (p : Peering) → AreLinked (with_peer own p) other → AreLinked (with_peer own (record p { inbox = met_by way p.inbox })) other
-both-met true own other p h = both-given_way (with_peer own p) other p refl h
-both-met false own other p h = h
+pub both-met : (own other : End) (p : Peering) (m : Message) → AreLinked (with_peer own p) other → AreLinked (with_peer own (record p { inbox = met p.inbox m })) other
+both-met own other p m h = by (makes_room p.inbox m)
+  where
+    by : (way : Bool) → AreLinked (with_peer own (record p { inbox = cond way (given_way p.inbox) p.inbox })) other
+    by true = both-given_way (with_peer own p) other p refl h
+    by false = h

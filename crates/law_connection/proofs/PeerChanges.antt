@@ -23,7 +23,7 @@ use Rattle.enet_receiver.specs.declared.took.Took.{Took}
 use Rattle.enet_receiver.specs.declared.took.Took.TheVariants.{Held, Again, Outside, Bad, Waiting, Memory}
 use Rattle.enet_receiver.specs.Foresight.{ReceivingEnd, outcome_for, after_command}
 use Rattle.enet_inbox.specs.Inbox.{Inbox, is_full, is_full_for, given_way}
-use Rattle.enet_inbox.specs.DataEffect.{DataEffect, handled, stopped as refused, unsequenced, unsequenced_taken, handed_over, by_took, passed_over_on, sequenced_on, passed_over, arrival}
+use Rattle.enet_inbox.specs.DataEffect.{DataEffect, handled, stopped as refused, unsequenced, unsequenced_taken, handed_over, by_took, passed_over_on, sequenced_on, passed_over, makes_room, met, arrival}
 use Rattle.enet_sender.specs.Sender.{Occasion, Next, next, with_skipped}
 use Rattle.enet_sender.specs.Due.{SendingEnd}
 use Rattle.enet_outbox.specs.declared.parts.Matched.{Matched}
@@ -42,7 +42,6 @@ use Rattle.enet_peer.specs.Calls.{left, after_timeouts, after_timeouts_by, is_pi
 use Rattle.law_connection.specs.Steps.{Way, Asking, Now, Later, leave_by, Setting, Bandwidth, Throttle, ThrottleLimit, PingInterval, Timeout, with_setting, MaySet}
 use Rattle.enet_outbox.proofs.Filled.{by-filling}
 use Rattle.law_connection.proofs.Runs.{either, and-left}
-use Rattle.law_connection.proofs.GivingWay.{met_by}
 
 -- what a property may speak of
 pub record Core : Type 0 where
@@ -81,7 +80,7 @@ pub record Changes (P : Peering → Type 0) : Type 0 where
   pub quiet : (p q : Peering) → core q ≡ core p → P p → P q
   pub controls : (p : Peering) (what : Control) → is_offer what ≡ false → is_connected p.state ≡ true → P p → P (record p { outbox = with_control p.outbox what })
   pub ends : (p : Peering) (info : ℕ) → is_gone p.state ≡ false → P p → P (ended p info)
-  pub cuts : (p : Peering) (now : ℕ) → is_gone p.state ≡ true → has_ended p.outbox now p.patience ≡ true → P p → P (ended p 0)
+  pub cuts : (p : Peering) (now : ℕ) → is_gone p.state ≡ true → has_ended p.outbox now p.patience p.heard ≡ true → P p → P (ended p 0)
   pub frees : (p : Peering) → P p → P (freed p)
   pub parts : (p : Peering) (info : ℕ) → P p → P (parting p info)
   pub disconnects : (p : Peering) (info : ℕ) → stands p.state ≡ true → P p → P (disconnecting p info)
@@ -127,14 +126,14 @@ kept-settled P k p h = if-peer P (is_later p.state && is_done p.outbox) (disconn
 
 -- the clock
 
-kept-cut_off : (P : Peering → Type 0) → Changes P → (p : Peering) (now : ℕ) (s : PeerState) → p.state ≡ s → has_ended p.outbox now p.patience ≡ true → P p → P (cut_off_in s p)
+kept-cut_off : (P : Peering → Type 0) → Changes P → (p : Peering) (now : ℕ) (s : PeerState) → p.state ≡ s → has_ended p.outbox now p.patience p.heard ≡ true → P p → P (cut_off_in s p)
 kept-cut_off P k p now state.Answering e over h = k.frees p h
 kept-cut_off P k p now s e over h = elim (either (is_gone p.state)) [ inl gone ↦ k.cuts p now gone over h | inr here ↦ k.ends p 0 here h ]
 
 kept-timeouts : (P : Peering → Type 0) → Changes P → (p : Peering) (now : ℕ) → P p → P (after_timeouts p now)
-kept-timeouts P k p now h = by (has_ended p.outbox now p.patience) (has_late p.outbox now) refl
+kept-timeouts P k p now h = by (has_ended p.outbox now p.patience p.heard) (has_late p.outbox now) refl
   where
-    by : (a b : Bool) → has_ended p.outbox now p.patience ≡ a → P (after_timeouts_by (cond a Ends (cond b Resend No)) p now)
+    by : (a b : Bool) → has_ended p.outbox now p.patience p.heard ≡ a → P (after_timeouts_by (cond a Ends (cond b Resend No)) p now)
     by true b e = kept-cut_off P k p now p.state refl e h
     by false true e = k.marks p now h
     by false false e = h
@@ -321,10 +320,13 @@ kept-result P k p m sent (Ok may) h = kept-answered P k p m sent may h
 kept-arrival : (P : Peering → Type 0) → Changes P → (p : Peering) (m : Message) (sent : Option ℕ) (a : DataEffect) → P (record p { inbox = a.after }) → P (by_arrival p m sent a).after
 kept-arrival P k p m sent a h = kept-result P k (record p { inbox = a.after }) m sent a.answer h
 
--- the inbox gives way first, or doesn't
-kept-met : (P : Peering → Type 0) → Changes P → (way : Bool) (p : Peering) → is_connected p.state ≡ true → P p → P (record p { inbox = met_by way p.inbox })
-kept-met P k true p on h = k.gives_way p on h
-kept-met P k false p on h = h
+-- the inbox that a command meets
+kept-met : (P : Peering → Type 0) → Changes P → (p : Peering) (m : Message) → is_connected p.state ≡ true → P p → P (record p { inbox = met p.inbox m })
+kept-met P k p m on h = by (makes_room p.inbox m)
+  where
+    by : (way : Bool) → P (record p { inbox = cond way (given_way p.inbox) p.inbox })
+    by true = k.gives_way p on h
+    by false = h
 
 -- sequenced data
 kept-sequenced : (P : Peering → Type 0) → Changes P → (p : Peering) (j : ℕ) (c : DataCommand) → is_connected p.state ≡ true → P p → P (record p { inbox = (sequenced_on p.inbox j c (slice_get p.inbox.receivers j)).after })
@@ -342,20 +344,20 @@ kept-sequenced P k p j c on h = by (slice_get p.inbox.receivers j) refl
     by None there = h
     by (Some r) there = by-took r there (outcome_for r (Some c) (is_full_for p.inbox r c))
 
-kept-data : (P : Peering → Type 0) → Changes P → (p : Peering) (m : Message) (way : Bool) (c : DataCommand) (sent : Option ℕ) → (is_later p.state ≡ false → is_connected p.state ≡ true) → P p
+kept-data : (P : Peering → Type 0) → Changes P → (p : Peering) (m : Message) (c : DataCommand) (sent : Option ℕ) → (is_later p.state ≡ false → is_connected p.state ≡ true) → P p
     → P (cond (is_later p.state) (by_answer p m sent (passed_over_on p.inbox c (slice_get p.inbox.receivers m.head.channel)))
-    (by_arrival p m sent (sequenced_on (met_by way p.inbox) m.head.channel c (slice_get (met_by way p.inbox).receivers m.head.channel)))).after
-kept-data P k p m way c sent up h = by-later (is_later p.state) refl
+    (by_arrival p m sent (sequenced_on (met p.inbox m) m.head.channel c (slice_get (met p.inbox m).receivers m.head.channel)))).after
+kept-data P k p m c sent up h = by-later (is_later p.state) refl
   where
     j : ℕ
     j = m.head.channel
 
     b : Inbox
-    b = met_by way p.inbox
+    b = met p.inbox m
 
     by-later : (t : Bool) → is_later p.state ≡ t → P (cond t (by_answer p m sent (passed_over_on p.inbox c (slice_get p.inbox.receivers j))) (by_arrival p m sent (sequenced_on b j c (slice_get b.receivers j)))).after
     by-later true e = kept-result P k p m sent (passed_over_on p.inbox c (slice_get p.inbox.receivers j)) h
-    by-later false e = kept-arrival P k p m sent (sequenced_on b j c (slice_get b.receivers j)) (kept-sequenced P k (record p { inbox = b }) j c (up e) (kept-met P k way p (up e) h))
+    by-later false e = kept-arrival P k p m sent (sequenced_on b j c (slice_get b.receivers j)) (kept-sequenced P k (record p { inbox = b }) j c (up e) (kept-met P k p m (up e) h))
 
 -- an unsequenced packet
 if-arrival : (P : Peering → Type 0) (p : Peering) (b : Bool) (x y : DataEffect) → P (record p { inbox = x.after }) → P (record p { inbox = y.after }) → P (record p { inbox = (cond b x y).after })
@@ -381,12 +383,9 @@ kept-on_unsequenced P k p h group payload sent up a = by (is_later p.state) refl
     m : Message
     m = record { head = h; body = send_unsequenced group payload }
 
-    way : Bool
-    way = false
-
     by : (b : Bool) → is_later p.state ≡ b → P (cond b (by_answer p m sent (passed_over p.inbox m)) (by_arrival p m sent (arrival p.inbox m))).after
     by true e = kept-result P k p m sent (passed_over p.inbox m) a
-    by false e = kept-arrival P k p m sent (arrival p.inbox m) (kept-unsequenced P k (record p { inbox = met_by way p.inbox }) h.channel group payload (up e) (kept-met P k way p (up e) a))
+    by false e = kept-arrival P k p m sent (arrival p.inbox m) (kept-unsequenced P k (record p { inbox = met p.inbox m }) h.channel group payload (up e) (kept-met P k p m (up e) a))
 
 pub kept-obeyed : (P : Peering → Type 0) → Changes P → (p : Peering) (h : Head) (now : ℕ) (sent : Option ℕ) (body : Body) → P p → P (obeyed p now sent (record { head = h; body = body })).after
 kept-obeyed P k p h now sent body a = by body
@@ -414,10 +413,10 @@ kept-obeyed P k p h now sent body a = by body
     by (send_unsequenced group payload) = if-allowed (send_unsequenced group payload) (λ t.
         kept-on_unsequenced P k p h group payload sent (allowed-connected p.state (send_unsequenced group payload) refl t) a)
     by (send_reliable payload) = if-allowed (send_reliable payload) (λ t.
-        kept-data P k p (record { head = h; body = send_reliable payload }) false (record { reliable = true; number = h.number; unreliable = 0; fragment = None; body = payload }) sent (allowed-connected p.state (send_reliable payload) refl t) a)
+        kept-data P k p (record { head = h; body = send_reliable payload }) (record { reliable = true; number = h.number; unreliable = 0; fragment = None; body = payload }) sent (allowed-connected p.state (send_reliable payload) refl t) a)
     by (send_unreliable n payload) = if-allowed (send_unreliable n payload) (λ t.
-        kept-data P k p (record { head = h; body = send_unreliable n payload }) false (record { reliable = false; number = h.number; unreliable = n; fragment = None; body = payload }) sent (allowed-connected p.state (send_unreliable n payload) refl t) a)
+        kept-data P k p (record { head = h; body = send_unreliable n payload }) (record { reliable = false; number = h.number; unreliable = n; fragment = None; body = payload }) sent (allowed-connected p.state (send_unreliable n payload) refl t) a)
     by (send_fragment f payload) = if-allowed (send_fragment f payload) (λ t.
-        kept-data P k p (record { head = h; body = send_fragment f payload }) false (record { reliable = true; number = h.number; unreliable = 0; fragment = Some f; body = payload }) sent (allowed-connected p.state (send_fragment f payload) refl t) a)
+        kept-data P k p (record { head = h; body = send_fragment f payload }) (record { reliable = true; number = h.number; unreliable = 0; fragment = Some f; body = payload }) sent (allowed-connected p.state (send_fragment f payload) refl t) a)
     by (send_unreliable_fragment f payload) = if-allowed (send_unreliable_fragment f payload) (λ t.
-        kept-data P k p (record { head = h; body = send_unreliable_fragment f payload }) false (record { reliable = false; number = h.number; unreliable = f.start; fragment = Some f; body = payload }) sent (allowed-connected p.state (send_unreliable_fragment f payload) refl t) a)
+        kept-data P k p (record { head = h; body = send_unreliable_fragment f payload }) (record { reliable = false; number = h.number; unreliable = f.start; fragment = Some f; body = payload }) sent (allowed-connected p.state (send_unreliable_fragment f payload) refl t) a)
