@@ -5,7 +5,7 @@ use Rattle.std.proofs.lemmas.List.{length-append, length-map, length-take, lengt
 use Rattle.std.proofs.lemmas.List.Edits.{map_over_more}
 use Rattle.std.proofs.lemmas.List.FromFn.{map-range_with_len_more}
 use Rattle.std.proofs.lemmas.List.Folds.{list_all_more}
-use Rattle.std.proofs.lemmas.List.Sums.{sum_by_push, sum_by-take-le}
+use Rattle.std.proofs.lemmas.List.Sums.{sum_by_push}
 use Rattle.std.proofs.lemmas.List.Elements.{All-push, All-take, All-nil}
 use Rattle.std.proofs.lemmas.Option.{slice_get-get_or, slice_get_read, slice_get-map}
 use Rattle.std.specs.Option.{option_map}
@@ -13,10 +13,11 @@ use Rattle.slab.specs.Slab.{Slab, get}
 use Rattle.enet_sender.specs.declared.sent.Sent.{Sent}
 use Rattle.enet_sender.specs.declared.outgoing.Outgoing.{Outgoing}
 use Rattle.enet_sender.specs.Due.{SendingEnd, new_end}
-use Rattle.enet_sender.specs.Pending.{vacant, times}
+use Rattle.enet_sender.specs.Pending.{vacant, times, held}
 use Rattle.enet_sender.specs.Rings.{HasRoom, Rings, Keeps, no_rings, rings_of, keys_of, sender_of, end_of}
 use Rattle.enet_senders.specs.Senders.{ends_of, times_in, KeepsAll}
 use Rattle.enet_senders.proofs.Frames.{Framed, keeps-none}
+use Rattle.enet_senders.proofs.Dropping.{AreBare, sum-front, bare-times}
 
 -- so far the first i have changed
 abbrev pub partly : (SendingEnd → SendingEnd) → ℕ → List SendingEnd → List SendingEnd
@@ -58,11 +59,12 @@ front-stays count i ys zs f behind inside changed =
 pub ends-take : (s : Slab Sent) (n : ℕ) (channels : List Outgoing) → ends_of s (take n channels) ≡ take n (ends_of s channels)
 ends-take s n channels = sym (take-map (end_of s) n channels)
 
-pub keeps-take : (at : ℕ → Option Sent) (n : ℕ) (channels : List Outgoing) → KeepsAll at channels → KeepsAll at (take n channels)
-keeps-take at n channels all = record {
-  each = All-take (λ (o : Outgoing). Keeps at (rings_of o)) n channels all.each;
+-- where the others have no command
+pub keeps-take : (s : Slab Sent) (n : ℕ) (channels : List Outgoing) → KeepsAll (get s) channels → AreBare n (length channels) (ends_of s channels) → KeepsAll (get s) (take n channels)
+keeps-take s n channels all bare = record {
+  each = All-take (λ (o : Outgoing). Keeps (get s) (rings_of o)) n channels all.each;
   nothing = all.nothing;
-  names = λ key low. let most = all.names key low in let less = sum_by-take-le (times_in key) channels n in omega arith;
+  names = λ key low. sum-front (times_in key) n channels (λ j o behind there. bare-times s n channels all bare key j o behind there) ∙ all.names key low;
   room = All-take HasRoom n channels all.room;
 }
 
@@ -71,7 +73,7 @@ pub keeps-nil : (s : Slab Sent) → s.slots ≡ [] → KeepsAll (get s) []
 keeps-nil s empty = record {
   each = All-nil (λ (o : Outgoing). Keeps (get s) (rings_of o));
   nothing = ap (λ (slots : List (Option Sent)). get_or slots vacant None) empty;
-  names = λ key low. omega arith;
+  names = λ key low. sym (ap (λ (o : Option Sent). held (λ (k : ℕ). o) key) (ap (λ (slots : List (Option Sent)). get_or slots key None) empty));
   room = All-nil HasRoom;
 }
 
@@ -84,7 +86,7 @@ keeps-push s os o empty is room all =
       names = λ key low.
           let e = ap (λ (r : Rings). times key (keys_of r)) is in
           let h = sum_by_push (times_in key) os o in
-          let most = all.names key low in
+          let same = all.names key low in
           omega arith;
       room = All-push HasRoom os o all.room room;
     }

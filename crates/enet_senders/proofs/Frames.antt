@@ -139,7 +139,7 @@ framed s t channels i old new inside is all kept passes room = record {
         let sum = times-append key o.queued.items o.sent.items in
         key-stays at after (keys_of (rings_of old)) (keys_of (rings_of new)) key (times_in key o) passes all.nothing fits (omega arith) (λ less. two key j less within other)
 
-    names : (key : ℕ) → key < vacant → sum_by (times_in key) (set channels i new) ≤ held after key
+    names : (key : ℕ) → key < vacant → sum_by (times_in key) (set channels i new) ≡ held after key
     names key low =
         let sum = sum_by-set (times_in key) channels i new old inside in
         let e = ap (times_in key) is in
@@ -220,7 +220,7 @@ keeps-one s o empty is room =
     let kept : Keeps (get s) (rings_of o) = subst (λ (r : Rings). Keeps (get s) r) (sym is) (keeps-none (get s) none) in record {
       each = All-cons (λ (o : Outgoing). Keeps (get s) (rings_of o)) o [] kept (All-nil (λ (o : Outgoing). Keeps (get s) (rings_of o)));
       nothing = none vacant;
-      names = λ key low. let e = ap (λ (r : Rings). times key (keys_of r)) is in let h = sum_by-cons (times_in key) o [] in omega arith;
+      names = λ key low. let e = ap (λ (r : Rings). times key (keys_of r)) is in let h = sum_by-cons (times_in key) o [] in let n = ap (λ (p : Option Sent). held (λ (k : ℕ). p) key) (none key) in omega arith;
       room = All-cons HasRoom o [] room (All-nil HasRoom);
     }
 

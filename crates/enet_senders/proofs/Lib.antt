@@ -1,4 +1,5 @@
 pub mod Frames
+pub mod Dropping
 pub mod Each
 pub mod Marking
 pub mod Nexts

@@ -1,5 +1,5 @@
--- The channels of a peer: each key of theirs stands in one ring once.
-use Rattle.std.specs.Prelude.{◌≡◌, ℕ, ◌<◌, ◌≤◌, List, map, All, sum_by, Option, None}
+-- The channels of a peer: each key of theirs stands in one ring once, and there is no command that none of them names.
+use Rattle.std.specs.Prelude.{◌≡◌, ℕ, ◌<◌, List, map, All, sum_by, Option, None}
 use Rattle.slab.specs.Slab.{Slab, get}
 use Rattle.enet_sender.specs.declared.sent.Sent.{Sent}
 use Rattle.enet_sender.specs.Sender.{with_marked, cleared}
@@ -24,10 +24,11 @@ cleared_end s = record s { sender = cleared s.sender }
 abbrev pub times_in : ℕ → Outgoing → ℕ
 times_in key o = times key (keys_of (rings_of o))
 
+-- Each channel is kept, and a command stands under a key just where one of their rings has it, once.
 pub record KeepsAll (at : ℕ → Option Sent) (channels : List Outgoing) : Type 0 where
   pub each : All (λ (o : Outgoing). Keeps at (rings_of o)) channels
   pub nothing : at vacant ≡ None
-  pub names : (key : ℕ) → key < vacant → sum_by (times_in key) channels ≤ held at key
+  pub names : (key : ℕ) → key < vacant → sum_by (times_in key) channels ≡ held at key
   pub room : All HasRoom channels
 
 -- the same of the commands that a `Pending` has

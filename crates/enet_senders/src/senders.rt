@@ -170,8 +170,8 @@ fn keep_first(channels: &mut Vec<Outgoing>, pending: &mut Pending, count: usize)
     ensures ends { ends_in pending.new channels.new.items ≡ take count (ends_in pending.old channels.old.items) }
     ensures kept { KeepsAllIn pending.new channels.new.items }
 {
-    for channel in count..channels.len() {
-        clear_on(channels, pending, channel);
+    for dropped in count..channels.len() {
+        clear_on(channels, pending, dropped);
     }
     channels.truncate(count);
 }
