@@ -447,7 +447,7 @@ impl Outbox {
     }
 
     /// Whether there is surely nothing queued and nothing unacknowledged, on any channel. Where it answers true, `emit` puts nothing
-    /// out and changes nothing; it may also answer false where nothing is left, until `emit` was asked in vain.
+    /// out and changes nothing; it may also answer false where nothing is left.
     pub fn has_nothing(&self) -> bool
         ensures { IsTrue result → HasNothing self.now.outbox }
     {
