@@ -17,10 +17,11 @@ fn round_trip_samples(rt: HostRuntime) {
     assert!(rt; sampled(&mut timing, 21) == (42, 25, 142));
 }
 
-fn expiry(patience: &Patience, now: u32, sent: &Transmission) -> Expiry {
+fn expiry(patience: &Patience, now: u32, heard: u32, sent: &Transmission) -> Expiry {
     expired(
         patience,
         now,
+        heard,
         sent.first,
         sent.last,
         sent.timeout,
@@ -28,12 +29,12 @@ fn expiry(patience: &Patience, now: u32, sent: &Transmission) -> Expiry {
     )
 }
 
-/// Whether a command is due and late at this moment and not before; it goes again then.
+/// Whether a command is due and late at this moment and not before, the peer having been heard at 0; it goes again then.
 fn goes_again_at(sent: &mut Transmission, patience: &Patience, now: u32) -> bool {
     let before = now.saturating_sub(1);
-    let waits = expiry(patience, before, sent) == Expiry::No && !sent.is_late(before);
-    let is_over = expiry(patience, now, sent) == Expiry::Resend && sent.is_late(now);
-    let ends = sent.ends(now, patience);
+    let waits = expiry(patience, before, 0, sent) == Expiry::No && !sent.is_late(before);
+    let is_over = expiry(patience, now, 0, sent) == Expiry::Resend && sent.is_late(now);
+    let ends = sent.ends(now, patience, 0);
     sent.mark(now);
     let is_due = sent.due && !sent.is_late(now);
     sent.send_again(now);
@@ -51,9 +52,59 @@ fn resends_and_timeout(rt: HostRuntime) {
         assert!(rt; goes_again_at(&mut sent, &patience, now));
     }
     assert!(rt; sent.attempts == 6);
-    assert!(rt; expiry(&patience, 31_499, &sent) == Expiry::No);
-    assert!(rt; expiry(&patience, 31_500, &sent) == Expiry::End);
-    assert!(rt; !sent.ends(31_499, &patience) && sent.ends(31_500, &patience));
+    assert!(rt; expiry(&patience, 31_499, 0, &sent) == Expiry::No);
+    assert!(rt; expiry(&patience, 31_500, 0, &sent) == Expiry::End);
+    assert!(rt; !sent.ends(31_499, &patience, 0) && sent.ends(31_500, &patience, 0));
+}
+
+// A command that was sent six times from a moment on, at last so that it is late 7,000 ms after its first send: the limit of
+// 32 is reached. The moments are told from that first send on, where the clock is near its end.
+#[test]
+fn the_minimum_counts_from_the_last_sign_of_life(rt: HostRuntime) {
+    let patience = Patience::standard();
+    let at = |ms: u32| ms.wrapping_sub(1_000);
+    let sent = Transmission {
+        first: at(0),
+        last: at(3_000),
+        timeout: 4_000,
+        attempts: 6,
+        due: false,
+    };
+    for (heard, waits, ends) in [
+        (0, 6_999, 7_000),
+        (2_000, 6_999, 7_000),
+        (2_001, 7_000, 7_001),
+        (6_000, 10_999, 11_000),
+    ] {
+        assert!(rt; !sent.ends(at(waits), &patience, at(heard)));
+        assert!(rt; sent.ends(at(ends), &patience, at(heard)));
+    }
+    // Heard last before it was sent: the minimum counts from the first send.
+    let early = at(0).wrapping_sub(4_000);
+    let soon = Transmission {
+        last: at(1_000),
+        timeout: 2_000,
+        ..sent
+    };
+    assert!(rt; expiry(&patience, at(4_999), early, &soon) == Expiry::Resend);
+    assert!(rt; expiry(&patience, at(5_000), early, &soon) == Expiry::End);
+}
+
+// A command that was sent twice, so that the limit isn't reached, or often, the peer being heard all the time.
+#[test]
+fn the_maximum_counts_from_the_first_send_alone(rt: HostRuntime) {
+    let patience = Patience::standard();
+    for attempts in [2, 9] {
+        let sent = Transmission {
+            first: 500,
+            last: 20_000,
+            timeout: 1_000,
+            attempts,
+            due: false,
+        };
+        assert!(rt; expiry(&patience, 30_499, 30_499, &sent) == Expiry::Resend);
+        assert!(rt; expiry(&patience, 30_500, 30_500, &sent) == Expiry::End);
+    }
 }
 
 #[test]

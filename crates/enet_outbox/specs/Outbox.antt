@@ -134,11 +134,11 @@ after_acknowledgement o channel number =
     then record o { control = controlling.after_acknowledgement o.control number }
     else acknowledged_on o channel number (slice_get o.senders channel)
 
--- a sent command has waited out the peer's patience
-abbrev pub has_ended : Outbox → ℕ → Patience → Bool
-has_ended o now patience =
-    list_any (controlling.ends now patience) o.control.sent
-    || list_any (λ (s : SendingEnd). list_any (sender.ends now patience) s.sender.sent) o.senders
+-- the peer, last heard at `heard`, has timed out over a sent command
+abbrev pub has_ended : Outbox → ℕ → Patience → ℕ → Bool
+has_ended o now patience heard =
+    list_any (controlling.ends now patience heard) o.control.sent
+    || list_any (λ (s : SendingEnd). list_any (sender.ends now patience heard) s.sender.sent) o.senders
 
 -- a sent command has waited out its timeout
 abbrev pub has_late : Outbox → ℕ → Bool
@@ -154,8 +154,8 @@ abbrev pub marked : Outbox → ℕ → Outbox
 marked o now = record o { control = controlling.with_marked now o.control; senders = map (marked_sender now) o.senders }
 
 -- what a moment brings: the end of the peer, which changes nothing here, resends, or nothing
-abbrev pub lateness : Outbox → ℕ → Patience → Expiry
-lateness o now patience = if has_ended o now patience then End else (if has_late o now then Resend else No)
+abbrev pub lateness : Outbox → ℕ → Patience → ℕ → Expiry
+lateness o now patience heard = if has_ended o now patience heard then End else (if has_late o now then Resend else No)
 
 abbrev pub after_lateness : Expiry → Outbox → ℕ → Outbox
 after_lateness No o now = o

@@ -258,16 +258,16 @@ impl Outbox {
         self.throttle.set_limit(limit);
     }
 
-    /// What the moment `now` brings: `End` where a sent command of any channel has waited out its timeout and its peer has
-    /// timed out over it by `patience`, which changes nothing; else `Resend` where a sent command has waited out its timeout:
-    /// each such one is then due to go again, and waits twice as long; else `No` (our profile).
-    pub fn late(&mut self, now: u32, patience: &Patience) -> Expiry
-        ensures found { result ≡ lateness self.old.outbox now patience.now }
+    /// What the moment `now` brings: `End` where a sent command of any channel has waited out its timeout and its peer, heard
+    /// last at `heard`, has timed out over it by `patience`, which changes nothing; else `Resend` where a sent command has
+    /// waited out its timeout: each such one is then due to go again, and waits twice as long; else `No` (our profile).
+    pub fn late(&mut self, now: u32, patience: &Patience, heard: u32) -> Expiry
+        ensures found { result ≡ lateness self.old.outbox now patience.now heard }
         ensures after { self.new.outbox ≡ after_lateness result self.old.outbox now }
         ensures acknowledgement_room { self.new.acknowledgement_room ≡ self.old.acknowledgement_room }
         ensures control_room { self.new.control_room ≡ self.old.control_room }
     {
-        let expiry = self.lateness(now, patience);
+        let expiry = self.lateness(now, patience, heard);
         if expiry == Expiry::Resend {
             self.mark(now);
         }
@@ -275,12 +275,14 @@ impl Outbox {
     }
 
     /// What a moment brings. The channels are asked for an end only where one of their commands is late.
-    fn lateness(&mut self, now: u32, patience: &Patience) -> Expiry
-        ensures found { result ≡ lateness self.old.outbox now patience.now }
+    fn lateness(&mut self, now: u32, patience: &Patience, heard: u32) -> Expiry
+        ensures found { result ≡ lateness self.old.outbox now patience.now heard }
         ensures same { self.new ≡ self.old }
     {
         let late = self.any_late(now);
-        if self.control.ends(now, patience) || (late && self.any_ends(now, patience)) {
+        if self.control.ends(now, patience, heard)
+            || (late && self.any_ends(now, patience, heard))
+        {
             return Expiry::End;
         }
         if late || self.control.is_late(now) {
@@ -290,11 +292,11 @@ impl Outbox {
         }
     }
 
-    /// Whether the peer has timed out over a sent command of a channel.
-    fn any_ends(&self, now: u32, patience: &Patience) -> bool
-        ensures { result ≡ list_any (λ (s : SendingEnd). list_any (sender.ends now patience.now) s.sender.sent) self.now.outbox.senders }
+    /// Whether the peer, heard last at `heard`, has timed out over a sent command of a channel.
+    fn any_ends(&self, now: u32, patience: &Patience, heard: u32) -> bool
+        ensures { result ≡ list_any (λ (s : SendingEnd). list_any (sender.ends now patience.now heard) s.sender.sent) self.now.outbox.senders }
     {
-        !self.idle && self.senders.any_ends(now, patience)
+        !self.idle && self.senders.any_ends(now, patience, heard)
     }
 
     /// Whether a sent command of a channel is late.

@@ -106,20 +106,20 @@ obeys-waits r a p q now sent m w o =
 
 -- ---- the clock: nothing is sent that could be late
 
-none-ends : (now : ℕ) (patience : Patience) (ss : List SendingEnd) → ((i : ℕ) (s : SendingEnd) → slice_get ss i ≡ Some s → s.sender.sent ≡ [])
-    → list_any (λ (s : SendingEnd). list_any (sender.ends now patience) s.sender.sent) ss ≡ false
-none-ends now patience [] none = refl
-none-ends now patience (s ∷ ss) none =
-    ap (λ (xs : List Sent). list_any (sender.ends now patience) xs || list_any (λ (s : SendingEnd). list_any (sender.ends now patience) s.sender.sent) ss) (none 0 s refl)
-    ∙ none-ends now patience ss (λ i. none (Rattle.std.proofs.Common.suc i))
+none-ends : (now : ℕ) (patience : Patience) (heard : ℕ) (ss : List SendingEnd) → ((i : ℕ) (s : SendingEnd) → slice_get ss i ≡ Some s → s.sender.sent ≡ [])
+    → list_any (λ (s : SendingEnd). list_any (sender.ends now patience heard) s.sender.sent) ss ≡ false
+none-ends now patience heard [] none = refl
+none-ends now patience heard (s ∷ ss) none =
+    ap (λ (xs : List Sent). list_any (sender.ends now patience heard) xs || list_any (λ (s : SendingEnd). list_any (sender.ends now patience heard) s.sender.sent) ss) (none 0 s refl)
+    ∙ none-ends now patience heard ss (λ i. none (Rattle.std.proofs.Common.suc i))
 
-still-stays : (o : Outbox) (now : ℕ) (patience : Patience) → IsStill o.unsequenced o.control o.senders → has_ended o now patience ≡ false
-still-stays o now patience still =
-    ap (λ (xs : List SentControl). list_any (controlling.ends now patience) xs || list_any (λ (s : SendingEnd). list_any (sender.ends now patience) s.sender.sent) o.senders) still.no_control_sent
-    ∙ none-ends now patience o.senders still.no_sent
+still-stays : (o : Outbox) (now : ℕ) (patience : Patience) (heard : ℕ) → IsStill o.unsequenced o.control o.senders → has_ended o now patience heard ≡ false
+still-stays o now patience heard still =
+    ap (λ (xs : List SentControl). list_any (controlling.ends now patience heard) xs || list_any (λ (s : SendingEnd). list_any (sender.ends now patience heard) s.sender.sent) o.senders) still.no_control_sent
+    ∙ none-ends now patience heard o.senders still.no_sent
 
-ticked-at-end : (a : Acknowledgement) (p : Peering) (now : ℕ) → has_ended p.outbox now p.patience ≡ false → IsAnswering a p → IsAnswering a (ticked (at-end p) now)
-ticked-at-end a p now none w = by (has_ended p.outbox now p.patience) (has_late p.outbox now) none
+ticked-at-end : (a : Acknowledgement) (p : Peering) (now : ℕ) → has_ended p.outbox now p.patience p.heard ≡ false → IsAnswering a p → IsAnswering a (ticked (at-end p) now)
+ticked-at-end a p now none w = by (has_ended p.outbox now p.patience p.heard) (has_late p.outbox now) none
   where
     by : (b c : Bool) → b ≡ false → IsAnswering a (Rattle.enet_peer.specs.Calls.pinged (after_timeouts_by (cond b End (cond c Resend No)) (at-end p) now) now)
     by true c e = absurd cc
@@ -130,7 +130,7 @@ pub ticked-waits : (a : Acknowledgement) (p : Peering) (now : ℕ) → IsReachab
 ticked-waits a p now h w =
     let still : IsStill p.outbox.unsequenced p.outbox.control p.outbox.senders =
     subst (λ (s : PeerState). Rattle.enet_peer.specs.Reachable.IsStillIn s p.outbox.unsequenced p.outbox.control p.outbox.senders) w.0 h.still in
-    subst (λ (x : Peering). IsAnswering a (ticked x now)) (sym (is-at-end p w.0)) (ticked-at-end a p now (still-stays p.outbox now p.patience still) w)
+    subst (λ (x : Peering). IsAnswering a (ticked x now)) (sym (is-at-end p w.0)) (ticked-at-end a p now (still-stays p.outbox now p.patience p.heard still) w)
 
 -- ---- a datagram goes
 

@@ -17,7 +17,7 @@ neither-right false c e = e
 
 pub nothing-due : (p : Peering) (now : ℕ) → is_due p now ≡ false → ticked p now ≡ p
 nothing-due p now none =
-    ap (λ (e : Expiry). pinged (after_timeouts_by e p now) now) (nothing-late p.outbox now p.patience (neither-left (has_late p.outbox now) (is_pinged p now) none))
+    ap (λ (e : Expiry). pinged (after_timeouts_by e p now) now) (nothing-late p.outbox now p.patience p.heard (neither-left (has_late p.outbox now) (is_pinged p now) none))
     ∙ ap (λ (b : Bool). if b then record p { outbox = with_control p.outbox control.Ping } else p) (neither-right (has_late p.outbox now) (is_pinged p now) none)
 
 -- a peer that awaits no ping is not pinged, and one that does is where the time has come

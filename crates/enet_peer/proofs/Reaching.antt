@@ -547,7 +547,7 @@ timeouts-keep p now No h = h
 pub ticked-keeps : (p : Peering) (now : ℕ) → IsReachable p → IsReachable (ticked p now)
 ticked-keeps p now h =
     let q : Peering = after_timeouts p now in
-    let a : IsReachable q = timeouts-keep p now (lateness p.outbox now p.patience) h in
+    let a : IsReachable q = timeouts-keep p now (lateness p.outbox now p.patience p.heard) h in
     let told : Peering = record q { outbox = with_control q.outbox control.Ping } in
     if-peer (is_pinged q now) told q
     (λ t. connected-keeps q.state told refl (and-left (is_connected q.state) (outbox.is_quiet q.outbox)

@@ -119,7 +119,7 @@ after_timeouts_by Resend p now = record p { outbox = marked p.outbox now }
 after_timeouts_by No p now = p
 
 abbrev pub after_timeouts : Peering → ℕ → Peering
-after_timeouts p now = after_timeouts_by (lateness p.outbox now p.patience) p now
+after_timeouts p now = after_timeouts_by (lateness p.outbox now p.patience p.heard) p now
 
 -- a connected peer that is quiet and was not heard for the interval is pinged
 abbrev pub is_pinged : Peering → ℕ → Bool

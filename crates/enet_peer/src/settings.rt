@@ -71,9 +71,9 @@ impl Peer {
         self.ping_interval = if ms == 0 { 500 } else { ms };
     }
 
-    /// Sets how long the other end may leave a command unacknowledged: the connection ends after `maximum` milliseconds
-    /// (30,000 by the standard), or after `minimum` milliseconds (5,000) once 2^(attempts - 1) is at least `limit` (32). A 0
-    /// stands for the standard number.
+    /// Sets how long the other end may leave a command unacknowledged: the connection ends `maximum` milliseconds (30,000 by
+    /// the standard) after its first send, or `minimum` milliseconds (5,000) after that and after the last matching
+    /// acknowledgement, once 2^(attempts - 1) is at least `limit` (32). A 0 stands for the standard number.
     pub fn timeout(&mut self, limit: u32, minimum: u32, maximum: u32)
         ensures peer { self.new.peer ≡ with_timeout self.old.peer limit minimum maximum }
         ensures room { self.new.room ≡ self.old.room }

@@ -47,7 +47,7 @@ impl Peer {
     fn time_out(&mut self, now: u32)
         ensures { self.new.peer ≡ after_timeouts self.old.peer now }
     {
-        if self.outbox.late(now, &self.patience) == Expiry::End {
+        if self.outbox.late(now, &self.patience, self.heard) == Expiry::End {
             self.cut_off();
         }
     }

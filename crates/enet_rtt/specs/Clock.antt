@@ -1,9 +1,13 @@
 -- The clock counts milliseconds modulo 2^32.
-use Rattle.std.specs.Prelude.{◌≡◌, ℕ, ◌+◌, ◌-◌, ◌%◌, ◌^◌, ◌<◌, ◌≤◌, ◌↔◌, max, Bool, true, false}
+use Rattle.std.specs.Prelude.{◌≡◌, ℕ, ◌+◌, ◌-◌, ◌%◌, ◌^◌, ◌<◌, ◌≤◌, ◌↔◌, max, min, Bool, true, false}
 
 -- From the moment `since` until now.
 abbrev pub elapsed_time : ℕ → ℕ → ℕ
 elapsed_time now since = (now + 2 ^ 32 - since) % 2 ^ 32
+
+-- From the later of two moments until now: the lesser of the times since either.
+abbrev pub since_later : ℕ → ℕ → ℕ → ℕ
+since_later now a b = min (elapsed_time now a) (elapsed_time now b)
 
 -- Moment a is earlier than moment b: a is a day or more after b, on a clock that wraps.
 abbrev pub IsEarlier : ℕ → ℕ → Type 0

@@ -21,9 +21,9 @@ again now t = record t { last = now; attempts = next_attempts t.attempts; due = 
 abbrev pub is_late : ℕ → Transmission → Bool
 is_late now t = not t.due && nat_le t.timeout (elapsed_time now t.last)
 
--- It is late, and its peer has timed out over it.
-abbrev pub ends : ℕ → Patience → Transmission → Bool
-ends now patience t = is_late now t && gives_up patience (elapsed_time now t.first) t.attempts
+-- It is late, and its peer, last heard at `heard`, has timed out over it.
+abbrev pub ends : ℕ → Patience → ℕ → Transmission → Bool
+ends now patience heard t = is_late now t && gives_up patience now heard t
 
 -- Doublings stop at the greatest number of 32 bits.
 abbrev pub doubled_time : ℕ → ℕ

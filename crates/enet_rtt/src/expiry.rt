@@ -1,6 +1,7 @@
 //! When a sent command is due for resending, and when its peer has timed out.
 
-ghost use Rattle.std.specs.Prelude.{◌≡◌, ◌-◌, ◌^◌, false, nat_le};
+ghost use Rattle.std.specs.Prelude.{◌≡◌, ◌-◌, ◌^◌, ◌&&◌, ◌||◌, false, nat_le};
+ghost use Rattle.enet_rtt.specs.Clock.{since_later};
 ghost use Rattle.enet_rtt.specs.Expiry.{expiry, standard_patience, patience_with_defaults, or_default_number};
 
 use crate::clock::elapsed;
@@ -11,9 +12,10 @@ use crate::clock::elapsed;
 pub struct Patience {
     /// The minimum ends the peer only once 2^(attempts - 1) is this number or more.
     pub limit: u32,
-    /// Milliseconds since the first send after which a peer may end, the limit being reached.
+    /// Milliseconds since the command's first send or the last matching acknowledgement, whichever was later, after which a
+    /// peer may end, the limit being reached.
     pub minimum: u32,
-    /// Milliseconds since the first send after which a peer ends in any case.
+    /// Milliseconds since the command's first send after which a peer ends in any case.
     pub maximum: u32,
 }
 
@@ -54,29 +56,45 @@ impl Patience {
 }
 
 /// What is to be done at the time `now` with a command that was first sent at `first` and last at `last`, whose timeout
-/// in milliseconds is `timeout`, after so many attempts (0 counts as 1). Nothing before its timeout has passed since
-/// it was last sent. Then the peer ends where the maximum has passed since it was first sent, or the minimum has and
-/// 2^(attempts - 1) is the limit or more; otherwise the command is due for resending (our profile).
+/// in milliseconds is `timeout`, after so many attempts (0 counts as 1), the peer having been heard last at `heard`. Nothing
+/// before its timeout has passed since it was last sent. Then the peer ends where the maximum has passed since it was first
+/// sent, or where 2^(attempts - 1) is the limit or more and the minimum has passed since it was first sent and since the peer
+/// was heard; otherwise the command is due for resending (our profile).
 pub fn expired(
     patience: &Patience,
     now: u32,
+    heard: u32,
     first: u32,
     last: u32,
     timeout: u32,
     attempts: u8,
 ) -> Expiry
-    ensures { result ≡ expiry patience.now now (record { first = first; last = last; timeout = timeout; attempts = attempts; due = false }) }
+    ensures { result ≡ expiry patience.now now heard (record { first = first; last = last; timeout = timeout; attempts = attempts; due = false }) }
 {
     if elapsed(now, last) < timeout {
         return Expiry::No;
     }
-    let age = elapsed(now, first);
-    let is_over = age >= patience.maximum;
-    if is_over || age >= patience.minimum && is_at_limit(attempts, patience.limit) {
+    let silence = since_later(now, first, heard);
+    if gives_up(patience, elapsed(now, first), silence, attempts) {
         Expiry::End
     } else {
         Expiry::Resend
     }
+}
+
+// Whether a peer has timed out over a command that went first `age` milliseconds ago, after a silence of so many.
+fn gives_up(patience: &Patience, age: u32, silence: u32, attempts: u8) -> bool
+    ensures { result ≡ (nat_le patience.now.maximum age || (nat_le patience.now.limit (2 ^ (attempts - 1)) && nat_le patience.now.minimum silence)) }
+{
+    let is_silent = silence >= patience.minimum;
+    age >= patience.maximum || is_at_limit(attempts, patience.limit) && is_silent
+}
+
+// The milliseconds since the later of two moments.
+fn since_later(now: u32, a: u32, b: u32) -> u32
+    ensures { result ≡ since_later now a b }
+{
+    elapsed(now, a).min(elapsed(now, b))
 }
 
 // Whether 2^(attempts - 1) is the limit or more.

@@ -6,8 +6,8 @@
 //! docs/PROTOCOL.md on whole numbers, with the stops at 4,294,967,295 and 255 (`Timing::sample`, `Timing::timeout_of`,
 //! `expired`, `Transmission`, `earlier`, `elapsed`, `round_trip_sample`); the clock that wraps tells elapsed time and order
 //! rightly (`clock_is_right`), and the estimate stays within what bounds it and its samples (`estimate_stays_within`).
-//! Only tested, in `check_numbers`: that worked samples and a worked run of resends give the numbers that they should. Not
-//! claimed: that the estimate is near the network's real delay.
+//! Only tested, in `check_numbers`: that worked samples, a worked run of resends and worked ends give the numbers that they
+//! should. Not claimed: that the estimate is near the network's real delay.
 #![tactic(auto)]
 
 mod clock;

@@ -62,13 +62,15 @@ impl Transmission {
         self.timeout.saturating_sub(elapsed(now, self.last))
     }
 
-    /// Whether it is late at the time `now`, and the peer has timed out over it by `patience` (our profile).
-    pub fn ends(&self, now: u32, patience: &Patience) -> bool
-        ensures { result ≡ ends now patience.now self.now }
+    /// Whether it is late at the time `now`, and the peer, heard last at `heard`, has timed out over it by `patience` (our
+    /// profile).
+    pub fn ends(&self, now: u32, patience: &Patience, heard: u32) -> bool
+        ensures { result ≡ ends now patience.now heard self.now }
     {
         let expiry = expired(
             patience,
             now,
+            heard,
             self.first,
             self.last,
             self.timeout,

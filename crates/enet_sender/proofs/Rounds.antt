@@ -11,7 +11,6 @@ use Rattle.enet_rtt.specs.Transmission as transmission
 use Rattle.enet_rtt.specs.declared.transmission.Transmission.{Transmission}
 use Rattle.enet_fragment.specs.declared.data.DataCommand.{DataCommand}
 use Rattle.enet_sender.specs.declared.sent.Sent.{Sent}
-use Rattle.enet_rtt.specs.Clock.{elapsed_time}
 use Rattle.enet_rtt.specs.Expiry.{gives_up}
 use Rattle.enet_rtt.specs.declared.expiry.Patience.{Patience}
 use Rattle.enet_rtt.specs.declared.expiry.Expiry.{Expiry}
@@ -264,15 +263,15 @@ any-weaker f g weaker (x ∷ xs) none = by (g x) refl (any-weaker f g weaker xs)
     by true e rest none = cc
     by false e rest none = ap (λ b. b || list_any f xs) (weaker x e) ∙ rest none
 
-ends-weaker : (now : ℕ) (patience : Patience) (p : Sent) → is_late now p ≡ false → ends now patience p ≡ false
-ends-weaker now patience p e = ap (λ b. b && gives_up patience (elapsed_time now p.transmission.first) p.transmission.attempts) e
+ends-weaker : (now : ℕ) (patience : Patience) (heard : ℕ) (p : Sent) → is_late now p ≡ false → ends now patience heard p ≡ false
+ends-weaker now patience heard p e = ap (λ b. b && gives_up patience now heard p.transmission) e
 
 -- where nothing is late, the peer has not timed out
-pub no-end : (now : ℕ) (patience : Patience) (sent : List Sent) → list_any (is_late now) sent ≡ false → list_any (ends now patience) sent ≡ false
-no-end now patience sent none = any-weaker (ends now patience) (is_late now) (λ p e. ends-weaker now patience p e) sent none
+pub no-end : (now : ℕ) (patience : Patience) (heard : ℕ) (sent : List Sent) → list_any (is_late now) sent ≡ false → list_any (ends now patience heard) sent ≡ false
+no-end now patience heard sent none = any-weaker (ends now patience heard) (is_late now) (λ p e. ends-weaker now patience heard p e) sent none
 
 abbrev pub expiry_by : Bool → Bool → Expiry
 expiry_by ends late = cond ends End (cond late Resend No)
 
-pub lateness-by : (now : ℕ) (patience : Patience) (s : Sender) (ending late : Bool) → list_any (ends now patience) s.sent ≡ ending → list_any (is_late now) s.sent ≡ late → expiry_by ending late ≡ lateness now patience s
-lateness-by now patience s ending late e l = ap₂ expiry_by (sym e ∙ any-position (ends now patience) s.sent) (sym l ∙ any-position (is_late now) s.sent)
+pub lateness-by : (now : ℕ) (patience : Patience) (heard : ℕ) (s : Sender) (ending late : Bool) → list_any (ends now patience heard) s.sent ≡ ending → list_any (is_late now) s.sent ≡ late → expiry_by ending late ≡ lateness now patience heard s
+lateness-by now patience heard s ending late e l = ap₂ expiry_by (sym e ∙ any-position (ends now patience heard) s.sent) (sym l ∙ any-position (is_late now) s.sent)

@@ -173,14 +173,14 @@ marked now p = record p { transmission = transmission.marked now p.transmission 
 abbrev pub with_marked : ℕ → Sender → Sender
 with_marked now s = record s { sent = map (marked now) s.sent }
 
--- it is late, and the peer has timed out over it
-abbrev pub ends : ℕ → Patience → Sent → Bool
-ends now patience p = transmission.ends now patience p.transmission
+-- it is late, and the peer, last heard at `heard`, has timed out over it
+abbrev pub ends : ℕ → Patience → ℕ → Sent → Bool
+ends now patience heard p = transmission.ends now patience heard p.transmission
 
 -- what a moment brings: the end of the peer, resends, or nothing
-abbrev pub lateness : ℕ → Patience → Sender → Expiry
-lateness now patience s =
-    if is_some (position (ends now patience) s.sent) then End
+abbrev pub lateness : ℕ → Patience → ℕ → Sender → Expiry
+lateness now patience heard s =
+    if is_some (position (ends now patience heard) s.sent) then End
     else (if is_some (position (is_late now) s.sent) then Resend else No)
 
 -- the end changes nothing here

@@ -286,18 +286,24 @@ impl Outgoing {
         }
     }
 
-    /// What the moment `now` brings: `End` where a sent command has waited out its timeout and its peer has timed out over
-    /// it by `patience`, which changes nothing; else `Resend` where a sent command has waited out its timeout: each such
-    /// one is then due to go again, and waits twice as long; else `No` (our profile).
-    pub fn late(&mut self, pending: &mut Pending, now: u32, patience: &Patience) -> Expiry
+    /// What the moment `now` brings: `End` where a sent command has waited out its timeout and its peer, heard last at
+    /// `heard`, has timed out over it by `patience`, which changes nothing; else `Resend` where a sent command has waited out
+    /// its timeout: each such one is then due to go again, and waits twice as long; else `No` (our profile).
+    pub fn late(
+        &mut self,
+        pending: &mut Pending,
+        now: u32,
+        patience: &Patience,
+        heard: u32,
+    ) -> Expiry
         requires { KeepsIn pending.old self.old }
-        ensures found { result ≡ lateness now patience.now (sender_in pending.old self.old) }
+        ensures found { result ≡ lateness now patience.now heard (sender_in pending.old self.old) }
         ensures after { end_in pending.new self.new ≡ record (end_in pending.old self.old) { sender = after_lateness result now (sender_in pending.old self.old) } }
         ensures kept { KeepsIn pending.new self.new }
         ensures passes { PassesIn pending.old self.old pending.new self.new }
         ensures room { HasRoom self.old → HasRoom self.new }
     {
-        let expiry = self.lateness(pending, now, patience);
+        let expiry = self.lateness(pending, now, patience, heard);
         if expiry == Expiry::Resend {
             self.mark(pending, now);
         }
@@ -305,25 +311,25 @@ impl Outgoing {
     }
 
     /// What a moment brings. A command over which the peer has timed out is late too.
-    fn lateness(&self, pending: &Pending, now: u32, patience: &Patience) -> Expiry
-        ensures { result ≡ lateness now patience.now (sender_in pending.now self.now) }
+    fn lateness(&self, pending: &Pending, now: u32, patience: &Patience, heard: u32) -> Expiry
+        ensures { result ≡ lateness now patience.now heard (sender_in pending.now self.now) }
     {
         if !self.is_late(pending, now) {
             return Expiry::No;
         }
-        if self.ends(pending, now, patience) {
+        if self.ends(pending, now, patience, heard) {
             Expiry::End
         } else {
             Expiry::Resend
         }
     }
 
-    /// Whether at the moment `now` a sent command has waited out its timeout, and its peer has timed out over it by
-    /// `patience` (our profile).
-    pub fn ends(&self, pending: &Pending, now: u32, patience: &Patience) -> bool
-        ensures { result ≡ list_any (ends now patience.now) (sender_in pending.now self.now).sent }
+    /// Whether at the moment `now` a sent command has waited out its timeout, and its peer, heard last at `heard`, has timed
+    /// out over it by `patience` (our profile).
+    pub fn ends(&self, pending: &Pending, now: u32, patience: &Patience, heard: u32) -> bool
+        ensures { result ≡ list_any (ends now patience.now heard) (sender_in pending.now self.now).sent }
     {
-        any_ends(&self.sent, pending, now, patience)
+        any_ends(&self.sent, pending, now, patience, heard)
     }
 
     /// Whether at the moment `now` a sent command has waited out its timeout, and is not due to go again already.

@@ -99,12 +99,12 @@ impl Pending {
         }
     }
 
-    /// Whether the peer has timed out over the command under a key.
-    pub(crate) fn ends(&self, key: u32, now: u32, patience: &Patience) -> bool
-        ensures { result ≡ test_at (ends now patience.now) (get self.now.slab key) }
+    /// Whether the peer, heard last at `heard`, has timed out over the command under a key.
+    pub(crate) fn ends(&self, key: u32, now: u32, patience: &Patience, heard: u32) -> bool
+        ensures { result ≡ test_at (ends now patience.now heard) (get self.now.slab key) }
     {
         match self.slab.get(key as usize) {
-            Some(sent) => sent.transmission.ends(now, patience),
+            Some(sent) => sent.transmission.ends(now, patience, heard),
             None => false,
         }
     }

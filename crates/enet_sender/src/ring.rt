@@ -96,16 +96,18 @@ pub(crate) fn vacate(sent: &mut VecDeque<u32>, due_from: &mut usize, place: usiz
     trim(sent, due_from);
 }
 
-/// Whether the peer has timed out over a command of a ring.
+/// Whether the peer, heard last at `heard`, has timed out over a command of a ring.
 pub(crate) fn any_ends(
     ring: &VecDeque<u32>,
     pending: &Pending,
     now: u32,
     patience: &Patience,
+    heard: u32,
 ) -> bool
-    ensures { result ≡ list_any (λ (key : ℕ). test_at (ends now patience.now) (get pending.now.slab key)) ring.now.items }
+    ensures { result ≡ list_any (λ (key : ℕ). test_at (ends now patience.now heard) (get pending.now.slab key)) ring.now.items }
 {
-    ring.iter().any(|key| pending.ends(*key, now, patience))
+    ring.iter()
+        .any(|key| pending.ends(*key, now, patience, heard))
 }
 
 /// Whether a command of a ring is late.

@@ -141,14 +141,14 @@ marked now p = record p { transmission = transmission.marked now p.transmission 
 abbrev pub with_marked : ℕ → Commands → Commands
 with_marked now c = record c { sent = map (marked now) c.sent }
 
--- it is late, and the peer has timed out over it
-abbrev pub ends : ℕ → Patience → SentControl → Bool
-ends now patience p = transmission.ends now patience p.transmission
+-- it is late, and the peer, last heard at `heard`, has timed out over it
+abbrev pub ends : ℕ → Patience → ℕ → SentControl → Bool
+ends now patience heard p = transmission.ends now patience heard p.transmission
 
 -- what a moment brings: the end of the peer, resends, or nothing
-abbrev pub lateness : ℕ → Patience → Commands → Expiry
-lateness now patience c =
-    if is_some (position (ends now patience) c.sent) then End
+abbrev pub lateness : ℕ → Patience → ℕ → Commands → Expiry
+lateness now patience heard c =
+    if is_some (position (ends now patience heard) c.sent) then End
     else (if is_some (position (is_late now) c.sent) then Resend else No)
 
 -- the end changes nothing here

@@ -180,27 +180,27 @@ impl ControlChannel {
         Some(sent.command.control)
     }
 
-    /// What the moment `now` brings: `End` where a sent command has waited out its timeout and its peer has timed out over
-    /// it by `patience`, which changes nothing; else `Resend` where a sent command has waited out its timeout: each such
-    /// one is then due to go again, and waits twice as long; else `No` (our profile).
-    pub fn late(&mut self, now: u32, patience: &Patience) -> Expiry
-        ensures found { result ≡ lateness now patience.now self.old.commands }
+    /// What the moment `now` brings: `End` where a sent command has waited out its timeout and its peer, heard last at
+    /// `heard`, has timed out over it by `patience`, which changes nothing; else `Resend` where a sent command has waited out
+    /// its timeout: each such one is then due to go again, and waits twice as long; else `No` (our profile).
+    pub fn late(&mut self, now: u32, patience: &Patience, heard: u32) -> Expiry
+        ensures found { result ≡ lateness now patience.now heard self.old.commands }
         ensures after { self.new.commands ≡ after_lateness result now self.old.commands }
         ensures room { self.new.room ≡ self.old.room }
     {
-        let expiry = lateness(&self.sent, now, patience);
+        let expiry = lateness(&self.sent, now, patience, heard);
         if expiry == Expiry::Resend {
             mark(&mut self.sent, now);
         }
         expiry
     }
 
-    /// Whether at the moment `now` a sent command has waited out its timeout, and its peer has timed out over it by
-    /// `patience` (our profile).
-    pub fn ends(&self, now: u32, patience: &Patience) -> bool
-        ensures { result ≡ list_any (ends now patience.now) self.now.commands.sent }
+    /// Whether at the moment `now` a sent command has waited out its timeout, and its peer, heard last at `heard`, has timed
+    /// out over it by `patience` (our profile).
+    pub fn ends(&self, now: u32, patience: &Patience, heard: u32) -> bool
+        ensures { result ≡ list_any (ends now patience.now heard) self.now.commands.sent }
     {
-        any_ends(&self.sent, now, patience)
+        any_ends(&self.sent, now, patience, heard)
     }
 
     /// Whether at the moment `now` a sent command has waited out its timeout, and is not due to go again already.

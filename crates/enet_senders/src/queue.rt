@@ -117,12 +117,17 @@ pub fn send_head(
     }
 }
 
-/// The first sent command over which the peer has timed out.
-fn place_of_end(sent: &VecDeque<SentControl>, now: u32, patience: &Patience) -> Option<usize>
-    ensures { result ≡ position (ends now patience.now) sent.now.items }
+/// The first sent command over which the peer, heard last at `heard`, has timed out.
+fn place_of_end(
+    sent: &VecDeque<SentControl>,
+    now: u32,
+    patience: &Patience,
+    heard: u32,
+) -> Option<usize>
+    ensures { result ≡ position (ends now patience.now heard) sent.now.items }
 {
     sent.iter()
-        .position(|sent| sent.transmission.ends(now, patience))
+        .position(|sent| sent.transmission.ends(now, patience, heard))
 }
 
 /// The first sent command that is late.
@@ -132,12 +137,12 @@ fn place_of_late(sent: &VecDeque<SentControl>, now: u32) -> Option<usize>
     sent.iter().position(|sent| sent.transmission.is_late(now))
 }
 
-/// Whether the peer has timed out over a sent command.
-pub fn any_ends(sent: &VecDeque<SentControl>, now: u32, patience: &Patience) -> bool
-    ensures { result ≡ list_any (ends now patience.now) sent.now.items }
+/// Whether the peer, heard last at `heard`, has timed out over a sent command.
+pub fn any_ends(sent: &VecDeque<SentControl>, now: u32, patience: &Patience, heard: u32) -> bool
+    ensures { result ≡ list_any (ends now patience.now heard) sent.now.items }
 {
     sent.iter()
-        .any(|sent| sent.transmission.ends(now, patience))
+        .any(|sent| sent.transmission.ends(now, patience, heard))
 }
 
 /// Whether a sent command is late.
@@ -171,11 +176,11 @@ pub fn mark(sent: &mut VecDeque<SentControl>, now: u32)
     }
 }
 
-/// What a moment brings.
-pub fn lateness(sent: &VecDeque<SentControl>, now: u32, patience: &Patience) -> Expiry
-    ensures { (c : Commands) → c.sent ≡ sent.now.items → result ≡ lateness now patience.now c }
+/// What a moment brings, the peer having been heard last at `heard`.
+pub fn lateness(sent: &VecDeque<SentControl>, now: u32, patience: &Patience, heard: u32) -> Expiry
+    ensures { (c : Commands) → c.sent ≡ sent.now.items → result ≡ lateness now patience.now heard c }
 {
-    if place_of_end(sent, now, patience).is_some() {
+    if place_of_end(sent, now, patience, heard).is_some() {
         return Expiry::End;
     }
     if place_of_late(sent, now).is_some() {

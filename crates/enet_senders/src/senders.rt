@@ -176,13 +176,19 @@ fn keep_first(channels: &mut Vec<Outgoing>, pending: &mut Pending, count: usize)
     channels.truncate(count);
 }
 
-/// Whether the peer has timed out over a sent command of a channel.
-fn any_ends(channels: &[Outgoing], pending: &Pending, now: u32, patience: &Patience) -> bool
-    ensures { result ≡ list_any (λ (o : Outgoing). list_any (ends now patience.now) (end_in pending.now o).sender.sent) channels.now }
+/// Whether the peer, heard last at `heard`, has timed out over a sent command of a channel.
+fn any_ends(
+    channels: &[Outgoing],
+    pending: &Pending,
+    now: u32,
+    patience: &Patience,
+    heard: u32,
+) -> bool
+    ensures { result ≡ list_any (λ (o : Outgoing). list_any (ends now patience.now heard) (end_in pending.now o).sender.sent) channels.now }
 {
     channels
         .iter()
-        .any(|channel| channel.ends(pending, now, patience))
+        .any(|channel| channel.ends(pending, now, patience, heard))
 }
 
 /// In how many milliseconds after the moment `now` a sent command of a channel is late first: 0 where one is.
@@ -343,12 +349,12 @@ impl Senders {
         acknowledge_on(&mut self.channels, &mut self.pending, channel, number)
     }
 
-    /// Whether at the moment `now`, in milliseconds, a sent command of a channel has waited out its timeout, and its peer
-    /// has timed out over it by `patience`.
-    pub fn any_ends(&self, now: u32, patience: &Patience) -> bool
-        ensures { result ≡ list_any (λ (s : SendingEnd). list_any (ends now patience.now) s.sender.sent) self.now }
+    /// Whether at the moment `now`, in milliseconds, a sent command of a channel has waited out its timeout, and its peer,
+    /// heard last at `heard`, has timed out over it by `patience`.
+    pub fn any_ends(&self, now: u32, patience: &Patience, heard: u32) -> bool
+        ensures { result ≡ list_any (λ (s : SendingEnd). list_any (ends now patience.now heard) s.sender.sent) self.now }
     {
-        any_ends(&self.channels, &self.pending, now, patience)
+        any_ends(&self.channels, &self.pending, now, patience, heard)
     }
 
     /// Whether at the moment `now`, in milliseconds, a sent command of a channel has waited out its timeout, and is not due

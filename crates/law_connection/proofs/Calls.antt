@@ -44,7 +44,7 @@ holds-timeouts own other p now No h = h
 pub holds-ticked : (own other : End) (p : Peering) (now : ℕ) → Holds own other p → Holds own other (ticked p now)
 holds-ticked own other p now h =
     let q : Peering = after_timeouts p now in
-    let k : Holds own other q = holds-timeouts own other p now (lateness p.outbox now p.patience) h in
+    let k : Holds own other q = holds-timeouts own other p now (lateness p.outbox now p.patience p.heard) h in
     holds-if own other (is_pinged q now) (record q { outbox = with_control q.outbox control.Ping }) q (holds-outbox own other q (with_control q.outbox control.Ping) refl refl k) k
 
 -- a disconnect

@@ -135,16 +135,16 @@ still-data : (o : Outbox) (k : ℕ) (occasion : Occasion) (s : SendingEnd) (n : 
 still-data o k occasion s n there due h = let none = h.senders s (Has-slice_get o.senders k s there) in idle-next occasion s.sender n none.0 none.1 due
 
 -- a still outbox lets no patience end
-none-ends : (now : ℕ) (patience : Patience) (ss : List SendingEnd) → ((s : SendingEnd) → Has ss s → (s.sender.queued ≡ []) × (s.sender.sent ≡ [])) → list_any (λ (s : SendingEnd). list_any (sender.ends now patience) s.sender.sent) ss ≡ false
-none-ends now patience [] h = refl
-none-ends now patience (s ∷ ss) h =
-    let first : list_any (sender.ends now patience) s.sender.sent ≡ false = ap (list_any (sender.ends now patience)) (h s (inl refl)).1 in
-    ap (λ b. b || list_any (λ (s : SendingEnd). list_any (sender.ends now patience) s.sender.sent) ss) first ∙ none-ends now patience ss (λ x there. h x (inr there))
+none-ends : (now : ℕ) (patience : Patience) (heard : ℕ) (ss : List SendingEnd) → ((s : SendingEnd) → Has ss s → (s.sender.queued ≡ []) × (s.sender.sent ≡ [])) → list_any (λ (s : SendingEnd). list_any (sender.ends now patience heard) s.sender.sent) ss ≡ false
+none-ends now patience heard [] h = refl
+none-ends now patience heard (s ∷ ss) h =
+    let first : list_any (sender.ends now patience heard) s.sender.sent ≡ false = ap (list_any (sender.ends now patience heard)) (h s (inl refl)).1 in
+    ap (λ b. b || list_any (λ (s : SendingEnd). list_any (sender.ends now patience heard) s.sender.sent) ss) first ∙ none-ends now patience heard ss (λ x there. h x (inr there))
 
-still-patient : (o : Outbox) (now : ℕ) (patience : Patience) → IsStill o → has_ended o now patience ≡ false
-still-patient o now patience h =
-    ap (λ (l : List SentControl). list_any (controlling.ends now patience) l || list_any (λ (s : SendingEnd). list_any (sender.ends now patience) s.sender.sent) o.senders) h.control
-    ∙ none-ends now patience o.senders h.senders
+still-patient : (o : Outbox) (now : ℕ) (patience : Patience) (heard : ℕ) → IsStill o → has_ended o now patience heard ≡ false
+still-patient o now patience heard h =
+    ap (λ (l : List SentControl). list_any (controlling.ends now patience heard) l || list_any (λ (s : SendingEnd). list_any (sender.ends now patience heard) s.sender.sent) o.senders) h.control
+    ∙ none-ends now patience heard o.senders h.senders
 
 -- what a life doesn't speak of
 
@@ -219,7 +219,7 @@ lives joined es = record {
   quiet = λ p q e h. lives-core joined es p q e h;
   controls = λ p what plain on h. lives-connected joined es p (record p { outbox = with_control p.outbox what }) refl refl on h;
   ends = λ p info in-time h. lives-ended joined es p info in-time h;
-  cuts = λ p now gone over h. absurd (let none = still-patient p.outbox now p.patience (gone-still joined es p p.state gone h) in let x : true ≡ false = sym over ∙ none in cc);
+  cuts = λ p now gone over h. absurd (let none = still-patient p.outbox now p.patience p.heard (gone-still joined es p p.state gone h) in let x : true ≡ false = sym over ∙ none in cc);
   frees = λ p h. record { life = lives-one joined es p h; greeting = refl; untaken = refl; still = still-cleared p.outbox };
   parts = λ p info h. record { life = lives-one joined es p h; greeting = refl; untaken = refl; still = still-parting p.outbox info };
   disconnects = λ p info up h. standing joined es p p.state up h;

@@ -80,7 +80,7 @@ pub record Changes (P : Peering → Type 0) : Type 0 where
   pub quiet : (p q : Peering) → core q ≡ core p → P p → P q
   pub controls : (p : Peering) (what : Control) → is_offer what ≡ false → is_connected p.state ≡ true → P p → P (record p { outbox = with_control p.outbox what })
   pub ends : (p : Peering) (info : ℕ) → is_gone p.state ≡ false → P p → P (ended p info)
-  pub cuts : (p : Peering) (now : ℕ) → is_gone p.state ≡ true → has_ended p.outbox now p.patience ≡ true → P p → P (ended p 0)
+  pub cuts : (p : Peering) (now : ℕ) → is_gone p.state ≡ true → has_ended p.outbox now p.patience p.heard ≡ true → P p → P (ended p 0)
   pub frees : (p : Peering) → P p → P (freed p)
   pub parts : (p : Peering) (info : ℕ) → P p → P (parting p info)
   pub disconnects : (p : Peering) (info : ℕ) → stands p.state ≡ true → P p → P (disconnecting p info)
@@ -125,14 +125,14 @@ kept-settled P k p h = if-peer P (is_later p.state && is_done p.outbox) (disconn
 
 -- the clock
 
-kept-cut_off : (P : Peering → Type 0) → Changes P → (p : Peering) (now : ℕ) (s : PeerState) → p.state ≡ s → has_ended p.outbox now p.patience ≡ true → P p → P (cut_off_in s p)
+kept-cut_off : (P : Peering → Type 0) → Changes P → (p : Peering) (now : ℕ) (s : PeerState) → p.state ≡ s → has_ended p.outbox now p.patience p.heard ≡ true → P p → P (cut_off_in s p)
 kept-cut_off P k p now state.Answering e over h = k.frees p h
 kept-cut_off P k p now s e over h = elim (either (is_gone p.state)) [ inl gone ↦ k.cuts p now gone over h | inr here ↦ k.ends p 0 here h ]
 
 kept-timeouts : (P : Peering → Type 0) → Changes P → (p : Peering) (now : ℕ) → P p → P (after_timeouts p now)
-kept-timeouts P k p now h = by (has_ended p.outbox now p.patience) (has_late p.outbox now) refl
+kept-timeouts P k p now h = by (has_ended p.outbox now p.patience p.heard) (has_late p.outbox now) refl
   where
-    by : (a b : Bool) → has_ended p.outbox now p.patience ≡ a → P (after_timeouts_by (cond a Ends (cond b Resend No)) p now)
+    by : (a b : Bool) → has_ended p.outbox now p.patience p.heard ≡ a → P (after_timeouts_by (cond a Ends (cond b Resend No)) p now)
     by true b e = kept-cut_off P k p now p.state refl e h
     by false true e = k.marks p now h
     by false false e = h

@@ -432,9 +432,9 @@ Shows-marked now v s h =
     same (p ∷ sent) x (inl is) = (p, inl refl, ap (λ (z : Sent). z.command) (sym is))
     same (p ∷ sent) x (inr h) = let rest = same sent x h in (rest.0, inr rest.1, rest.2)
 
-pub Shows-lateness : (now : ℕ) (patience : Patience) (v s : Sender) → ShowsSender v s → lateness now patience v ≡ lateness now patience s
-Shows-lateness now patience v s h =
-    let gone : position (ends now patience) v.sent ≡ position (ends now patience) s.sent = ap (position (ends now patience)) h.sent ∙ position-map wired_sent (ends now patience) (ends now patience) s.sent (λ p k. refl) in
+pub Shows-lateness : (now : ℕ) (patience : Patience) (heard : ℕ) (v s : Sender) → ShowsSender v s → lateness now patience heard v ≡ lateness now patience heard s
+Shows-lateness now patience heard v s h =
+    let gone : position (ends now patience heard) v.sent ≡ position (ends now patience heard) s.sent = ap (position (ends now patience heard)) h.sent ∙ position-map wired_sent (ends now patience heard) (ends now patience heard) s.sent (λ p k. refl) in
     let late : position (is_late now) v.sent ≡ position (is_late now) s.sent = ap (position (is_late now)) h.sent ∙ position-map wired_sent (is_late now) (is_late now) s.sent (λ p k. refl) in
     (λ i. cond (is_some (gone i)) End (cond (is_some (late i)) Resend No))
 

@@ -105,7 +105,7 @@ pub fn wire_sender()
     ensures acknowledged_bytes { (v s : Sender) (n : ℕ) → n ≤ reached s → reached s < n + 65536 → ShowsSender v s → acknowledged_bytes v (n % 65536) ≡ acknowledged_bytes s n }
     ensures in_transit { (v s : Sender) → ShowsSender v s → bytes_in_transit v ≡ bytes_in_transit s }
     ensures marked { (now : ℕ) (v s : Sender) → ShowsSender v s → ShowsSender (with_marked now v) (with_marked now s) }
-    ensures lateness { (now : ℕ) (patience : Patience) (v s : Sender) → ShowsSender v s → lateness now patience v ≡ lateness now patience s }
+    ensures lateness { (now : ℕ) (patience : Patience) (heard : ℕ) (v s : Sender) → ShowsSender v s → lateness now patience heard v ≡ lateness now patience heard s }
     ensures after_lateness { (expiry : Expiry) (now : ℕ) (v s : Sender) → ShowsSender v s → ShowsSender (after_lateness expiry now v) (after_lateness expiry now s) }
     ensures cleared { (v s : Sender) → ShowsSender v s → ShowsSender (cleared v) (cleared s) }
     ensures left { (v s : Sender) → ShowsSender v s → left v ≡ left s }
