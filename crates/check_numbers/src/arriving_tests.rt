@@ -290,6 +290,7 @@ fn inbox_by_hand(rt: HostRuntime) {
     let foreseen = Foreseen {
         acknowledged: true,
         kept: true,
+        makes_room: false,
         dispatches: 1,
     };
     let ping = Command::Ping { head: head(9, 1) };

@@ -27,7 +27,8 @@ pub struct Config {
     /// The greatest packet that is taken in or submitted, in bytes: 1 to 33,554,432.
     pub max_packet: u32,
     /// Bytes of a peer's packets at which no further packet begins: 1 to 33,554,432. Those count that are held or not yet taken by
-    /// the user; for the packet that its channel dispatches next only the latter do.
+    /// the user; for the packet that its channel dispatches next only the latter do. Unreliable packets that wait are given up
+    /// where that makes room for another.
     pub max_waiting: u32,
     /// How many peers a slot has one after another, before it is used up: 1 to 4,294,967,295 (our profile).
     pub generations: u32,

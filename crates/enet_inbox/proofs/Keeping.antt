@@ -150,7 +150,7 @@ sum_of_none : {X : Type 0} (f : X → ℕ) (es : List (ℕ × X)) → length es 
 sum_of_none f [] e = refl
 sum_of_none f (x ∷ es) e = absurd (omega arith)
 
-sum_of_empty : {X : Type 0} (f : X → ℕ) → sum_by f (values (empty {X = X} {R = nat_cmp})) ≡ 0
+pub sum_of_empty : {X : Type 0} (f : X → ℕ) → sum_by f (values (empty {X = X} {R = nat_cmp})) ≡ 0
 sum_of_empty {X = X} f = sum_of_none f (entries (empty {X = X} {R = nat_cmp})) (sym (len-entries (empty {X = X} {R = nat_cmp})) ∙ len-empty nat_cmp X)
 
 nothing_held : (r : ReceivingEnd) → held_bytes (cleared_receiver r).receiver ≡ 0

@@ -91,10 +91,10 @@ foresight_in s = record { took = Held; acknowledged = s.acknowledged; dispatches
 seen_held : (t : Took) (acknowledged : Bool) (dispatches : ℕ) (s : Foreseen) → seen_by t (record { took = t; acknowledged = acknowledged; dispatches = dispatches }) ≡ Ok s → s.kept ≡ true
     → ◌≡◌ {A = Foresight} (record { took = t; acknowledged = acknowledged; dispatches = dispatches }) (foresight_in s)
 seen_held Held acknowledged dispatches s e k =
-    let same : record { acknowledged = acknowledged; kept = true; dispatches = dispatches } ≡ s = cc in
+    let same : record { acknowledged = acknowledged; kept = true; makes_room = false; dispatches = dispatches } ≡ s = cc in
     ap foresight_in same
-seen_held Again acknowledged dispatches s e k = absurd (let same : record { acknowledged = acknowledged; kept = false; dispatches = dispatches } ≡ s = cc in let no' : false ≡ s.kept = ap (λ (x : Foreseen). x.kept) same in cc)
-seen_held Outside acknowledged dispatches s e k = absurd (let same : record { acknowledged = acknowledged; kept = false; dispatches = dispatches } ≡ s = cc in let no' : false ≡ s.kept = ap (λ (x : Foreseen). x.kept) same in cc)
+seen_held Again acknowledged dispatches s e k = absurd (let same : record { acknowledged = acknowledged; kept = false; makes_room = false; dispatches = dispatches } ≡ s = cc in let no' : false ≡ s.kept = ap (λ (x : Foreseen). x.kept) same in cc)
+seen_held Outside acknowledged dispatches s e k = absurd (let same : record { acknowledged = acknowledged; kept = false; makes_room = false; dispatches = dispatches } ≡ s = cc in let no' : false ≡ s.kept = ap (λ (x : Foreseen). x.kept) same in cc)
 seen_held Bad acknowledged dispatches s e k = absurd (cc)
 seen_held Waiting acknowledged dispatches s e k = absurd (cc)
 seen_held Memory acknowledged dispatches s e k = absurd (cc)
@@ -107,9 +107,9 @@ pub foresight_is : (b : Inbox) (channel : ℕ) (o : Option DataCommand) (s : For
 foresight_is b channel o s e k = held_by (foresight_of b channel o) s e k
 
 seen_kept : (t : Took) (f : Foresight) (s : Foreseen) → seen_by t f ≡ Ok s → s.kept ≡ is_kept_as t
-seen_kept Held f s e = let same : record { acknowledged = f.acknowledged; kept = true; dispatches = f.dispatches } ≡ s = cc in ap (λ (x : Foreseen). x.kept) (sym same)
-seen_kept Again f s e = let same : record { acknowledged = f.acknowledged; kept = false; dispatches = f.dispatches } ≡ s = cc in ap (λ (x : Foreseen). x.kept) (sym same)
-seen_kept Outside f s e = let same : record { acknowledged = f.acknowledged; kept = false; dispatches = f.dispatches } ≡ s = cc in ap (λ (x : Foreseen). x.kept) (sym same)
+seen_kept Held f s e = let same : record { acknowledged = f.acknowledged; kept = true; makes_room = false; dispatches = f.dispatches } ≡ s = cc in ap (λ (x : Foreseen). x.kept) (sym same)
+seen_kept Again f s e = let same : record { acknowledged = f.acknowledged; kept = false; makes_room = false; dispatches = f.dispatches } ≡ s = cc in ap (λ (x : Foreseen). x.kept) (sym same)
+seen_kept Outside f s e = let same : record { acknowledged = f.acknowledged; kept = false; makes_room = false; dispatches = f.dispatches } ≡ s = cc in ap (λ (x : Foreseen). x.kept) (sym same)
 seen_kept Bad f s e = absurd (cc)
 seen_kept Waiting f s e = absurd (cc)
 seen_kept Memory f s e = absurd (cc)

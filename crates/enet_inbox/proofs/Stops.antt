@@ -1,5 +1,5 @@
 -- A stop changes nothing, and none is for want of memory where there is enough.
-use Rattle.std.proofs.Common.{◌≡◌, ◌≢◌, ℕ, Bool, true, false, cond, ltb, leb, Option, Some, None, Result, Ok, Err, List, length, refl}
+use Rattle.std.proofs.Common.{◌≡◌, ◌≢◌, ℕ, Bool, true, false, cond, ltb, leb, Option, Some, None, Result, Ok, Err, is_ok, List, length, refl, ap}
 use Rattle.std.specs.Prelude.{not, slice_get}
 use Rattle.enet_codec.specs.declared.stop.Stop.{Stop}
 use Rattle.enet_codec.specs.declared.stop.Stop.TheVariants as stop
@@ -10,9 +10,11 @@ use Rattle.enet_fragment.specs.DataCommand.{data_of}
 use Rattle.enet_receiver.specs.declared.took.Took.{Took}
 use Rattle.enet_receiver.specs.declared.took.Took.TheVariants.{Held, Again, Outside, Bad, Waiting, Memory}
 use Rattle.enet_receiver.specs.Foresight.{ReceivingEnd, outcome_for}
-use Rattle.enet_inbox.specs.Inbox.{Inbox, is_full, is_full_for}
-use Rattle.enet_inbox.specs.DataEffect.{DataEffect, arrival, arrival_of, sequenced, sequenced_on, by_took, unsequenced, unsequenced_taken, passed_over, passed_of, passed_sequenced, passed_over_on, passed_length, handled, stopped, is_kept, is_kept_as, is_kept_of, is_kept_on, is_kept_sequenced}
+use Rattle.enet_inbox.specs.Inbox.{Inbox, is_full, is_full_for, given_way}
+use Rattle.enet_inbox.specs.DataEffect.{DataEffect, arrival, plain_arrival, makes_room, arrival_of, sequenced, sequenced_on, by_took, unsequenced, unsequenced_taken, passed_over, passed_of, passed_sequenced, passed_over_on, passed_length, handled, stopped, is_kept, is_kept_as, is_kept_of, is_kept_on, is_kept_sequenced}
+use Rattle.enet_inbox.specs.Private.InboxParts.{met_by}
 use Rattle.enet_inbox.proofs.Outcomes.{outcome_known}
+use Rattle.enet_inbox.proofs.Rooms.{room_made, room_kept}
 
 -- an answer that isn't want of memory
 abbrev pub Tells : Result Bool Stop → Type 0
@@ -80,8 +82,15 @@ stays-of b m (throttle_configure i a d) = stays-sequenced b m.head.channel (data
 stays-of b m (send_unreliable_fragment f p) = stays-sequenced b m.head.channel (data_of m)
 
 -- a command that stops its datagram leaves the inbox as it was
+plain-stays : (b : Inbox) (m : Message) → Stays b (plain_arrival b m)
+plain-stays b m = stays-of b m m.body
+
+stays-met : (t : Bool) (b : Inbox) (m : Message) → makes_room b m ≡ t → Stays b (plain_arrival (met_by t b) m)
+stays-met false b m made = plain-stays b m
+stays-met true b m made = ((λ why e. absurd (let ok : is_ok (plain_arrival (given_way b) m).answer ≡ true = (room_made b m made).then_room in let not : is_ok (plain_arrival (given_way b) m).answer ≡ false = ap is_ok e in cc)), (plain-stays (given_way b) m).1)
+
 pub arrival_stays : (b : Inbox) (m : Message) (why : Stop) → (arrival b m).answer ≡ Err why → (arrival b m).after ≡ b
-arrival_stays b m why e = (stays-of b m m.body).0 why e
+arrival_stays b m why e = (stays-met (makes_room b m) b m refl).0 why e
 
 passed-length : (b : Inbox) (payload : List ℕ) (may : Bool) → Tells (passed_length b payload may)
 passed-length b payload may = tells-if (ltb b.max_packet (length payload)) (Err stop.BadFragment) (Ok may) (tells-err stop.BadFragment (λ e. cc)) (tells-ok may)
@@ -110,7 +119,7 @@ passed-of b m (throttle_configure i a d) = passed-sequenced b m.head.channel (da
 passed-of b m (send_unreliable_fragment f p) = passed-sequenced b m.head.channel (data_of m)
 
 pub arrival_tells : (b : Inbox) (m : Message) → Tells (arrival b m).answer
-arrival_tells b m = (stays-of b m m.body).1
+arrival_tells b m = (stays-met (makes_room b m) b m refl).1
 
 pub passed_tells : (b : Inbox) (m : Message) → Tells (passed_over b m)
 passed_tells b m = passed-of b m m.body
@@ -154,5 +163,9 @@ quiet-of b m (bandwidth_limit i o) e = quiet-sequenced b m.head.channel (data_of
 quiet-of b m (throttle_configure i a d) e = quiet-sequenced b m.head.channel (data_of m) e
 quiet-of b m (send_unreliable_fragment f p) e = quiet-sequenced b m.head.channel (data_of m) e
 
+quiet-met : (t : Bool) (b : Inbox) (m : Message) → makes_room b m ≡ t → is_kept_of (met_by t b) m m.body ≡ false → (plain_arrival (met_by t b) m).after ≡ b
+quiet-met false b m made n = quiet-of b m m.body n
+quiet-met true b m made n = absurd (let kept = room_kept b m made in cc)
+
 pub quiet_stays : (b : Inbox) (m : Message) → is_kept b m ≡ false → (arrival b m).after ≡ b
-quiet_stays b m n = quiet-of b m m.body n
+quiet_stays b m n = quiet-met (makes_room b m) b m refl n

@@ -2,7 +2,8 @@
 
 ghost use Rattle.std.specs.Prelude.{◌≡◌, ◌<◌};
 ghost use Rattle.enet_seq.specs.Windows as windows;
-ghost use Rattle.enet_inbox.specs.InboxParts.{seen};
+ghost use Rattle.enet_inbox.specs.DataEffect.{is_waiting};
+ghost use Rattle.enet_inbox.specs.InboxParts.{seen, told};
 
 use enet_codec::{Command, Head, Stop};
 use enet_receiver::{Foresight, Incoming, Took};
@@ -37,6 +38,13 @@ pub(crate) fn seen(foresight: Foresight) -> Result<Foreseen, Stop>
         makes_room: false,
         dispatches: foresight.dispatches,
     })
+}
+
+/// Whether a command finds no room to begin its packet.
+pub(crate) fn finds_no_room(foreseen: &Result<Foreseen, Stop>) -> bool
+    ensures { result ≡ is_waiting (told foreseen.now) }
+{
+    matches!(foreseen, Err(Stop::Waiting))
 }
 
 /// Whether the window of a channel lets a command of this number be acknowledged. It looks at nothing but the number, so an

@@ -1,18 +1,19 @@
 //! All that comes to a peer.
 
-ghost use Rattle.std.specs.Prelude.{◌≡◌, ◌<◌, drop, IsTrue, IfOk, IfErr, OnOk, OnErr, Ok, Some, true, false, slice_get};
+ghost use Rattle.std.specs.Prelude.{◌≡◌, ◌<◌, drop, IsTrue, IfOk, IfErr, OnOk, OnErr, Ok, Err, Some, true, false, slice_get};
 ghost use Rattle.std.specs.Option.{option_copied};
 ghost use Rattle.enet_codec.specs.Message.{view};
 ghost use Rattle.enet_fragment.specs.DataCommand.{data_of};
 ghost use Rattle.enet_unsequenced.specs.Groups.{dispatches};
 ghost use Rattle.enet_receiver.specs.ArrivingData.{data_command};
-ghost use Rattle.enet_inbox.specs.Inbox.{empty_inbox, is_full, is_full_for, cleared, forgotten, narrowed};
-ghost use Rattle.enet_inbox.specs.DataEffect.{arrival, sequenced, unsequenced_taken, passed_over, passed_length, passed_sequenced, is_kept, DataArrives};
-ghost use Rattle.enet_inbox.specs.InboxParts.{foresight_of, unsequenced_verdict, foreseen, foreseen_sequenced, told};
+ghost use Rattle.enet_inbox.specs.Inbox.{empty_inbox, is_full, is_full_for, cleared, forgotten, narrowed, given_way};
+ghost use Rattle.enet_inbox.specs.DataEffect.{plain_arrival, arrival, sequenced, unsequenced_taken, passed_over, passed_length, passed_sequenced, is_kept, DataArrives};
+ghost use Rattle.enet_inbox.specs.InboxParts.{foresight_of, unsequenced_verdict, plain_foreseen, foreseen, foreseen_sequenced, with_room, told};
+ghost use Rattle.enet_inbox.specs.Private.InboxParts.{met_by, FindsRoom};
 
-use crate::arriving::{Foreseen, acknowledges, seen};
-use crate::receivers::{clear_all, held_in, open_all};
-use crate::taking::{append, pass_on, take_in};
+use crate::arriving::{Foreseen, acknowledges, finds_no_room, seen};
+use crate::receivers::{clear_all, give_way, give_way_but, held_in, open_all, waiting_in};
+use crate::taking::{append, pass_on, take_in, take_in_instead};
 use enet_codec::{Command, Packet, Refusal, Stop};
 use enet_receiver::{ArrivingData, Foresight, Incoming};
 use enet_unsequenced::Groups;
@@ -51,8 +52,9 @@ impl Model for Inbox {
 }
 
 impl Inbox {
-    /// An inbox of so many channels to which nothing came. It takes packets of at most `max_packet` bytes, and begins none
-    /// once `max_waiting` bytes or more wait. E1 where memory is refused.
+    /// An inbox of so many channels to which nothing came. It takes packets of at most `max_packet` bytes, and begins none once
+    /// `max_waiting` bytes or more wait: as `data` says, the next packet of each channel may come all the same, and unreliable ones
+    /// may give way. E1 where memory is refused.
     pub fn open(
         alloc: Global,
         channels: u8,
@@ -81,20 +83,11 @@ impl Inbox {
         ensures value { result ≡ foreseen self.now (view command.now) }
     {
         let _receivers = &self.receivers;
-        if let Command::SendUnsequenced {
-            head,
-            group,
-            payload,
-        } = command
-        {
-            let is_new = self.is_new(head.channel, *group, payload)?;
-            return Ok(Foreseen {
-                acknowledged: true,
-                kept: is_new,
-                dispatches: u32::from(is_new),
-            });
+        let foreseen = self.foresee_plainly(command);
+        if finds_no_room(&foreseen) {
+            return self.foresee_room(command);
         }
-        self.foresee_sequenced(command)
+        foreseen
     }
 
     /// Takes a data command in: SEND_RELIABLE, SEND_UNRELIABLE, SEND_FRAGMENT, SEND_UNRELIABLE_FRAGMENT or SEND_UNSEQUENCED.
@@ -104,9 +97,12 @@ impl Inbox {
     /// A stop is the first that applies: S6 for a command that is no data; S8 where the channel is not below the channel
     /// count; S9 where the payload or the packet is above the maximum packet size, or a fragment's fields fit together
     /// neither with themselves nor with the pieces before (fields and sizes before the window: our profile); S10 where it
-    /// begins a packet while the bytes that are held, wait or weren't taken are at their limit or above, or, of the packet that
-    /// its channel dispatches next, while those that weren't taken alone are (our profile); S11 where memory is
-    /// refused (our profile). After a stop nothing has changed.
+    /// begins a packet while the bytes that are held reliably or weren't taken are at their limit or above, or, of the packet
+    /// that its channel dispatches next, while those that weren't taken alone are (our profile); S11 where memory is refused (our
+    /// profile). After a stop nothing has changed.
+    ///
+    /// Where it begins a packet, other than the one that its channel dispatches next, while the bytes of unreliable packets that
+    /// wait or are in the making bring all to the limit, those packets are given up, on all channels (our profile).
     pub fn data(&mut self, command: &Command<'_>) -> Result<bool, Stop>
         ensures { DataArrives result (is_kept self.old (view command.now)) (arrival self.old (view command.now)) self.old self.new }
     {
@@ -127,15 +123,11 @@ impl Inbox {
         ensures unchanged { OnErr result (self.new ≡ self.old) }
         ensures memory { IfErr result (λ why. why ≡ Stop.Memory) }
     {
-        let is_taken = match command {
-            Command::SendUnsequenced {
-                head,
-                group,
-                payload,
-            } => self.append(head.channel, *group, payload),
-            _ => self.take_in_sequenced(command, what),
-        };
-        if is_taken { Ok(()) } else { Err(Stop::Memory) }
+        if self.take_in_foreseen(command, what) {
+            Ok(())
+        } else {
+            Err(Stop::Memory)
+        }
     }
 
     /// Passes a data command over, as a peer does that dispatches nothing more: S6, S8 and S9 as in `data`, where only
@@ -218,6 +210,69 @@ impl Inbox {
         u128::from(self.max_waiting) <= self.waiting - held_in(&self.receivers)
     }
 
+    /// Whether so many bytes would wait once the unreliable packets that wait had given way.
+    fn is_full_without_waiting(&self) -> bool
+        ensures { result ≡ is_full (given_way self.now) }
+    {
+        u128::from(self.max_waiting) <= self.waiting - waiting_in(&self.receivers)
+    }
+
+    /// What becomes of a data command with ample memory, where nothing gives way to it.
+    fn foresee_plainly(&self, command: &Command<'_>) -> Result<Foreseen, Stop>
+        ensures { result ≡ plain_foreseen self.now (view command.now) }
+    {
+        if let Command::SendUnsequenced {
+            head,
+            group,
+            payload,
+        } = command
+        {
+            let is_new = self.is_new(head.channel, *group, payload)?;
+            return Ok(Foreseen {
+                acknowledged: true,
+                kept: is_new,
+                makes_room: false,
+                dispatches: u32::from(is_new),
+            });
+        }
+        self.foresee_sequenced(command)
+    }
+
+    /// What becomes of a data command that finds no room, once the unreliable packets that wait have given way. It stays a
+    /// function of its own, since few commands come to it.
+    #[inline(never)]
+    fn foresee_room(&self, command: &Command<'_>) -> Result<Foreseen, Stop>
+        requires { (plain_arrival self.now (view command.now)).answer ≡ Err Stop.Waiting }
+        ensures { result ≡ with_room (plain_arrival (given_way self.now) (view command.now)).answer }
+    {
+        let acknowledged = self.answer_in_room(command)?;
+        Ok(Foreseen {
+            acknowledged,
+            kept: true,
+            makes_room: true,
+            dispatches: 0,
+        })
+    }
+
+    /// Whether such a command may be acknowledged then, or why it is still stopped.
+    fn answer_in_room(&self, command: &Command<'_>) -> Result<bool, Stop>
+        requires { (plain_arrival self.now (view command.now)).answer ≡ Err Stop.Waiting }
+        ensures { result ≡ (plain_arrival (given_way self.now) (view command.now)).answer }
+    {
+        let _receivers = &self.receivers;
+        if self.is_full_without_waiting() {
+            return Err(Stop::Waiting);
+        }
+        let Some(arriving) = ArrivingData::of(command) else {
+            return Ok(true);
+        };
+        let receiver = &self.receivers[arriving.head.channel as usize];
+        if receiver.is_next(arriving) {
+            return Err(Stop::Waiting);
+        }
+        Ok(acknowledges(receiver, arriving.head))
+    }
+
     /// What the receiver of its channel would do with a sequenced data command.
     fn foresight(&self, command: &Command<'_>) -> Result<Foresight, Stop>
         ensures { result ≡ foresight_of self.now (view command.now).head.channel (data_of (view command.now)) }
@@ -241,17 +296,54 @@ impl Inbox {
         seen(foresight)
     }
 
-    /// Takes a sequenced data command in that its channel's receiver takes in, where memory is not refused.
-    fn take_in_sequenced(&mut self, command: &Command<'_>, what: Foreseen) -> bool
-        requires foreseen { foreseen_sequenced self.old (view command.now).head.channel (data_of (view command.now)) ≡ Ok what }
+    /// Takes such a command in, where memory is not refused.
+    fn take_in_foreseen(&mut self, command: &Command<'_>, what: Foreseen) -> bool
+        requires foreseen { foreseen self.old (view command.now) ≡ Ok what }
         requires kept { what.kept ≡ true }
-        ensures taken { IsTrue result → self.new ≡ (sequenced self.old (view command.now).head.channel (data_of (view command.now))).after }
+        ensures taken { IsTrue result → self.new ≡ (arrival self.old (view command.now)).after }
         ensures unchanged { result ≡ false → self.new ≡ self.old }
     {
         let Some(arriving) = ArrivingData::of(command) else {
-            unreachable!()
+            return self.take_in_unsequenced(command, what);
         };
-        self.pass_on(arriving, what) || self.take_in_any(arriving, what)
+        self.take_in_sequenced(arriving, what)
+    }
+
+    /// Takes an unsequenced packet in. False, with nothing changed, of any other command.
+    fn take_in_unsequenced(&mut self, command: &Command<'_>, what: Foreseen) -> bool
+        requires foreseen { foreseen self.old (view command.now) ≡ Ok what }
+        requires kept { what.kept ≡ true }
+        ensures taken { IsTrue result → self.new ≡ (arrival self.old (view command.now)).after }
+        ensures unchanged { result ≡ false → self.new ≡ self.old }
+    {
+        let Command::SendUnsequenced {
+            head,
+            group,
+            payload,
+        } = command
+        else {
+            return false;
+        };
+        self.append(head.channel, *group, payload, what.makes_room)
+    }
+
+    /// Takes a sequenced data command in that its channel's receiver takes in, where memory is not refused.
+    fn take_in_sequenced(&mut self, arriving: ArrivingData<'_>, what: Foreseen) -> bool
+        requires plain { what.makes_room ≡ false → foreseen_sequenced self.old arriving.head.channel (Some (data_command arriving)) ≡ Ok what }
+        requires room { what.makes_room ≡ true → FindsRoom self.old arriving.head.channel (Some (data_command arriving)) }
+        requires not_told { what.makes_room ≡ true → what.dispatches ≡ 0 }
+        requires kept { what.kept ≡ true }
+        ensures taken { IsTrue result → self.new ≡ (sequenced (met_by what.makes_room self.old) arriving.entry.head.channel (Some (data_command arriving.entry))).after }
+        ensures unchanged { result ≡ false → self.new ≡ self.old }
+    {
+        if what.dispatches == 1 && self.pass_on(arriving, what) {
+            return true;
+        }
+        if what.makes_room {
+            self.take_in_instead(arriving)
+        } else {
+            self.take_in_any(arriving, what)
+        }
     }
 
     /// Takes such a command in where its packet comes alone, and has that wait to be taken. False, with nothing changed, where it
@@ -262,9 +354,6 @@ impl Inbox {
         ensures taken { IsTrue result → self.new ≡ (sequenced self.old arriving.entry.head.channel (Some (data_command arriving.entry))).after }
         ensures unchanged { result ≡ false → self.new ≡ self.old }
     {
-        if what.dispatches != 1 {
-            return false;
-        }
         let receiver = &mut self.receivers[arriving.head.channel as usize];
         let Some(bytes) = pass_on(receiver, &mut self.untaken, arriving) else {
             return false;
@@ -293,6 +382,33 @@ impl Inbox {
         true
     }
 
+    /// Takes such a command in where the unreliable packets that wait make room for it: they are given up, on all channels.
+    #[inline(never)]
+    fn take_in_instead(&mut self, arriving: ArrivingData<'_>) -> bool
+        requires { FindsRoom self.old arriving.head.channel (Some (data_command arriving)) }
+        ensures taken { IsTrue result → self.new ≡ (sequenced (given_way self.old) arriving.entry.head.channel (Some (data_command arriving.entry))).after }
+        ensures unchanged { result ≡ false → self.new ≡ self.old }
+    {
+        let others = waiting_in(&self.receivers);
+        let receiver = &mut self.receivers[arriving.head.channel as usize];
+        let before = receiver.held() - receiver.waiting();
+        let Some(bytes) = take_in_instead(receiver, &mut self.untaken, arriving) else {
+            return false;
+        };
+        let after = receiver.held();
+        give_way_but(&mut self.receivers, arriving.head.channel);
+        self.waiting = self.waiting - others - u128::from(before) + u128::from(after) + bytes;
+        true
+    }
+
+    /// Gives the unreliable packets up that wait or are in the making.
+    fn give_way(&mut self)
+        ensures { self.new ≡ given_way self.old }
+    {
+        self.waiting -= waiting_in(&self.receivers);
+        give_way(&mut self.receivers);
+    }
+
     /// Whether an unsequenced packet would be dispatched, or why it stops the datagram.
     fn is_new(&self, channel: u8, group: u16, payload: &[u8]) -> Result<bool, Stop>
         ensures { result ≡ unsequenced_verdict self.now channel group payload.now }
@@ -312,8 +428,24 @@ impl Inbox {
         Ok(true)
     }
 
-    /// Dispatches an unsequenced packet of a group that is new, where memory is not refused.
-    fn append(&mut self, channel: u8, group: u16, payload: &[u8]) -> bool
+    /// Dispatches an unsequenced packet of a group that is new, where memory is not refused; `makes_room` says that the unreliable
+    /// packets that wait are given up for it.
+    fn append(&mut self, channel: u8, group: u16, payload: &[u8], makes_room: bool) -> bool
+        requires { IsTrue (dispatches self.old.seen group) }
+        ensures added { IsTrue result → self.new ≡ unsequenced_taken (met_by makes_room self.old) channel group payload.now }
+        ensures unchanged { result ≡ false → self.new ≡ self.old }
+    {
+        if !self.append_plainly(channel, group, payload) {
+            return false;
+        }
+        if makes_room {
+            self.give_way();
+        }
+        true
+    }
+
+    /// Dispatches such a packet where nothing gives way to it.
+    fn append_plainly(&mut self, channel: u8, group: u16, payload: &[u8]) -> bool
         requires { IsTrue (dispatches self.old.seen group) }
         ensures added { IsTrue result → self.new ≡ unsequenced_taken self.old channel group payload.now }
         ensures unchanged { result ≡ false → self.new ≡ self.old }

@@ -3,8 +3,9 @@
 ghost use Rattle.std.specs.Prelude.{◌≡◌, ◌^◌, ◌<◌, map, IfOk, IfErr};
 ghost use Rattle.std.specs.List.{range_with_len};
 ghost use Rattle.enet_receiver.specs.Foresight.{new_end};
-ghost use Rattle.enet_inbox.specs.Inbox.{cleared_receiver};
-ghost use Rattle.enet_inbox.specs.Private.Invariant.{held_in};
+ghost use Rattle.enet_inbox.specs.Inbox.{cleared_receiver, given_way_receiver};
+ghost use Rattle.enet_inbox.specs.Private.Invariant.{held_in, waiting_in};
+ghost use Rattle.enet_inbox.specs.Private.InboxParts.{given_way_but};
 
 use enet_codec::Refusal;
 use enet_receiver::Incoming;
@@ -39,6 +40,47 @@ pub(crate) fn held_in(receivers: &[Incoming]) -> u128
         held += u128::from(receiver.held());
     }
     held
+}
+
+/// The bytes of the unreliable packets that wait at receivers.
+pub(crate) fn waiting_in(receivers: &[Incoming]) -> u128
+    requires { waiting_in receivers.now < 2 ^ 128 }
+    ensures { result ≡ waiting_in receivers.now }
+{
+    let mut waiting = 0;
+    for receiver in receivers {
+        waiting += u128::from(receiver.waiting());
+    }
+    waiting
+}
+
+/// Gives the unreliable packets up that wait.
+pub(crate) fn give_way(receivers: &mut Vec<Incoming>)
+    ensures { receivers.new.items ≡ map given_way_receiver receivers.old.items }
+{
+    for channel in 0..receivers.len() {
+        let receiver = &mut receivers[channel];
+        receiver.give_way();
+    }
+}
+
+/// Gives those of a receiver up, unless it is this channel's.
+fn give_way_unless(receiver: &mut Incoming, own: u8)
+    ensures { receiver.new ≡ given_way_but own receiver.old }
+{
+    if receiver.channel() != own {
+        receiver.give_way();
+    }
+}
+
+/// Gives those up on all channels but this one.
+pub(crate) fn give_way_but(receivers: &mut Vec<Incoming>, own: u8)
+    ensures { receivers.new.items ≡ map (given_way_but own) receivers.old.items }
+{
+    for channel in 0..receivers.len() {
+        let receiver = &mut receivers[channel];
+        give_way_unless(receiver, own);
+    }
 }
 
 /// Lets all go that is held or waits.

@@ -5,7 +5,7 @@ ghost use Rattle.std.specs.VecDeque.{deque_len, deque_capacity};
 ghost use Rattle.enet_codec.specs.declared.packet.Packet.{Packet};
 ghost use Rattle.enet_receiver.specs.ArrivingData.{data_command};
 ghost use Rattle.enet_receiver.specs.declared.took.Took.TheVariants.{Held};
-ghost use Rattle.enet_receiver.specs.Foresight.{outcome_for, after_command, foreseen, WouldBeHeld};
+ghost use Rattle.enet_receiver.specs.Foresight.{outcome_for, after_command, alone, foreseen, WouldBeHeld};
 ghost use Rattle.enet_receiver.specs.Receiver.{held_bytes};
 ghost use Rattle.enet_inbox.specs.DataEffect.{packet_of, emptied};
 ghost use Rattle.enet_inbox.specs.Invariant.{IsShort};
@@ -59,6 +59,34 @@ pub(crate) fn take_in(
         return None;
     }
     if !receiver.take_in(arriving) {
+        return None;
+    }
+    Some(hand_over(receiver, untaken))
+}
+
+/// Takes a command in that the receiver would take in if the unreliable packets that wait there were given up; they are. Answers
+/// how many bytes what it dispatches has; None, with nothing changed, where memory is refused.
+pub(crate) fn take_in_instead(
+    receiver: &mut Incoming,
+    untaken: &mut VecDeque<Packet>,
+    arriving: ArrivingData<'_>,
+) -> Option<u128>
+    requires held { outcome_for (alone receiver.old) (Some (data_command arriving)) false ≡ Held }
+    requires none_left { receiver.old.receiver.dispatched ≡ [] }
+    requires short { All IsShort untaken.old.items }
+    ensures receiver { IfSome result (λ _. receiver.new ≡ emptied (after_command (alone receiver.old) (Some (data_command arriving.entry)) false)) }
+    ensures untaken { IfSome result (λ _. untaken.new.items
+        ≡ untaken.old.items ++ map (packet_of receiver.old.channel) (after_command (alone receiver.old) (Some (data_command arriving.entry)) false).receiver.dispatched) }
+    ensures bytes { IfSome result (λ bytes. bytes_in untaken.new.items ≡ bytes_in untaken.old.items + bytes) }
+    ensures short { All IsShort untaken.new.items }
+    ensures same_receiver { IfNone result (receiver.new ≡ receiver.old) }
+    ensures same_untaken { IfNone result (untaken.new.items ≡ untaken.old.items) }
+{
+    let dispatches = receiver.dispatches_instead(arriving);
+    if untaken.reserve(dispatches as usize).is_err() {
+        return None;
+    }
+    if !receiver.take_in_instead(arriving) {
         return None;
     }
     Some(hand_over(receiver, untaken))

@@ -30,8 +30,8 @@ use Rattle.enet_receiver.specs.declared.took.Took.{Took}
 use Rattle.enet_receiver.specs.declared.took.Took.TheVariants.{Held, Again, Outside, Bad, Waiting, Memory}
 use Rattle.enet_receiver.specs.Foresight.{ReceivingEnd, outcome_for, after_command}
 use Rattle.enet_receiver.specs.Foresight as receiving
-use Rattle.enet_inbox.specs.Inbox.{Inbox, is_full, is_full_for, cleared_receiver}
-use Rattle.enet_inbox.specs.DataEffect.{DataEffect, handled, stopped as refused, unsequenced, unsequenced_taken, by_took, sequenced, sequenced_on, passed_over, arrival, arrival_of, emptied}
+use Rattle.enet_inbox.specs.Inbox.{Inbox, is_full, is_full_for, cleared_receiver, given_way, given_way_receiver}
+use Rattle.enet_inbox.specs.DataEffect.{DataEffect, handled, stopped as refused, unsequenced, unsequenced_taken, by_took, sequenced, sequenced_on, passed_over, makes_room, met, arrival, arrival_of, emptied}
 use Rattle.enet_sender.specs.CommandChoice.{Packet}
 use Rattle.enet_sender.specs.declared.sent.Sent.{Sent}
 use Rattle.enet_sender.specs.Sender.{Occasion, Sender, Next, next, with_skipped}
@@ -347,6 +347,10 @@ sequenced-hands : (b : Inbox) (channel : ℕ) (o : Option DataCommand) → At Ha
 sequenced-hands b channel None h = h
 sequenced-hands b channel (Some c) h = on-hands b channel c (slice_get b.receivers channel) h
 
+met-hands : (t : Bool) (b : Inbox) → At HandedOver b.receivers → At HandedOver (cond t (given_way b) b).receivers
+met-hands true b h = at-map HandedOver HandedOver given_way_receiver b.receivers (λ i r e. e) h
+met-hands false b h = h
+
 arrival-hands : (b : Inbox) (m : Message) (body : Body) → At HandedOver b.receivers → At HandedOver (arrival_of b m body).after.receivers
 arrival-hands b m (send_unsequenced group payload) h = unsequenced-hands b m.head.channel group payload h
 arrival-hands b m body h = sequenced-hands b m.head.channel (data_of m) h
@@ -359,7 +363,7 @@ data-keeps : (p : Peering) (m : Message) (sent : Option ℕ) → IsReachable p �
 data-keeps p m sent h = if-outcome (is_later p.state) (by_answer p m sent (passed_over p.inbox m)) (by_arrival p m sent (arrival p.inbox m))
     (λ t. result-keeps p m sent (passed_over p.inbox m) h)
     (result-keeps (record p { inbox = (arrival p.inbox m).after }) m sent (arrival p.inbox m).answer
-    (record { still = h.still; waits = h.waits; places = h.places; handed_over = arrival-hands p.inbox m m.body h.handed_over }))
+    (record { still = h.still; waits = h.waits; places = h.places; handed_over = arrival-hands (met p.inbox m) m m.body (met-hands (makes_room p.inbox m) p.inbox h.handed_over) }))
 
 body-keeps : (p : Peering) (h : Head) (now : ℕ) (sent : Option ℕ) (body : Body) → IsReachable p → IsReachable (by_body p now sent (record { head = h; body = body }) body).after
 body-keeps p h now sent (acknowledge number time) k =

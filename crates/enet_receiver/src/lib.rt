@@ -6,7 +6,8 @@
 //! `held`; every other outcome changes nothing, `unchanged`; Memory comes only where the command would be held, `memory`),
 //! `foresee`, `foresee_data` (outcome, whether the window lets it be acknowledged, how many packets it dispatches), `take_in` (what
 //! was foreseen to be held is, and is not looked at again), `pass_on` (the same, where it hands the one packet out that `take_in`
-//! would dispatch), `held`, `pop`, `clear`, `open`; and `ArrivingData::of` (which sequenced data command a command is). Laws: as
+//! would dispatch), `take_in_instead` and `dispatches_instead` (the same where the unreliable packets that wait are given up for it),
+//! `give_way`, `held`, `waiting`, `pop`, `clear`, `open`; and `ArrivingData::of` (which sequenced data command a command is). Laws: as
 //! many turns as packets are held are enough to dispatch all that is due (`turns_suffice`), and what was dispatched before makes
 //! no difference (`earlier_dispatches_do_not_matter`); what comes in sequence never has the flags 2 of an unsequenced packet
 //! (`sequenced_has_other_flags`). Inside, by the invariants of `Held` and `Block`: a number is marked exactly where a packet is

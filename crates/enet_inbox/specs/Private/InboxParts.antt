@@ -1,7 +1,11 @@
 -- An inbox of its parts, and the parts of what it answers.
-use Rattle.std.specs.Prelude.{Bool, Result, Ok, Err}
+use Rattle.std.specs.Prelude.{◌≡◌, ℕ, Bool, true, ◌==◌, if◌then◌else◌, is_ok, Option, Result, Ok, Err}
 use Rattle.enet_codec.specs.declared.stop.Stop.{Stop}
 use Rattle.enet_codec.specs.declared.stop.Stop.TheVariants as stop
+use Rattle.enet_fragment.specs.declared.data.DataCommand.{DataCommand}
+use Rattle.enet_receiver.specs.Foresight.{ReceivingEnd}
+use Rattle.enet_inbox.specs.Inbox.{Inbox, given_way, given_way_receiver}
+use Rattle.enet_inbox.specs.DataEffect.{sequenced}
 use Rattle.enet_receiver.specs.declared.took.Took.{Took}
 use Rattle.enet_receiver.specs.declared.took.Took.TheVariants as took
 use Rattle.enet_receiver.specs.declared.took.Foresight.{Foresight}
@@ -17,3 +21,16 @@ answer_by took.Memory may = Err stop.Memory
 
 abbrev pub answer_of : Foresight → Result Bool Stop
 answer_of f = answer_by f.took f.acknowledged
+
+-- what waits is given up on all channels but one
+abbrev pub given_way_but : ℕ → ReceivingEnd → ReceivingEnd
+given_way_but own r = if r.channel == own then r else given_way_receiver r
+
+-- the inbox that a command meets, where this says whether it makes room for itself
+abbrev pub met_by : Bool → Inbox → Inbox
+met_by makes_room b = if makes_room then given_way b else b
+
+-- a sequenced command finds no room, and finds it once the unreliable packets that wait give way
+pub record FindsRoom (b : Inbox) (channel : ℕ) (o : Option DataCommand) : Type 0 where
+  pub none_yet : (sequenced b channel o).answer ≡ Err stop.Waiting
+  pub then_room : is_ok (sequenced (given_way b) channel o).answer ≡ true

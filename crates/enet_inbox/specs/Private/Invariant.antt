@@ -1,6 +1,7 @@
 -- What the fields of an inbox keep.
 use Rattle.std.specs.Prelude.{◌≡◌, ℕ, ◌<◌, Some, List, length, sum_by, slice_get}
 use Rattle.enet_codec.specs.declared.packet.Packet.{Packet}
+use Rattle.enet_packets.specs.Packets as packets
 use Rattle.enet_receiver.specs.Receiver.{held_bytes}
 use Rattle.enet_receiver.specs.Foresight.{ReceivingEnd}
 use Rattle.enet_inbox.specs.Inbox.{Inbox}
@@ -8,6 +9,10 @@ use Rattle.enet_inbox.specs.Inbox.{Inbox}
 -- the bytes that are held or wait at receivers
 abbrev pub held_in : List ReceivingEnd → ℕ
 held_in rs = sum_by (λ (r : ReceivingEnd). held_bytes r.receiver) rs
+
+-- the bytes of the unreliable packets that wait at receivers
+abbrev pub waiting_in : List ReceivingEnd → ℕ
+waiting_in rs = sum_by (λ (r : ReceivingEnd). packets.bytes_in r.receiver.waiting) rs
 
 -- the bytes of packets
 abbrev pub bytes_in : List Packet → ℕ

@@ -1,7 +1,7 @@
 use Rattle.std.proofs.Common.{◌<◌, ◌^◌, length, arith}
 use Rattle.enet_inbox.specs.InboxParts.{inbox_of}
 use Rattle.enet_inbox.proofs.Keeping.{keeps_pushed, push_fits}
-use Rattle.enet_inbox.proofs.inbox.Inbox.append.Goals as goal
+use Rattle.enet_inbox.proofs.inbox.Inbox.append_plainly.Goals as goal
 
 pub overflow_add-self : goal.overflow_add-self
 overflow_add-self c =

@@ -1,0 +1,93 @@
+use Rattle.std.proofs.Common.{◌≡◌, ◌<◌, ◌≤◌, ◌+◌, ◌-◌, ◌^◌, length, List, refl, sym, ap, subst, ◌∙◌, arith, Some}
+use Rattle.std.specs.Prelude.{slice_set}
+use Rattle.enet_receiver.specs.ArrivingData.{data_command}
+use Rattle.enet_receiver.specs.Receiver.{held_bytes}
+use Rattle.enet_receiver.specs.Foresight.{ReceivingEnd}
+use Rattle.enet_inbox.specs.Inbox.{Inbox, given_way, given_way_receiver}
+use Rattle.enet_inbox.specs.DataEffect.{sequenced}
+use Rattle.enet_inbox.specs.Invariant.{KeepsInbox}
+use Rattle.enet_inbox.specs.Private.Invariant.{waiting_in}
+use Rattle.enet_inbox.specs.Private.InboxParts.{FindsRoom}
+use Rattle.enet_inbox.specs.contracts.inbox.Inbox.{the_view}
+use Rattle.enet_inbox.proofs.Keeping.{bounded}
+use Rattle.enet_inbox.proofs.GivingWay.{Room, room_at, held_alone, waiting_counted, made_after, made_keeps, made_counted}
+use Rattle.enet_inbox.proofs.inbox.Inbox.take_in_instead.Goals.{After-index_mut-receiver, After-from-2}
+use Rattle.enet_inbox.proofs.inbox.Inbox.take_in_instead.Goals as goal
+
+room : (c : After-index_mut-receiver) → Room (the_view c.self.inside) c.args.arriving.head.channel (data_command c.args.arriving) c.index_mut-receiver.result.now
+room c =
+    room_at (the_view c.self.inside) c.self.inside.waiting c.args.arriving.head.channel (data_command c.args.arriving) c.index_mut-receiver.result.now c.self.invariant
+    (subst (λ (x : Inbox). FindsRoom x c.args.arriving.head.channel (Some (data_command c.args.arriving))) (sym c.self.view_is) c.requires) c.index_mut-receiver.ensures.value
+
+-- the inbox keeps what it keeps, and the counter fits
+kept : (c : After-from-2) → Room (the_view c.self.inside) c.args.arriving.head.channel (data_command c.args.arriving) c.index_mut-receiver.result.now
+    → KeepsInbox (record (the_view c.self.inside) { receivers = c.give_way_but.new.receivers.items; untaken = c.take_in_instead.new.untaken.items })
+    (c.self.inside.waiting - c.waiting_in-others.result - c.from.result + c.from-2.result + c.in-Some.bytes) × (c.self.inside.waiting - c.waiting_in-others.result - c.from.result + c.from-2.result + c.in-Some.bytes < 2 ^ 127)
+kept c r =
+    let d = c.index_mut-receiver.result.now in
+    let new = c.take_in_instead.new.receiver in
+    let qs = c.take_in_instead.new.untaken.items in
+    let others : c.waiting_in-others.result ≡ waiting_in c.self.inside.receivers.items = c.waiting_in-others.ensures ∙ ap (λ (rs : List ReceivingEnd). waiting_in rs) c.deref.ensures.value in
+    let all = held_alone d in
+    let held = c.held.ensures in
+    let waiting = c.waiting.ensures in
+    let before = c.from.ensures in
+    let was : c.from.result ≡ held_bytes (given_way_receiver d).receiver = omega arith in
+    let now : c.from-2.result ≡ held_bytes new.receiver = c.from-2.ensures ∙ c.held-after.ensures in
+    let k = made_keeps (the_view c.self.inside) c.self.inside.waiting c.args.arriving.head.channel (data_command c.args.arriving) d new c.give_way_but.new.receivers.items qs c.in-Some.bytes c.waiting_in-others.result c.from.result c.from-2.result
+    c.self.invariant r c.index_mut-receiver.ensures.value c.in-Some.ensures.receiver c.give_way_but.ensures others was now (omega arith) c.in-Some.ensures.short c.in-Some.ensures.bytes in
+    let few : length qs < 2 ^ 63 = omega (arith, c.take_in_instead.new.untaken.ok.0, c.take_in_instead.new.untaken.small.0, c.take_in_instead.new.untaken.small.1) in
+    (k, bounded _ _ k few)
+
+pub waiting_in-others-requires : goal.waiting_in-others-requires
+waiting_in-others-requires c =
+    let most = waiting_counted (the_view c.self.inside) c.self.inside.waiting c.self.invariant in
+    let same : waiting_in c.deref.result.now ≡ waiting_in c.self.inside.receivers.items = ap (λ (rs : List ReceivingEnd). waiting_in rs) c.deref.ensures.value in
+    let fits : c.self.inside.waiting < 2 ^ 128 = omega arith in
+    omega arith
+
+pub take_in_instead-requires-clause-held : goal.take_in_instead-requires-clause-held
+take_in_instead-requires-clause-held c = (room (goal.at.take_in_instead-requires-clause-held c).After-index_mut-receiver).took
+
+pub take_in_instead-requires-clause-none_left : goal.take_in_instead-requires-clause-none_left
+take_in_instead-requires-clause-none_left c = (room (goal.at.take_in_instead-requires-clause-none_left c).After-index_mut-receiver).place.none_left
+
+pub overflow_add-self : goal.overflow_add-self
+overflow_add-self c =
+    let at = goal.at.overflow_add-self c in
+    let most = (kept at.After-from-2 (room at.After-index_mut-receiver)).1 in
+    omega arith
+
+pub overflow_add-self-2 : goal.overflow_add-self-2
+overflow_add-self-2 c =
+    let at = goal.at.overflow_add-self-2 c in
+    let most = (kept at.After-from-2 (room at.After-index_mut-receiver)).1 in
+    omega arith
+
+pub invariant_of-self-2 : goal.invariant_of-self-2
+invariant_of-self-2 c = let at = goal.at.invariant_of-self-2 c in (kept at.After-from-2 (room at.After-index_mut-receiver)).0
+
+pub returns-clause-taken : goal.returns-clause-taken
+returns-clause-taken c = λ _.
+    let r = room (goal.at.returns-clause-taken c).After-index_mut-receiver in
+    made_after (the_view c.self.inside) c.self.inside.waiting c.args.arriving.head.channel (data_command c.args.arriving) c.index_mut-receiver.result.now c.take_in_instead.new.receiver c.give_way_but.new.receivers.items c.take_in_instead.new.untaken.items
+    c.self.invariant r c.in-Some.ensures.receiver c.in-Some.ensures.untaken c.give_way_but.ensures
+    ∙ ap (λ (x : Inbox). (sequenced (given_way x) c.args.arriving.head.channel (Some (data_command c.args.arriving))).after) c.self.view_is
+
+pub overflow_sub-self : goal.overflow_sub-self
+overflow_sub-self c =
+    let most = waiting_counted (the_view c.self.inside) c.self.inside.waiting c.self.invariant in
+    let others : c.waiting_in-others.result ≡ waiting_in c.self.inside.receivers.items = c.waiting_in-others.ensures ∙ ap (λ (rs : List ReceivingEnd). waiting_in rs) c.deref.ensures.value in
+    omega arith
+
+pub overflow_sub-self-2 : goal.overflow_sub-self-2
+overflow_sub-self-2 c =
+    let d = c.index_mut-receiver.result.now in
+    let r = room (goal.at.overflow_sub-self-2 c).After-index_mut-receiver in
+    let others : c.waiting_in-others.result ≡ waiting_in c.self.inside.receivers.items = c.waiting_in-others.ensures ∙ ap (λ (rs : List ReceivingEnd). waiting_in rs) c.deref.ensures.value in
+    let counted = made_counted (the_view c.self.inside) c.self.inside.waiting c.args.arriving.head.channel (data_command c.args.arriving) d c.self.invariant r c.index_mut-receiver.ensures.value in
+    let all = held_alone d in
+    let held = c.held.ensures in
+    let waiting = c.waiting.ensures in
+    let before = c.from.ensures in
+    omega arith

@@ -1,0 +1,6 @@
+use Rattle.std.proofs.Common.{◌≡◌, ◌++◌, map, take, drop}
+use Rattle.enet_inbox.specs.Private.InboxParts.{given_way_but}
+use Rattle.enet_inbox.proofs.receivers.give_way_but.Given as goal
+
+abbrev pub invariant-loop-channel : goal.invariant-loop-channel
+invariant-loop-channel l = l.receivers.items ≡ map (given_way_but l.own) (take l.channel l.initial.receivers.items) ++ drop l.channel l.initial.receivers.items
