@@ -37,6 +37,7 @@ use Rattle.law_network.proofs.Single.{Does, does-named}
 use Rattle.law_network.proofs.Slots.{held, freed-in}
 use Rattle.law_network.proofs.Submitting.{same-some}
 use Rattle.law_network.proofs.Worlds.{IsFresh, fresh-more, some-acts}
+use Rattle.law_headline.specs.Page.{is_of}
 use Rattle.law_headline.specs.Kept.{submitted_by, taken_by, Tells, IsUnborn, IsRecorded, and_submitted, and_taken, StaysRecorded}
 
 -- names
