@@ -22,8 +22,9 @@ use Rattle.enet_site.specs.Places.{Place}
 use Rattle.enet_fleet.specs.declared.event.Node.{Node}
 use Rattle.enet_fleet.specs.declared.event.Node.TheVariants.{Server, Client}
 use Rattle.enet_fleet.specs.Fleets.{Fleet, place_of, address_of, numbers_at, client_in, around}
+use Rattle.enet_fleet.specs.Series.{IsAllowed}
 use Rattle.enet_fleet.proofs.Places.{place_in, place, client-apart, server-apart, client-host}
-use Rattle.enet_fleet.proofs.Holding.{Holds, Sound, each-holds, asked-end, asked-sent, ends-elsewhere, no-strangers, IsAllowed, server-count}
+use Rattle.enet_fleet.proofs.Holding.{Holds, Sound, each-holds, asked-end, asked-sent, ends-elsewhere, no-strangers, server-count}
 
 -- a datagram that is brought to the server is of a client that asked for its connection
 record IsClients (f : Fleet) (m : Node) (x : ℕ) : Type 0 where

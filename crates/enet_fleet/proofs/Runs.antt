@@ -29,8 +29,9 @@ use Rattle.enet_fleet.specs.declared.event.FleetEvent.{FleetEvent}
 use Rattle.enet_fleet.specs.declared.event.FleetEvent.TheVariants as happen
 use Rattle.enet_fleet.specs.Fleets.{Fleet, place_of, address_of, around, asked_after, HappensAt, gone_to, logged_in, brings, node_of, from_of, Makes, Steps, Runs, open_fleet}
 use Rattle.enet_fleet.specs.Law.{AreLawful, AreAcross, OfEachRun}
+use Rattle.enet_fleet.specs.Series.{AllowsCall, IsAllowed}
 use Rattle.enet_fleet.proofs.Places.{place_in, place}
-use Rattle.enet_fleet.proofs.Holding.{AreOwn, Holds, Sound, each-holds, asked-sent, far-known, AllowsCall, IsAllowed}
+use Rattle.enet_fleet.proofs.Holding.{AreOwn, Holds, Sound, each-holds, asked-sent, far-known}
 use Rattle.enet_fleet.proofs.AtServer.{ServerGone, server-goes}
 use Rattle.enet_fleet.proofs.AtClient.{ClientGone, client-goes}
 
@@ -60,7 +61,7 @@ abbrev pub is_connect : Call → Bool
 is_connect (call.Connect address channels info word answer) = true
 is_connect c = false
 
-plain : (n : Node) (c : Call) → is_connect c ≡ false → AllowsCall n Server c
+pub plain : (n : Node) (c : Call) → is_connect c ≡ false → AllowsCall n Server c
 plain (Client i) c h = refl
 plain Server (call.Connect address channels info word answer) h = absurd (let e : true ≡ false = h in cc)
 plain Server c h = refl
@@ -134,7 +135,7 @@ open-client (c ∷ cs) first (suc i) p fits h =
     let n : first + 1 + i ≡ first + suc i = omega arith in
     (r.0, r.1, ap (λ (k : ℕ). opened_at (address_of (Client k)) r.0) (sym n) ∙ r.2)
 
-open-sound : (server : Config) (clients : List Config) → is_in_range server ≡ true → list_all is_in_range clients ≡ true → Sound (open_fleet server clients)
+pub open-sound : (server : Config) (clients : List Config) → is_in_range server ≡ true → list_all is_in_range clients ≡ true → Sound (open_fleet server clients)
 open-sound server clients one all = record {
   server = open-holds (length (open_fleet server clients).clients) Server server one;
   clients = λ i p h. (let r = open-client clients 0 i p all h in
@@ -166,7 +167,10 @@ pub goes-across : (asked : List ℕ) (clients : ℕ) (n : Node) (s : Site) (d : 
 goes-across asked clients Server s d k h = (let a = asked-sent asked clients Server s d k h in (a.0, k.sent d h ∙ ap place_in a.1))
 goes-across asked clients (Client i) s d k h = k.sent d h
 
-pub across-run : OfEachRun AreAcross
-across-run server clients one all events answers f r n p there d h =
-    let k : Holds f.asked (length f.clients) n p.site = each-holds f (sound-run server clients one all events answers f r) n p there in
+pub are-across : (f : Fleet) → Sound f → AreAcross f
+are-across f s n p there d h =
+    let k : Holds f.asked (length f.clients) n p.site = each-holds f s n p there in
     far-known f n d.connection (asked-sent f.asked (length f.clients) n p.site d k h) ∙ ap (λ (a : Addr). Some a) (sym (k.sent d h))
+
+pub across-run : OfEachRun AreAcross
+across-run server clients one all events answers f r = are-across f (sound-run server clients one all events answers f r)

@@ -18,7 +18,7 @@
 
 ghost use Rattle.std.specs.Prelude.{true, false};
 ghost use Rattle.law_network.specs.Law.{OneThing, GoOnAt, Asked, Answered, AreLawful, OfEachRun, OfEachJoinedRun, OfEachList, OfEachJoinedList};
-ghost use Rattle.law_network.specs.Alone.{EachAlone};
+ghost use Rattle.law_network.specs.Alone.{EachAlone, EachAloneAmong};
 ghost use Rattle.law_network.specs.Headline.{HasHeadline};
 ghost use Rattle.law_network.specs.Examples.{IsInRange, CrossesOpened, CrossesJoined};
 
@@ -101,10 +101,15 @@ pub fn each_connection_in_order()
     ensures events_joined { OfEachJoinedList (HasHeadline true) }
 {}
 
-/// Each host of a run is where a list of its own calls leads, of which each event makes one at most: so the law of isolation speaks
-/// of it, and each of its peers is where one peer alone would be, since it began.
+/// Each host of a run is where its own calls lead: so the law of isolation speaks of it, and each of its peers is where one peer alone
+/// would be, since it began.
+///
+/// `events`: the calls are those that the events name, one an event at most, with what was answered (`calls_at`).
+///
+/// `calls`: so it is of every list of calls of either and of datagrams that the network brings (`calls_among`).
 pub fn each_host_by_its_calls()
-    ensures { EachAlone }
+    ensures events { EachAlone }
+    ensures calls { EachAloneAmong }
 {}
 
 /// Lists of a world's events that do happen, so that the laws above speak of something: a host asks the other for a connection
