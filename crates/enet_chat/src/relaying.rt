@@ -152,7 +152,7 @@ impl<'a> Relay<'a> {
     /// has come.
     ///
     /// E1 for want of memory, E10 where the seat has submitted as many orders as it may; the relay is then as after all that it
-    /// did before.
+    /// did before. However it ends, orders wait only where there was no room for them, or by E10.
     pub fn run<R: Wait>(
         &mut self,
         rt: &R,

@@ -3,3 +3,4 @@ pub mod Staying
 pub mod Sending
 pub mod Taking
 pub mod Laws
+pub mod ExampleRuns

@@ -1,2 +1,3 @@
 pub mod Unsequenced
 pub mod Law
+pub mod Examples

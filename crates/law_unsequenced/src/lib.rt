@@ -3,11 +3,13 @@
 //!
 //! It speaks of the runs of `law_connection`, whose laws leave unsequenced packets out: of two peers and any list of events at either.
 //! Proved: each unsequenced packet that is taken was submitted, and is taken at most once where none comes over 32,768 late
-//! (`each_was_submitted`). Of hosts `law_network` says the former, and nothing says the latter. Not promised: any order of these
-//! packets, or that one comes.
+//! (`each_was_submitted`); a run in which one is taken does happen (`runs_happen`). Of hosts `law_network` says the former, and nothing
+//! says the latter. Not promised: any order of these packets, or that one comes.
 #![tactic(auto)]
 
+ghost use Rattle.law_connection.specs.Examples.{OfSomeJoined};
 ghost use Rattle.law_unsequenced.specs.Law.{JoinedLaw, AskingLaw};
+ghost use Rattle.law_unsequenced.specs.Examples.{HasTaken};
 
 /// One connection, over every list of events at either end, as in `law_connection::one_connection`.
 ///
@@ -20,4 +22,9 @@ ghost use Rattle.law_unsequenced.specs.Law.{JoinedLaw, AskingLaw};
 pub fn each_was_submitted()
     ensures joined { JoinedLaw }
     ensures asking { AskingLaw }
+{}
+
+/// A run that does happen, so that the law above speaks of something: an unsequenced packet is submitted, put out, comes and is taken.
+pub fn runs_happen()
+    ensures { OfSomeJoined HasTaken }
 {}
