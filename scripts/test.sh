@@ -1,8 +1,8 @@
 #!/usr/bin/env bash
 # All tests: the gate (every proof from nothing, the must-fail edits, the tests, the programs), then whether the edits that the gate
-# leaves alone still fit the text, the worked scripts and captured datagrams through the built program, each growth of memory of worked rows
-# refused in turn, clients of the reference library that talk through the program, and the library for C. Each of the six last ends with a line
-# 'N passed, M failed'; the status is other than 0 where anything failed.
+# leaves alone still fit the text, the definitions that documents quote, the worked scripts and captured datagrams through the built program,
+# each growth of memory of worked rows refused in turn, clients of the reference library that talk through the program, and the library for
+# C. Each of the seven last ends with a line 'N passed, M failed'; the status is other than 0 where anything failed.
 set -u
 cd "$(dirname "$0")/.." || exit 1
 begun=$SECONDS
@@ -15,6 +15,8 @@ echo "rt ci ended with status $gate after $((SECONDS - begun)) seconds"
 [ "$gate" = 0 ] || exit 1
 bash scripts/check-edits.sh --read
 edits=$?
+python3 scripts/quotes.py
+quotes=$?
 bash scripts/check-rows.sh
 rows=$?
 bash scripts/check-inspect.sh
@@ -25,4 +27,4 @@ bash scripts/check-clients.sh
 clients=$?
 if bash scripts/archive-c.sh > /dev/null; then bash scripts/check-c.sh; else echo '0 passed, 1 failed'; false; fi
 library=$?
-[ "$edits $rows $inspected $memory $clients $library" = '0 0 0 0 0 0' ]
+[ "$edits $quotes $rows $inspected $memory $clients $library" = '0 0 0 0 0 0 0' ]
