@@ -290,9 +290,9 @@ impl Incoming {
         ensures count { result ≡ (foreseen (alone self.old) (Some (data_command arriving.entry)) false).dispatches }
         ensures unchanged { self.new ≡ self.old }
     {
-        let kept = mem::replace(&mut self.waiting, Waiting::new(self.alloc));
+        let aside = mem::replace(&mut self.waiting, Waiting::new(self.alloc));
         let foresight = self.foresee_data(arriving, false);
-        self.waiting = kept;
+        self.waiting = aside;
         foresight.dispatches
     }
 

@@ -6,4 +6,4 @@ use Rattle.enet_receiver.proofs.incoming.Incoming.dispatches_instead.Goals as go
 pub invariant_of-self : goal.invariant_of-self
 invariant_of-self c =
     let s = c.self.inside in
-    rw (c.replace-kept.ensures.after, c.new.ensures) (Keeps-without_waiting s.max_packet (receiver_of s.front s.unreliable s.held s.waiting s.dispatched.items) c.self.invariant)
+    rw (c.replace-aside.ensures.after, c.new.ensures) (Keeps-without_waiting s.max_packet (receiver_of s.front s.unreliable s.held s.waiting s.dispatched.items) c.self.invariant)
