@@ -27,7 +27,7 @@ given_way-at [] i = refl
 given_way-at (r ∷ rs) zero = refl
 given_way-at (r ∷ rs) (suc i) = given_way-at rs i
 
-sequenced-given_up : (r : Receiver) → HasSequenced r → HasSequenced (without_waiting r)
+pub sequenced-given_up : (r : Receiver) → HasSequenced r → HasSequenced (without_waiting r)
 sequenced-given_up r k = let none = sequenced-cleared r k.dispatched in record { held = k.held; waiting = none.waiting; dispatched = k.dispatched }
 
 pub given_way-flat : (rs : List ReceivingEnd) → AreFlat rs → AreFlat (map given_way_receiver rs)

@@ -28,8 +28,8 @@ use Rattle.enet_receiver.specs.DataOutcome.{received}
 use Rattle.enet_receiver.specs.Foresight.{ReceivingEnd, outcome_for, after_command}
 use Rattle.enet_receiver.specs.Sequenced.{AreSequenced, HasSequenced}
 use Rattle.enet_receiver.proofs.Sequenced.{sequenced-received}
-use Rattle.enet_inbox.specs.Inbox.{Inbox, is_full, is_full_for}
-use Rattle.enet_inbox.specs.DataEffect.{DataEffect, handled, stopped as refused, packet_of, unsequenced, unsequenced_taken, handed_over, by_took, sequenced_on, sequenced, passed_over, arrival_of, plain_arrival, arrival}
+use Rattle.enet_inbox.specs.Inbox.{Inbox, is_full, is_full_for, given_way, given_way_receiver}
+use Rattle.enet_inbox.specs.DataEffect.{DataEffect, handled, stopped as refused, packet_of, unsequenced, unsequenced_taken, handed_over, by_took, sequenced_on, sequenced, passed_over, arrival_of, plain_arrival, makes_room, arrival}
 use Rattle.enet_sender.specs.Due.{SendingEnd}
 use Rattle.enet_outbox.specs.declared.parts.Matched.{Matched}
 use Rattle.enet_outbox.specs.declared.parts.Matched.TheVariants as matched
@@ -42,6 +42,8 @@ use Rattle.enet_peer.specs.declared.parts.PeerState.TheVariants as state
 use Rattle.enet_peer.specs.Endings.{ended, freed, disconnecting, parting, settled, is_later, cut_off_in}
 use Rattle.enet_peer.specs.CommandEffect.{Outcome, answered, answered_at, is_answered_in, is_allowed, obeyed, by_body, by_answer, by_arrival, on_data, stopped, sampled, with_answer, on_match, accepted, is_connecting, on_acknowledge, welcomed, on_verify_in, on_last_disconnect, on_disconnect_in, on_bandwidth, on_throttle}
 use Rattle.enet_peer.specs.Calls.{left, after_timeouts, after_timeouts_by, is_pinged, ticked, is_connected, gone_on, gone_on_in}
+use Rattle.law_connection.proofs.GivingWay.{sequenced-given_up}
+use Rattle.law_connection.proofs.Runs.{get-map}
 use Rattle.law_connection.specs.LinkSteps.{Has}
 use Rattle.law_connection.specs.Invariant.{is_young}
 use Rattle.law_connection.specs.Steps.{Way, Asking, Now, Later, leave_by, Setting, Bandwidth, Throttle, ThrottleLimit, PingInterval, Timeout, with_setting}
@@ -113,7 +115,7 @@ cut_off-stays p state.Answering = stays-forgotten (core p)
 cut_off-stays p s = stays-cleared (core p)
 
 timeouts-stay : (p : Peering) (now : ℕ) → StaysAt p (after_timeouts p now)
-timeouts-stay p now = by (lateness p.outbox now p.patience)
+timeouts-stay p now = by (lateness p.outbox now p.patience p.heard)
   where
     by : (x : Expiry) → StaysAt p (after_timeouts_by x p now)
     by Ends = cut_off-stays p p.state
@@ -351,8 +353,17 @@ plain_arrival-comes b m flat = by m.body
     by (send_unsequenced group payload) = unsequenced-comes b m.head.channel group payload
     by body = sequenced-comes [] b m.head.channel (data_of m) flat
 
+given_way-sequenced : (b : Inbox) → AreSequencedIn b → AreSequencedIn (given_way b)
+given_way-sequenced b flat i r e = (let c = get-map given_way_receiver b.receivers i r e in
+    subst (λ (x : ReceivingEnd). HasSequenced x.receiver) c.2 (sequenced-given_up c.0.receiver (flat i c.0 c.1)))
+
+-- and where unreliable packets that wait give way to it
 arrival-comes : (b : Inbox) (m : Message) → AreSequencedIn b → ComesIn (carried m) b (arrival b m).after
-arrival-comes b m flat = plain_arrival-comes b m flat
+arrival-comes b m flat = by (makes_room b m)
+  where
+    by : (way : Bool) → ComesIn (carried m) b (plain_arrival (cond way (given_way b) b) m).after
+    by true = plain_arrival-comes (given_way b) m (given_way-sequenced b flat)
+    by false = plain_arrival-comes b m flat
 
 -- a data command comes to a peer
 data-becomes : (p : Peering) (m : Message) (sent : Option ℕ) → AreSequencedIn p.inbox → Becomes (is_young p.state) (carried m) (core p) (core (on_data p m sent).after)
