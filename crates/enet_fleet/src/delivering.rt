@@ -9,9 +9,9 @@ ghost use Rattle.enet_fleet.specs.Fleets.{Steps, Refuses, logged_to, refused_the
 ghost use Rattle.enet_fleet.specs.Reached.{IsReached};
 
 use crate::hosts::{Hosts, SERVER, client_address};
-use law_headline::Node;
 use enet_codec::{Addr, Received, Refusal};
 use enet_site::{Place, Sent, Site};
+use law_headline::Node;
 use law_network::Answer;
 use std::alloc::Global;
 

@@ -12,10 +12,10 @@ ghost use Rattle.enet_fleet.specs.Reached.{fit};
 
 use crate::each_connection_of_a_fleet;
 use crate::event::{End, FleetEvent};
-use law_headline::Node;
 use crate::happening::happen;
 use crate::hosts::{Hosts, sent_by};
 use enet_codec::{Addr, Config, Event, Packet, Refusal};
+use law_headline::Node;
 use law_network::Answer;
 use std::alloc::Global;
 use std::marker::Model;

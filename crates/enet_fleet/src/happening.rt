@@ -7,11 +7,11 @@ ghost use Rattle.enet_fleet.specs.Reached.{IsReached};
 use crate::connecting::connect;
 use crate::delivering::deliver;
 use crate::event::FleetEvent;
-use law_headline::Node;
 use crate::hosts::{Hosts, is_host};
 use crate::turning::turn;
 use bytes::Bytes;
 use enet_codec::{Addr, DisconnectMode, PeerRef, Refusal};
+use law_headline::Node;
 use law_network::Answer;
 use std::alloc::Global;
 

@@ -9,11 +9,12 @@ ghost use Rattle.law_headline.specs.declared.node.Node.TheVariants as node;
 ghost use Rattle.enet_fleet.specs.Fleets.{place_of, address_of, is_host, client_in, open_fleet, sent_by};
 ghost use Rattle.enet_fleet.specs.Headline.{place_at};
 ghost use Rattle.enet_fleet.specs.Lending.{LendsPlace};
+ghost use Rattle.enet_fleet.specs.Private.Places.{is_host_by};
 
 use crate::event::End;
-use law_headline::Node;
 use enet_codec::{Addr, Config, Refusal};
 use enet_site::{Place, Sent, close_all, open_clients};
+use law_headline::Node;
 use std::alloc::Global;
 use std::marker::Model;
 
@@ -64,6 +65,13 @@ pub(crate) fn client_address(client: u16) -> Addr
 /// Whether a host of a fleet of so many clients is at an address.
 pub(crate) fn is_host(clients: usize, address: Addr) -> bool
     ensures { result ≡ is_host clients address }
+{
+    is_host_by(clients, address)
+}
+
+/// The same, by the address's numbers.
+fn is_host_by(clients: usize, address: Addr) -> bool
+    ensures { result ≡ is_host_by clients address }
 {
     if address.ip == FIRST_CLIENT.ip {
         return address.port >= FIRST_CLIENT.port

@@ -10,10 +10,10 @@ ghost use Rattle.enet_fleet.specs.Private.Turning.{PutsOutByTurn, sent_of};
 
 use crate::around::{AroundClient, AroundServer};
 use crate::hosts::Hosts;
-use law_headline::Node;
 use enet_codec::Refusal;
 use enet_records::Around;
 use enet_site::{Place, Sent, Turned};
+use law_headline::Node;
 use law_network::Answer;
 use std::alloc::Global;
 

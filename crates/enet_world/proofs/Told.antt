@@ -273,7 +273,7 @@ told-step hs w v event (Ok answer) r sound k = record { each = each; covered = c
         let more : count_after w.count r.0 ≡ w.count + length (asks event (Ok answer)) = (begins w event answer r.0 r.1).count in
         let before : w.count ≡ length (asked hs) = k.count_is in
         let long : length (asked (hs ++ (event, Ok answer) ∷ [])) ≡ length (asked hs) + length (asks event (Ok answer)) =
-            ap length (push (λ (z : Happened). asks z.0 z.1) hs (event, Ok answer)) ∙ length-append (asked hs) (asks event (Ok answer)) in
+        ap length (push (λ (z : Happened). asks z.0 z.1) hs (event, Ok answer)) ∙ length-append (asked hs) (asks event (Ok answer)) in
         omega arith
 told-step hs w v event (Err why) r sound k = subst (IsToldBy (hs ++ (event, Err why) ∷ [])) (sym r.1) (record {
   each = λ s. telling.told-stays (submits-all s) (takes-all s) hs (event, Err why) (site_of w s) (λ q channel. refused-submits s q channel event why) (λ q. refused-takes s q event why) (k.each s);
