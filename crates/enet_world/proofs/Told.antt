@@ -153,7 +153,7 @@ begins w (happen.Connect side channels info word) (answers.Peer given) what m = 
   ends = first;
 }
   where
-    first : (j : ℕ) (s : Side) (name : PeerRef) → slice_get ((side, given) ∷ []) j ≡ Some (s, name)
+    first : (j : ℕ) (s : Side) (name : PeerRef) → slice_get {X = Side × PeerRef} ((side, given) ∷ []) j ≡ Some (s, name)
         → (j ≡ 0) × (side ≡ s) × ((from old new : Site) → more_of w.count from old new what ≡ fresh_end w.count name ∷ [])
     first zero s name h = (let same : ◌≡◌ {A = Side × PeerRef} (side, given) (s, name) = same-some (side, given) (s, name) h in (
       refl,
