@@ -46,7 +46,7 @@ build_tests() {
         compile tutorial our-tutorial "$made/lib/libgofnjerta_enet.a" && cc -Wall -Wextra c/tests/tutorial.c -o "$room/tutorial" -lenet &&
         compile border border-checked "${checked[@]}" c/gofnjerta.c "$room/checked.a" &&
         compile lossy lossy-checked "${checked[@]}" c/gofnjerta.c "$room/checked.a" &&
-        compile refusals refusals-checked "${checked[@]}" c/enet.c c/gofnjerta.c "$room/checked.a"
+        compile refusals refusals-checked "${checked[@]}" c/enet/*.c c/gofnjerta.c "$room/checked.a"
 }
 
 # The programs of clients/ on the layer: `server`, `client` and `crowd` as they are, and with sanitizers.
@@ -54,7 +54,7 @@ build_ours() {
     local program
     for program in server client crowd; do
         cc -std=gnu11 -O2 -Wall -Wextra -Ic -o "$room/our-$program" "clients/$program.c" "$room/made/lib/libgofnjerta_enet.a" || return 1
-        cc -std=gnu11 -O1 -g -Wall -Wextra -Ic -fsanitize=address,undefined -o "$room/checked-$program" "clients/$program.c" c/enet.c \
+        cc -std=gnu11 -O1 -g -Wall -Wextra -Ic -fsanitize=address,undefined -o "$room/checked-$program" "clients/$program.c" c/enet/*.c \
             c/gofnjerta.c "$room/checked.a" || return 1
     done
 }

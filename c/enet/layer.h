@@ -1,0 +1,91 @@
+/* The API of ENet 1.3 over gofnjerta.h: socket, clock, packets and the fields that programs read. The proved host does the protocol;
+ * nothing here is proved. What goes with each packet or datagram calls the proved functions themselves (core.h). This is what the files
+ * of the layer share; nothing of it is for others. */
+#ifndef GOFNJERTA_LAYER_H
+#define GOFNJERTA_LAYER_H
+#ifndef _GNU_SOURCE
+#define _GNU_SOURCE
+#endif
+#include "../core.h"
+#include "enet.h"
+
+enum { DATAGRAM = 4096, BATCH = 256, REFRESH_MS = 100 };
+
+/* How many datagrams are gathered before they are sent, in how many bytes; and how many of them, of how many bytes in all, one call of
+ * the system's takes at most. */
+enum { GATHERED = 256, GATHERED_BYTES = 1 << 18, TRAIN = 64, TRAIN_BYTES = 65000 };
+
+#ifndef UDP_SEGMENT
+#define UDP_SEGMENT 103
+#endif
+
+/* A datagram that the core gave and that isn't sent yet. */
+typedef struct {
+    gofnjerta_address to;
+    uint32_t at, length; /* where it is among the gathered bytes */
+    uint16_t slot, next; /* the next one of the same slot; 0 where it is the last */
+    bool leads;          /* it is its slot's first */
+} Parcel;
+
+/* A slot as the program sees it. */
+typedef struct {
+    gofnjerta_peer name;
+    bool known; /* the name is a peer's */
+    bool told;  /* its Connect event was handed out, and no end */
+    bool sends; /* some of its datagrams are gathered, up to the parcel `last` */
+    uint16_t last;
+} Slot;
+
+/* A host; the program sees its first member alone. */
+typedef struct {
+    ENetHost host;
+    gofnjerta_host core;
+    gofnjerta_config config;   /* the settings that it was opened with */
+    bool begun;                /* they stand */
+    bool refused;              /* the program asked for what isn't offered */
+    bool releases;             /* callbacks of packets that are let go are being called */
+    Slot *slots;
+    uint64_t clock, refreshed; /* milliseconds */
+    ENetPacket **sent;         /* packets that the program gave away since the last service, each with one reference */
+    size_t sent_count, sent_room;
+    ENetPacket *given, *staged; /* the last of them, and the one whose bytes the core holds for several peers */
+    size_t orders;             /* for how many peers the last one was */
+    bool pending;              /* the event `told`, whose packet the core keeps, isn't handed out */
+    gofnjerta_event told;
+    ENetEvent *ahead;          /* events that enet_peer_receive passed over; they come first */
+    size_t ahead_count, ahead_room;
+    bool has_trains;           /* the system cuts a train into datagrams (UDP_SEGMENT) */
+    size_t parcel_count, gathered_bytes;
+    uint8_t datagram[DATAGRAM]; /* that came */
+    Parcel parcels[GATHERED];
+    uint8_t gathered[GATHERED_BYTES + DATAGRAM];
+} Layer;
+
+
+#pragma GCC visibility push(hidden)
+
+extern uint64_t layer_clock_base; /* when the library's time was 0, in milliseconds of the machine's clock */
+extern ENetCallbacks layer_callbacks;
+
+uint64_t layer_now(void); /* the machine's clock, in milliseconds */
+
+/* Whether the program asks for nothing that isn't offered. The settings may be written until the first connect, service or flush, at
+ * which the core is opened anew with them; from then on they stand. */
+bool layer_is_ready(Layer *layer);
+
+void layer_forget(Layer *layer, ENetPeer *peer);           /* the program is done with this peer */
+void layer_show_peer(Layer *layer, ENetPeer *peer);        /* brings its fields up to date */
+ENetPeer *layer_meet(Layer *layer, gofnjerta_peer name);   /* a slot's new peer */
+void layer_drop_ahead(Layer *layer, const ENetPeer *peer); /* drops what its events told and the program didn't take */
+int layer_tell(Layer *layer, ENetEvent *event);            /* the next event: 1, 0 where there is none, -1 where memory is missing */
+void layer_release(Layer *layer);                          /* gives back the references to packets that were submitted */
+void layer_go_on(Layer *layer);                            /* the clock goes on to now */
+void layer_put_out(Layer *layer);                          /* sends all that the core gives */
+int layer_take_in(Layer *layer);                           /* takes in what came, and tells how many datagrams; -1 for a fault */
+
+#pragma GCC visibility pop
+
+static inline Layer *layer_of(ENetHost *host) { return (Layer *)host; }
+static inline Slot *slot_of(ENetPeer *peer) { return &layer_of(peer->host)->slots[peer->incomingPeerID]; }
+
+#endif
