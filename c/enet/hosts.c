@@ -19,6 +19,7 @@ static void show_host(ENetHost *host, const ENetAddress *address, const gofnjert
         host->peers[i].host = host;
         host->peers[i].incomingPeerID = (enet_uint16)i;
         host->peers[i].outgoingPeerID = ENET_PROTOCOL_MAXIMUM_PEER_ID;
+        layer_of(host)->slots[i].name.generation = UINT32_MAX;
     }
 }
 
@@ -63,10 +64,9 @@ void enet_host_destroy(ENetHost *host) {
     Layer *layer = layer_of(host);
     for (size_t i = 0; host->peers && i < host->peerCount; i++) host->peers[i].state = ENET_PEER_STATE_DISCONNECTED; /* no callback sends */
     layer_release(layer);
-    for (size_t i = 0; i < layer->ahead_count; i++) enet_packet_destroy(layer->ahead[i].packet);
+    for (size_t i = 0; host->peers && layer->slots && i < host->peerCount; i++) layer_drop_kept(layer, &host->peers[i]);
     enet_host_compress(host, NULL);
     gofnjerta_close(&layer->core);
-    free(layer->ahead);
     enet_socket_destroy(host->socket);
     free(layer->sent);
     free(layer->slots);

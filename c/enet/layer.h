@@ -27,13 +27,28 @@ typedef struct {
     bool leads;          /* it is its slot's first */
 } Parcel;
 
+/* An event that was passed over, and the packet of a RECEIVE. */
+typedef struct Kept {
+    struct Kept *next;
+    gofnjerta_event told;
+    ENetPacket *packet;
+} Kept;
+
 /* A slot as the program sees it. */
 typedef struct {
-    gofnjerta_peer name;
-    bool known; /* the name is a peer's */
-    bool told;  /* its Connect event was handed out, and no end */
-    bool sends; /* some of its datagrams are gathered, up to the parcel `last` */
-    uint16_t last;
+    gofnjerta_peer name; /* its peer's, or that of the last one; of generation UINT32_MAX, which no peer has, before there was one */
+    bool known;          /* the name is a peer's */
+    bool told;           /* its Connect event was handed out, and no end */
+    bool ended;          /* the core told its end, which isn't handed out yet */
+    bool is_mute;        /* the program disconnects it: no packet of it is handed out any more */
+    bool lingers;        /* the program let it go, and the core hasn't told its end */
+    bool is_parked;      /* the core connects from it by the name of generation `parked`, which the program isn't given */
+    bool sends;          /* some of its datagrams are gathered, up to the parcel `last` */
+    bool is_in_line;     /* it stands in line for its kept events, before the slot `behind` where it isn't the last */
+    uint16_t last, behind;
+    uint32_t parked;
+    Kept *first, *newest; /* its events that were passed over */
+    size_t kept_bytes;    /* what their packets take */
 } Slot;
 
 /* A host; the program sees its first member alone. */
@@ -50,10 +65,11 @@ typedef struct {
     size_t sent_count, sent_room;
     ENetPacket *given, *staged; /* the last of them, and the one whose bytes the core holds for several peers */
     size_t orders;             /* for how many peers the last one was */
-    bool pending;              /* the event `told`, whose packet the core keeps, isn't handed out */
+    bool pending;              /* the event `told`, whose packet the core keeps, is neither handed out nor kept */
     gofnjerta_event told;
-    ENetEvent *ahead;          /* events that enet_peer_receive passed over; they come first */
-    size_t ahead_count, ahead_room;
+    size_t line;               /* how many slots stand in line for their kept events, which come first */
+    uint16_t line_first, line_last;
+    size_t ended, lingering;   /* how many slots' peers have ended so, and linger */
     bool has_trains;           /* the system cuts a train into datagrams (UDP_SEGMENT) */
     size_t parcel_count, gathered_bytes;
     uint8_t datagram[DATAGRAM]; /* that came */
@@ -73,11 +89,12 @@ uint64_t layer_now(void); /* the machine's clock, in milliseconds */
  * which the core is opened anew with them; from then on they stand. */
 bool layer_is_ready(Layer *layer);
 
-void layer_forget(Layer *layer, ENetPeer *peer);           /* the program is done with this peer */
-void layer_show_peer(Layer *layer, ENetPeer *peer);        /* brings its fields up to date */
-ENetPeer *layer_meet(Layer *layer, gofnjerta_peer name);   /* a slot's new peer */
-void layer_drop_ahead(Layer *layer, const ENetPeer *peer); /* drops what its events told and the program didn't take */
-int layer_tell(Layer *layer, ENetEvent *event);            /* the next event: 1, 0 where there is none, -1 where memory is missing */
+void layer_forget(Layer *layer, ENetPeer *peer);         /* the program is done with this peer */
+void layer_show_peer(Layer *layer, ENetPeer *peer);      /* brings its fields up to date */
+void layer_meet(Layer *layer, gofnjerta_peer name);      /* a slot's new peer */
+void layer_drop_kept(Layer *layer, const ENetPeer *peer); /* drops what the peer's events told and the program didn't take */
+void layer_drain(Layer *layer);                          /* keeps what there is to tell, until no slot lingers */
+int layer_tell(Layer *layer, ENetEvent *event);          /* the next event: 1, 0 where there is none, -1 where memory is missing */
 void layer_release(Layer *layer);                          /* gives back the references to packets that were submitted */
 void layer_go_on(Layer *layer);                            /* the clock goes on to now */
 void layer_put_out(Layer *layer);                          /* sends all that the core gives */

@@ -1,4 +1,4 @@
-/* Packets: one block, with the bytes behind the header, until it is resized. */
+/* Packets: a head, and the bytes in a block of their own, which the program may take or replace, as in libenet. */
 #include "layer.h"
 #include "../pool.h"
 #include <string.h>
@@ -6,48 +6,52 @@
 /* The program gave an allocator; it may be one of the C library's functions beside one of its own. */
 static bool has_allocator(void) { return layer_callbacks.malloc != malloc || layer_callbacks.free != free; }
 
-/* A packet's block comes from the program's allocator, where it gave one. */
-static void *take_block(size_t size) {
-    if (has_allocator()) return layer_callbacks.malloc(size);
-    Tried tried = rattle_alloc(size, _Alignof(max_align_t));
+/* A packet's head comes from the program's allocator, where it gave one. */
+static ENetPacket *take_head(void) {
+    if (has_allocator()) return layer_callbacks.malloc(sizeof(ENetPacket));
+    Tried tried = rattle_alloc(sizeof(ENetPacket), _Alignof(ENetPacket));
     return tried.is_there ? tried.at : NULL;
 }
 
-static void give_block(ENetPacket *packet) {
+static void give_head(ENetPacket *packet) {
     if (has_allocator()) layer_callbacks.free(packet);
     else rattle_dealloc(packet);
 }
 
+/* A block for so many bytes; NULL for more than any object has. */
+static enet_uint8 *take_bytes(size_t length) { return length < PTRDIFF_MAX ? enet_malloc(length) : NULL; }
+
 ENetPacket *enet_packet_create(const void *data, size_t length, enet_uint32 flags) {
-    size_t bytes = flags & ENET_PACKET_FLAG_NO_ALLOCATE ? 0 : length;
-    ENetPacket *packet = take_block(sizeof *packet + bytes);
+    ENetPacket *packet = take_head();
     if (!packet) return NULL;
     *packet = (ENetPacket){.flags = flags, .dataLength = length};
     if (flags & ENET_PACKET_FLAG_NO_ALLOCATE) packet->data = (enet_uint8 *)(uintptr_t)data;
     else if (length > 0) {
-        packet->data = (enet_uint8 *)(packet + 1);
+        packet->data = take_bytes(length);
+        if (!packet->data) {
+            give_head(packet);
+            return NULL;
+        }
         if (data) memcpy(packet->data, data, length);
     }
     return packet;
 }
 
-static bool has_own_block(const ENetPacket *packet) {
-    return !(packet->flags & ENET_PACKET_FLAG_NO_ALLOCATE) && packet->data && packet->data != (const enet_uint8 *)(packet + 1);
-}
-
 void enet_packet_destroy(ENetPacket *packet) {
     if (!packet) return;
     if (packet->freeCallback) packet->freeCallback(packet);
-    if (has_own_block(packet)) enet_free(packet->data);
-    give_block(packet);
+    if (!(packet->flags & ENET_PACKET_FLAG_NO_ALLOCATE) && packet->data) enet_free(packet->data);
+    give_head(packet);
 }
 
 int enet_packet_resize(ENetPacket *packet, size_t length) {
     if (length > packet->dataLength && !(packet->flags & ENET_PACKET_FLAG_NO_ALLOCATE)) {
-        enet_uint8 *block = enet_malloc(length);
+        enet_uint8 *block = take_bytes(length);
         if (!block) return -1;
-        if (packet->dataLength) memcpy(block, packet->data, packet->dataLength);
-        if (has_own_block(packet)) enet_free(packet->data);
+        if (packet->data) {
+            memcpy(block, packet->data, packet->dataLength);
+            enet_free(packet->data);
+        }
         packet->data = block;
     }
     packet->dataLength = length;

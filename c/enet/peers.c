@@ -14,21 +14,20 @@ static ENetPeerState state_shown(uint32_t state, bool told) {
     }
 }
 
-/* The program is done with this peer. */
 void layer_forget(Layer *layer, ENetPeer *peer) {
     Slot *slot = slot_of(peer);
     if (slot->told) layer->host.connectedPeers--;
-    slot->known = slot->told = false;
+    if (slot->ended) layer->ended--;
+    slot->known = slot->told = slot->ended = slot->is_mute = false;
     peer->state = ENET_PEER_STATE_DISCONNECTED;
 }
 
-/* Brings the fields of a peer up to date. */
 void layer_show_peer(Layer *layer, ENetPeer *peer) {
     Slot *slot = slot_of(peer);
     gofnjerta_reading read;
     if (!slot->known) return;
-    if (gofnjerta_read_peer(&layer->core, slot->name, &read) || read.state == GOFNJERTA_FREE || read.state == GOFNJERTA_PARTING) {
-        layer_forget(layer, peer);
+    if (slot->ended || gofnjerta_read_peer(&layer->core, slot->name, &read)) {
+        peer->state = ENET_PEER_STATE_ZOMBIE;
         return;
     }
     peer->state = state_shown(read.state, slot->told);
@@ -48,15 +47,41 @@ void layer_show_peer(Layer *layer, ENetPeer *peer) {
     peer->reliableDataInTransit = read.in_transit;
 }
 
-ENetPeer *layer_meet(Layer *layer, gofnjerta_peer name) {
+void layer_meet(Layer *layer, gofnjerta_peer name) {
     ENetPeer *peer = &layer->host.peers[name.slot];
     Slot *slot = &layer->slots[name.slot];
-    *slot = (Slot){.name = name, .known = true};
+    slot->name = name;
+    slot->known = true;
     peer->pingInterval = ENET_PEER_PING_INTERVAL;
     peer->timeoutLimit = ENET_PEER_TIMEOUT_LIMIT;
     peer->timeoutMinimum = ENET_PEER_TIMEOUT_MINIMUM;
     peer->timeoutMaximum = ENET_PEER_TIMEOUT_MAXIMUM;
-    return peer;
+    layer_show_peer(layer, peer);
+}
+
+/* Asks the core for a connection. Where no slot is free, those of peers that the program let go may get free. */
+static bool ask(Layer *layer, gofnjerta_address to, uint8_t channels, uint32_t data, gofnjerta_peer *name) {
+    uint32_t answer = gofnjerta_connect(&layer->core, to, channels, data, ++layer->host.randomSeed, name);
+    if (answer == GOFNJERTA_NO_SLOT && layer->lingering) {
+        layer_drain(layer);
+        answer = gofnjerta_connect(&layer->core, to, channels, data, layer->host.randomSeed, name);
+    }
+    return answer == GOFNJERTA_OK;
+}
+
+/* The same from a slot whose last end was handed out. The core gives the lowest free one: others are let go when this is found. */
+static bool ask_anew(Layer *layer, gofnjerta_address to, uint8_t channels, uint32_t data, gofnjerta_peer *name) {
+    bool is_given, parks = false;
+    while ((is_given = ask(layer, to, channels, data, name)) && layer->slots[name->slot].known) {
+        layer->slots[name->slot].is_parked = parks = true;
+        layer->slots[name->slot].parked = name->generation;
+    }
+    for (size_t i = 0; parks && i < layer->host.peerCount; i++) {
+        Slot *slot = &layer->slots[i];
+        if (slot->is_parked) gofnjerta_disconnect_now(&layer->core, (gofnjerta_peer){(uint16_t)i, slot->parked}, 0);
+        slot->is_parked = false;
+    }
+    return is_given;
 }
 
 ENetPeer *enet_host_connect(ENetHost *host, const ENetAddress *address, size_t channels, enet_uint32 data) {
@@ -66,10 +91,9 @@ ENetPeer *enet_host_connect(ENetHost *host, const ENetAddress *address, size_t c
     if (!layer_is_ready(layer) || address->host == ENET_HOST_BROADCAST) return NULL;
     gofnjerta_address to = {ntohl(address->host), address->port};
     gofnjerta_peer name;
-    if (gofnjerta_connect(&layer->core, to, (uint8_t)channels, data, ++host->randomSeed, &name)) return NULL;
-    ENetPeer *peer = layer_meet(layer, name);
-    layer_show_peer(layer, peer);
-    return peer;
+    if (!ask_anew(layer, to, (uint8_t)channels, data, &name)) return NULL;
+    layer_meet(layer, name);
+    return &host->peers[name.slot];
 }
 
 void enet_peer_ping(ENetPeer *peer) { (void)peer; }
@@ -96,26 +120,60 @@ void enet_peer_throttle_configure(ENetPeer *peer, enet_uint32 interval, enet_uin
     peer->packetThrottleDeceleration = deceleration;
 }
 
+/* Has a peer end whose own DISCONNECT waits to be acknowledged, once it has gone: the core is handed the other end's, which asks for no
+ * answer. */
+static void end_disconnecting(Layer *layer, gofnjerta_peer name) {
+    gofnjerta_reading read;
+    layer_put_out(layer);
+    if (gofnjerta_read_peer(&layer->core, name, &read) || read.state != GOFNJERTA_DISCONNECTING) return;
+    uint16_t word = (uint16_t)(name.slot | (read.incoming_session & 3) << 12);
+    const uint8_t disconnect[] = {(uint8_t)(word >> 8), (uint8_t)word, 0x44, 0xFF, 0, 0, 0, 0, 0, 0};
+    gofnjerta_core_receive(&layer->core, &read.address, disconnect, sizeof disconnect);
+}
+
+/* The program lets a peer go: it hears nothing more of it. The other end is told once. A connection that ends already goes on to its end in
+ * the core alone. */
+static void let_go(Layer *layer, ENetPeer *peer, enet_uint32 data) {
+    Slot *slot = slot_of(peer);
+    layer_drop_kept(layer, peer);
+    if (gofnjerta_disconnect_now(&layer->core, slot->name, data) == GOFNJERTA_NOT_CONNECTED) {
+        slot->lingers = true;
+        layer->lingering++;
+        end_disconnecting(layer, slot->name);
+    }
+    layer_forget(layer, peer);
+    layer_put_out(layer);
+}
+
+/* A connection that the program wasn't told of ends with no event. */
 void enet_peer_disconnect(ENetPeer *peer, enet_uint32 data) {
-    if (!slot_of(peer)->known) return;
-    layer_drop_ahead(layer_of(peer->host), peer);
-    gofnjerta_disconnect(&layer_of(peer->host)->core, slot_of(peer)->name, data);
-    layer_show_peer(layer_of(peer->host), peer);
+    Layer *layer = layer_of(peer->host);
+    Slot *slot = slot_of(peer);
+    if (!slot->known) return;
+    if (!slot->told) {
+        let_go(layer, peer, data);
+        return;
+    }
+    if (gofnjerta_disconnect(&layer->core, slot->name, data)) return;
+    layer_drop_kept(layer, peer);
+    slot->is_mute = true;
+    layer_show_peer(layer, peer);
 }
 
 void enet_peer_disconnect_later(ENetPeer *peer, enet_uint32 data) {
-    if (!slot_of(peer)->known) return;
-    gofnjerta_disconnect_later(&layer_of(peer->host)->core, slot_of(peer)->name, data);
-    layer_show_peer(layer_of(peer->host), peer);
+    Layer *layer = layer_of(peer->host);
+    Slot *slot = slot_of(peer);
+    if (!slot->known) return;
+    if (!slot->told) {
+        let_go(layer, peer, data);
+        return;
+    }
+    gofnjerta_disconnect_later(&layer->core, slot->name, data);
+    layer_show_peer(layer, peer);
 }
 
 void enet_peer_disconnect_now(ENetPeer *peer, enet_uint32 data) {
-    Layer *layer = layer_of(peer->host);
-    layer_drop_ahead(layer, peer);
-    if (!slot_of(peer)->known) return;
-    gofnjerta_disconnect_now(&layer->core, slot_of(peer)->name, data);
-    layer_forget(layer, peer);
-    layer_put_out(layer);
+    if (slot_of(peer)->known) let_go(layer_of(peer->host), peer, data);
 }
 
 void enet_peer_reset(ENetPeer *peer) { enet_peer_disconnect_now(peer, 0); }

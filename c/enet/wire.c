@@ -80,6 +80,20 @@ void layer_put_out(Layer *layer) {
     send_gathered(layer);
 }
 
+/* How much of a datagram the core is handed. While an end isn't handed out, no connection begins, so that none gets its slot. Where the
+ * packets that are kept of a peer have reached the limit on waiting data, its next ones are stopped as by the host: the datagram goes as far
+ * as its first data command. */
+static size_t length_taken(const Layer *layer, const uint8_t *data, size_t length) {
+    static const uint8_t sizes[16] = {[1] = 8, [2] = 48, [3] = 44, [4] = 8, [5] = 4, [10] = 12, [11] = 16};
+    if (length < 2) return length;
+    size_t word = (size_t)data[0] << 8 | data[1], id = word & 0xFFF;
+    if (id == ENET_PROTOCOL_MAXIMUM_PEER_ID && layer->ended) return 0;
+    if (id >= layer->host.peerCount || layer->slots[id].kept_bytes < layer->config.max_waiting) return length;
+    size_t at = word & 0x8000 ? 4 : 2;
+    while (at < length && sizes[data[at] & 0xF]) at += sizes[data[at] & 0xF];
+    return at < length ? at : length;
+}
+
 /* Takes in what came, at most so many datagrams, and tells how many. */
 int layer_take_in(Layer *layer) {
     int count = 0;
@@ -96,7 +110,8 @@ int layer_take_in(Layer *layer) {
         layer->host.totalReceivedData += (enet_uint32)length;
         layer->host.totalReceivedPackets++;
         gofnjerta_address from = {ntohl(at.sin_addr.s_addr), ntohs(at.sin_port)};
-        gofnjerta_core_receive(&layer->core, &from, layer->datagram, (size_t)length);
+        size_t taken = length_taken(layer, layer->datagram, (size_t)length);
+        if (taken) gofnjerta_core_receive(&layer->core, &from, layer->datagram, taken);
         count++;
     }
     return count;

@@ -226,7 +226,7 @@ static void ENET_CALLBACK give_back(void *memory) {
 static void allocators(void) {
     const ENetCallbacks both = {take, give_back, NULL}, of_taking = {take, free, NULL}, of_giving = {malloc, give_back, NULL};
     const ENetCallbacks plain = {malloc, free, NULL}, *all[] = {&both, &of_taking, &of_giving, &plain};
-    const int takes[] = {1, 1, 0, 0}, gives[] = {1, 0, 1, 0};
+    const int takes[] = {2, 2, 0, 0}, gives[] = {2, 0, 2, 0}; /* a packet is two blocks */
     for (int i = 0; i < 4; i++) {
         CHECK(enet_initialize_with_callbacks(ENET_VERSION, all[i]) == 0);
         taken = given_back = 0;
