@@ -7,12 +7,15 @@
 # - the layer: its structures lie as the reference library's header says (layout), what isn't offered is refused, and packets that are sent
 #   while others are let go come as they are (refusals); the reference library and ours do the same with packets of any length and their
 #   bytes (packets), with ten thousand calls drawn from a seed, of which all ways to end (calls), and where packets are taken peer by peer
-#   (waiting); a handle and a host go from thread to thread (threads, also with ThreadSanitizer);
+#   (waiting); a handle and a host go from thread to thread (threads, also with ThreadSanitizer); 100,000 datagrams of strangers disturb
+#   nobody at a host with callbacks around each datagram (storm); the fields that programs read are the reference library's but for those
+#   that c/tests/fields.differ names (fields);
 # - conversations of the programs in clients/ that use no more than what is offered, compiled unchanged against c/enet/enet.h, with the
 #   reference library at the other end, both ways round, straight and through clients/proxy.c; one runs a program that was built for
 #   libenet on our shared library;
 # - programs that weren't written for it: libenet's tutorial (c/tests/tutorial.c) on the layer, and Debian's python3-enet, which was built
 #   for libenet, on our shared library (c/tests/binding.py), each with the reference library at the other end, both ways round;
+# - sockets by TCP, duplicatePeers, intercept, compressor and checksum (c/tests/offered.c), with each of the libraries at either end;
 # - what waits at a receiver never keeps the next packet out for good: the reference library sends, the layer receives (progress).
 # Prints what failed, and as last line 'N passed, M failed'; the status is 1 where one failed or nothing was tried. It ends within 4
 # minutes. As root it installs what is missing of gcc, libenet-dev, valgrind and python3-enet.
@@ -27,11 +30,23 @@ fail() {
     failed=$((failed + 1))
 }
 
+# Runs a command, a program for 200 seconds at most.
+limited() {
+    if [ "$(type -t "$1")" = function ]; then "$@"; else timeout 200 "$@"; fi
+}
+
 # Runs the command after the name $1, and counts whether it ended well.
 try() {
     local name=$1
     shift
-    if timeout 200 "$@" > "$room/$name.out" 2>&1; then passed=$((passed + 1)); else fail "$name" "$room/$name.out"; fi
+    if limited "$@" > "$room/$name.out" 2>&1; then passed=$((passed + 1)); else fail "$name" "$room/$name.out"; fi
+}
+
+# Whether the fields that differ between the two outputs of c/tests/fields.c are those that c/tests/fields.differ names: what is in one list
+# alone is printed.
+fields_differ() {
+    diff <(diff "$room/fields.out" "$room/fields-theirs.out" | awk '/^[<>]/ { print ($2 ~ /^(made|apart)$/ ? "idle" : "known"), $4 }' | sort -u) \
+        <(sed -n 's/^\(idle\|known\) \([^:]*\):.*/\1 \2/p' c/tests/fields.differ | sort -u)
 }
 
 # Compiles the test $1 of c/tests to the program $2, with the words after them.
@@ -61,6 +76,10 @@ build_layer_tests() {
     for test in "${compared[@]}"; do
         cc -std=gnu11 -O1 -g -Wall -Wextra -DREFERENCE "c/tests/$test.c" -o "$room/$test-theirs" -lenet || return 1
     done
+    compile fields fields "$made/lib/libgofnjerta_enet.a" && compile storm storm "$made/lib/libgofnjerta_enet.a" &&
+        compile storm storm-checked "${checked[@]}" c/enet/*.c c/gofnjerta.c "$room/checked.a" || return 1
+    compile offered our-offered "$made/lib/libgofnjerta_enet.a" && cc -std=gnu11 -O1 -Wall -Wextra c/tests/offered.c -o "$room/offered" -lenet &&
+        compile offered offered-checked "${checked[@]}" c/enet/*.c c/gofnjerta.c "$room/checked.a" || return 1
     compile threads threads -pthread "$made/lib/libgofnjerta_enet.a" && compile threads threads-checked -pthread "${checked[@]}" "${pooled[@]}" &&
         compile threads threads-raced -pthread "${raced[@]}" "${pooled[@]}"
 }
@@ -153,6 +172,13 @@ meetings() {
     meet tutorial-on-shared "$on_ours $room/tutorial" "$room/tutorial"
     meet binding-at-reference "$binding" "$on_ours $binding"
     meet binding-at-ours "$on_ours $binding" "$binding"
+    for case in sockets duplicates intercept compress checksum both; do
+        meet "$case-ours" "$room/our-offered $case" "$room/our-offered $case"
+        meet "$case-at-ours" "$room/our-offered $case" "$room/offered $case"
+        meet "$case-at-reference" "$room/offered $case" "$room/our-offered $case"
+        meet "$case-reference" "$room/offered $case" "$room/offered $case"
+        meet "$case-checked" "$room/offered-checked $case" "$room/offered-checked $case"
+    done
     for case in 1 2 3; do
         meet "progress-$case" "$room/our-progress $case" "$room/progress $case"
     done
@@ -195,7 +221,7 @@ install_tools() {
 }
 
 layer_tests=(refusals packets calls waiting)
-compared=(packets calls waiting)
+compared=(packets calls waiting fields)
 room=$(mktemp -d) || exit 1
 trap 'kill $(jobs -p) 2> /dev/null; wait; rm -rf "$room"' EXIT
 names=()
@@ -218,10 +244,14 @@ else
         try "$name-checked" "$room/$name-checked"
         try "$name-valgrind" "${grind[@]}" "$room/$name"
     done
+    try storm "$room/storm" 100000
+    try storm-checked "$room/storm-checked" 100000
+    try fields "$room/fields"
     for name in "${compared[@]}"; do
         try "$name-theirs" "$room/$name-theirs"
-        try "$name-alike" cmp "$room/$name.out" "$room/$name-theirs.out"
+        [ "$name" = fields ] || try "$name-alike" cmp "$room/$name.out" "$room/$name-theirs.out"
     done
+    try fields-differ fields_differ
     # Where addresses are drawn from a wide range, ThreadSanitizer doesn't start.
     try threads-raced setarch -R "$room/threads-raced"
     try lossy-shared env LD_LIBRARY_PATH="$room/made/lib" "$room/lossy-shared"

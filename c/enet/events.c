@@ -2,24 +2,30 @@
  * kept, slot by slot, and handed out first. */
 #include "layer.h"
 
-/* Whether the program is to know of an event of the core. */
-static bool is_for_program(Layer *layer, const gofnjerta_event *told) {
+/* Whether the program is to know of the beginning or the end of a connection. */
+static bool is_news(Layer *layer, const gofnjerta_event *told) {
     Slot *slot = &layer->slots[told->peer.slot];
     bool is_last = slot->name.generation == told->peer.generation;
-    if (told->kind == GOFNJERTA_CONNECT && !is_last) layer_meet(layer, told->peer);
-    else if (!is_last || !slot->known) {
-        if (told->kind == GOFNJERTA_DISCONNECT && is_last && slot->lingers) {
-            slot->lingers = false;
-            layer->lingering--;
-        }
-        return false;
+    if (told->kind == GOFNJERTA_CONNECT) {
+        if (!is_last) layer_meet(layer, told->peer, true);
+        return slot->known;
     }
-    if (told->kind == GOFNJERTA_DISCONNECT) {
-        slot->ended = true;
-        layer->ended++;
-        layer_show_peer(layer, &layer->host.peers[told->peer.slot]);
+    if (is_last && slot->lingers) {
+        slot->lingers = false;
+        layer->lingering--;
     }
-    return told->kind != GOFNJERTA_RECEIVE || !slot->is_mute;
+    if (!is_last || !slot->known) return false;
+    slot->ended = true;
+    layer->ended++;
+    layer_show_peer(layer, &layer->host.peers[told->peer.slot]);
+    return true;
+}
+
+/* Whether the program is to know of an event of the core. */
+static bool is_for_program(Layer *layer, const gofnjerta_event *told) {
+    const Slot *slot = &layer->slots[told->peer.slot];
+    if (told->kind != GOFNJERTA_RECEIVE) return is_news(layer, told);
+    return slot->known && slot->name.generation == told->peer.generation && !slot->is_mute;
 }
 
 /* Takes the core's next event that is for the program, unless one waits. */
@@ -123,7 +129,6 @@ static void hand_out(Layer *layer, const gofnjerta_event *told, ENetPacket *pack
         return;
     }
     slot_of(peer)->told = true;
-    layer->host.connectedPeers++;
     layer_show_peer(layer, peer);
 }
 

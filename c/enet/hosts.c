@@ -14,12 +14,12 @@ static void show_host(ENetHost *host, const ENetAddress *address, const gofnjert
     host->maximumPacketSize = config->max_packet;
     host->maximumWaitingData = config->max_waiting;
     host->duplicatePeers = ENET_PROTOCOL_MAXIMUM_PEER_ID;
-    if (getrandom(&host->randomSeed, sizeof host->randomSeed, 0) < 0) host->randomSeed = (enet_uint32)layer_now();
+    host->randomSeed = enet_host_random_seed();
     for (size_t i = 0; i < host->peerCount; i++) {
         host->peers[i].host = host;
         host->peers[i].incomingPeerID = (enet_uint16)i;
         host->peers[i].outgoingPeerID = ENET_PROTOCOL_MAXIMUM_PEER_ID;
-        layer_of(host)->slots[i].name.generation = UINT32_MAX;
+        layer_of(host)->slots[i].name.generation = layer_of(host)->slots[i].seen.generation = UINT32_MAX;
     }
 }
 
@@ -90,9 +90,7 @@ static bool is_same(const gofnjerta_config *one, const gofnjerta_config *other) 
 
 /* Makes the core as the program's fields ask, if that is offered: it is opened anew where they changed before it began. */
 static bool make_ready(Layer *layer) {
-    const ENetHost *host = &layer->host;
-    if (layer->refused || host->checksum || host->compressor.context || host->intercept) return false;
-    if (host->duplicatePeers != ENET_PROTOCOL_MAXIMUM_PEER_ID || host->channelLimit > ENET_PROTOCOL_MAXIMUM_CHANNEL_COUNT) return false;
+    if (layer->host.channelLimit > ENET_PROTOCOL_MAXIMUM_CHANNEL_COUNT) return false;
     gofnjerta_config wanted = config_wanted(layer);
     if (!is_same(&wanted, &layer->config)) {
         gofnjerta_host core = {0};
@@ -104,15 +102,12 @@ static bool make_ready(Layer *layer) {
     return layer->begun = true;
 }
 
-/* Whether the program asks for nothing that isn't offered. The settings may be written until the first connect, service or flush, at
- * which the core is opened anew with them; from then on they stand. */
 bool layer_is_ready(Layer *layer) {
     const ENetHost *host = &layer->host;
     const gofnjerta_config *set = &layer->config;
-    bool is_plain = !layer->refused && !host->checksum && !host->compressor.context && !host->intercept;
-    bool is_as_set = host->duplicatePeers == ENET_PROTOCOL_MAXIMUM_PEER_ID && host->mtu == set->mtu && host->channelLimit == set->channels &&
-                     host->maximumPacketSize == set->max_packet && host->maximumWaitingData == set->max_waiting;
-    return (layer->begun && is_plain && is_as_set) || make_ready(layer);
+    bool is_as_set = host->mtu == set->mtu && host->channelLimit == set->channels && host->maximumPacketSize == set->max_packet &&
+                     host->maximumWaitingData == set->max_waiting;
+    return (layer->begun && is_as_set) || make_ready(layer);
 }
 
 void enet_host_bandwidth_limit(ENetHost *host, enet_uint32 incoming, enet_uint32 outgoing) {
@@ -126,11 +121,16 @@ void enet_host_channel_limit(ENetHost *host, size_t channels) {
     host->channelLimit = channels;
 }
 
-/* A compressor is kept and destroyed as libenet does, but with one set the host isn't served. */
 void enet_host_compress(ENetHost *host, const ENetCompressor *compressor) {
     if (host->compressor.context && host->compressor.destroy) host->compressor.destroy(host->compressor.context);
     host->compressor = compressor ? *compressor : (ENetCompressor){0};
-    if (compressor && !compressor->context) layer_of(host)->refused = true;
+}
+
+void enet_host_bandwidth_throttle(ENetHost *host) { (void)host; }
+
+enet_uint32 enet_host_random_seed(void) {
+    enet_uint32 seed;
+    return getrandom(&seed, sizeof seed, 0) == sizeof seed ? seed : (enet_uint32)layer_now();
 }
 
 int enet_host_compress_with_range_coder(ENetHost *host) {

@@ -45,11 +45,23 @@ typedef struct {
     bool is_parked;      /* the core connects from it by the name of generation `parked`, which the program isn't given */
     bool sends;          /* some of its datagrams are gathered, up to the parcel `last` */
     bool is_in_line;     /* it stands in line for its kept events, before the slot `behind` where it isn't the last */
+    bool is_counted, is_limited; /* in the host's numbers of connected and of limited peers */
     uint16_t last, behind;
     uint32_t parked;
+    gofnjerta_peer seen; /* the last peer of which a datagram went, which the program may not know yet */
+    gofnjerta_address at;
+    uint32_t connect_id; /* as it stands on the wire */
+    uint32_t incoming, outgoing; /* the other end's bandwidths */
     Kept *first, *newest; /* its events that were passed over */
     size_t kept_bytes;    /* what their packets take */
 } Slot;
+
+/* A CONNECT that came from an address: which slot's peer answers it. */
+typedef struct {
+    gofnjerta_address from;
+    bool awaits, is_seen;
+    uint16_t slot;
+} Arrival;
 
 /* A host; the program sees its first member alone. */
 typedef struct {
@@ -57,7 +69,6 @@ typedef struct {
     gofnjerta_host core;
     gofnjerta_config config;   /* the settings that it was opened with */
     bool begun;                /* they stand */
-    bool refused;              /* the program asked for what isn't offered */
     bool releases;             /* callbacks of packets that are let go are being called */
     Slot *slots;
     uint64_t clock, refreshed; /* milliseconds */
@@ -70,11 +81,11 @@ typedef struct {
     size_t line;               /* how many slots stand in line for their kept events, which come first */
     uint16_t line_first, line_last;
     size_t ended, lingering;   /* how many slots' peers have ended so, and linger */
+    Arrival arrival;
     bool has_trains;           /* the system cuts a train into datagrams (UDP_SEGMENT) */
     size_t parcel_count, gathered_bytes;
-    uint8_t datagram[DATAGRAM]; /* that came */
     Parcel parcels[GATHERED];
-    uint8_t gathered[GATHERED_BYTES + DATAGRAM];
+    uint8_t gathered[GATHERED_BYTES + DATAGRAM + 16]; /* a datagram may get a checksum */
 } Layer;
 
 
@@ -82,6 +93,7 @@ typedef struct {
 
 extern uint64_t layer_clock_base; /* when the library's time was 0, in milliseconds of the machine's clock */
 extern ENetCallbacks layer_callbacks;
+extern bool layer_has_allocator; /* the program gave one; it may be one of the C library's functions beside one of its own */
 
 uint64_t layer_now(void); /* the machine's clock, in milliseconds */
 
@@ -91,16 +103,34 @@ bool layer_is_ready(Layer *layer);
 
 void layer_forget(Layer *layer, ENetPeer *peer);         /* the program is done with this peer */
 void layer_show_peer(Layer *layer, ENetPeer *peer);      /* brings its fields up to date */
-void layer_meet(Layer *layer, gofnjerta_peer name);      /* a slot's new peer */
+void layer_meet(Layer *layer, gofnjerta_peer name, bool answers); /* a slot's new peer, which the other end may have asked for */
 void layer_drop_kept(Layer *layer, const ENetPeer *peer); /* drops what the peer's events told and the program didn't take */
 void layer_drain(Layer *layer);                          /* keeps what there is to tell, until no slot lingers */
 int layer_tell(Layer *layer, ENetEvent *event);          /* the next event: 1, 0 where there is none, -1 where memory is missing */
 void layer_release(Layer *layer);                          /* gives back the references to packets that were submitted */
 void layer_go_on(Layer *layer);                            /* the clock goes on to now */
 void layer_put_out(Layer *layer);                          /* sends all that the core gives */
-int layer_take_in(Layer *layer);                           /* takes in what came, and tells how many datagrams; -1 for a fault */
+void layer_count(Layer *layer, ENetPeer *peer);            /* whether it is among the host's connected and limited peers */
+
+/* Takes in what came. How many datagrams it was goes to `came`; 1 where the program made an event of one, -1 for a fault. */
+int layer_take_in(Layer *layer, ENetEvent *event, int *came);
+
+/* What the core gave, at the start of `length` bytes with room for a checksum behind them, gets compressed and its checksum; its length. */
+uint32_t layer_dress(Layer *layer, uint8_t *at, uint32_t length, const Slot *slot);
+
+/* A datagram that came, of at most DATAGRAM bytes, goes back to what its core gave; false where it is to be dropped. */
+bool layer_undress(Layer *layer, const gofnjerta_address *from, uint8_t **data, size_t *length);
 
 #pragma GCC visibility pop
+
+/* The length of the command at the front of so many bytes, its payload included; 0 where there is none that is whole. */
+static inline size_t command_length(const uint8_t *at, size_t left) {
+    static const uint8_t sizes[16] = {0, 8, 48, 44, 8, 4, 6, 8, 24, 8, 12, 16, 24}, lengths_at[16] = {[6] = 4, [7] = 6, [8] = 6, [9] = 6, [12] = 6};
+    size_t size = left ? sizes[at[0] & 0xF] : 0, place = left ? lengths_at[at[0] & 0xF] : 0;
+    if (!size || size > left) return 0;
+    if (place) size += (size_t)at[place] << 8 | at[place + 1];
+    return size <= left ? size : 0;
+}
 
 static inline Layer *layer_of(ENetHost *host) { return (Layer *)host; }
 static inline Slot *slot_of(ENetPeer *peer) { return &layer_of(peer->host)->slots[peer->incomingPeerID]; }

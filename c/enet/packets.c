@@ -3,23 +3,35 @@
 #include "../pool.h"
 #include <string.h>
 
-/* The program gave an allocator; it may be one of the C library's functions beside one of its own. */
-static bool has_allocator(void) { return layer_callbacks.malloc != malloc || layer_callbacks.free != free; }
-
 /* A packet's head comes from the program's allocator, where it gave one. */
 static ENetPacket *take_head(void) {
-    if (has_allocator()) return layer_callbacks.malloc(sizeof(ENetPacket));
+    if (layer_has_allocator) return layer_callbacks.malloc(sizeof(ENetPacket));
     Tried tried = rattle_alloc(sizeof(ENetPacket), _Alignof(ENetPacket));
     return tried.is_there ? tried.at : NULL;
 }
 
 static void give_head(ENetPacket *packet) {
-    if (has_allocator()) layer_callbacks.free(packet);
+    if (layer_has_allocator) layer_callbacks.free(packet);
     else rattle_dealloc(packet);
 }
 
-/* A block for so many bytes; NULL for more than any object has. */
-static enet_uint8 *take_bytes(size_t length) { return length < PTRDIFF_MAX ? enet_malloc(length) : NULL; }
+#if defined __SANITIZE_ADDRESS__ || defined __SANITIZE_THREAD__
+#define KEEPS_BLOCKS false
+#else
+#define KEEPS_BLOCKS true
+#endif
+
+/* A block for so many bytes; NULL for more than any object has. Where the program gave no allocator it is one of malloc's, which the program
+ * may let go by enet_free or free; those that it doesn't let go the thread keeps at hand, unless a sanitizer is to see each come and go. */
+static enet_uint8 *take_bytes(size_t length) {
+    if (length >= PTRDIFF_MAX) return NULL;
+    return !KEEPS_BLOCKS || layer_has_allocator ? enet_malloc(length) : pool_take_bytes(length);
+}
+
+static void give_bytes(enet_uint8 *bytes) {
+    if (!KEEPS_BLOCKS || layer_has_allocator) enet_free(bytes);
+    else pool_give_bytes(bytes);
+}
 
 ENetPacket *enet_packet_create(const void *data, size_t length, enet_uint32 flags) {
     ENetPacket *packet = take_head();
@@ -40,7 +52,7 @@ ENetPacket *enet_packet_create(const void *data, size_t length, enet_uint32 flag
 void enet_packet_destroy(ENetPacket *packet) {
     if (!packet) return;
     if (packet->freeCallback) packet->freeCallback(packet);
-    if (!(packet->flags & ENET_PACKET_FLAG_NO_ALLOCATE) && packet->data) enet_free(packet->data);
+    if (!(packet->flags & ENET_PACKET_FLAG_NO_ALLOCATE) && packet->data) give_bytes(packet->data);
     give_head(packet);
 }
 
@@ -50,7 +62,7 @@ int enet_packet_resize(ENetPacket *packet, size_t length) {
         if (!block) return -1;
         if (packet->data) {
             memcpy(block, packet->data, packet->dataLength);
-            enet_free(packet->data);
+            give_bytes(packet->data);
         }
         packet->data = block;
     }

@@ -14,12 +14,43 @@ static ENetPeerState state_shown(uint32_t state, bool told) {
     }
 }
 
+void layer_count(Layer *layer, ENetPeer *peer) {
+    Slot *slot = slot_of(peer);
+    bool counts = peer->state == ENET_PEER_STATE_CONNECTED || peer->state == ENET_PEER_STATE_DISCONNECT_LATER;
+    bool is_limited = counts && peer->incomingBandwidth != 0;
+    layer->host.connectedPeers += (size_t)counts - slot->is_counted;
+    layer->host.bandwidthLimitedPeers += (size_t)is_limited - slot->is_limited;
+    slot->is_counted = counts;
+    slot->is_limited = is_limited;
+}
+
+/* What a slot's fields are with no peer. */
+static void clear(ENetPeer *peer) {
+    *peer = (ENetPeer){.host = peer->host, .incomingPeerID = peer->incomingPeerID, .address = peer->address, .data = peer->data,
+                       .outgoingPeerID = ENET_PROTOCOL_MAXIMUM_PEER_ID};
+}
+
 void layer_forget(Layer *layer, ENetPeer *peer) {
     Slot *slot = slot_of(peer);
-    if (slot->told) layer->host.connectedPeers--;
     if (slot->ended) layer->ended--;
     slot->known = slot->told = slot->ended = slot->is_mute = false;
-    peer->state = ENET_PEER_STATE_DISCONNECTED;
+    clear(peer);
+    layer_count(layer, peer);
+}
+
+/* The extreme round trips of an interval of the throttle, and those of the one before; as the readings have them, which are renewed every
+ * 100 ms. */
+static void show_extremes(ENetPeer *peer) {
+    uint32_t now = peer->host->serviceTime;
+    if (!peer->lastReceiveTime) return;
+    peer->lowestRoundTripTime = ENET_MIN(peer->lowestRoundTripTime, peer->roundTripTime);
+    peer->highestRoundTripTimeVariance = ENET_MAX(peer->highestRoundTripTimeVariance, peer->roundTripTimeVariance);
+    if (peer->packetThrottleEpoch && now - peer->packetThrottleEpoch < peer->packetThrottleInterval) return;
+    peer->lastRoundTripTime = peer->lowestRoundTripTime;
+    peer->lastRoundTripTimeVariance = ENET_MAX(peer->highestRoundTripTimeVariance, 1);
+    peer->lowestRoundTripTime = peer->roundTripTime;
+    peer->highestRoundTripTimeVariance = peer->roundTripTimeVariance;
+    peer->packetThrottleEpoch = now;
 }
 
 void layer_show_peer(Layer *layer, ENetPeer *peer) {
@@ -28,11 +59,12 @@ void layer_show_peer(Layer *layer, ENetPeer *peer) {
     if (!slot->known) return;
     if (slot->ended || gofnjerta_read_peer(&layer->core, slot->name, &read)) {
         peer->state = ENET_PEER_STATE_ZOMBIE;
+        layer_count(layer, peer);
         return;
     }
     peer->state = state_shown(read.state, slot->told);
     peer->outgoingPeerID = read.slot;
-    peer->connectID = read.connect_id;
+    peer->connectID = htonl(read.connect_id);
     peer->outgoingSessionID = read.outgoing_session;
     peer->incomingSessionID = read.incoming_session;
     peer->address.host = htonl(read.address.ip);
@@ -44,18 +76,32 @@ void layer_show_peer(Layer *layer, ENetPeer *peer) {
     peer->roundTripTimeVariance = read.variance;
     peer->packetThrottle = read.throttle;
     peer->packetThrottleLimit = ENET_PEER_PACKET_THROTTLE_SCALE;
+    peer->packetThrottleInterval = read.throttle_interval;
+    peer->packetThrottleAcceleration = read.acceleration;
+    peer->packetThrottleDeceleration = read.deceleration;
     peer->reliableDataInTransit = read.in_transit;
+    show_extremes(peer);
+    layer_count(layer, peer);
 }
 
-void layer_meet(Layer *layer, gofnjerta_peer name) {
+void layer_meet(Layer *layer, gofnjerta_peer name, bool answers) {
     ENetPeer *peer = &layer->host.peers[name.slot];
     Slot *slot = &layer->slots[name.slot];
     slot->name = name;
     slot->known = true;
+    clear(peer);
     peer->pingInterval = ENET_PEER_PING_INTERVAL;
     peer->timeoutLimit = ENET_PEER_TIMEOUT_LIMIT;
     peer->timeoutMinimum = ENET_PEER_TIMEOUT_MINIMUM;
     peer->timeoutMaximum = ENET_PEER_TIMEOUT_MAXIMUM;
+    peer->lastRoundTripTime = peer->lowestRoundTripTime = ENET_PEER_DEFAULT_ROUND_TRIP_TIME;
+    if (answers) {
+        /* Its VERIFY_CONNECT went, and was acknowledged just now. */
+        peer->incomingBandwidth = slot->incoming;
+        peer->outgoingBandwidth = slot->outgoing;
+        peer->packetsSent = 1;
+        peer->packetLossEpoch = peer->lastSendTime = peer->lastReceiveTime = ENET_MAX(layer->host.serviceTime, 1);
+    }
     layer_show_peer(layer, peer);
 }
 
@@ -92,7 +138,7 @@ ENetPeer *enet_host_connect(ENetHost *host, const ENetAddress *address, size_t c
     gofnjerta_address to = {ntohl(address->host), address->port};
     gofnjerta_peer name;
     if (!ask_anew(layer, to, (uint8_t)channels, data, &name)) return NULL;
-    layer_meet(layer, name);
+    layer_meet(layer, name, false);
     return &host->peers[name.slot];
 }
 

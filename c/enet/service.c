@@ -1,7 +1,15 @@
 /* A host is served: the clock goes on, datagrams go and come, and the next event is told. */
 #include "layer.h"
 #include <errno.h>
+#include <limits.h>
 #include <poll.h>
+
+/* Once a second the bytes that went and came are counted anew. */
+static void count_anew(ENetHost *host) {
+    if (host->serviceTime - host->bandwidthThrottleEpoch < ENET_HOST_BANDWIDTH_THROTTLE_INTERVAL) return;
+    host->bandwidthThrottleEpoch = host->serviceTime;
+    for (size_t i = 0; i < host->peerCount; i++) host->peers[i].incomingDataTotal = host->peers[i].outgoingDataTotal = 0;
+}
 
 /* The clock goes on to now. */
 void layer_go_on(Layer *layer) {
@@ -14,6 +22,7 @@ void layer_go_on(Layer *layer) {
     }
     if (now - layer->refreshed < REFRESH_MS) return;
     layer->refreshed = now;
+    count_anew(&layer->host);
     for (size_t i = 0; i < layer->host.peerCount; i++)
         if (layer->slots[i].known) layer_show_peer(layer, &layer->host.peers[i]);
 }
@@ -33,13 +42,17 @@ int enet_host_service(ENetHost *host, ENetEvent *event, enet_uint32 timeout) {
         int told = enet_host_check_events(host, event);
         if (told) return told;
     }
-    if (!layer_is_ready(layer)) return -1;
+    if (!layer_is_ready(layer)) {
+        /* A program that asks again and again is not to fill a processor. */
+        poll(NULL, 0, timeout > INT_MAX ? INT_MAX : (int)timeout);
+        return -1;
+    }
     layer_go_on(layer);
     uint64_t end = layer->clock + timeout;
     for (int ready = 1;;) {
         layer_put_out(layer);
-        int came = ready ? layer_take_in(layer) : 0;
-        if (came < 0) return -1;
+        int came = 0, answer = ready ? layer_take_in(layer, event, &came) : 0;
+        if (answer) return answer;
         if (came) layer_put_out(layer);
         if (event) {
             int told = layer_tell(layer, event);

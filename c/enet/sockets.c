@@ -2,6 +2,7 @@
 #include "layer.h"
 #include <errno.h>
 #include <netdb.h>
+#include <netinet/tcp.h>
 #include <poll.h>
 #include <string.h>
 #include <sys/ioctl.h>
@@ -9,6 +10,7 @@
 
 uint64_t layer_clock_base;
 ENetCallbacks layer_callbacks = {malloc, free, NULL};
+bool layer_has_allocator;
 
 uint64_t layer_now(void) {
     struct timespec t;
@@ -25,6 +27,7 @@ int enet_initialize_with_callbacks(ENetVersion version, const ENetCallbacks *giv
         layer_callbacks.malloc = given->malloc;
         layer_callbacks.free = given->free;
     }
+    layer_has_allocator = layer_callbacks.malloc != malloc || layer_callbacks.free != free;
     layer_callbacks.no_memory = given->no_memory;
     return enet_initialize();
 }
@@ -143,9 +146,37 @@ int enet_socket_set_option(ENetSocket fd, ENetSocketOption option, int value) {
     case ENET_SOCKOPT_REUSEADDR: return setsockopt(fd, SOL_SOCKET, SO_REUSEADDR, &value, sizeof value);
     case ENET_SOCKOPT_RCVTIMEO: return setsockopt(fd, SOL_SOCKET, SO_RCVTIMEO, &limit, sizeof limit);
     case ENET_SOCKOPT_SNDTIMEO: return setsockopt(fd, SOL_SOCKET, SO_SNDTIMEO, &limit, sizeof limit);
+    case ENET_SOCKOPT_NODELAY: return setsockopt(fd, IPPROTO_TCP, TCP_NODELAY, &value, sizeof value);
     default: return -1;
     }
 }
+
+int enet_socket_get_option(ENetSocket fd, ENetSocketOption option, int *value) {
+    socklen_t length = sizeof *value;
+    if (option != ENET_SOCKOPT_ERROR) return -1;
+    return getsockopt(fd, SOL_SOCKET, SO_ERROR, value, &length);
+}
+
+int enet_socket_connect(ENetSocket fd, const ENetAddress *address) {
+    struct sockaddr_in at = at_address(address);
+    return connect(fd, (struct sockaddr *)&at, sizeof at) < 0 && errno != EINPROGRESS ? -1 : 0;
+}
+
+int enet_socket_listen(ENetSocket fd, int backlog) { return listen(fd, backlog < 0 ? SOMAXCONN : backlog); }
+
+ENetSocket enet_socket_accept(ENetSocket fd, ENetAddress *address) {
+    struct sockaddr_in at;
+    socklen_t length = sizeof at;
+    int came = accept(fd, address ? (struct sockaddr *)&at : NULL, address ? &length : NULL);
+    if (came < 0) return ENET_SOCKET_NULL;
+    if (address) {
+        address->host = at.sin_addr.s_addr;
+        address->port = ntohs(at.sin_port);
+    }
+    return came;
+}
+
+int enet_socket_shutdown(ENetSocket fd, ENetSocketShutdown how) { return shutdown(fd, (int)how); }
 
 void enet_socket_destroy(ENetSocket fd) {
     if (fd != ENET_SOCKET_NULL) close(fd);
