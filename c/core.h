@@ -1,4 +1,4 @@
-/* The proved functions, as crates/enet_c exports them. No pointer may be NULL, also beside a length of 0: gofnjerta.c and enet.c see to that.
+/* The proved functions, as crates/enet_c exports them. No pointer may be NULL, also beside a length of 0: gofnjerta.c and enet/ see to that.
  * For the library's own C code alone. */
 #ifndef GOFNJERTA_CORE_H
 #define GOFNJERTA_CORE_H

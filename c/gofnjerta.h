@@ -5,7 +5,8 @@
  * What the caller owes at each call; nothing can test it:
  * - a handle is all zero bytes before it is opened, is written by this library alone from then on until it is closed, and is one
  *   object: it may be moved by memcpy if the old bytes are never used again, and two copies are never both used;
- * - one call at a time on a handle, all of them on the thread that opened it; different handles know nothing of each other;
+ * - one call at a time on a handle: a call on another thread begins after the last one has ended, as a lock sees to. Which thread calls
+ *   is free, also that which closes; different handles know nothing of each other;
  * - a pointer that isn't NULL points to an object of its type, or to as many bytes as the length beside it says, readable where it
  *   is const and else writable; what the pointers of one call point to doesn't overlap;
  * - no call comes from a signal handler, or in the forked child of a process with threads;
@@ -204,8 +205,8 @@ uint32_t gofnjerta_next_event(gofnjerta_host *host, gofnjerta_event *event);
 uint32_t gofnjerta_body(gofnjerta_host *host, void *buffer, size_t room);
 
 /* Ends a connection, with a word for the other end's user. NO_SUCH_PEER; NOT_CONNECTED where it ends already.
- * disconnect: what is queued, held or not yet taken as an event is dropped; the DISCONNECT event comes once the other end has
- * acknowledged. _now: the other end is told once, no event comes here, and the name is spent. _later: as disconnect, once all that is
+ * disconnect: what is queued or held is dropped; packets that wait as events still come, and then the DISCONNECT event, once the
+ * other end has acknowledged. _now: the other end is told once, no event comes here, and the name is spent. _later: as disconnect, once all that is
  * queued has gone and each reliable packet is acknowledged. */
 uint32_t gofnjerta_disconnect(gofnjerta_host *host, gofnjerta_peer peer, uint32_t info);
 uint32_t gofnjerta_disconnect_now(gofnjerta_host *host, gofnjerta_peer peer, uint32_t info);

@@ -2,6 +2,7 @@
  * library has at hand, so each thread keeps those that were let go for the next ones of their size. Each block is one of malloc's, with a
  * head of 16 bytes that tells its size. It stands in the place of the kit's part that calls malloc; nothing here is proved. */
 #include "pool.h"
+#include <malloc.h>
 #include <stdbool.h>
 #include <stdint.h>
 #include <stdlib.h>
@@ -27,6 +28,7 @@ typedef struct {
 
 #define OWN static _Thread_local __attribute__((tls_model("initial-exec")))
 OWN Shelf shelves[LONGEST / STEP + 1]; /* by steps; the first one stays empty */
+OWN Shelf bare[LONGEST / STEP + 1]; /* of blocks with no head, by the steps behind their first 8 bytes; the first one stays empty */
 OWN size_t most; /* of a shelf's blocks: none until it is known that they are emptied where the thread ends */
 static once_flag made = ONCE_FLAG_INIT;
 static tss_t ending;
@@ -34,16 +36,21 @@ static bool has_ending;
 
 static Head *head_of(void *at) { return (Head *)at - 1; }
 
-static void empty(void *all) {
-    Shelf *shelf = all;
+/* Takes the first block of a shelf; there is one. */
+static void *take_first(Shelf *shelf) {
+    Block *block = shelf->first;
+    shelf->first = block->next;
+    shelf->count--;
+    return block;
+}
+
+/* Empties the shelves of the thread that ends. */
+static void empty(void *own) {
+    (void)own;
     most = 0;
     for (size_t i = 1; i <= LONGEST / STEP; i++) {
-        while (shelf[i].first) {
-            Block *block = shelf[i].first;
-            shelf[i].first = block->next;
-            free(head_of(block));
-        }
-        shelf[i].count = 0;
+        while (shelves[i].first) free(head_of(take_first(&shelves[i])));
+        while (bare[i].first) free(take_first(&bare[i]));
     }
 }
 
@@ -75,11 +82,8 @@ Tried rattle_alloc(size_t size, size_t align) {
     if (size > LONGEST) return take_anew(size, 0);
     size_t steps = (size + STEP - 1) / STEP;
     Shelf *shelf = &shelves[steps];
-    Block *block = shelf->first;
-    if (!block) return take_anew(steps * STEP, steps);
-    shelf->first = block->next;
-    shelf->count--;
-    return (Tried){1, block};
+    if (!shelf->first) return take_anew(steps * STEP, steps);
+    return (Tried){1, take_first(shelf)};
 }
 
 Tried rattle_realloc(void *at, size_t before, size_t size, size_t align) {
@@ -90,23 +94,38 @@ Tried rattle_realloc(void *at, size_t before, size_t size, size_t align) {
 }
 
 /* Lets a block go that finds no room on its shelf. From the thread's first one on there is some. One that lies there was let go before. */
-__attribute__((noinline)) static void let_go(const Shelf *shelf, void *at) {
-    if (at == shelf->first) abort();
+__attribute__((noinline)) static void let_go(const Shelf *shelf, void *block, void *at) {
+    if (block == shelf->first) abort();
     if (!most) {
         call_once(&made, make_ending);
         if (has_ending && tss_set(ending, shelves) == thrd_success) most = MOST;
     }
-    free(head_of(at));
+    free(at);
 }
 
-void rattle_dealloc(void *at) {
-    Shelf *shelf = &shelves[head_of(at)->steps];
-    if (shelf->count >= most || shelf == shelves || at == shelf->first) {
-        let_go(shelf, at);
-        return;
-    }
+static void lay(Shelf *shelf, void *at) {
     Block *block = at;
     block->next = shelf->first;
     shelf->first = block;
     shelf->count++;
+}
+
+void rattle_dealloc(void *at) {
+    Shelf *shelf = &shelves[head_of(at)->steps];
+    if (shelf->count >= most || shelf == shelves || at == shelf->first) let_go(shelf, at, head_of(at));
+    else lay(shelf, at);
+}
+
+void *pool_take_bytes(size_t size) {
+    size_t steps = size <= 8 + STEP ? 1 : (size - 8 + STEP - 1) / STEP;
+    if (size > 8 + LONGEST) return malloc(size);
+    return bare[steps].first ? take_first(&bare[steps]) : malloc(8 + steps * STEP);
+}
+
+void pool_give_bytes(void *at) {
+    size_t size = malloc_usable_size(at), steps = size < 8 + STEP ? 0 : (size - 8) / STEP;
+    if (steps > LONGEST / STEP) steps = 0;
+    Shelf *shelf = &bare[steps];
+    if (shelf->count >= most || !steps || at == shelf->first) let_go(shelf, at, at);
+    else lay(shelf, at);
 }

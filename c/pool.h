@@ -14,4 +14,9 @@ Tried rattle_alloc(size_t size, size_t align);
 Tried rattle_realloc(void *at, size_t before, size_t size, size_t align);
 void rattle_dealloc(void *at);
 
+/* malloc and free, by way of blocks that the thread keeps: each is one of malloc's, of whoever's making, so that malloc and free may stand in
+ * either's place. Of pool.c alone. `at` isn't NULL. */
+void *pool_take_bytes(size_t size);
+void pool_give_bytes(void *at);
+
 #endif

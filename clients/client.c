@@ -484,12 +484,12 @@ static void idle(void)
     all_leave();
 }
 
-// 14 seconds of one short packet each tenth of a second, with an outage of the way among them.
+// Short packets for 14 seconds, with an outage of the way among them, which begins when round trips are long known. From then on they are few
+// enough for a window that slow round trips have made narrow, so that some go as soon as the way is up again.
 static void outage(void)
 {
     all_join(0, count - 1);
-    chat(5);
-    for (double end = now() + 14; now() < end; pass_for(0.1))
+    for (; now() < begun + 14; pass_for(now() < begun + 3.5 ? 0.1 : 0.5))
         each_submits(HELLO);
     chat(5);
     compare_orders();

@@ -1,11 +1,12 @@
-// proxy PORT SERVER SEED [down MS] [loss PERCENT] [rate KBIT]: stands between clients and a server, all on 127.0.0.1, until it is stopped. What comes to PORT goes to
-// port SERVER, from a socket of its own for each client, and what comes back there goes to that client. Of all datagrams, both ways,
-// 8 % are dropped, 5 % go twice, and 10 % are held back for 1 to 8 ms while others pass, as drawn from SEED. No command is dropped more
-// than twice and no acknowledgement of it either, since a connection ends where one command goes six times in vain.
+// proxy PORT SERVER SEED [down MS] [loss PERCENT] [rate KBIT]: stands between clients and a server, all on 127.0.0.1, until it is stopped. What
+// comes to PORT goes to port SERVER, from a socket of its own for each client, and what comes back there goes to that client. Of all
+// datagrams, both ways, 8 % are dropped, 5 % go twice, and 10 % are held back for 1 to 8 ms while others pass, as drawn from SEED. No command
+// is dropped more than twice and no acknowledgement of it either, since a connection ends where one command goes six times in vain.
 //
-// Where one of the last words is given, it is a line in place of that, on which each datagram takes 20 ms: from 4 seconds after the first one
-// on all are dropped for so many milliseconds (`down`); of all so many percent are dropped, as drawn (`loss`); and all together have so many
-// kilobits a second, each way, with 28 bytes of headers a datagram, where what would wait for more than 100 ms is dropped (`rate`).
+// Where one of the last words is given, it is a line in place of that, on which a datagram takes 20 to 37.5 ms, as its client has it, so that
+// what is sent again goes at different times. From 4 seconds after the first one on all are dropped for so many milliseconds (`down`); of all
+// so many percent are dropped, as drawn (`loss`); and all together have so many kilobits a second, each way, with 28 bytes of headers a
+// datagram, where what would wait for more than 100 ms is dropped (`rate`).
 #include <arpa/inet.h>
 #include <poll.h>
 #include <sys/socket.h>
@@ -117,8 +118,8 @@ static void hold_until(const Held *datagram, double due)
     held[waiting++] = copy;
 }
 
-// What the line does with a datagram.
-static void pass_over_line(const Held *datagram)
+// What the line does with a datagram of this client, from 1 on.
+static void pass_over_line(const Held *datagram, int client)
 {
     double time = now(), sent = time, *next = &free_at[datagram->to.sin_port != 0];
     if (begun == 0)
@@ -133,7 +134,7 @@ static void pass_over_line(const Held *datagram)
             return;
         sent = *next += (double)(datagram->length + 28) / rate;
     }
-    hold_until(datagram, sent + 20e-3);
+    hold_until(datagram, sent + 20e-3 + 2.5e-3 * ((client - 1) % 8));
 }
 
 // Drops the datagram, sends it once or twice, or holds it back.
@@ -166,7 +167,7 @@ static void take(int index, const struct sockaddr_in *server)
         datagram.socket = sockets[index == 0 ? client : 0].fd;
         datagram.to = index == 0 ? (struct sockaddr_in){ 0 } : clients[client];
         if (client != 0 && is_line)
-            pass_over_line(&datagram);
+            pass_over_line(&datagram, client);
         else if (client != 0)
             pass_on(&datagram);
     }

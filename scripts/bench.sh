@@ -1,6 +1,6 @@
 #!/usr/bin/env bash
 # Measures `enet_relay serve` side by side with a relay of the same rule over the reference library (clients/server.c), with the clients
-# of clients/load.c: `bench.sh [PROGRAM] [SECONDS] [slots]`. Where PROGRAM is `layer`, clients/server.c over our layer (c/enet.c) stands in
+# of clients/load.c: `bench.sh [PROGRAM] [SECONDS] [slots]`. Where PROGRAM is `layer`, clients/server.c over our layer (c/enet) stands in
 # the place of `serve`, in one thread as over the reference library; it needs crates/enet_c/out/libenet_c.a, which `rt lib` makes there, and
 # tells first what an idle call of the C library takes. For each number of clients, size and kind of packet, both relays are measured one
 # after the other, SECONDS each for the trip at light load and for the most that goes through (2 where it isn't given). Prints a table;

@@ -36,7 +36,13 @@ rm -f "$folder/lib/libgofnjerta.a"
 ar rcs "$folder/lib/libgofnjerta.a" "$room/gofnjerta.o" "$room"/parts/*.o "$room"/memory/*.o
 compile -shared -Wl,-soname,libgofnjerta.so -Wl,--version-script=c/gofnjerta.map -o "$folder/lib/libgofnjerta.so" "$room/gofnjerta.o" \
     "$room"/parts/*.o "$room"/memory/*.o
-compile -Ic -c c/enet.c -o "$room/enet.o"
+# The layer's files become one object, out of which only libenet's names are seen.
+mkdir "$room/layer"
+for source in c/enet/*.c; do
+    compile -Ic -c "$source" -o "$room/layer/$(basename "$source" .c).o"
+done
+"${CC:-cc}" -r -nostdlib -o "$room/enet.o" "$room"/layer/*.o
+objcopy --localize-hidden "$room/enet.o"
 compile -c c/pool.c -o "$room/pool.o"
 rm -f "$folder/lib/libgofnjerta_enet.a"
 ar rcs "$folder/lib/libgofnjerta_enet.a" "$room/enet.o" "$room/gofnjerta.o" "$room/pool.o" "$room"/parts/*.o

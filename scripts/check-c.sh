@@ -5,12 +5,18 @@
 #   allocation failing in turn (memory), and the blocks that the layer keeps (pool); plain, with AddressSanitizer and
 #   UndefinedBehaviorSanitizer, and under valgrind;
 # - the layer: its structures lie as the reference library's header says (layout), what isn't offered is refused, and packets that are sent
-#   while others are let go come as they are (refusals);
+#   while others are let go come as they are (refusals); the reference library and ours do the same with packets of any length and their
+#   bytes (packets), with ten thousand calls drawn from a seed, of which all ways to end (calls), and where packets are taken peer by peer
+#   (waiting); a handle and a host go from thread to thread (threads, also with ThreadSanitizer); 100,000 datagrams of strangers disturb
+#   nobody at a host with callbacks around each datagram (storm); the fields that programs read are the reference library's but for those
+#   that c/tests/fields.differ names (fields);
 # - conversations of the programs in clients/ that use no more than what is offered, compiled unchanged against c/enet/enet.h, with the
 #   reference library at the other end, both ways round, straight and through clients/proxy.c; one runs a program that was built for
 #   libenet on our shared library;
 # - programs that weren't written for it: libenet's tutorial (c/tests/tutorial.c) on the layer, and Debian's python3-enet, which was built
-#   for libenet, on our shared library (c/tests/binding.py), each with the reference library at the other end, both ways round.
+#   for libenet, on our shared library (c/tests/binding.py), each with the reference library at the other end, both ways round;
+# - sockets by TCP, duplicatePeers, intercept, compressor and checksum (c/tests/offered.c), with each of the libraries at either end;
+# - what waits at a receiver never keeps the next packet out for good: the reference library sends, the layer receives (progress).
 # Prints what failed, and as last line 'N passed, M failed'; the status is 1 where one failed or nothing was tried. It ends within 4
 # minutes. As root it installs what is missing of gcc, libenet-dev, valgrind and python3-enet.
 cd "$(dirname "$0")/.." || exit 1
@@ -24,11 +30,23 @@ fail() {
     failed=$((failed + 1))
 }
 
+# Runs a command, a program for 200 seconds at most.
+limited() {
+    if [ "$(type -t "$1")" = function ]; then "$@"; else timeout 200 "$@"; fi
+}
+
 # Runs the command after the name $1, and counts whether it ended well.
 try() {
     local name=$1
     shift
-    if timeout 200 "$@" > "$room/$name.out" 2>&1; then passed=$((passed + 1)); else fail "$name" "$room/$name.out"; fi
+    if limited "$@" > "$room/$name.out" 2>&1; then passed=$((passed + 1)); else fail "$name" "$room/$name.out"; fi
+}
+
+# Whether the fields that differ between the two outputs of c/tests/fields.c are those that c/tests/fields.differ names: what is in one list
+# alone is printed.
+fields_differ() {
+    diff <(diff "$room/fields.out" "$room/fields-theirs.out" | awk '/^[<>]/ { print ($2 ~ /^(made|apart)$/ ? "idle" : "known"), $4 }' | sort -u) \
+        <(sed -n 's/^\(idle\|known\) \([^:]*\):.*/\1 \2/p' c/tests/fields.differ | sort -u)
 }
 
 # Compiles the test $1 of c/tests to the program $2, with the words after them.
@@ -41,12 +59,29 @@ build_tests() {
     compile border border "$made/lib/libgofnjerta.a" && compile lossy lossy "$made/lib/libgofnjerta.a" &&
         compile memory memory "$wrap" "$made/lib/libgofnjerta.a" && compile pool pool -pthread "$wrap" c/pool.c &&
         compile pool pool-checked -pthread "$wrap" "${checked[@]}" c/pool.c && compile lossy lossy-shared -L"$made/lib" -lgofnjerta &&
-        compile refusals refusals "$made/lib/libgofnjerta_enet.a" && compile layout layout-ours &&
-        cc c/tests/layout.c -o "$room/layout-theirs" &&
+        compile layout layout-ours && cc c/tests/layout.c -o "$room/layout-theirs" && build_layer_tests &&
         compile tutorial our-tutorial "$made/lib/libgofnjerta_enet.a" && cc -Wall -Wextra c/tests/tutorial.c -o "$room/tutorial" -lenet &&
+        compile progress our-progress "$made/lib/libgofnjerta_enet.a" && cc -O1 -Wall -Wextra c/tests/progress.c -o "$room/progress" -lenet &&
         compile border border-checked "${checked[@]}" c/gofnjerta.c "$room/checked.a" &&
-        compile lossy lossy-checked "${checked[@]}" c/gofnjerta.c "$room/checked.a" &&
-        compile refusals refusals-checked "${checked[@]}" c/enet.c c/gofnjerta.c "$room/checked.a"
+        compile lossy lossy-checked "${checked[@]}" c/gofnjerta.c "$room/checked.a"
+}
+
+# Those of the layer: on ours, plain and with sanitizers, and on the reference library where they compare the two.
+build_layer_tests() {
+    local test raced=(-fsanitize=thread) pooled=(c/enet/*.c c/gofnjerta.c c/pool.c "$room/parts.a")
+    for test in "${layer_tests[@]}"; do
+        compile "$test" "$test" "$made/lib/libgofnjerta_enet.a" &&
+            compile "$test" "$test-checked" "${checked[@]}" c/enet/*.c c/gofnjerta.c "$room/checked.a" || return 1
+    done
+    for test in "${compared[@]}"; do
+        cc -std=gnu11 -O1 -g -Wall -Wextra -DREFERENCE "c/tests/$test.c" -o "$room/$test-theirs" -lenet || return 1
+    done
+    compile fields fields "$made/lib/libgofnjerta_enet.a" && compile storm storm "$made/lib/libgofnjerta_enet.a" &&
+        compile storm storm-checked "${checked[@]}" c/enet/*.c c/gofnjerta.c "$room/checked.a" || return 1
+    compile offered our-offered "$made/lib/libgofnjerta_enet.a" && cc -std=gnu11 -O1 -Wall -Wextra c/tests/offered.c -o "$room/offered" -lenet &&
+        compile offered offered-checked "${checked[@]}" c/enet/*.c c/gofnjerta.c "$room/checked.a" || return 1
+    compile threads threads -pthread "$made/lib/libgofnjerta_enet.a" && compile threads threads-checked -pthread "${checked[@]}" "${pooled[@]}" &&
+        compile threads threads-raced -pthread "${raced[@]}" "${pooled[@]}"
 }
 
 # The programs of clients/ on the layer: `server`, `client` and `crowd` as they are, and with sanitizers.
@@ -54,15 +89,16 @@ build_ours() {
     local program
     for program in server client crowd; do
         cc -std=gnu11 -O2 -Wall -Wextra -Ic -o "$room/our-$program" "clients/$program.c" "$room/made/lib/libgofnjerta_enet.a" || return 1
-        cc -std=gnu11 -O1 -g -Wall -Wextra -Ic -fsanitize=address,undefined -o "$room/checked-$program" "clients/$program.c" c/enet.c \
+        cc -std=gnu11 -O1 -g -Wall -Wextra -Ic -fsanitize=address,undefined -o "$room/checked-$program" "clients/$program.c" c/enet/*.c \
             c/gofnjerta.c "$room/checked.a" || return 1
     done
 }
 
-# Without the part of gofnjerta.c, which is compiled anew with the sanitizers.
+# Without the C code, which is compiled anew with the sanitizers; `parts.a` has no memory of its own either, for what is linked with pool.c.
 build_all() {
     build_clients "$room" && bash scripts/build-c.sh "$room/made" "$archive" && cp "$room/made/lib/libgofnjerta.a" "$room/checked.a" &&
-        ar d "$room/checked.a" gofnjerta.o && build_tests && build_ours
+        ar d "$room/checked.a" gofnjerta.o && cp "$room/made/lib/libgofnjerta_enet.a" "$room/parts.a" &&
+        ar d "$room/parts.a" enet.o gofnjerta.o pool.o && build_tests && build_ours
 }
 
 # A conversation: the program $3 serves $5 slots, on port $6, and the clients $4.. talk, by way of the proxy on port $7 where $2 is lossy.
@@ -129,13 +165,23 @@ meet() {
 
 # libenet's tutorial, compiled for either library, and Python's binding, which was built for libenet, on either.
 meetings() {
-    local on_ours="env LD_LIBRARY_PATH=$room/made/lib/gofnjerta" binding="/usr/bin/python3 c/tests/binding.py"
+    local case on_ours="env LD_LIBRARY_PATH=$room/made/lib/gofnjerta" binding="/usr/bin/python3 c/tests/binding.py"
     meet tutorial-ours "$room/our-tutorial" "$room/our-tutorial"
     meet tutorial-at-ours "$room/our-tutorial" "$room/tutorial"
     meet tutorial-at-reference "$room/tutorial" "$room/our-tutorial"
     meet tutorial-on-shared "$on_ours $room/tutorial" "$room/tutorial"
     meet binding-at-reference "$binding" "$on_ours $binding"
     meet binding-at-ours "$on_ours $binding" "$binding"
+    for case in sockets duplicates intercept compress checksum both; do
+        meet "$case-ours" "$room/our-offered $case" "$room/our-offered $case"
+        meet "$case-at-ours" "$room/our-offered $case" "$room/offered $case"
+        meet "$case-at-reference" "$room/offered $case" "$room/our-offered $case"
+        meet "$case-reference" "$room/offered $case" "$room/offered $case"
+        meet "$case-checked" "$room/offered-checked $case" "$room/offered-checked $case"
+    done
+    for case in 1 2 3; do
+        meet "progress-$case" "$room/our-progress $case" "$room/progress $case"
+    done
 }
 
 # Who serves, and who talks: ours and the reference library's, both ways round.
@@ -174,6 +220,8 @@ install_tools() {
     [ ${#missing[@]} -eq 0 ] || apt-get install -y "${missing[@]}" || { apt-get update && apt-get install -y "${missing[@]}"; }
 }
 
+layer_tests=(refusals packets calls waiting)
+compared=(packets calls waiting fields)
 room=$(mktemp -d) || exit 1
 trap 'kill $(jobs -p) 2> /dev/null; wait; rm -rf "$room"' EXIT
 names=()
@@ -188,14 +236,28 @@ elif ! build_all > "$room/said" 2>&1; then
     fail build "$room/said"
 else
     grind=(valgrind -q --error-exitcode=9 --leak-check=full --errors-for-leak-kinds=definite)
-    for name in border lossy memory pool refusals border-checked lossy-checked pool-checked refusals-checked; do
+    for name in border lossy memory pool border-checked lossy-checked pool-checked threads threads-checked; do
         try "$name" "$room/$name"
     done
+    for name in "${layer_tests[@]}"; do
+        try "$name" "$room/$name"
+        try "$name-checked" "$room/$name-checked"
+        try "$name-valgrind" "${grind[@]}" "$room/$name"
+    done
+    try storm "$room/storm" 100000
+    try storm-checked "$room/storm-checked" 100000
+    try fields "$room/fields"
+    for name in "${compared[@]}"; do
+        try "$name-theirs" "$room/$name-theirs"
+        [ "$name" = fields ] || try "$name-alike" cmp "$room/$name.out" "$room/$name-theirs.out"
+    done
+    try fields-differ fields_differ
+    # Where addresses are drawn from a wide range, ThreadSanitizer doesn't start.
+    try threads-raced setarch -R "$room/threads-raced"
     try lossy-shared env LD_LIBRARY_PATH="$room/made/lib" "$room/lossy-shared"
     try border-valgrind "${grind[@]}" "$room/border"
     try memory-valgrind "${grind[@]}" "$room/memory"
     try pool-valgrind "${grind[@]}" "$room/pool"
-    try refusals-valgrind "${grind[@]}" "$room/refusals"
     try layout diff <("$room/layout-ours") <("$room/layout-theirs")
     meetings
     conversations

@@ -42,10 +42,10 @@ static const ENetAddress any = {ENET_HOST_ANY, ENET_PORT_ANY};
 static void settings(void) {
     ENetCompressor compressor = {&destroyed, NULL, NULL, destroy};
     SERVED(0, (void)host);
-    SERVED(-1, host->checksum = no_checksum);
-    SERVED(-1, host->checksum = enet_crc32);
-    SERVED(-1, host->intercept = no_intercept);
-    SERVED(-1, host->duplicatePeers = 1);
+    SERVED(0, host->checksum = no_checksum);
+    SERVED(0, host->checksum = enet_crc32);
+    SERVED(0, host->intercept = no_intercept);
+    SERVED(0, host->duplicatePeers = 1);
     SERVED(0, host->mtu = 1000);
     SERVED(-1, host->mtu = 500);
     SERVED(-1, host->mtu = 5000);
@@ -55,11 +55,52 @@ static void settings(void) {
     SERVED(0, enet_host_channel_limit(host, 0));
     SERVED(-1, (enet_host_service(host, NULL, 0), enet_host_channel_limit(host, 1)));
     SERVED(-1, (enet_host_service(host, NULL, 0), host->mtu = 1000));
-    SERVED(-1, enet_host_compress(host, &compressor));
+    SERVED(0, enet_host_compress(host, &compressor));
     CHECK(destroyed);
     SERVED(0, (enet_host_compress(host, &compressor), enet_host_compress(host, NULL)));
     SERVED(0, CHECK(enet_host_compress_with_range_coder(host) == -1));
     CHECK(enet_host_create(&any, 0, 2, 0, 0) == NULL && enet_host_create(&any, 4096, 2, 0, 0) == NULL);
+}
+
+/* A host that isn't served waits as it is asked to, so that its program doesn't fill a processor; a datagram that waits changes nothing. */
+static void patience(void) {
+    ENetEvent event;
+    ENetHost *host = enet_host_create(&any, 2, 2, 0, 0);
+    ENetAddress to = host->address;
+    ENetBuffer datagram = {"stranger", 8};
+    CHECK(enet_address_set_host_ip(&to, "127.0.0.1") == 0);
+    CHECK(enet_socket_send(host->socket, &to, &datagram, 1) == 8);
+    host->mtu = 500;
+    enet_uint32 begun = enet_time_get();
+    for (int i = 0; i < 3; i++) CHECK(enet_host_service(host, &event, 100) == -1);
+    CHECK(enet_time_get() - begun >= 290);
+    CHECK(enet_host_service(host, &event, 0) == -1);
+    host->mtu = 1400;
+    CHECK(enet_host_service(host, &event, 0) == 0 && host->totalReceivedPackets == 1);
+    enet_host_destroy(host);
+}
+
+/* duplicatePeers: 0 takes nobody, the number of slots counts nobody. */
+static void crowds(void) {
+    for (size_t most = 0; most <= 2; most += 2) {
+        ENetEvent event;
+        ENetHost *server = enet_host_create(&any, 2, 1, 0, 0), *clients[2];
+        ENetAddress to = server->address;
+        int told = 0;
+        CHECK(enet_address_set_host_ip(&to, "127.0.0.1") == 0);
+        server->duplicatePeers = most;
+        for (int i = 0; i < 2; i++) {
+            clients[i] = enet_host_create(NULL, 1, 1, 0, 0);
+            enet_host_connect(clients[i], &to, 1, 0);
+        }
+        enet_uint32 begun = enet_time_get();
+        while (told < (int)most && enet_time_get() - begun < 5000)
+            for (int i = 0; i < 2; i++) told += (enet_host_service(server, NULL, 0), enet_host_service(clients[i], &event, 1) > 0);
+        for (int i = 0; i < 20; i++) told += (enet_host_service(server, NULL, 0), enet_host_service(clients[i % 2], &event, 1) > 0);
+        CHECK(told == (int)most);
+        for (int i = 0; i < 2; i++) enet_host_destroy(clients[i]);
+        enet_host_destroy(server);
+    }
 }
 
 /* A connection that nobody answers ends by a DISCONNECT, after its timeout; a broadcast address is refused at once. */
@@ -226,7 +267,7 @@ static void ENET_CALLBACK give_back(void *memory) {
 static void allocators(void) {
     const ENetCallbacks both = {take, give_back, NULL}, of_taking = {take, free, NULL}, of_giving = {malloc, give_back, NULL};
     const ENetCallbacks plain = {malloc, free, NULL}, *all[] = {&both, &of_taking, &of_giving, &plain};
-    const int takes[] = {1, 1, 0, 0}, gives[] = {1, 0, 1, 0};
+    const int takes[] = {2, 2, 0, 0}, gives[] = {2, 0, 2, 0}; /* a packet is two blocks */
     for (int i = 0; i < 4; i++) {
         CHECK(enet_initialize_with_callbacks(ENET_VERSION, all[i]) == 0);
         taken = given_back = 0;
@@ -240,6 +281,8 @@ static void allocators(void) {
 int main(void) {
     CHECK(enet_initialize() == 0 && enet_linked_version() == ENET_VERSION);
     settings();
+    patience();
+    crowds();
     nobody();
     conversation();
     letting_go();

@@ -1,5 +1,6 @@
-//! `check_hosts` runs scripts over hosts of ours and compares each answer with the one that the script wants. Then it has hosts with
-//! connected peers take in datagrams that nobody should send, and looks at a host of 4,095 slots (`foreign`).
+//! `check_hosts` runs scripts over hosts of ours and compares each answer with the one that the script wants. Then it has two hosts talk
+//! at the limit of what may wait (`stalls`), has hosts with connected peers take in datagrams that nobody should send, and looks at a
+//! host of 4,095 slots (`foreign`).
 //!
 //! Five scripts stand in the program, each other one is a file NAME.hosts; the files lie where the program runs. The wanted answers
 //! were worked out by hand from the rules. Those of the captured scripts, which are whole captured files, come from the captured datagrams,
@@ -23,6 +24,7 @@
 mod fault;
 mod foreign;
 mod scarce;
+mod stalls;
 
 use check_scripts::{Account, LONGEST_ANSWER, run_script};
 use fault::Fault;
@@ -34,7 +36,7 @@ use std::rt::{Clock, Env, Files};
 use std::{fs, io};
 
 /// The scripts in files.
-const SCRIPTS: [&str; 22] = [
+const SCRIPTS: [&str; 23] = [
     "configurations-refused",
     "stops-of-a-datagram",
     "fronts-of-an-offer",
@@ -46,6 +48,7 @@ const SCRIPTS: [&str; 22] = [
     "same-connect-id",
     "repeated-offer",
     "crossing-connects",
+    "stray-acknowledgement",
     "captured-bandwidth",
     "captured-channels",
     "captured-connecting",
@@ -91,6 +94,7 @@ where
     if asked.is_all() {
         run_kept(rt)?;
         run_files(rt, &SCRIPTS)?;
+        run_stalls(rt)?;
     }
     match foreign::run(rt, asked) {
         Ok(()) => Ok(()),
@@ -147,6 +151,21 @@ fn run_files<R: Files + Print + AllocGlobal>(rt: &R, names: &[&str]) -> Result<(
         run_file(rt, name)?;
     }
     Ok(())
+}
+
+/// Runs the cases in which hosts could stand still, and prints how many packets came.
+fn run_stalls<R: Print + AllocGlobal>(rt: &R) -> Result<(), Fault> {
+    let alloc = rt.alloc();
+    let (Ok(pause), Ok(pieces)) = (
+        stalls::after_a_pause(alloc),
+        stalls::after_lost_pieces(alloc),
+    ) else {
+        return Err(Fault::OwnMemory);
+    };
+    let told = println!(rt;
+        "after a pause {pause} of 120 packets come, behind lost pieces {pieces} of 5"
+    );
+    told.map_err(|_| Fault::Io)
 }
 
 /// Runs the script of a file.

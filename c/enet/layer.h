@@ -1,0 +1,138 @@
+/* The API of ENet 1.3 over gofnjerta.h: socket, clock, packets and the fields that programs read. The proved host does the protocol;
+ * nothing here is proved. What goes with each packet or datagram calls the proved functions themselves (core.h). This is what the files
+ * of the layer share; nothing of it is for others. */
+#ifndef GOFNJERTA_LAYER_H
+#define GOFNJERTA_LAYER_H
+#ifndef _GNU_SOURCE
+#define _GNU_SOURCE
+#endif
+#include "../core.h"
+#include "enet.h"
+
+enum { DATAGRAM = 4096, BATCH = 256, REFRESH_MS = 100 };
+
+/* How many datagrams are gathered before they are sent, in how many bytes; and how many of them, of how many bytes in all, one call of
+ * the system's takes at most. */
+enum { GATHERED = 256, GATHERED_BYTES = 1 << 18, TRAIN = 64, TRAIN_BYTES = 65000 };
+
+#ifndef UDP_SEGMENT
+#define UDP_SEGMENT 103
+#endif
+
+/* A datagram that the core gave and that isn't sent yet. */
+typedef struct {
+    gofnjerta_address to;
+    uint32_t at, length; /* where it is among the gathered bytes */
+    uint16_t slot, next; /* the next one of the same slot; 0 where it is the last */
+    bool leads;          /* it is its slot's first */
+} Parcel;
+
+/* An event that was passed over, and the packet of a RECEIVE. */
+typedef struct Kept {
+    struct Kept *next;
+    gofnjerta_event told;
+    ENetPacket *packet;
+} Kept;
+
+/* A slot as the program sees it. */
+typedef struct {
+    gofnjerta_peer name; /* its peer's, or that of the last one; of generation UINT32_MAX, which no peer has, before there was one */
+    bool known;          /* the name is a peer's */
+    bool told;           /* its Connect event was handed out, and no end */
+    bool ended;          /* the core told its end, which isn't handed out yet */
+    bool is_mute;        /* the program disconnects it: no packet of it is handed out any more */
+    bool lingers;        /* the program let it go, and the core hasn't told its end */
+    bool is_parked;      /* the core connects from it by the name of generation `parked`, which the program isn't given */
+    bool sends;          /* some of its datagrams are gathered, up to the parcel `last` */
+    bool is_in_line;     /* it stands in line for its kept events, before the slot `behind` where it isn't the last */
+    bool is_counted, is_limited; /* in the host's numbers of connected and of limited peers */
+    uint16_t last, behind;
+    uint32_t parked;
+    gofnjerta_peer seen; /* the last peer of which a datagram went, which the program may not know yet */
+    gofnjerta_address at;
+    uint32_t connect_id; /* as it stands on the wire */
+    uint32_t incoming, outgoing; /* the other end's bandwidths */
+    Kept *first, *newest; /* its events that were passed over */
+    size_t kept_bytes;    /* what their packets take */
+} Slot;
+
+/* A CONNECT that came from an address: which slot's peer answers it. */
+typedef struct {
+    gofnjerta_address from;
+    bool awaits, is_seen;
+    uint16_t slot;
+} Arrival;
+
+/* A host; the program sees its first member alone. */
+typedef struct {
+    ENetHost host;
+    gofnjerta_host core;
+    gofnjerta_config config;   /* the settings that it was opened with */
+    bool begun;                /* they stand */
+    bool releases;             /* callbacks of packets that are let go are being called */
+    Slot *slots;
+    uint64_t clock, refreshed; /* milliseconds */
+    ENetPacket **sent;         /* packets that the program gave away since the last service, each with one reference */
+    size_t sent_count, sent_room;
+    ENetPacket *given, *staged; /* the last of them, and the one whose bytes the core holds for several peers */
+    size_t orders;             /* for how many peers the last one was */
+    bool pending;              /* the event `told`, whose packet the core keeps, is neither handed out nor kept */
+    gofnjerta_event told;
+    size_t line;               /* how many slots stand in line for their kept events, which come first */
+    uint16_t line_first, line_last;
+    size_t ended, lingering;   /* how many slots' peers have ended so, and linger */
+    Arrival arrival;
+    bool has_trains;           /* the system cuts a train into datagrams (UDP_SEGMENT) */
+    size_t parcel_count, gathered_bytes;
+    Parcel parcels[GATHERED];
+    uint8_t gathered[GATHERED_BYTES + DATAGRAM + 16]; /* a datagram may get a checksum */
+} Layer;
+
+
+#pragma GCC visibility push(hidden)
+
+extern uint64_t layer_clock_base; /* when the library's time was 0, in milliseconds of the machine's clock */
+extern ENetCallbacks layer_callbacks;
+extern bool layer_has_allocator; /* the program gave one; it may be one of the C library's functions beside one of its own */
+
+uint64_t layer_now(void); /* the machine's clock, in milliseconds */
+
+/* Whether the program asks for nothing that isn't offered. The settings may be written until the first connect, service or flush, at
+ * which the core is opened anew with them; from then on they stand. */
+bool layer_is_ready(Layer *layer);
+
+void layer_forget(Layer *layer, ENetPeer *peer);         /* the program is done with this peer */
+void layer_show_peer(Layer *layer, ENetPeer *peer);      /* brings its fields up to date */
+void layer_meet(Layer *layer, gofnjerta_peer name, bool answers); /* a slot's new peer, which the other end may have asked for */
+void layer_drop_kept(Layer *layer, const ENetPeer *peer); /* drops what the peer's events told and the program didn't take */
+void layer_drain(Layer *layer);                          /* keeps what there is to tell, until no slot lingers */
+int layer_tell(Layer *layer, ENetEvent *event);          /* the next event: 1, 0 where there is none, -1 where memory is missing */
+void layer_release(Layer *layer);                          /* gives back the references to packets that were submitted */
+void layer_go_on(Layer *layer);                            /* the clock goes on to now */
+void layer_put_out(Layer *layer);                          /* sends all that the core gives */
+void layer_count(Layer *layer, ENetPeer *peer);            /* whether it is among the host's connected and limited peers */
+
+/* Takes in what came. How many datagrams it was goes to `came`; 1 where the program made an event of one, -1 for a fault. */
+int layer_take_in(Layer *layer, ENetEvent *event, int *came);
+
+/* What the core gave, at the start of `length` bytes with room for a checksum behind them, gets compressed and its checksum; its length. */
+uint32_t layer_dress(Layer *layer, uint8_t *at, uint32_t length, const Slot *slot);
+
+/* A datagram that came, of at most DATAGRAM bytes, goes back to what its core gave; false where it is to be dropped. */
+bool layer_undress(Layer *layer, const gofnjerta_address *from, uint8_t **data, size_t *length);
+
+#pragma GCC visibility pop
+
+/* The length of the command at the front of so many bytes, its payload included; 0 where there is none that is whole. */
+static inline size_t command_length(const uint8_t *at, size_t left) {
+    static const uint8_t sizes[16] = {0, 8, 48, 44, 8, 4, 6, 8, 24, 8, 12, 16, 24}, lengths_at[16] = {[6] = 4, [7] = 6, [8] = 6, [9] = 6, [12] = 6};
+    size_t size = left ? sizes[at[0] & 0xF] : 0, place = left ? lengths_at[at[0] & 0xF] : 0;
+    if (!size || size > left) return 0;
+    if (place) size += (size_t)at[place] << 8 | at[place + 1];
+    return size <= left ? size : 0;
+}
+
+static inline Layer *layer_of(ENetHost *host) { return (Layer *)host; }
+static inline Slot *slot_of(ENetPeer *peer) { return &layer_of(peer->host)->slots[peer->incomingPeerID]; }
+
+#endif

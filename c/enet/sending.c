@@ -1,0 +1,75 @@
+/* Packets that the program sends. */
+#include "layer.h"
+#include <string.h>
+
+/* Gives back the references to packets that were submitted. What their callbacks send stays until the next time, also where they serve the
+ * host. */
+void layer_release(Layer *layer) {
+    if (layer->releases) return;
+    layer->releases = true;
+    size_t count = layer->sent_count;
+    for (size_t i = 0; i < count; i++) {
+        ENetPacket *packet = layer->sent[i];
+        if (--packet->referenceCount == 0) {
+            packet->flags |= ENET_PACKET_FLAG_SENT;
+            layer->given = layer->staged = NULL; /* its callback may send, and memory may be had anew */
+            enet_packet_destroy(packet);
+        }
+    }
+    layer->sent_count -= count;
+    if (layer->sent_count) memmove(layer->sent, layer->sent + count, layer->sent_count * sizeof *layer->sent);
+    layer->given = layer->staged = NULL;
+    layer->releases = false;
+}
+
+static bool make_room_sent(Layer *layer) {
+    if (layer->sent_count < layer->sent_room) return true;
+    size_t room = layer->sent_room ? layer->sent_room * 2 : 16;
+    ENetPacket **sent = realloc(layer->sent, room * sizeof *sent);
+    if (!sent) return false;
+    layer->sent = sent;
+    layer->sent_room = room;
+    return true;
+}
+
+/* An order for the packet whose bytes the core holds. */
+static bool share(Layer *layer, const ENetPeer *peer, enet_uint8 channel, const ENetPacket *packet) {
+    if (gofnjerta_core_submit_staged(&layer->core, &layer->slots[peer->incomingPeerID].name, channel, (uint8_t)packet->flags)) return false;
+    layer->orders++;
+    return true;
+}
+
+/* An order for another packet. The core copies its bytes: with this first order where the packet before it went to one peer alone, else
+ * apart from the orders, which share them. */
+static bool give(Layer *layer, const ENetPeer *peer, enet_uint8 channel, ENetPacket *packet, bool shares) {
+    const void *body = packet->dataLength ? packet->data : NULL;
+    gofnjerta_peer name = layer->slots[peer->incomingPeerID].name;
+    if (!shares) return !gofnjerta_submit(&layer->core, name, channel, (uint8_t)packet->flags, body, packet->dataLength);
+    layer->staged = NULL;
+    if (gofnjerta_stage(&layer->core, body, packet->dataLength) || !share(layer, peer, channel, packet)) return false;
+    layer->staged = packet;
+    return true;
+}
+
+/* A packet of which the core doesn't hold the bytes for several peers. It is held until the next service. */
+static int send_anew(Layer *layer, const ENetPeer *peer, enet_uint8 channel, ENetPacket *packet) {
+    if (layer->given == packet) return give(layer, peer, channel, packet, true) ? 0 : -1;
+    if (!make_room_sent(layer) || !give(layer, peer, channel, packet, layer->orders > 1)) return -1;
+    layer->sent[layer->sent_count++] = layer->given = packet;
+    packet->referenceCount++;
+    layer->orders = 1;
+    return 0;
+}
+
+int enet_peer_send(ENetPeer *peer, enet_uint8 channel, ENetPacket *packet) {
+    Layer *layer = layer_of(peer->host);
+    if (peer->state != ENET_PEER_STATE_CONNECTED) return -1;
+    if (layer->staged != packet) return send_anew(layer, peer, channel, packet);
+    return share(layer, peer, channel, packet) ? 0 : -1;
+}
+
+void enet_host_broadcast(ENetHost *host, enet_uint8 channel, ENetPacket *packet) {
+    for (size_t i = 0; i < host->peerCount; i++)
+        if (host->peers[i].state == ENET_PEER_STATE_CONNECTED) enet_peer_send(&host->peers[i], channel, packet);
+    if (packet->referenceCount == 0) enet_packet_destroy(packet);
+}
