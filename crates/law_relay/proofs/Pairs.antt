@@ -18,8 +18,7 @@ use Rattle.enet_bridge.specs.Ends.{orders}
 use Rattle.enet_service.specs.Queues.{given, accepted}
 use Rattle.enet_service.specs.Run.{all_gave, all_puts}
 use Rattle.law_service.specs.Told.{packet_in, told}
-use Rattle.law_headline.specs.Kept.{is_of}
-use Rattle.law_headline.specs.Page.{User, IsHeadline, Follows, came, AreLast, IsOneLife, submitted_if, taken_if}
+use Rattle.law_headline.specs.Page.{User, IsHeadline, Follows, came, AreLast, IsOneLife, submitted_if, taken_if, is_of}
 use Rattle.law_headline.proofs.Page.{longer, shorter, came-append, life-first}
 use Rattle.law_service.specs.EndToEnd.{rounds_of, Running, user_of}
 use Rattle.law_relay.specs.Relay.{Relaying, hears, heard, as_chat, chat_for, IsPart, BetweenClients}

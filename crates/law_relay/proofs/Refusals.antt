@@ -17,8 +17,7 @@ use Rattle.enet_service.specs.ServiceRuns.{beginning}
 use Rattle.law_service.specs.Told.{told, packet_in, submitted_in, Answered, refusal, is_refused, unless_refused, settled}
 use Rattle.law_service.specs.Law.{noted}
 use Rattle.law_service.proofs.Telling.{Ledger, spans-ledger}
-use Rattle.law_headline.specs.Kept.{is_of}
-use Rattle.law_headline.specs.Page.{User, IsHeadline, Follows, came, submitted_if}
+use Rattle.law_headline.specs.Page.{User, IsHeadline, Follows, came, submitted_if, is_of}
 use Rattle.law_service.specs.EndToEnd.{rounds_of, Running, user_of}
 use Rattle.law_relay.specs.Relay.{Relaying, heard, as_chat, chat_for}
 use Rattle.law_relay.specs.Pairs.{body_of, FollowsFrom, IsFront}

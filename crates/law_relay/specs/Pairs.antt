@@ -9,8 +9,7 @@ use Rattle.enet_bridge.specs.Ends.{orders}
 use Rattle.enet_service.specs.Queues.{given}
 use Rattle.enet_service.specs.Run.{all_gave}
 use Rattle.law_service.specs.Told.{packet_in}
-use Rattle.law_headline.specs.Kept.{is_of}
-use Rattle.law_headline.specs.Page.{User, IsHeadline, Follows, came}
+use Rattle.law_headline.specs.Page.{User, IsHeadline, Follows, came, is_of}
 use Rattle.law_service.specs.EndToEnd.{rounds_of, Running, user_of}
 use Rattle.law_relay.specs.Relay.{Relaying, heard}
 

@@ -8,8 +8,7 @@ use Rattle.enet_codec.specs.declared.refusal.Refusal.{Refusal}
 use Rattle.enet_service.specs.Queues.{given}
 use Rattle.enet_service.specs.Run.{all_gave}
 use Rattle.law_service.specs.Told.{told, packet_in, submitted_in, Answered, refusal, is_refused, settled}
-use Rattle.law_headline.specs.Kept.{is_of}
-use Rattle.law_headline.specs.Page.{User, IsHeadline, came}
+use Rattle.law_headline.specs.Page.{User, IsHeadline, came, is_of}
 use Rattle.law_service.specs.EndToEnd.{rounds_of, Running, user_of}
 use Rattle.law_relay.specs.Relay.{Relaying, heard, as_chat, chat_for}
 use Rattle.law_relay.specs.Pairs.{body_of, FollowsFrom, IsFront}

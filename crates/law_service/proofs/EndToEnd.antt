@@ -32,8 +32,8 @@ use Rattle.enet_site.specs.Places.{Place, opened_at, all_opened}
 use Rattle.law_headline.specs.Nets.{Net, place_of, with_place, around, asked_after, HappensAt, IsAllowed, AreApart, is_host, client_in, open_net}
 use Rattle.law_headline.specs.Law.{HasHeadline, end_in}
 use Rattle.law_headline.proofs.Net.{Sound, Holds, each-holds, server-host, client-host, sound-goes, open-sound, has-headline}
-use Rattle.law_headline.specs.Kept.{is_of, is_guest, submitted_by, taken_by, IsRecorded, IsCovered, and_submitted, and_taken}
-use Rattle.law_headline.specs.Page.{User, IsHeadline, IsBehind}
+use Rattle.law_headline.specs.Kept.{is_guest, submitted_by, taken_by, IsRecorded, IsCovered, and_submitted, and_taken}
+use Rattle.law_headline.specs.Page.{User, IsHeadline, IsBehind, is_of}
 use Rattle.law_headline.proofs.Kept.{stays-recorded}
 use Rattle.law_headline.proofs.Covered.{stays-covered}
 use Rattle.law_headline.proofs.Page.{IsUsers, IsBegun, page, holds-behind}

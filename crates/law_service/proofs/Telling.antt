@@ -34,7 +34,8 @@ use Rattle.enet_service.specs.Phases.{Ordered, Wired, Offers, CarriesOut, refusa
 use Rattle.enet_service.specs.Queues.{given, accepted}
 use Rattle.enet_service.specs.Run.{Rounds, all_gave, all_puts}
 use Rattle.enet_service.specs.Turn.{Round, AfterHearing, AfterSending, Turn}
-use Rattle.law_headline.specs.Kept.{is_of, submitted_by, taken_by}
+use Rattle.law_headline.specs.Kept.{submitted_by, taken_by}
+use Rattle.law_headline.specs.Page.{is_of}
 use Rattle.law_service.specs.Noting.{Noted, Notes, IsOrder, noting, why_submitted}
 use Rattle.law_service.specs.Told.{told as told_by, is_refusal_of, packet_in, packet_unless, packets_of, submitted, taken, submitted_in, taken_in, Answered, refusal, is_refused, unless_refused, settled}
 use Rattle.law_service.specs.Law.{noted, AreNumbered, EachRunTells}

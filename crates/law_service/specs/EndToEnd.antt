@@ -17,7 +17,7 @@ use Rattle.law_network.specs.Network.{Site, delivery_refusal}
 use Rattle.law_network.specs.Steps.{Happening, Calls, Hears}
 use Rattle.enet_site.specs.Places.{Place}
 use Rattle.law_headline.specs.Nets.{Net, place_of, AreApart, is_host, HappensAt, IsAllowed, open_net}
-use Rattle.law_headline.specs.Page.{User, IsHeadline}
+use Rattle.law_headline.specs.Page.{User, IsHeadline, is_of}
 use Rattle.enet_service.specs.declared.service.Service.{Service}
 use Rattle.enet_service.specs.Queues.{given}
 use Rattle.enet_service.specs.Run.{Rounds, all_gave}
@@ -25,7 +25,6 @@ use Rattle.enet_service.specs.ServiceRuns.{beginning}
 use Rattle.enet_service.specs.Turn.{Round}
 use Rattle.law_service.specs.Noting.{Noted, noting}
 use Rattle.law_service.specs.Spans.{Span, Spans, rounds_in}
-use Rattle.law_headline.specs.Kept.{is_of}
 use Rattle.law_service.specs.Told.{told, packets_of, submitted_in, taken}
 use Rattle.law_service.specs.Law.{noted, AreNumbered}
 

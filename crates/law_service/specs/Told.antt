@@ -16,7 +16,8 @@ use Rattle.enet_service.specs.Phases.{refusal_event}
 use Rattle.enet_service.specs.Queues.{given, accepted}
 use Rattle.enet_service.specs.Run.{all_gave, all_puts}
 use Rattle.enet_service.specs.Turn.{Round}
-use Rattle.law_headline.specs.Kept.{is_of, submitted_by, taken_by}
+use Rattle.law_headline.specs.Kept.{submitted_by, taken_by}
+use Rattle.law_headline.specs.Page.{is_of}
 
 -- the events that a service put for its game threads, and the one that waits for room
 abbrev pub told : List Round → Option Event → List Event
