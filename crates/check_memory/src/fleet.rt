@@ -373,12 +373,23 @@ pub(crate) fn run_at_once(alloc: Global) -> Result<u32, Fault> {
     Ok(refused)
 }
 
+/// Runs the row as one list of events, and plays it from the settings. The datagrams are those of the fleet that ran it.
 fn run_list(alloc: Global, fleet: &mut Fleet) -> Result<(), Fault> {
     let events = events_of(alloc)?;
     match fleet.run(&events) {
+        Ok(told) => are_wanted(fleet, &told)?,
+        Err(_) => return Err(Fault::OwnMemory),
+    }
+    match played(alloc, &events) {
         Ok(told) => are_wanted(fleet, &told),
         Err(_) => Err(Fault::OwnMemory),
     }
+}
+
+fn played(alloc: Global, events: &[FleetEvent]) -> Result<Vec<Outcome>, Refusal> {
+    let server = Config::standard(2, 2);
+    let client = Config::standard(1, 2);
+    Fleet::play(alloc, server, &[client; 2], events)
 }
 
 /// The events of the row.

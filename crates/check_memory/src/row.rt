@@ -202,15 +202,47 @@ fn events_of(alloc: Global, steps: &str) -> Result<Vec<WorldEvent>, Fault> {
     Ok(events)
 }
 
-/// Runs a script, the first line of which makes the hosts, as one list of events. How many growths were refused.
+/// Runs a script, the first line of which makes the hosts, as one list of events, and plays it where the hosts are opened. How many
+/// growths were refused.
 pub(crate) fn run_at_once(alloc: Global, script: &str, answers: &str) -> Result<u32, Fault> {
     let (first, steps) = split_line(script);
     let (answer, answers) = split_line(answers);
     let (mut world, refused) = begin(alloc, first, answer)?;
-    let outcome = run_list(alloc, &mut world, steps, answers);
+    let mut outcome = run_list(alloc, &mut world, steps, answers);
+    if outcome.is_ok() {
+        outcome = play_list(alloc, first, &world, steps, answers);
+    }
     world.close();
     outcome?;
     Ok(refused)
+}
+
+/// Plays the lines behind the first by its settings, where it opens the hosts. The datagrams are those of a world that ran them.
+fn play_list(
+    alloc: Global,
+    first: &str,
+    world: &World,
+    steps: &str,
+    answers: &str,
+) -> Result<(), Fault> {
+    let Some(
+        Line::Open {
+            peers_a,
+            channels_a,
+            peers_b,
+            channels_b,
+        },
+    ) = line(alloc, 1, first)?
+    else {
+        return Ok(());
+    };
+    let cfg_a = Config::standard(peers_a, channels_a);
+    let cfg_b = Config::standard(peers_b, channels_b);
+    let events = events_of(alloc, steps)?;
+    match World::play(alloc, cfg_a, cfg_b, &events) {
+        Ok(told) => are_told(alloc, world, &events, &told, answers),
+        Err(_) => Err(Fault::OwnMemory),
+    }
 }
 
 /// Runs the lines behind the first as one list.
