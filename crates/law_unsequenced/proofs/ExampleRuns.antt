@@ -1,6 +1,6 @@
 -- A short run, computed.
 use Rattle.std.proofs.Common.{◌≡◌, ℕ, ◌+◌, Bool, true, false, cond, leb, not, ◌&&◌, List, [], ◌∷◌, refl, sym, ap, subst, ◌∙◌, Option, Some, None, inl}
-use Rattle.std.specs.Prelude.{sum_by, nat_lt}
+use Rattle.std.specs.Prelude.{sum_by, nat_lt, is_ok}
 use Rattle.std.specs.Ordering.{nat_cmp}
 use Rattle.std.specs.FinSet.{contains-empty}
 use Rattle.std.specs.FinMap.{FinMap, empty}
@@ -14,8 +14,8 @@ use Rattle.enet_packets.proofs.LineLemmas.{bytes_nothing}
 use Rattle.enet_packets.proofs.Maps.{entries-empty}
 use Rattle.enet_receiver.specs.Receiver.{nothing_received, held_bytes}
 use Rattle.enet_receiver.specs.Foresight.{ReceivingEnd}
-use Rattle.enet_inbox.specs.Inbox.{Inbox, is_full, untaken_of}
-use Rattle.enet_inbox.specs.DataEffect.{DataEffect, handled, stopped, unsequenced, unsequenced_taken}
+use Rattle.enet_inbox.specs.Inbox.{Inbox, is_full, untaken_of, given_way}
+use Rattle.enet_inbox.specs.DataEffect.{DataEffect, handled, stopped, unsequenced, unsequenced_taken, is_waiting, met, plain_arrival}
 use Rattle.enet_outbox.specs.Emission.{unsequenced_of}
 use Rattle.enet_peer.specs.declared.parts.PeerEvent.TheVariants as told
 use Rattle.enet_peer.specs.Peering.{Peering, joined}
@@ -79,8 +79,13 @@ is = ap (λ t. effect t (is_full inbox)) new ∙ ap (effect true) light
 abbrev arrived : End
 arrived = with_peer pair.two (record here { inbox = taken })
 
+-- so nothing gives way to it
+met-here : met inbox put.message ≡ inbox
+met-here = ap (λ (e : DataEffect). cond (is_waiting e.answer && is_ok (plain_arrival (given_way inbox) put.message).answer) (given_way inbox) inbox) is
+
 comes : arrived ≡ with_peer pair.two (obeyed here 0 None put.message).after
-comes = ap (λ (e : DataEffect). with_peer pair.two (by_arrival here put.message None e).after) (sym is)
+comes = sym (ap (λ (b : Inbox). with_peer pair.two (by_arrival here put.message None (plain_arrival b put.message)).after) met-here
+    ∙ ap (λ (e : DataEffect). with_peer pair.two (by_arrival here put.message None e).after) is)
 
 abbrev took : End
 took = record arrived { peer = Some (record here { inbox = record taken { untaken = [] } }); events = told.Receive loose_packet ∷ [] }
