@@ -16,9 +16,10 @@ typedef struct {
     _Alignas(STEP) size_t steps; /* its size; 0 for a longer one, which isn't kept */
 } Head;
 
-/* A block that is kept. */
+/* A block that is kept, and the bytes that a packet's head has with it. */
 typedef struct Block {
     struct Block *next;
+    void *bytes;
 } Block;
 
 typedef struct {
@@ -28,7 +29,7 @@ typedef struct {
 
 #define OWN static _Thread_local __attribute__((tls_model("initial-exec")))
 OWN Shelf shelves[LONGEST / STEP + 1]; /* by steps; the first one stays empty */
-OWN Shelf bare[LONGEST / STEP + 1]; /* of blocks with no head, by the steps behind their first 8 bytes; the first one stays empty */
+OWN Shelf packets[LONGEST / STEP + 1]; /* of packets' heads with their bytes, by the steps of those behind the first 8; first heads alone */
 OWN size_t most; /* of a shelf's blocks: none until it is known that they are emptied where the thread ends */
 static once_flag made = ONCE_FLAG_INIT;
 static tss_t ending;
@@ -48,9 +49,13 @@ static void *take_first(Shelf *shelf) {
 static void empty(void *own) {
     (void)own;
     most = 0;
-    for (size_t i = 1; i <= LONGEST / STEP; i++) {
+    for (size_t i = 0; i <= LONGEST / STEP; i++) {
         while (shelves[i].first) free(head_of(take_first(&shelves[i])));
-        while (bare[i].first) free(take_first(&bare[i]));
+        while (packets[i].first) {
+            Block *packet = take_first(&packets[i]);
+            if (i) free(packet->bytes);
+            free(packet);
+        }
     }
 }
 
@@ -116,16 +121,39 @@ void rattle_dealloc(void *at) {
     else lay(shelf, at);
 }
 
-void *pool_take_bytes(size_t size) {
-    size_t steps = size <= 8 + STEP ? 1 : (size - 8 + STEP - 1) / STEP;
-    if (size > 8 + LONGEST) return malloc(size);
-    return bare[steps].first ? take_first(&bare[steps]) : malloc(8 + steps * STEP);
+/* A head where none is at hand with bytes of its size. */
+__attribute__((noinline)) static void *take_packet_anew(size_t size, void **bytes) {
+    *bytes = NULL;
+    if (size && !(*bytes = malloc(size))) return NULL;
+    void *head = packets[0].first ? take_first(&packets[0]) : malloc(POOL_HEAD);
+    if (!head) free(*bytes);
+    return head;
 }
 
-void pool_give_bytes(void *at) {
-    size_t size = malloc_usable_size(at), steps = size < 8 + STEP ? 0 : (size - 8) / STEP;
-    if (steps > LONGEST / STEP) steps = 0;
-    Shelf *shelf = &bare[steps];
-    if (shelf->count >= most || !steps || at == shelf->first) let_go(shelf, at, at);
-    else lay(shelf, at);
+void *pool_take_packet(size_t size, void **bytes) {
+    size_t steps = size <= 8 + STEP ? 1 : (size - 8 + STEP - 1) / STEP;
+    if (size == 0 || steps > LONGEST / STEP) return take_packet_anew(size, bytes);
+    if (!packets[steps].first) return take_packet_anew(8 + steps * STEP, bytes);
+    Block *head = take_first(&packets[steps]);
+    *bytes = head->bytes;
+    return head;
+}
+
+/* Lets the bytes go, and keeps the head alone. */
+__attribute__((noinline)) static void give_head(void *head, void *bytes) {
+    free(bytes);
+    if (packets[0].count >= most) let_go(&packets[0], head, head);
+    else lay(&packets[0], head);
+}
+
+void pool_give_packet(void *head, void *bytes) {
+    size_t size = bytes ? malloc_usable_size(bytes) : 0, steps = size < 8 + STEP ? 0 : (size - 8) / STEP;
+    Shelf *shelf = &packets[steps <= LONGEST / STEP ? steps : 0];
+    if (head == shelf->first) abort(); /* it lies there */
+    if (shelf == packets || shelf->count >= most) {
+        give_head(head, bytes);
+        return;
+    }
+    lay(shelf, head);
+    shelf->first->bytes = bytes;
 }

@@ -14,9 +14,11 @@ Tried rattle_alloc(size_t size, size_t align);
 Tried rattle_realloc(void *at, size_t before, size_t size, size_t align);
 void rattle_dealloc(void *at);
 
-/* malloc and free, by way of blocks that the thread keeps: each is one of malloc's, of whoever's making, so that malloc and free may stand in
- * either's place. Of pool.c alone. `at` isn't NULL. */
-void *pool_take_bytes(size_t size);
-void pool_give_bytes(void *at);
+/* A packet's head of POOL_HEAD bytes, and a block of malloc's for so many bytes, NULL for none; NULL where there is no memory. Both are kept
+ * together when they are let go, whoever made the block: malloc and free may stand in for it. Of pool.c alone. */
+enum { POOL_HEAD = 64 };
+
+void *pool_take_packet(size_t size, void **bytes);
+void pool_give_packet(void *head, void *bytes);
 
 #endif

@@ -7,7 +7,7 @@
 # - the layer: its structures lie as the reference library's header says (layout), what isn't offered is refused, and packets that are sent
 #   while others are let go come as they are (refusals); the reference library and ours do the same with packets of any length and their
 #   bytes (packets), with ten thousand calls drawn from a seed, of which all ways to end (calls), and where packets are taken peer by peer
-#   (waiting); a handle and a host go from thread to thread (threads, also with ThreadSanitizer); 100,000 datagrams of strangers disturb
+#   (waiting); a handle and a host go from thread to thread (threads, also with ThreadSanitizer); a million datagrams of strangers disturb
 #   nobody at a host with callbacks around each datagram (storm); the fields that programs read are the reference library's but for those
 #   that c/tests/fields.differ names (fields);
 # - conversations of the programs in clients/ that use no more than what is offered, compiled unchanged against c/enet/enet.h, with the
@@ -156,10 +156,10 @@ meet() {
     read -ra client <<< "$3"
     {
         trap 'kill $relay 2> /dev/null' EXIT
-        timeout 60 "${server[@]}" serve "$port" > "$room/$1.server" 2>&1 &
+        timeout 130 "${server[@]}" serve "$port" > "$room/$1.server" 2>&1 &
         relay=$!
         until_bound
-        timeout 40 "${client[@]}" visit "$port" > "$room/$1.client" 2>&1 && wait "$relay" && : > "$room/$1.passed"
+        timeout 110 "${client[@]}" visit "$port" > "$room/$1.client" 2>&1 && wait "$relay" && : > "$room/$1.passed"
     } &
 }
 
@@ -244,8 +244,8 @@ else
         try "$name-checked" "$room/$name-checked"
         try "$name-valgrind" "${grind[@]}" "$room/$name"
     done
-    try storm "$room/storm" 100000
-    try storm-checked "$room/storm-checked" 100000
+    try storm "$room/storm"
+    try storm-checked "$room/storm-checked"
     try fields "$room/fields"
     for name in "${compared[@]}"; do
         try "$name-theirs" "$room/$name-theirs"

@@ -56,7 +56,7 @@ both_ends() {
 cube() {
     /usr/bin/python3 "$room/master.py" > "$room/master" 2>&1 &
     local master=$!
-    for _ in {1..100}; do grep -q ':7073 ' /proc/net/tcp && break; sleep 0.1; done
+    for _ in {1..100}; do grep -q '0100007F:7073 00000000:0000 0A' /proc/net/tcp && break; sleep 0.1; done # 28787, and it listens
     (cd "$room/cube" && on "$1" "$room/root/usr/lib/cube2/cube2_server" "-q$room/cube") > "$room/server" 2>&1 &
     local relay=$!
     until_bound 28785 && on "$2" "$room/cube-client" 28785 > "$room/client" 2>&1 && wait "$master" &&

@@ -3,7 +3,7 @@
 #include "layer.h"
 
 /* Whether the program is to know of the beginning or the end of a connection. */
-static bool is_news(Layer *layer, const gofnjerta_event *told) {
+__attribute__((noinline)) static bool is_news(Layer *layer, const gofnjerta_event *told) {
     Slot *slot = &layer->slots[told->peer.slot];
     bool is_last = slot->name.generation == told->peer.generation;
     if (told->kind == GOFNJERTA_CONNECT) {
@@ -21,15 +21,18 @@ static bool is_news(Layer *layer, const gofnjerta_event *told) {
     return true;
 }
 
+/* What goes with each packet is part of its callers. */
+#define HOT __attribute__((always_inline)) static inline
+
 /* Whether the program is to know of an event of the core. */
-static bool is_for_program(Layer *layer, const gofnjerta_event *told) {
+HOT bool is_for_program(Layer *layer, const gofnjerta_event *told) {
     const Slot *slot = &layer->slots[told->peer.slot];
     if (told->kind != GOFNJERTA_RECEIVE) return is_news(layer, told);
     return slot->known && slot->name.generation == told->peer.generation && !slot->is_mute;
 }
 
 /* Takes the core's next event that is for the program, unless one waits. */
-static bool hear(Layer *layer) {
+HOT bool hear(Layer *layer) {
     while (!layer->pending) {
         if (gofnjerta_core_next_event(&layer->core, &layer->told) != GOFNJERTA_OK || layer->told.kind == GOFNJERTA_NONE) return false;
         layer->pending = is_for_program(layer, &layer->told);
@@ -38,7 +41,7 @@ static bool hear(Layer *layer) {
 }
 
 /* Takes the packet of the event that was heard, NULL where it has none; false where there is no memory for it, which leaves the event. */
-static bool settle_heard(Layer *layer, ENetPacket **packet) {
+HOT bool settle_heard(Layer *layer, ENetPacket **packet) {
     *packet = NULL;
     if (layer->told.kind == GOFNJERTA_RECEIVE) {
         *packet = enet_packet_create(NULL, layer->told.length, layer->told.flags);
@@ -112,16 +115,9 @@ void layer_drain(Layer *layer) {
     while (layer->lingering && hear(layer) && keep(layer)) continue;
 }
 
-/* Hands an event to the program, with its packet. */
-static void hand_out(Layer *layer, const gofnjerta_event *told, ENetPacket *packet, ENetEvent *event) {
-    ENetPeer *peer = &layer->host.peers[told->peer.slot];
-    event->peer = peer;
-    if (told->kind == GOFNJERTA_RECEIVE) {
-        event->type = ENET_EVENT_TYPE_RECEIVE;
-        event->channelID = told->channel;
-        event->packet = packet;
-        return;
-    }
+/* The same of the beginning or the end of a connection. */
+__attribute__((noinline)) static void hand_out_news(Layer *layer, const gofnjerta_event *told, ENetEvent *event) {
+    ENetPeer *peer = event->peer;
     event->type = told->kind == GOFNJERTA_CONNECT ? ENET_EVENT_TYPE_CONNECT : ENET_EVENT_TYPE_DISCONNECT;
     event->data = peer->eventData = told->info;
     if (told->kind == GOFNJERTA_DISCONNECT) {
@@ -132,15 +128,30 @@ static void hand_out(Layer *layer, const gofnjerta_event *told, ENetPacket *pack
     layer_show_peer(layer, peer);
 }
 
-int layer_tell(Layer *layer, ENetEvent *event) {
+/* Hands an event to the program, with its packet. */
+HOT void hand_out(Layer *layer, const gofnjerta_event *told, ENetPacket *packet, ENetEvent *event) {
+    event->peer = &layer->host.peers[told->peer.slot];
+    event->packet = packet;
+    event->channelID = told->channel;
+    event->type = ENET_EVENT_TYPE_RECEIVE;
+    if (told->kind != GOFNJERTA_RECEIVE) hand_out_news(layer, told, event);
+}
+
+/* Hands out the next kept event; false where there is none. */
+__attribute__((noinline)) static bool tell_kept(Layer *layer, ENetEvent *event) {
     while (layer->line) {
         Slot *slot = leave_line(layer);
         if (!slot->first) continue;
         Kept kept = take_kept(slot);
         if (slot->first) stand_in_line(layer, kept.told.peer.slot);
         hand_out(layer, &kept.told, kept.packet, event);
-        return 1;
+        return true;
     }
+    return false;
+}
+
+int layer_tell(Layer *layer, ENetEvent *event) {
+    if (layer->line && tell_kept(layer, event)) return 1;
     if (!hear(layer)) return 0;
     ENetPacket *packet;
     if (!settle_heard(layer, &packet)) return -1;

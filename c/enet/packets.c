@@ -1,68 +1,57 @@
 /* Packets: a head, and the bytes in a block of their own, which the program may take or replace, as in libenet. */
 #include "layer.h"
 #include "../pool.h"
+#include <assert.h>
 #include <string.h>
 
-/* A packet's head comes from the program's allocator, where it gave one. */
-static ENetPacket *take_head(void) {
-    if (layer_has_allocator) return layer_callbacks.malloc(sizeof(ENetPacket));
-    Tried tried = rattle_alloc(sizeof(ENetPacket), _Alignof(ENetPacket));
-    return tried.is_there ? tried.at : NULL;
-}
-
-static void give_head(ENetPacket *packet) {
-    if (layer_has_allocator) layer_callbacks.free(packet);
-    else rattle_dealloc(packet);
-}
-
+/* The thread keeps packets that were let go at hand, unless the program gave an allocator, or a sanitizer is to see each come and go. */
 #if defined __SANITIZE_ADDRESS__ || defined __SANITIZE_THREAD__
-#define KEEPS_BLOCKS false
+#define KEEPS_PACKETS false
 #else
-#define KEEPS_BLOCKS true
+#define KEEPS_PACKETS (!layer_has_allocator)
 #endif
+static_assert(sizeof(ENetPacket) <= POOL_HEAD, "a packet's head");
 
-/* A block for so many bytes; NULL for more than any object has. Where the program gave no allocator it is one of malloc's, which the program
- * may let go by enet_free or free; those that it doesn't let go the thread keeps at hand, unless a sanitizer is to see each come and go. */
-static enet_uint8 *take_bytes(size_t length) {
+/* A head, and a block for so many bytes: one of malloc's where the program gave no allocator, which it may let go by enet_free or free. NULL
+ * where there is no memory, or for more bytes than any object has. */
+static ENetPacket *take_packet(size_t length, void **bytes) {
     if (length >= PTRDIFF_MAX) return NULL;
-    return !KEEPS_BLOCKS || layer_has_allocator ? enet_malloc(length) : pool_take_bytes(length);
-}
-
-static void give_bytes(enet_uint8 *bytes) {
-    if (!KEEPS_BLOCKS || layer_has_allocator) enet_free(bytes);
-    else pool_give_bytes(bytes);
+    if (KEEPS_PACKETS) return pool_take_packet(length, bytes);
+    ENetPacket *packet = enet_malloc(sizeof *packet);
+    *bytes = packet && length ? enet_malloc(length) : NULL;
+    if (!packet || *bytes || !length) return packet;
+    enet_free(packet);
+    return NULL;
 }
 
 ENetPacket *enet_packet_create(const void *data, size_t length, enet_uint32 flags) {
-    ENetPacket *packet = take_head();
+    bool is_lent = flags & ENET_PACKET_FLAG_NO_ALLOCATE;
+    void *bytes;
+    ENetPacket *packet = take_packet(is_lent ? 0 : length, &bytes);
     if (!packet) return NULL;
-    *packet = (ENetPacket){.flags = flags, .dataLength = length};
-    if (flags & ENET_PACKET_FLAG_NO_ALLOCATE) packet->data = (enet_uint8 *)(uintptr_t)data;
-    else if (length > 0) {
-        packet->data = take_bytes(length);
-        if (!packet->data) {
-            give_head(packet);
-            return NULL;
-        }
-        if (data) memcpy(packet->data, data, length);
-    }
+    *packet = (ENetPacket){.flags = flags, .dataLength = length, .data = is_lent ? (enet_uint8 *)(uintptr_t)data : bytes};
+    if (bytes && data) memcpy(bytes, data, length);
     return packet;
 }
 
 void enet_packet_destroy(ENetPacket *packet) {
     if (!packet) return;
     if (packet->freeCallback) packet->freeCallback(packet);
-    if (!(packet->flags & ENET_PACKET_FLAG_NO_ALLOCATE) && packet->data) give_bytes(packet->data);
-    give_head(packet);
+    enet_uint8 *bytes = packet->flags & ENET_PACKET_FLAG_NO_ALLOCATE ? NULL : packet->data;
+    if (KEEPS_PACKETS) pool_give_packet(packet, bytes);
+    else {
+        if (bytes) enet_free(bytes);
+        enet_free(packet);
+    }
 }
 
 int enet_packet_resize(ENetPacket *packet, size_t length) {
     if (length > packet->dataLength && !(packet->flags & ENET_PACKET_FLAG_NO_ALLOCATE)) {
-        enet_uint8 *block = take_bytes(length);
+        enet_uint8 *block = length < PTRDIFF_MAX ? enet_malloc(length) : NULL;
         if (!block) return -1;
         if (packet->data) {
             memcpy(block, packet->data, packet->dataLength);
-            give_bytes(packet->data);
+            enet_free(packet->data);
         }
         packet->data = block;
     }

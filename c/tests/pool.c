@@ -1,4 +1,4 @@
-/* c/pool.c, blocks with a head and without: of every size, in bursts, let go by the thread that had them or by another, hold what is written to them, none is
+/* c/pool.c, blocks of the core's and packets with their bytes: of every size, in bursts, let go by the thread that had them or by another, hold what is written to them, none is
  * handed out twice, a thread keeps no more of a size than it may, and gives all of them back when it ends; want of memory is told. malloc
  * and free are counted, and malloc is refused once (--wrap). Says what failed; the status is 1 then. */
 #include "../pool.h"
@@ -43,11 +43,21 @@ static void expect(int so, const char *what) {
 
 static void *blocks[2][BURST];
 
-static bool are_bare; /* the blocks that are tried now */
+static bool are_packets; /* the blocks that are tried now are packets' bytes, with these heads */
+static void *heads[2][BURST];
+
+static Tried take_one(int part, int i, size_t size) {
+    if (!are_packets) return rattle_alloc(size, 8);
+    void *bytes = NULL;
+    void *head = heads[part][i] = pool_take_packet(size, &bytes);
+    expect(head && (bytes != NULL) == (size > 0), "no memory");
+    memset(head, 0xAA, POOL_HEAD);
+    return (Tried){1, bytes ? bytes : head};
+}
 
 static void take(int part, size_t size) {
     for (int i = 0; i < BURST; i++) {
-        Tried tried = are_bare ? (Tried){1, pool_take_bytes(size)} : rattle_alloc(size, 8);
+        Tried tried = take_one(part, i, size);
         expect(tried.is_there && tried.at, "no memory");
         memset(tried.at, (part + 1) * 16 + i % 13, size);
         blocks[part][i] = tried.at;
@@ -58,7 +68,7 @@ static void give(int part, size_t size) {
     for (int i = 0; i < BURST; i++) {
         const uint8_t *block = blocks[part][i];
         for (size_t k = 0; k < size; k++) expect(block[k] == (part + 1) * 16 + i % 13, "a block was overwritten");
-        if (are_bare) pool_give_bytes(blocks[part][i]);
+        if (are_packets) pool_give_packet(heads[part][i], size ? blocks[part][i] : NULL);
         else rattle_dealloc(blocks[part][i]);
     }
 }
@@ -80,7 +90,7 @@ static void bursts(void) {
     int before = out;
     for (int i = 0; i < 2; i++) expect(pthread_create(&threads[i], NULL, work, &parts[i]) == 0, "no thread");
     for (int i = 0; i < 2; i++) pthread_join(threads[i], NULL);
-    expect(out - before <= 2 * BURST + 16, "a thread that ended kept blocks");
+    expect(out - before <= (are_packets ? 4 : 2) * BURST + 16, "a thread that ended kept blocks");
     give(0, 96);
     give(1, 96);
     take(0, 96);
@@ -90,32 +100,34 @@ static void bursts(void) {
     take(0, 32);
     before = out;
     give(0, 32);
-    /* malloc may give a bare block that belongs to the next shelf. */
-    int kept = BURST - (before - out);
-    expect(are_bare ? kept >= KEPT && kept <= 2 * KEPT : kept == KEPT, "a thread keeps too many blocks or too few");
+    /* A packet is two blocks; and malloc may give bytes that belong to the next shelf. */
+    int kept = are_packets ? 2 * BURST - (before - out) : BURST - (before - out);
+    expect(are_packets ? kept >= 2 * KEPT && kept <= 5 * KEPT : kept == KEPT, "a thread keeps too many blocks or too few");
     take(0, 32);
-    expect(are_bare ? out - before <= KEPT : out == before, "kept blocks weren't handed out");
+    expect(are_packets ? out - before <= 3 * KEPT : out == before, "kept blocks weren't handed out");
     give(0, 32);
 }
 
-/* Blocks of malloc's that the pool gave are let go by free, and those that it didn't give are taken, of whatever size. */
+/* Bytes that the pool gave are let go by free, and others of malloc's are taken in their place, of whatever size. */
 static void strangers(void) {
-    for (size_t size = 0; size <= LONGEST; size++) {
-        pool_give_bytes(malloc(size));
-        char *block = pool_take_bytes(size);
-        memset(block, 7, size);
-        free(block);
+    for (size_t size = 1; size <= LONGEST; size++) {
+        void *bytes;
+        void *head = pool_take_packet(size, &bytes);
+        memset(bytes, 7, size);
+        free(bytes);
+        pool_give_packet(head, malloc(LONGEST - size + 1));
     }
 }
 
 int main(void) {
     bursts();
-    are_bare = true;
+    are_packets = true;
     bursts();
     strangers();
     refuses = true;
     expect(!rattle_alloc(64, 8).is_there && !rattle_alloc(4000, 8).is_there, "a refusal isn't told");
-    expect(!pool_take_bytes(4000), "a refusal isn't told");
+    void *bytes;
+    expect(!pool_take_packet(4000, &bytes), "a refusal isn't told");
     refuses = false;
     Tried small = rattle_alloc(24, 8);
     memcpy(small.at, "as it was", 10);

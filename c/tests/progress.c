@@ -13,7 +13,7 @@
 #include <string.h>
 #include <sys/socket.h>
 
-enum { LIMIT_MS = 60000, CASES = 3 };
+enum { LIMIT_MS = 100000, CASES = 3 };
 
 /* A case: how many large packets of how many bytes on a channel each, how many small ones on the next, and how many bytes may wait. */
 static const struct {
