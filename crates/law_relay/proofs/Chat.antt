@@ -53,8 +53,8 @@ none s = record {
   orders_done = append-nil (orders_of s);
 }
 
-one : (old : ChatServer) (run_length : RunLength) (new : ChatServer) (report : Report) → Serves old run_length new report → Served old new
-one old run_length new report s = record {
+one : (many : ℕ) (old : ChatServer) (run_length : RunLength) (new : ChatServer) (report : Report) → Serves many old run_length new report → Served old new
+one many old run_length new report s = record {
   rounds = s.rounds;
   expanded = s.expanded;
   asked_for = s.asked_for;
@@ -83,7 +83,7 @@ more a b c p q = record {
 
 pub each-served : EachServed
 each-served old [] new h = subst (λ (s : ChatServer). Served old s) (sym h) (none old)
-each-served old (run ∷ runs) new h = more old h.0 new (one old run.0 h.0 run.1 h.1) (each-served h.0 runs new h.2)
+each-served old (run ∷ runs) new h = more old h.0 new (one h.1.0 old run.0 h.0 run.1 h.1.1) (each-served h.0 runs new h.2)
 
 pub each-has-served : EachHasServed
 each-has-served settings fresh served runs left opened h leaves = record {

@@ -35,7 +35,7 @@ use Rattle.law_relay.specs.Refusals.{Answers, all_asked, TakesChatUnless}
 
 -- runs of a server one after another, each as `ChatServer::serve` and `ChatServer::serve_alone` promise: how long it was to be, and its report
 abbrev pub ServesAll : ChatServer → List (RunLength × Report) → ChatServer → Type 0
-ServesAll old runs new = Chain (λ s run t. Serves s run.0 t run.1) old runs new
+ServesAll old runs new = Chain (λ s run t. (many : ℕ) × Serves many s run.0 t run.1) old runs new
 
 abbrev pub service_of : ChatServer → Service Host
 service_of server = record { host = host_of server; waiting = waiting_of server }
