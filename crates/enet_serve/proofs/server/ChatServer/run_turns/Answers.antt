@@ -16,7 +16,7 @@ returns-clause-serves g c =
     subst (λ (kept : Carryover). IsBegun kept c.new-sender.result c.new-receiver.result c.in_ok-relay.relay) c.replace-kept.ensures.value c.in_ok-relay.ensures.begun in
     let beside = c.beside_turns-relayed.ensures.other in
     serves_beside old _ c.args.run_length c.in_ok-report.report from to c.new-sender.result c.new-receiver.result _ _ _ _ c.into_parts.result
-    turned refl refl beside.met.relays c.in_ok-relayed.was beside.met.through
+    turned refl refl beside.met.0 c.in_ok-relayed.was beside.met.1
     (record {
       none_asked = search rules;
       none_received = search rules;
