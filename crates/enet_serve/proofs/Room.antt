@@ -1,6 +1,9 @@
--- Events are left only where the relay found its queue full: then it submitted as many orders as the queue has places.
-use Rattle.std.proofs.Common.{◌≡◌, ℕ, ◌+◌, ◌<◌, ◌≤◌, ◌⊎◌, inl, inr, List, [], ◌++◌, length, refl, sym, ◌∙◌, ap, subst, arith}
+-- What the two threads of a run did. Events are left only where the relay found its queue full: then it submitted as many orders as the queue
+-- has places.
+use Rattle.std.proofs.Common.{◌≡◌, ℕ, ◌+◌, ◌<◌, ◌≤◌, ◌⊎◌, inl, inr, List, [], ◌++◌, length, Result, Ok, IfOk, refl, sym, ◌∙◌, ap, subst, arith}
 use Rattle.std.proofs.lemmas.List.{length-append, length-map}
+use Rattle.std.proofs.lemmas.Result.{IfOk-at_ok}
+use Rattle.enet_codec.specs.declared.refusal.Refusal.{Refusal}
 use Rattle.enet_codec.specs.declared.event.Event.{Event}
 use Rattle.enet_submit.specs.declared.order.Order.{Order}
 use Rattle.enet_submit.specs.declared.order.Submission.{Submission}
@@ -11,12 +14,25 @@ use Rattle.enet_events.specs.Words.{PosterState}
 use Rattle.enet_bridge.specs.declared.order_sender.OrderSender.{OrderSender}
 use Rattle.enet_bridge.specs.Ends.{orders}
 use Rattle.enet_bridge.specs.Holding.{sender_queue, waiting_at, submitted_at, asked, FoundFull}
+use Rattle.enet_codec.specs.declared.event.PeerRef.{PeerRef}
+use Rattle.enet_bridge.specs.declared.event_receiver.EventReceiver.{EventReceiver}
+use Rattle.enet_bridge.specs.Holding.{received}
+use Rattle.enet_events.specs.declared.numbered.Numbered.{Numbered}
 use Rattle.enet_service.proofs.Settled.{of_one_seat}
+use Rattle.enet_service.specs.declared.report.Report.{Report}
+use Rattle.enet_service.specs.declared.run_length.RunLength.{RunLength}
+use Rattle.enet_service.specs.Queues.{given, accepted}
+use Rattle.enet_service.specs.Run.{all_gave, all_puts}
+use Rattle.enet_host.specs.Host.{Host}
+use Rattle.enet_service.specs.declared.service.Service.{Service}
+use Rattle.enet_service.specs.ServiceRuns.{HasTurned, Standing, TakesTurns}
 use Rattle.enet_chat.specs.declared.relaying.Relay.{Relay}
 use Rattle.enet_chat.specs.declared.relaying.RelayParts.{RelayParts}
-use Rattle.enet_chat.specs.Relaying.{AreBehind, AreFarBehind, IsThrough, backlog_of, sender_of}
+use Rattle.enet_chat.specs.Relaying.{AreBehind, AreFarBehind, IsThrough, Relays, SameForEach, events, noted_all, relayed_all, peers_of, backlog_of, sender_of, receiver_of}
 use Rattle.enet_serve.specs.declared.threads.Carryover.{Carryover}
-use Rattle.enet_serve.specs.Private.Threads.{IsLeft}
+use Rattle.enet_serve.specs.declared.server.ChatServer.{ChatServer}
+use Rattle.enet_serve.specs.Serving.{Serves}
+use Rattle.enet_serve.specs.Private.Threads.{IsBegun, IsLeft}
 
 submitted_places : (s : OrderSender) → seats_of (sender_queue s) ≡ 1 → FoundFull s → capacity_of (sender_queue s) ≤ length (submitted_at s)
 submitted_places s one full =
@@ -51,3 +67,57 @@ pub left_waiting : (relay : Relay) (parts : RelayParts) (drain : Drain) (poster 
     → AreBehind kept.backlog.items kept.orders.items
 left_waiting relay parts drain poster kept (inl through) backlog orders_are left = inl (left.backlog ∙ (backlog ∙ through.0))
 left_waiting relay parts drain poster kept (inr through) backlog orders_are left = inr (omega (arith, ap length orders_are, left.more_orders, through.0))
+
+-- what the relay leaves
+pub record Leaves (relay : Relay) (parts : RelayParts) : Type 0 where
+  pub peers : parts.table ≡ peers_of relay
+  pub backlog : parts.backlog.items ≡ backlog_of relay
+  pub waits : parts.orders.items ≡ waiting_at (sender_of relay)
+  pub asks : asked (sender_of relay) ≡ orders (all_sent parts.seat) ++ parts.orders.items
+  pub took : parts.taker.taken ≡ received (receiver_of relay)
+
+-- between two queues with one seat, through which nothing went
+pub record IsFirst (capacity : ℕ) (from : Standing) (sender : OrderSender) (receiver : EventReceiver) : Type 0 where
+  pub none_asked : asked sender ≡ []
+  pub none_received : received receiver ≡ []
+  pub none_taken : taken from.drain ≡ []
+  pub none_posted : from.poster.posted ≡ []
+  pub one_seat : seats_of (sender_queue sender) ≡ 1
+  pub places : capacity_of (sender_queue sender) ≡ capacity
+
+-- the turns, the relay beside them and the settling are a run of the server
+pub serves_beside : (old new : ChatServer) (run_length : RunLength) (report : Report) (from to : Standing) (sender : OrderSender) (receiver : EventReceiver) (begun ended : Relay) (relayed : Result (Unit {0}) Refusal) (done : Unit {0}) (parts : RelayParts)
+    → HasTurned run_length from to report → from.service ≡ old.bound.service → to.service ≡ new.bound.service → Relays begun ended → relayed ≡ Ok done → IfOk relayed (λ _. IsThrough ended)
+    → IsFirst old.queue_capacity from sender receiver → IsBegun old.kept sender receiver begun → Leaves ended parts → IsLeft parts to.drain to.poster new.kept
+    → new.queue_capacity ≡ old.queue_capacity → Serves (old.queue_capacity + 1) old run_length new report
+serves_beside old new run_length report from to sender receiver begun ended relayed done parts t service service_after r is_done on_done first b leaves left capacity =
+    let through : IsThrough ended = IfOk-at_ok (λ (x : Unit {0}). IsThrough ended) is_done on_done in
+    let rounds = t.rounds in
+    let gave : taken to.drain ≡ given (all_gave rounds) =
+    t.spell.gave ∙ ap (λ (xs : List Submission). xs ++ given (all_gave rounds)) first.none_taken in
+    let put : events to.poster.posted ≡ accepted (all_puts rounds) =
+    t.spell.put.grown ∙ ap (λ (xs : List Numbered). events xs ++ accepted (all_puts rounds)) first.none_posted in
+    let none : received (receiver_of begun) ≡ [] = ap received b.receiver_is ∙ first.none_received in
+    let took : r.taken ≡ accepted (all_puts rounds) =
+    sym (r.took ∙ ap (λ (xs : List Numbered). events xs ++ r.taken) none) ∙ (ap events (sym leaves.took ∙ left.all_taken) ∙ put) in
+    let asked_first : asked (sender_of begun) ≡ old.kept.orders.items = b.orders_asked ∙ ap (λ (os : List Order). os ++ old.kept.orders.items) first.none_asked in
+    let queue = r.same_queues.0 ∙ b.queue in
+    record {
+      rounds = rounds;
+      expanded = r.expanded;
+      asked_for = r.asked_for;
+      lasts = t.lasts;
+      turns = subst (λ (s : Service Host). TakesTurns s rounds new.bound.service) service (subst (λ (s : Service Host). TakesTurns from.service rounds s) service_after t.spell.turns);
+      sound = t.spell.sound;
+      queue_capacity = capacity;
+      totals = t.spell.totals;
+      events = ap (λ (es : List Event). es ++ accepted (all_puts rounds)) (sym b.backlog) ∙ (ap (λ (es : List Event). backlog_of begun ++ es) (sym took)
+          ∙ (r.in_order ∙ ap (λ (es : List Event). r.expanded ++ es) (sym (left.backlog ∙ leaves.backlog))));
+      behind = left_waiting ended parts to.drain to.poster new.kept through leaves.backlog leaves.waits left;
+      far_behind = left_behind ended parts to.drain to.poster new.kept (given (all_gave rounds)) old.queue_capacity through (ap seats_of queue ∙ first.one_seat) (ap capacity_of queue ∙ first.places)
+          leaves.asks leaves.backlog left gave;
+      peers = left.peers ∙ (leaves.peers ∙ (r.peers ∙ ap (λ (ps : List PeerRef). noted_all ps r.expanded) b.peers));
+      for_each = subst (λ (ps : List PeerRef). SameForEach r.asked_for (relayed_all ps r.expanded)) b.peers r.for_each;
+      orders_done = ap (λ (os : List Order). os ++ r.asked_for) (sym asked_first) ∙ (sym r.orders ∙ (leaves.asks ∙ (left.orders_kept
+          ∙ ap (λ (xs : List Submission). orders xs ++ new.kept.orders.items) gave)));
+    }
