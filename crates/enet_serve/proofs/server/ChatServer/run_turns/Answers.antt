@@ -1,9 +1,9 @@
-use Rattle.std.proofs.Common.{None, refl, sym, ◌∙◌, ap, subst, rules}
+use Rattle.std.proofs.Common.{None, refl, subst, rules}
 use Rattle.enet_bridge.specs.Socket.{failures_of}
 use Rattle.enet_service.specs.ServiceRuns.{HasTurned, Standing}
 use Rattle.enet_serve.specs.declared.threads.Carryover.{Carryover}
 use Rattle.enet_serve.specs.Private.Threads.{IsBegun}
-use Rattle.enet_serve.proofs.Room.{serves_beside}
+use Rattle.enet_serve.proofs.Room.{serves_beside, IsFirst}
 use Rattle.enet_serve.proofs.server.ChatServer.run_turns.Goals as goal
 
 pub returns-clause-serves : goal.returns-clause-serves
@@ -14,24 +14,14 @@ returns-clause-serves g c =
     let turned : HasTurned c.args.run_length from to c.in_ok-report.report = search rules in
     let begun : IsBegun old.kept c.new-sender.result c.new-receiver.result c.in_ok-relay.relay =
     subst (λ (kept : Carryover). IsBegun kept c.new-sender.result c.new-receiver.result c.in_ok-relay.relay) c.replace-kept.ensures.value c.in_ok-relay.ensures.begun in
-    let beside = c.beside_turns-relayed.ensures.other in
-    serves_beside old _ c.args.run_length c.in_ok-report.report from to c.new-sender.result c.new-receiver.result _ _ _ _ c.into_parts.result
-    turned refl refl beside.met.0 c.in_ok-relayed.was beside.met.1
-    (record {
+    let first : IsFirst old.queue_capacity from c.new-sender.result c.new-receiver.result = record {
       none_asked = search rules;
       none_received = search rules;
       none_taken = c.requires.new.drain.1;
       none_posted = c.requires.new.poster.1;
       one_seat = search rules;
       places = search rules;
-    })
-    begun
-    (record {
-      peers = c.into_parts.ensures.peers;
-      backlog = c.into_parts.ensures.backlog;
-      waits = c.into_parts.ensures.waits;
-      asks = c.into_parts.ensures.orders;
-      took = c.into_parts.ensures.taken;
-    })
-    c.in_ok-self.ensures.left
-    refl
+    } in
+    let beside = c.beside_turns-relayed.ensures.other.met.1 in
+    serves_beside old _ c.args.run_length c.in_ok-report.report from to c.new-sender.result c.new-receiver.result c.in_ok-relay.relay _ _ _ c.into_parts.result
+    turned refl refl beside.0 c.in_ok-relayed.was beside.1.0 first begun (record { peers = search rules; backlog = search rules; waits = search rules; asks = search rules; took = search rules }) c.in_ok-self.ensures.left refl
