@@ -1,5 +1,5 @@
 -- The names of hosts.
-use Rattle.std.specs.Prelude.{ℕ, ◌==◌, ◌-◌, if◌then◌else◌, ◌^◌, List, [], ◌∷◌, ◌++◌, codes, bytes_eq, Option, Some, None, option_map}
+use Rattle.std.specs.Prelude.{ℕ, ◌+◌, ◌==◌, ◌-◌, ◌&&◌, nat_le, nat_lt, Bool, if◌then◌else◌, ◌^◌, List, [], ◌∷◌, ◌++◌, codes, bytes_eq, Option, Some, None, option_map}
 use Rattle.std.specs.Option.{option_or}
 use Rattle.std.specs.Fmt.{decimal}
 use Rattle.enet_codec.specs.declared.address.Addr.{Addr}
@@ -8,7 +8,7 @@ use Rattle.law_network.specs.declared.event.Side.{Side}
 use Rattle.law_network.specs.declared.event.Side.TheVariants.{A, B}
 use Rattle.law_headline.specs.declared.node.Node.{Node}
 use Rattle.law_headline.specs.declared.node.Node.TheVariants.{Server, Client}
-use Rattle.enet_fleet.specs.Fleets.{address_of, is_host}
+use Rattle.enet_fleet.specs.Fleets.{address_of}
 use Rattle.enet_text.specs.Words.{number_below}
 use Rattle.enet_text.specs.Texts.{address_text}
 use Rattle.enet_lab.specs.declared.host.Host.{Host}
@@ -46,11 +46,15 @@ abbrev pub host_text : Host → List ℕ
 host_text (OfWorld side) = side_text side
 host_text (OfFleet node) = node_text node
 
+-- Whether a client is at an address, in a fleet of so many: they are at one IP address, on ports one after another.
+abbrev pub is_client : ℕ → Addr → Bool
+is_client clients addr = addr.ip == 0x0A000002 && (nat_le 7002 addr.port && nat_lt addr.port (7002 + clients))
+
 -- Whom a datagram goes to that was put out to this address, in a fleet of so many clients: the host that is there, or else a stranger.
 abbrev pub recipient_at : ℕ → Addr → Recipient
 recipient_at clients addr =
     if is_same_address addr (address_of Server) then recipient.Host Server
-    else (if is_host clients addr then recipient.Host (Client (addr.port - 7002)) else recipient.Stranger addr)
+    else (if is_client clients addr then recipient.Host (Client (addr.port - 7002)) else recipient.Stranger addr)
 
 abbrev pub recipient_text : Recipient → List ℕ
 recipient_text (recipient.Host node) = node_text node
