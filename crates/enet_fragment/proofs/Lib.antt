@@ -1,6 +1,7 @@
 pub mod Places
 pub mod Pieces
 pub mod Views
+pub mod Held
 pub mod Cuts
 pub mod Laws
 pub mod Wholes

@@ -1,12 +1,13 @@
 //! A packet that is put together from its fragments.
 
-ghost use Rattle.std.specs.Prelude.{ℕ, ◌<◌, ◌*◌, ◌==◌, IfSome, IsSome, ◌≡◌, ◌≤◌, ◌+◌, ◌↔◌, [], IsTrue, IsOk, IfOk, IfErr, is_some, length, replicate};
-ghost use Rattle.std.specs.Vec.{vec_len};
+ghost use Rattle.std.specs.Prelude.{ℕ, ◌<◌, ◌*◌, ◌==◌, IfSome, IsSome, ◌≡◌, ◌≤◌, ◌+◌, ◌↔◌, [], IsTrue, IsOk, IfOk, IfErr, is_some, length, take, ◌++◌, max, replicate};
+ghost use Rattle.std.specs.Vec.{vec_len, vec_capacity};
 ghost use Rattle.std.specs.Int.{bit_at};
+ghost use Rattle.enet_fragment.specs.Assembly.{filled_up};
 ghost use Rattle.enet_fragment.specs.Private.Assembly.{written_at};
 ghost use Rattle.enet_fragment.specs.PartialPacket.{is_same_cut};
 
-use crate::filled::filled;
+use crate::filled::room_for;
 use crate::{Marks, Place};
 use bytes::Bytes;
 use enet_codec::Refusal;
@@ -27,12 +28,14 @@ pub enum Put {
 }
 
 /// A packet in pieces. Contracts see it as a `PartialPacket`: its length, the length of its pieces once one of them has told
-/// it, and the bytes of the pieces that have come, by their numbers.
+/// it, and the bytes of the pieces that have come, by their numbers. It has room for the whole packet, and its bytes end where
+/// the farthest piece that was put ends; pieces before that which have not come are zeros.
 #[derive(Drop)]
 pub struct Assembly {
     bytes: Vec<u8>,
+    total: u32,
+    missing: u32,
     came: Marks,
-    missing: usize,
     cut: Option<usize>,
 }
 
@@ -43,11 +46,12 @@ impl Model for Assembly {
 
     ghost coded = { partial_packet_code };
 
-    ghost use Rattle.enet_fragment.specs.Assembly.{making_of, AreKept};
+    ghost use Rattle.std.specs.Vec.{vec_capacity};
+    ghost use Rattle.enet_fragment.specs.Assembly.{making_of, filled_up, AreHeld};
 
-    ghost view = { λ a. making_of a.bytes.items a.came a.cut };
+    ghost view = { λ a. making_of (filled_up a.total a.bytes.items) a.came a.cut };
 
-    ghost invariant = { λ a. AreKept a.bytes.items a.came a.missing a.cut };
+    ghost invariant = { λ a. AreHeld a.bytes.items (vec_capacity a.bytes) a.total a.came a.missing a.cut };
 }
 
 impl Assembly {
@@ -55,19 +59,20 @@ impl Assembly {
     ghost use Rattle.enet_fragment.specs.Place.{place_of};
     ghost use Rattle.enet_fragment.specs.Whole.{whole_of};
 
-    /// A packet of `total` bytes in `count` pieces, of which none has come. It takes `total` bytes and one mark a piece.
-    /// Answers `Refusal::Memory` where it can't have them.
+    /// A packet of `total` bytes in `count` pieces, of which none has come. It takes room for `total` bytes, which it leaves
+    /// unwritten, and one mark a piece. Answers `Refusal::Memory` where it can't have them.
     pub fn new(alloc: Global, count: u32, total: u32) -> Result<Assembly, Refusal>
         requires { 1 ≤ count }
         ensures ok { IfOk result (λ made. made ≡ nothing_yet count total) }
         ensures memory { IfErr result (λ why. why ≡ Refusal.Memory) }
     {
         let came = Marks::new(alloc, count)?;
-        let bytes = filled(alloc, 0, total as usize)?;
+        let bytes = room_for(alloc, total as usize)?;
         Ok(Assembly {
             bytes,
+            total,
+            missing: count,
             came,
-            missing: count as usize,
             cut: None,
         })
     }
@@ -92,7 +97,8 @@ impl Assembly {
     }
 
     /// Puts a piece into the packet, if it is New or Whole (see `foresee`). Again and Bad change nothing. The piece tells
-    /// its cut to all that come later. It takes no memory, and the time that copying the piece takes.
+    /// its cut to all that come later. It takes no memory, and the time that copying the piece takes; a piece that is the
+    /// first to skip others takes that of filling their places with zeros, too.
     pub fn put(&mut self, number: u32, count: u32, total: u32, offset: u32, bytes: &[u8]) -> Put
         ensures outcome { result ≡ put_outcome self.old (place_of number count total offset bytes.now) }
         ensures after { self.new ≡ after_put self.old (place_of number count total offset bytes.now) bytes.now }
@@ -150,16 +156,18 @@ impl Assembly {
     {
         let Assembly {
             bytes,
-            came,
+            total,
             missing,
+            came,
             cut,
         } = self;
         match Bytes::from_vec(bytes) {
             Ok(body) => Ok(body),
             Err(refused) => Err(Assembly {
                 bytes: refused.value,
-                came,
+                total,
                 missing,
+                came,
                 cut,
             }),
         }
@@ -180,7 +188,7 @@ impl Assembly {
     fn is_of_size(&self, place: Place) -> bool
         ensures { result ≡ is_of_size self.now place }
     {
-        place.is_of_size(self.came.len() as usize, self.bytes.len())
+        place.is_of_size(self.came.len() as usize, self.total as usize)
     }
 
     /// Whether the piece of this number has come.
@@ -202,7 +210,7 @@ impl Assembly {
     pub(crate) fn total(&self) -> u32
         ensures value { result ≡ self.now.total }
     {
-        self.bytes.len() as u32
+        self.total
     }
 
     /// Puts a piece that belongs to the packet and has not come.
@@ -230,10 +238,39 @@ pub(crate) fn has_same_cut(known: Option<usize>, cut: usize) -> bool
     }
 }
 
-/// Writes a piece at its place among the packet's bytes.
+/// Writes a piece at its place among the packet's bytes: over them where they reach to its end, and else behind them, once they
+/// are cut, or filled up with zeros, to where it begins. There is room for it, so that it takes no memory.
 fn write_at(buffer: &mut Vec<u8>, offset: usize, bytes: &[u8])
-    requires { offset + length bytes.now ≤ vec_len buffer.old }
-    ensures { buffer.new.items ≡ written_at offset bytes.now buffer.old.items }
+    requires { offset + length bytes.now ≤ vec_capacity buffer.old }
+    ensures bytes { buffer.new.items ≡ written_at offset bytes.now (filled_up (offset + length bytes.now) buffer.old.items) }
+    ensures len { vec_len buffer.new ≡ max (vec_len buffer.old) (offset + length bytes.now) }
+    ensures room { vec_capacity buffer.old ≤ vec_capacity buffer.new }
 {
-    buffer[offset..offset + bytes.len()].copy_from_slice(bytes);
+    let end = offset + bytes.len();
+    if end <= buffer.len() {
+        buffer[offset..end].copy_from_slice(bytes);
+    } else {
+        cut_or_fill(buffer, offset);
+        append(buffer, bytes);
+    }
+}
+
+/// Cuts bytes to this length, or fills them up to it with zeros, for which there is room.
+fn cut_or_fill(buffer: &mut Vec<u8>, len: usize)
+    requires { len ≤ vec_capacity buffer.old }
+    ensures bytes { buffer.new.items ≡ take len (filled_up len buffer.old.items) }
+    ensures len { vec_len buffer.new ≡ len }
+    ensures room { vec_capacity buffer.old ≤ vec_capacity buffer.new }
+{
+    let _ = buffer.resize(len, 0);
+}
+
+/// Appends bytes for which there is room.
+fn append(buffer: &mut Vec<u8>, bytes: &[u8])
+    requires { vec_len buffer.old + length bytes.now ≤ vec_capacity buffer.old }
+    ensures bytes { buffer.new.items ≡ buffer.old.items ++ bytes.now }
+    ensures len { vec_len buffer.new ≡ vec_len buffer.old + length bytes.now }
+    ensures room { vec_capacity buffer.old ≤ vec_capacity buffer.new }
+{
+    let _ = buffer.extend_from_slice(bytes);
 }

@@ -1,4 +1,4 @@
-//! Lists of one value, in exactly as much room.
+//! Room for exactly so many items, and lists of one value that fill it.
 
 ghost use Rattle.std.specs.Prelude.{◌≡◌, [], IfOk, IfErr, replicate};
 ghost use Rattle.std.specs.Vec.{vec_capacity};
@@ -19,7 +19,7 @@ pub(crate) fn filled<T: Copy>(alloc: Global, value: T, len: usize) -> Result<Vec
 }
 
 /// Room for exactly so many items.
-fn room_for<T>(alloc: Global, len: usize) -> Result<Vec<T>, Refusal>
+pub(crate) fn room_for<T>(alloc: Global, len: usize) -> Result<Vec<T>, Refusal>
     ensures empty { IfOk result (λ items. items.items ≡ []) }
     ensures exact { IfOk result (λ items. vec_capacity items ≡ len) }
     ensures memory { IfErr result (λ why. why ≡ Refusal.Memory) }

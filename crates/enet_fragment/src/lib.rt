@@ -15,7 +15,8 @@
 //! Only tested, in `check_numbers` and `check_peer`: that calls succeed with ample memory; by hand, not by the gate, that each
 //! allocation may fail (two in `new`, one in `finish`).
 //! Neither: how much time and memory the calls take. By the code, an assembly takes `total` bytes and one bit a piece,
-//! `put` copies the piece once and walks over nothing else, `finish` copies nothing.
+//! `put` copies the piece once and fills what it is the first to skip with zeros, so each byte at most once over all puts;
+//! it walks over nothing else. `finish` copies nothing.
 #![tactic(auto)]
 
 mod assembly;

@@ -18,7 +18,7 @@ returns-then-self-eq1 c =
     let mark = sym c.has.ensures ∙ c.if-has.false in
     let one : eqb c.self.inside.missing 1 ≡ true = grind (arith, nat_tests) in
     outcome_whole c.args.self.now c.args.place belongs (mark_of _ _ _ _ c.args.place.number c.self.view_is ∙ mark)
-    (others_of _ _ _ _ _ _ c.self.view_is c.self.invariant.counted inside mark ∙ one)
+    (others_of _ _ _ _ _ _ c.self.view_is c.self.invariant.kept.counted inside mark ∙ one)
 
 pub returns-else-self-eq1 : goal.returns-else-self-eq1
 returns-else-self-eq1 c =
@@ -27,4 +27,4 @@ returns-else-self-eq1 c =
     let mark = sym c.has.ensures ∙ c.if-has.false in
     let more : eqb c.self.inside.missing 1 ≡ false = grind (arith, nat_tests) in
     outcome_new c.args.self.now c.args.place belongs (mark_of _ _ _ _ c.args.place.number c.self.view_is ∙ mark)
-    (others_of _ _ _ _ _ _ c.self.view_is c.self.invariant.counted inside mark ∙ more)
+    (others_of _ _ _ _ _ _ c.self.view_is c.self.invariant.kept.counted inside mark ∙ more)
