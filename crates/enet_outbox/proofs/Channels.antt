@@ -12,7 +12,7 @@ use Rattle.enet_outbox.specs.Private.Packing.{Holds, Leads, with_flow, Shares, P
 use Rattle.enet_outbox.proofs.Fillings.{leads-by}
 use Rattle.enet_outbox.proofs.Repeats.{channels-closed}
 
-turns-more : (first n k : ℕ) → k < n → turns first n k ≡ (first + k) % n ∷ turns first n (k + 1)
+pub turns-more : (first n k : ℕ) → k < n → turns first n k ≡ (first + k) % n ∷ turns first n (k + 1)
 turns-more first n k h =
     let e : n - k ≡ suc (n - (k + 1)) = omega arith in
     ap (λ (m : ℕ). map (λ j. (first + j) % n) (range_with_len k m)) e

@@ -1,5 +1,5 @@
 -- An outbox with nothing to send puts nothing out, and has nothing that is late.
-use Rattle.std.proofs.Common.{◌≡◌, ℕ, zero, suc, Bool, true, false, ◌||◌, ◌&&◌, not, nat_lt, ◌==◌, List, [], ◌∷◌, length, refl, sym, ap, ◌∙◌, arith, Option, Some, None}
+use Rattle.std.proofs.Common.{All, subst, ◌≡◌, ℕ, zero, suc, Bool, true, false, ◌||◌, ◌&&◌, not, nat_lt, ◌==◌, List, [], ◌∷◌, length, refl, sym, ap, ◌∙◌, arith, Option, Some, None}
 use Rattle.std.proofs.lemmas.Bool.Decides.{nat_tests}
 use Rattle.std.specs.List.{slice_get, list_all, list_any, position}
 use Rattle.enet_senders.specs.Controlling.{Commands}
@@ -7,14 +7,17 @@ use Rattle.enet_senders.specs.Controlling as controlling
 use Rattle.enet_senders.specs.declared.control.Numbered.{Numbered}
 use Rattle.enet_senders.specs.declared.control.SentControl.{SentControl}
 use Rattle.enet_fragment.specs.declared.data.DataCommand.{DataCommand}
-use Rattle.enet_seq.specs.Numbering.{Numbering, wire}
+use Rattle.enet_seq.specs.Numbering.{wire}
 use Rattle.enet_sender.specs.declared.sent.Sent.{Sent}
-use Rattle.enet_sender.specs.Sender.{Occasion, Sender, next, next_of, next_queued}
+use Rattle.enet_sender.specs.Sender.{next}
 use Rattle.enet_sender.specs.Due.{SendingEnd}
 use Rattle.enet_outbox.specs.declared.parts.Pace.{Pace}
 use Rattle.enet_outbox.specs.Outbox.{Outbox, has_no_packet, has_no_reliable}
 use Rattle.enet_outbox.specs.Emission.{Filling, filled}
 use Rattle.enet_outbox.specs.Invariant.{HasNothing}
+use Rattle.enet_outbox.specs.Private.Packing.{IsAtRest}
+use Rattle.enet_senders.proofs.Sets.{next-none}
+use Rattle.std.proofs.lemmas.List.Elements.{All-nil}
 use Rattle.enet_outbox.proofs.Filled.{Keeps, by-filling}
 
 none-left : {X : Type 0} (xs : List X) → length xs ≡ 0 → xs ≡ []
@@ -47,12 +50,6 @@ none-sent false (x ∷ xs) e = absurd (let y : false ≡ true = ap (λ (b : Bool
 
 sent-none : (s : SendingEnd) → has_no_reliable s ≡ true → s.sender.sent ≡ []
 sent-none s e = none-sent _ s.sender.sent e
-
--- a channel with nothing queued or sent has nothing due
-next-none : (g : Numbering) (occasion : Occasion) (s : Sender) → s.queued ≡ [] → s.sent ≡ [] → next g occasion s ≡ None
-next-none g occasion s e f =
-    ap (λ (xs : List Sent). next_of g occasion s (position (λ (p : Sent). p.transmission.due) xs)) f
-    ∙ ap (λ (xs : List DataCommand). next_queued g occasion s xs) e
 
 -- what holds of all holds at each place
 all-left : (a b : Bool) → (a && b) ≡ true → a ≡ true
@@ -88,23 +85,38 @@ control-none now timeout c e =
 abbrev StaysEmpty : Outbox → Filling → Type 0
 StaysEmpty o f = (f.messages ≡ []) × (f.outbox ≡ o)
 
-idle-next : (o : Outbox) (pace : Pace) (s : SendingEnd) (i transit most : ℕ) → HasNothing o → slice_get o.senders i ≡ Some s → next wire (record { now = pace.now; timeout = pace.timeout; transit = transit; most = most }) s.sender ≡ None
-idle-next o pace s i transit most h there =
-    next-none wire (record { now = pace.now; timeout = pace.timeout; transit = transit; most = most }) s.sender (none-queued s.sender.queued (all-at has_no_packet o.senders i s h.packets there)) (sent-none s (all-at has_no_reliable o.senders i s h.reliable there))
+-- what has nothing at all is at rest
+pub rests : (o : Outbox) → HasNothing o → IsAtRest o
+rests o h = record {
+  acknowledgements = h.acknowledgements;
+  control = h.control;
+  unsequenced = h.unsequenced;
+  still = λ i e there. record {
+    queued = none-queued e.sender.queued (all-at has_no_packet o.senders i e h.packets there);
+    sent = subst (λ (xs : List Sent). All (λ (p : Sent). p.transmission.due ≡ false) xs) (sym (sent-none e (all-at has_no_reliable o.senders i e h.reliable there))) (All-nil (λ (p : Sent). p.transmission.due ≡ false));
+  };
+}
+
+rest-next : (o : Outbox) (pace : Pace) (s : SendingEnd) (i transit most : ℕ) → IsAtRest o → slice_get o.senders i ≡ Some s → next wire (record { now = pace.now; timeout = pace.timeout; transit = transit; most = most }) s.sender ≡ None
+rest-next o pace s i transit most h there =
+    next-none wire (record { now = pace.now; timeout = pace.timeout; transit = transit; most = most }) s.sender (h.still i s there)
 
 none-some : {X Y : Type 0} (o : Option X) (x : X) → o ≡ None → o ≡ Some x → Y
 none-some o x e f = absurd (let y : ◌≡◌ {A = Option _} None (Some x) = sym e ∙ f in cc)
 
-stays-empty : (pace : Pace) (o : Outbox) → HasNothing o → Keeps pace (StaysEmpty o)
+stays-empty : (pace : Pace) (o : Outbox) → IsAtRest o → Keeps pace (StaysEmpty o)
 stays-empty pace o h = record {
   closes = λ f e. e;
   acknowledges = λ f a rest at e. some-one o.acknowledgements a rest h.acknowledgements (ap (λ (x : Outbox). x.acknowledgements) (sym e.1) ∙ at);
   controls = λ f n at e. none-some _ n (ap (λ (x : Outbox). controlling.next pace.now pace.timeout x.control) e.1 ∙ control-none pace.now pace.timeout o.control h.control) at;
   puts_unsequenced = λ f u rest t at e. some-one o.unsequenced u rest h.unsequenced (ap (λ (x : Outbox). x.unsequenced) (sym e.1) ∙ at);
   drops_unsequenced = λ f u rest t at e. some-one o.unsequenced u rest h.unsequenced (ap (λ (x : Outbox). x.unsequenced) (sym e.1) ∙ at);
-  puts_data = λ f k s n t there at e. none-some _ n (idle-next o pace s k _ _ h (ap (λ (x : Outbox). slice_get x.senders k) (sym e.1) ∙ there)) at;
-  drops_data = λ f k s n t there at unreliable e. none-some _ n (idle-next o pace s k _ _ h (ap (λ (x : Outbox). slice_get x.senders k) (sym e.1) ∙ there)) at;
+  puts_data = λ f k s n t there at e. none-some _ n (rest-next o pace s k _ _ h (ap (λ (x : Outbox). slice_get x.senders k) (sym e.1) ∙ there)) at;
+  drops_data = λ f k s n t there at unreliable e. none-some _ n (rest-next o pace s k _ _ h (ap (λ (x : Outbox). slice_get x.senders k) (sym e.1) ∙ there)) at;
 }
 
+pub rest-goes : (pace : Pace) (o : Outbox) → IsAtRest o → ((filled pace o).messages ≡ []) × (o ≡ (filled pace o).outbox)
+rest-goes pace o h = let e : StaysEmpty o (filled pace o) = by-filling pace o (StaysEmpty o) (stays-empty pace o h) (refl, refl) in (e.0, sym e.1)
+
 pub nothing-goes : (pace : Pace) (o : Outbox) → HasNothing o → ((filled pace o).messages ≡ []) × (o ≡ (filled pace o).outbox)
-nothing-goes pace o h = let e : StaysEmpty o (filled pace o) = by-filling pace o (StaysEmpty o) (stays-empty pace o h) (refl, refl) in (e.0, sym e.1)
+nothing-goes pace o h = rest-goes pace o (rests o h)

@@ -7,6 +7,7 @@ pub mod Fillings
 pub mod Idle
 pub mod Lateness
 pub mod Oldest
+pub mod Passing
 pub mod Repeats
 pub mod Senders
 pub mod Spelled

@@ -2,7 +2,7 @@
 //! unsequenced packets, and the channels (our profile). The commands stand in the buffer from 4 on, and the header is
 //! written before them in the end.
 
-ghost use Rattle.std.specs.Prelude.{◌≡◌, true, IsTrue, ◌≤◌, ◌+◌, ◌-◌, ◌<◌, ◌^◌, ◌++◌, length, take, drop, slice_get, slice_set, Some, slice_range, unwrap_or};
+ghost use Rattle.std.specs.Prelude.{◌≡◌, ℕ, true, IsTrue, ◌≤◌, ◌+◌, ◌-◌, ◌%◌, ◌<◌, ◌^◌, ◌++◌, length, take, drop, slice_get, slice_set, Some, slice_range, unwrap_or};
 ghost use Rattle.std.specs.Option.{option_map};
 ghost use Rattle.std.specs.VecDeque.{deque_len, deque_capacity};
 ghost use Rattle.enet_codec.specs.Header.{header_text};
@@ -10,7 +10,8 @@ ghost use Rattle.enet_sender.specs.Due.{SendingEnd};
 ghost use Rattle.enet_codec.specs.Message.{view, payload_of};
 ghost use Rattle.enet_outbox.specs.Emission.{acknowledgement_of, unsequenced_of, filled, Emits};
 ghost use Rattle.enet_outbox.specs.Invariant.{HasNothing};
-ghost use Rattle.enet_outbox.specs.Private.Packing.{header_asking, Leads, taken_in, place_in, asked_for, refuses, GoesIn, PacksAcknowledgements, PacksControls, PacksUnsequenced, PacksChannel, PacksChannels};
+ghost use Rattle.enet_senders.specs.Senders.{IsStill};
+ghost use Rattle.enet_outbox.specs.Private.Packing.{header_asking, IsAtRest, Leads, taken_in, place_in, asked_for, refuses, GoesIn, PacksAcknowledgements, PacksControls, PacksUnsequenced, PacksChannel, PacksChannels};
 
 use crate::{Acknowledgement, Destination, Outbox, Pace, Unsequenced, lists};
 use enet_codec::{Command, Head, Header, NO_PEER, write_acknowledge, write_command, write_header};
@@ -280,8 +281,31 @@ fn pack_channel(
     }
 }
 
+/// The first turn from this one on whose channel may have something that goes, where the channel `first` has turn 0; the number of
+/// channels where there is none.
+fn next_turn(senders: &Senders, first: usize, turn: usize) -> usize
+    requires first { first ≤ 256 }
+    requires turn { turn ≤ length senders.now }
+    requires few { length senders.now ≤ 255 }
+    ensures later { turn ≤ result }
+    ensures within { result ≤ length senders.now }
+    ensures still { (k : ℕ) (e : SendingEnd) → turn ≤ k → k < result → slice_get senders.now ((first + k) % length senders.now) ≡ Some e → IsStill e.sender }
+{
+    let channels = senders.len();
+    let mut next = turn;
+    'turns: while next < channels {
+        let channel = (first + next) % channels;
+        let ready = senders.next_ready(channel).min(channels);
+        if ready == channel {
+            return next;
+        }
+        next = channels.min(next + (ready - channel));
+    }
+    next
+}
+
 /// Puts what is due on the channels into the datagram, cyclically from the channel `first` on, as far as it fits. A closed
-/// datagram stays as it is.
+/// datagram stays as it is. Channels that surely have nothing are passed over.
 pub(crate) fn pack_channels(
     senders: &mut Senders,
     flow: &mut Flow,
@@ -298,12 +322,14 @@ pub(crate) fn pack_channels(
 {
     let channels = senders.len();
     let mut progress = from;
-    'turns: for turn in 0..channels {
+    let mut turn = next_turn(senders, first, 0);
+    'turns: while turn < channels {
         if progress.closed {
             return progress;
         }
         let channel = (first + turn) % channels;
         progress = pack_channel(senders, flow, channel as u8, pace, buf, progress);
+        turn = next_turn(senders, first, turn + 1);
     }
     progress
 }
@@ -439,6 +465,10 @@ impl Outbox {
         if self.has_nothing() {
             return None;
         }
+        if self.is_at_rest() {
+            self.look_for_idle();
+            return None;
+        }
         let len = self.emit_whole(pace, to, &mut buf[..pace.mtu as usize]);
         if len.is_none() {
             self.look_for_idle();
@@ -455,6 +485,17 @@ impl Outbox {
             && self.acknowledgements.is_empty()
             && self.unsequenced.is_empty()
             && self.control.is_idle()
+    }
+
+    /// Whether there is surely nothing that goes at any moment before a call: no acknowledgement, nothing unsequenced, nothing on
+    /// channel 0xFF, and on no other channel anything queued or due to go again. What is only unacknowledged may be there.
+    fn is_at_rest(&self) -> bool
+        ensures { IsTrue result → IsAtRest self.now.outbox }
+    {
+        self.control.is_idle()
+            && self.acknowledgements.is_empty()
+            && self.unsequenced.is_empty()
+            && self.senders.next_ready(0) >= self.senders.len()
     }
 
     /// Looks whether the channels have nothing queued or unacknowledged.

@@ -4,3 +4,4 @@ pub mod Each
 pub mod Marking
 pub mod Nexts
 pub mod Quieting
+pub mod Sets

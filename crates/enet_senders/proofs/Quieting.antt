@@ -72,7 +72,7 @@ quiet-marked q now p fits h = by (is_late now p) refl
       waits = subst (λ (b : Bool). q.least ≤ (cond b made p.transmission).timeout) (sym f) (waits_by b);
     }
 
-All-remove : {X : Type 0} (P : X → Type 0) (xs : List X) (i : ℕ) → All P xs → All P (remove xs i)
+pub All-remove : {X : Type 0} (P : X → Type 0) (xs : List X) (i : ℕ) → All P xs → All P (remove xs i)
 All-remove P xs i h = All-append P (take i xs) (drop (suc i) xs) (All-take P i xs h) (All-drop P (suc i) xs h)
 
 quiet-removed : (q : Quiet) (sent : List Sent) (o : Option ℕ) → AreQuiet q sent → AreQuiet q (without_place sent o)

@@ -8,6 +8,8 @@ use Rattle.enet_sender.specs.declared.outgoing.Outgoing.{Outgoing}
 use Rattle.enet_sender.specs.declared.pending.Pending.{Pending}
 use Rattle.enet_senders.specs.declared.quiet.Quiet.{Quiet}
 use Rattle.enet_senders.specs.Senders.{ends_in, KeepsAllIn}
+use Rattle.enet_senders.specs.declared.channel_set.ChannelSet.{ChannelSet}
+use Rattle.enet_senders.specs.Sets.{KeepsSets}
 
 -- whether a moment is in it
 abbrev pub covers : Quiet → ℕ → Bool
@@ -31,8 +33,9 @@ AreQuiet q sent = All (IsQuiet q) sent
 abbrev pub AllQuiet : Quiet → List SendingEnd → Type 0
 AllQuiet q ends = All (λ (e : SendingEnd). AreQuiet q e.sender.sent) ends
 
--- what the channels of a peer, its commands and the bound keep
-pub record AreSenders (p : Pending) (channels : List Outgoing) (q : Quiet) : Type 0 where
+-- what the channels of a peer, its commands, the bound and the sets keep
+pub record AreSenders (p : Pending) (channels : List Outgoing) (q : Quiet) (ready flying : ChannelSet) : Type 0 where
   pub kept : KeepsAllIn p channels
   pub fits : FitsQuiet q
   pub quiet : AllQuiet q (ends_in p channels)
+  pub sets : KeepsSets ready flying (ends_in p channels)

@@ -1,8 +1,8 @@
 -- The channels of a peer: each key of theirs stands in one ring once, and there is no command that none of them names.
-use Rattle.std.specs.Prelude.{◌≡◌, ℕ, ◌<◌, List, map, All, sum_by, Option, None}
+use Rattle.std.specs.Prelude.{◌≡◌, ℕ, ◌<◌, false, List, [], map, All, sum_by, Option, None}
 use Rattle.slab.specs.Slab.{Slab, get}
 use Rattle.enet_sender.specs.declared.sent.Sent.{Sent}
-use Rattle.enet_sender.specs.Sender.{with_marked, cleared}
+use Rattle.enet_sender.specs.Sender.{Sender, with_marked, cleared}
 use Rattle.enet_sender.specs.Due.{SendingEnd}
 use Rattle.enet_sender.specs.declared.outgoing.Outgoing.{Outgoing}
 use Rattle.enet_sender.specs.declared.pending.Pending.{Pending}
@@ -20,6 +20,11 @@ marked_end now s = record s { sender = with_marked now s.sender }
 -- all that is queued or sent there is dropped
 abbrev pub cleared_end : SendingEnd → SendingEnd
 cleared_end s = record s { sender = cleared s.sender }
+
+-- nothing is queued there, and nothing that is sent is due to go again
+pub record IsStill (s : Sender) : Type 0 where
+  pub queued : s.queued ≡ []
+  pub sent : All (λ (p : Sent). p.transmission.due ≡ false) s.sent
 
 abbrev pub times_in : ℕ → Outgoing → ℕ
 times_in key o = times key (keys_of (rings_of o))

@@ -1,6 +1,6 @@
 //! The channels of a peer over its commands.
 
-ghost use Rattle.std.specs.Prelude.{◌≡◌, ℕ, ◌^◌, true, false, ◌⊎◌, ◌↔◌, ◌<◌, ◌≤◌, OnOk, IfOk, IfErr, IsErrAnd, Some, [], not, length, map, take, slice_get, slice_set};
+ghost use Rattle.std.specs.Prelude.{◌≡◌, ◌≢◌, ℕ, ◌^◌, true, false, ◌⊎◌, ◌↔◌, ◌<◌, ◌≤◌, OnOk, IfOk, IfErr, IsErrAnd, Some, [], not, length, map, take, slice_get, slice_set, All};
 ghost use Rattle.std.specs.List.{range_with_len, list_all, list_any};
 ghost use Rattle.enet_rtt.specs.Clock.{HappensIn};
 ghost use Rattle.enet_seq.specs.Numbering.{wire};
@@ -9,9 +9,12 @@ ghost use Rattle.enet_sender.specs.CommandChoice.{fragment_limit};
 ghost use Rattle.enet_sender.specs.Sender.{after_acknowledgement, acknowledged_bytes, next, with_skipped, ends, is_late, left};
 ghost use Rattle.enet_sender.specs.Due.{SendingEnd, Did, with_submitted, new_end};
 ghost use Rattle.enet_sender.specs.declared.outgoing.Outgoing.{Outgoing};
+ghost use Rattle.enet_sender.specs.declared.sent.Sent.{Sent};
 ghost use Rattle.enet_sender.specs.Rings.{end_in, IsEmpty};
-ghost use Rattle.enet_senders.specs.Senders.{ends_in, KeepsAllIn, marked_end, cleared_end};
+ghost use Rattle.enet_senders.specs.Senders.{ends_in, IsStill, KeepsAllIn, marked_end, cleared_end};
+ghost use Rattle.enet_senders.specs.Sets.{Lacks};
 
+use crate::channel_set::ChannelSet;
 use crate::quiet::Quiet;
 use bytes::Bytes;
 use enet_codec::Refusal;
@@ -27,6 +30,10 @@ pub struct Senders {
     pending: Pending,
     /// While it lasts, no sent command of any channel is late.
     quiet: Quiet,
+    /// A channel that is not in it has nothing queued, and nothing that is due to go again.
+    ready: ChannelSet,
+    /// A channel that is not in it has nothing sent and unacknowledged.
+    flying: ChannelSet,
 }
 
 impl Model for Senders {
@@ -40,7 +47,7 @@ impl Model for Senders {
 
     ghost view = { λ s. ends_in s.pending s.channels.items };
 
-    ghost invariant = { λ s. AreSenders s.pending s.channels.items s.quiet };
+    ghost invariant = { λ s. AreSenders s.pending s.channels.items s.quiet s.ready s.flying };
 }
 
 /// An acknowledgement of a channel's command comes: the other channels stay as they were.
@@ -191,44 +198,81 @@ fn any_ends(
         .any(|channel| channel.ends(pending, now, patience, heard))
 }
 
-/// In how many milliseconds after the moment `now` a sent command of a channel is late first: 0 where one is.
-fn next_late(channels: &[Outgoing], pending: &Pending, now: u32) -> u32
+/// In how many milliseconds after the moment `now` a sent command of a channel is late first: 0 where one is. Channels that aren't
+/// in the set have nothing sent.
+fn next_late(channels: &[Outgoing], pending: &Pending, flying: &ChannelSet, now: u32) -> u32
+    requires { (i : ℕ) (e : SendingEnd) → Lacks flying.now i → slice_get (ends_in pending.now channels.now) i ≡ Some e → e.sender.sent ≡ [] }
     ensures { HappensIn (λ (later : ℕ). list_any (λ (s : SendingEnd). list_any (is_late later) s.sender.sent) (ends_in pending.now channels.now)) now result }
 {
     let mut wait = u32::MAX;
-    for place in 0..channels.len() {
+    let mut place = flying.next(0);
+    'channels: while place < channels.len() {
         let channel = &channels[place];
         wait = wait.min(channel.next_late(pending, now));
+        place = flying.next(place + 1);
     }
     wait
 }
 
-/// Whether no channel has a packet queued.
-fn have_no_packet(channels: &[Outgoing], pending: &Pending) -> bool
-    requires { KeepsAllIn pending.now channels.now }
+/// Whether no channel has a packet queued. Channels that aren't in the set have none.
+fn have_no_packet(channels: &[Outgoing], pending: &Pending, ready: &ChannelSet) -> bool
+    requires kept { KeepsAllIn pending.now channels.now }
+    requires still { (i : ℕ) (e : SendingEnd) → Lacks ready.now i → slice_get (ends_in pending.now channels.now) i ≡ Some e → IsStill e.sender }
     ensures { result ≡ list_all (λ (s : SendingEnd). not (left s.sender).packets) (ends_in pending.now channels.now) }
 {
-    for place in 0..channels.len() {
+    let mut place = ready.next(0);
+    'channels: while place < channels.len() {
         let channel = &channels[place];
         if channel.left(pending).packets {
             return false;
         }
+        place = ready.next(place + 1);
     }
     true
 }
 
-/// Whether no channel has a reliable command queued or unacknowledged.
-fn have_no_reliable(channels: &[Outgoing], pending: &Pending) -> bool
-    requires { KeepsAllIn pending.now channels.now }
+/// Whether no channel has a reliable command queued or unacknowledged. Channels that aren't in the set have nothing queued or sent.
+fn have_no_reliable(channels: &[Outgoing], pending: &Pending, busy: &ChannelSet) -> bool
+    requires kept { KeepsAllIn pending.now channels.now }
+    requires empty { (i : ℕ) (e : SendingEnd) → Lacks busy.now i → slice_get (ends_in pending.now channels.now) i ≡ Some e → (e.sender.queued ≡ []) × (e.sender.sent ≡ []) }
     ensures { result ≡ list_all (λ (s : SendingEnd). not (left s.sender).reliable) (ends_in pending.now channels.now) }
 {
-    for place in 0..channels.len() {
+    let mut place = busy.next(0);
+    'channels: while place < channels.len() {
         let channel = &channels[place];
         if channel.left(pending).reliable {
             return false;
         }
+        place = busy.next(place + 1);
     }
     true
+}
+
+/// A channel changed: it stays in the set unless nothing of it is sent.
+fn note_sent(channels: &[Outgoing], pending: &Pending, flying: &mut ChannelSet, channel: u8)
+    requires kept { KeepsAllIn pending.now channels.now }
+    requires inside { channel < length channels.now }
+    ensures this { (e : SendingEnd) → Lacks flying.new channel → slice_get (ends_in pending.now channels.now) channel ≡ Some e → e.sender.sent ≡ [] }
+    ensures others { (i : ℕ) → i ≢ channel → Lacks flying.new i → Lacks flying.old i }
+{
+    if channels[usize::from(channel)].left(pending).reliable {
+        flying.insert(channel);
+    } else {
+        flying.remove(channel);
+    }
+}
+
+/// Nothing of a channel was due, nor is anything that was sent due to go again: where nothing is queued it leaves the set.
+fn note_still(channels: &[Outgoing], pending: &Pending, ready: &mut ChannelSet, channel: u8)
+    requires kept { KeepsAllIn pending.now channels.now }
+    requires inside { channel < length channels.now }
+    requires none { (e : SendingEnd) → slice_get (ends_in pending.now channels.now) channel ≡ Some e → All (λ (p : Sent). p.transmission.due ≡ false) e.sender.sent }
+    ensures this { (e : SendingEnd) → Lacks ready.new channel → slice_get (ends_in pending.now channels.now) channel ≡ Some e → IsStill e.sender ⊎ Lacks ready.old channel }
+    ensures others { (i : ℕ) → i ≢ channel → Lacks ready.new i → Lacks ready.old i }
+{
+    if !channels[usize::from(channel)].left(pending).packets {
+        ready.remove(channel);
+    }
 }
 
 /// So many channels to which nothing was submitted, no command being kept.
@@ -259,6 +303,8 @@ impl Senders {
             channels,
             pending,
             quiet: Quiet::new(),
+            ready: ChannelSet::none(),
+            flying: ChannelSet::none(),
         })
     }
 
@@ -291,6 +337,7 @@ impl Senders {
         if let Err(refused) = submit_on(channels, pending, channel, flags, body, mtu) {
             return Err(refused);
         }
+        self.ready.insert(channel);
         Ok(())
     }
 
@@ -325,10 +372,24 @@ impl Senders {
             buf,
             at,
         );
-        if let Due::Sent { .. } = due {
-            self.quiet = self.quiet.after_send(now, timeout);
+        match due {
+            Due::Sent { .. } => {
+                self.quiet = self.quiet.after_send(now, timeout);
+                note_sent(&self.channels, &self.pending, &mut self.flying, channel);
+            }
+            Due::Nothing => note_still(&self.channels, &self.pending, &mut self.ready, channel),
+            Due::NoRoom => {}
         }
         due
+    }
+
+    /// The first channel from `from` on of which something may go. Those that are passed over have nothing queued, and nothing
+    /// that is due to go again; where there is no other, it is past the last one.
+    pub fn next_ready(&self, from: usize) -> usize
+        ensures later { from ≤ result }
+        ensures still { (i : ℕ) (e : SendingEnd) → from ≤ i → i < result → slice_get self.now i ≡ Some e → IsStill e.sender }
+    {
+        self.ready.next(from)
     }
 
     /// Drops the rest of the unreliable packet of a channel whose first command was written last. The numbers stay used.
@@ -346,7 +407,9 @@ impl Senders {
         ensures bytes { (s : SendingEnd) → slice_get self.old channel ≡ Some s → result ≡ acknowledged_bytes s.sender number }
         ensures ends { (s : SendingEnd) → slice_get self.old channel ≡ Some s → self.new ≡ slice_set self.old channel (record s { sender = after_acknowledgement s.sender number }) }
     {
-        acknowledge_on(&mut self.channels, &mut self.pending, channel, number)
+        let bytes = acknowledge_on(&mut self.channels, &mut self.pending, channel, number);
+        note_sent(&self.channels, &self.pending, &mut self.flying, channel);
+        bytes
     }
 
     /// Whether at the moment `now`, in milliseconds, a sent command of a channel has waited out its timeout, and its peer,
@@ -368,7 +431,7 @@ impl Senders {
         if self.quiet.covers(now) {
             return false;
         }
-        let wait = next_late(&self.channels, &self.pending, now);
+        let wait = next_late(&self.channels, &self.pending, &self.flying, now);
         self.quiet = self.quiet.found(now, wait);
         wait == 0
     }
@@ -378,7 +441,7 @@ impl Senders {
     pub fn next_late(&self, now: u32) -> u32
         ensures { HappensIn (λ (later : ℕ). list_any (λ (s : SendingEnd). list_any (is_late later) s.sender.sent) self.now) now result }
     {
-        next_late(&self.channels, &self.pending, now)
+        next_late(&self.channels, &self.pending, &self.flying, now)
     }
 
     /// All that is late at the moment `now`, in milliseconds, is due to go again, and waits twice as long then.
@@ -386,20 +449,23 @@ impl Senders {
         ensures { self.new ≡ map (marked_end now) self.old }
     {
         mark_each(&mut self.channels, &mut self.pending, now);
+        self.ready.join(&self.flying);
     }
 
     /// Whether no channel has a packet queued.
     pub fn have_no_packet(&self) -> bool
         ensures { result ≡ list_all (λ (s : SendingEnd). not (left s.sender).packets) self.now }
     {
-        have_no_packet(&self.channels, &self.pending)
+        have_no_packet(&self.channels, &self.pending, &self.ready)
     }
 
     /// Whether no channel has a reliable command queued or unacknowledged.
     pub fn have_no_reliable(&self) -> bool
         ensures { result ≡ list_all (λ (s : SendingEnd). not (left s.sender).reliable) self.now }
     {
-        have_no_reliable(&self.channels, &self.pending)
+        let mut busy = self.ready;
+        busy.join(&self.flying);
+        have_no_reliable(&self.channels, &self.pending, &busy)
     }
 
     /// Drops all that is queued or sent. The numbers go on from where they stand.
@@ -407,6 +473,8 @@ impl Senders {
         ensures { self.new ≡ map cleared_end self.old }
     {
         clear_each(&mut self.channels, &mut self.pending);
+        self.ready = ChannelSet::none();
+        self.flying = ChannelSet::none();
     }
 
     /// Keeps so many channels, the first ones. The commands of the others are dropped.

@@ -1,13 +1,38 @@
-use Rattle.std.proofs.Common.{◌≡◌, ◌<◌, ◌≤◌, ◌+◌, ◌%◌, ℕ, List, refl, sym, ap, subst, ◌∙◌, arith, length}
+use Rattle.std.proofs.Common.{◌≡◌, ◌<◌, ◌≤◌, ◌+◌, ◌-◌, ◌%◌, ℕ, List, refl, sym, ap, subst, ◌∙◌, arith, length}
 use Rattle.std.proofs.Math.Nat.{mod-lt}
 use Rattle.std.proofs.lemmas.List.{length-set}
 use Rattle.enet_sender.specs.Due.{SendingEnd}
 use Rattle.enet_outbox.proofs.Channels.{ChannelsAt, channels-begin, channels-turn, channels-end, channels-shut}
 use Rattle.enet_outbox.proofs.ChannelTurns.{some-sender}
+use Rattle.enet_outbox.proofs.Passing.{channels-pass}
+use Rattle.std.specs.List.{slice_get}
 use Rattle.enet_outbox.proofs.packing.pack_channels.Goals as goal
 
 pub turns-init : goal.turns-init
-turns-init c = record { len = refl; stage = λ f h is e. channels-begin h is e }
+turns-init c =
+    let turn = c.next_turn-turn.ensures in record {
+      len = refl;
+      within = turn.within;
+      stage = λ f h is e. channels-pass c.next_turn-turn.result 0 c.next_turn-turn.result (omega arith) turn.within (λ i s low less there. turn.still i s low less there) (channels-begin h is e);
+    }
+
+pub next_turn-turn-requires-in-turns-clause-turn : goal.next_turn-turn-requires-in-turns-clause-turn
+next_turn-turn-requires-in-turns-clause-turn c =
+    let i : ℕ = (c.args.first + c.turns.turn) % c.len-channels.result in
+    let below : i < c.len-channels.result = mod-lt (c.args.first + c.turns.turn) (omega (arith, c.turns-test.true)) in
+    let s = some-sender c.turns.senders i (omega (arith, c.turns.invariant.len, c.len-channels.ensures)) in
+    let r = c.pack_channel-progress.ensures s.0 s.1 in
+    let long : length c.pack_channel-progress.new.senders ≡ length c.turns.senders = ap (λ (xs : List SendingEnd). length xs) r.1.0 ∙ length-set c.turns.senders i r.0 in
+    omega (arith, c.turns.invariant.len, c.len-channels.ensures, c.turns-test.true)
+
+pub next_turn-turn-requires-in-turns-clause-few : goal.next_turn-turn-requires-in-turns-clause-few
+next_turn-turn-requires-in-turns-clause-few c =
+    let i : ℕ = (c.args.first + c.turns.turn) % c.len-channels.result in
+    let below : i < c.len-channels.result = mod-lt (c.args.first + c.turns.turn) (omega (arith, c.turns-test.true)) in
+    let s = some-sender c.turns.senders i (omega (arith, c.turns.invariant.len, c.len-channels.ensures)) in
+    let r = c.pack_channel-progress.ensures s.0 s.1 in
+    let long : length c.pack_channel-progress.new.senders ≡ length c.turns.senders = ap (λ (xs : List SendingEnd). length xs) r.1.0 ∙ length-set c.turns.senders i r.0 in
+    omega (arith, c.turns.invariant.len, c.requires.few)
 
 pub turns-preserved : goal.turns-preserved
 turns-preserved c =
@@ -21,11 +46,20 @@ turns-preserved c =
     let inside : i < length c.turns.senders = omega arith in
     let s = some-sender c.turns.senders i inside in
     let r = c.pack_channel-progress.ensures s.0 s.1 in
+    let later = c.pack_channel-progress.new.senders in
+    let long : length later ≡ n = ap (λ (xs : List SendingEnd). length xs) r.1.0 ∙ length-set c.turns.senders i r.0 ∙ same in
+    let turn = c.next_turn-turn-in-turns.ensures in
+    let next = c.next_turn-turn-in-turns.result in
+    let ends : next ≤ n = omega (arith, turn.within, long) in
+    let rest : (c.turns.turn + 1) + (next - (c.turns.turn + 1)) ≡ next = omega (arith, turn.later) in
     record {
-      len = ap (λ (xs : List SendingEnd). length xs) r.1.0 ∙ length-set c.turns.senders i r.0 ∙ same;
+      len = long;
+      within = ends;
       stage = λ f h is e.
-          subst (λ (ss : List SendingEnd). ChannelsAt c.args.pace c.args.first n (c.turns.turn + 1) f ss c.pack_channel-progress.new.flow c.pack_channel-progress.result c.pack_channel-progress.new.buf) (sym r.1.0)
-          (channels-turn i s.0 r.0 (c.turns.invariant.stage f h is e) (omega arith) (ap (λ m. k % m) count) s.1 c.if-progress.false r.1.1);
+          channels-pass (next - (c.turns.turn + 1)) (c.turns.turn + 1) next rest ends
+          (λ j s at less there. turn.still j s at less (ap (λ m. slice_get later ((c.args.first + j) % m)) long ∙ there))
+          (subst (λ (ss : List SendingEnd). ChannelsAt c.args.pace c.args.first n (c.turns.turn + 1) f ss c.pack_channel-progress.new.flow c.pack_channel-progress.result c.pack_channel-progress.new.buf) (sym r.1.0)
+          (channels-turn i s.0 r.0 (c.turns.invariant.stage f h is e) (omega arith) (ap (λ m. k % m) count) s.1 c.if-progress.false r.1.1));
     }
 
 pub returns-clause-packs : goal.returns-clause-packs

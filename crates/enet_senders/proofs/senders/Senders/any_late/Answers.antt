@@ -28,6 +28,7 @@ invariant_of-self c =
           (λ later low less.
           ap (λ (os : List Outgoing). list_any (λ (s : SendingEnd). list_any (is_late later) s.sender.sent) (ends_in c.self.inside.pending os)) (sym c.deref.ensures.value) ∙ c.next_late-wait.ensures.before later low less)
           c.self.invariant.quiet);
+      sets = c.self.invariant.sets;
     }
 
 pub returns-clause-found : goal.returns-clause-found
