@@ -23,10 +23,13 @@ impl Slot {
     pub(crate) fn is_connection(&self, from: Addr, connect_id: u32) -> bool
         ensures { result ≡ is_connection from connect_id self.now.slot }
     {
+        if from != self.address {
+            return false;
+        }
         let Some(peer) = &self.peer else {
             return false;
         };
-        !is_deaf(peer.state()) && self.address == from && peer.terms().connect_id == connect_id
+        !is_deaf(peer.state()) && peer.terms().connect_id == connect_id
     }
 
     /// Why it takes a datagram of this session from an address not in: S3 where it is free or its peer takes nothing in, S4
