@@ -25,6 +25,7 @@ use Rattle.enet_host.specs.Shown.{KeepsHost}
 use Rattle.enet_host.specs.Private.Shown.{SlotGivesEvent}
 use Rattle.enet_host.specs.declared.skips.Skips.{Skips}
 use Rattle.enet_host.specs.Skips.{entry, KeepsSkips}
+use Rattle.enet_host.specs.Private.Skips.{AllAwake}
 use Rattle.enet_host.proofs.Skipping.{skips-none, skips-set}
 use Rattle.enet_slot.proofs.Shown.{length-shown}
 use Rattle.enet_slot.specs.Giving.{limits_of, unused_slot, joined_terms, joined_slots, given, offer_from, server_from, Basis, asking, answering}
@@ -285,7 +286,7 @@ woken-kept peers generations from event skips later xs k woken = (k.held, woken 
 in-range : (c : Config) → is_in_range c ≡ true → (0 < c.peers) × (c.peers ≤ 4095) × (c.generations ≤ greatest)
 in-range c h = (grind (arith, nat_tests), grind (arith, nat_tests), grind (arith, nat_tests))
 
-keeps-fresh : (c : Config) (r : Bool) (skips : Skips) (xs : List Slot) (slots : List SlotState) → r ≡ is_in_range c → r ≡ true → skips.next.items ≡ replicate c.peers 0 → all_shown xs ≡ slots
+keeps-fresh : (c : Config) (r : Bool) (skips : Skips) (xs : List Slot) (slots : List SlotState) → r ≡ is_in_range c → r ≡ true → AllAwake c.peers skips → all_shown xs ≡ slots
     → length slots ≡ c.peers → HoldsNoFree slots → KeepsHost (record { peers = c.peers; generations = c.generations; service_from = 0; event_from = 0 }) skips xs
 keeps-fresh c r skips xs slots is go awake e count held =
     let h : (0 < c.peers) × (c.peers ≤ 4095) × (c.generations ≤ greatest) = in-range c (sym is ∙ go) in
@@ -299,11 +300,11 @@ keeps-fresh c r skips xs slots is go awake e count held =
       resting = skips-none c.peers skips (all_shown xs) awake;
     }
 
-pub keeps-opened : (c : Config) (r : Bool) (skips : Skips) (xs : List Slot) → r ≡ is_in_range c → r ≡ true → skips.next.items ≡ replicate c.peers 0 → all_shown xs ≡ replicate c.peers unused_slot
+pub keeps-opened : (c : Config) (r : Bool) (skips : Skips) (xs : List Slot) → r ≡ is_in_range c → r ≡ true → AllAwake c.peers skips → all_shown xs ≡ replicate c.peers unused_slot
     → KeepsHost (record { peers = c.peers; generations = c.generations; service_from = 0; event_from = 0 }) skips xs
 keeps-opened c r skips xs is go awake e = keeps-fresh c r skips xs (replicate c.peers unused_slot) is go awake e (length-replicate c.peers unused_slot) (unused-held c.peers)
 
-pub keeps-joined : (c : Config) (address : Addr) (r : Bool) (skips : Skips) (xs : List Slot) → r ≡ is_in_range c → r ≡ true → skips.next.items ≡ replicate c.peers 0
+pub keeps-joined : (c : Config) (address : Addr) (r : Bool) (skips : Skips) (xs : List Slot) → r ≡ is_in_range c → r ≡ true → AllAwake c.peers skips
     → all_shown xs ≡ joined_slots c address → KeepsHost (record { peers = c.peers; generations = c.generations; service_from = 0; event_from = 0 }) skips xs
 keeps-joined c address r skips xs is go awake e =
     keeps-fresh c r skips xs (joined_slots c address) is go awake e

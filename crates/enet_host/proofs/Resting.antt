@@ -8,11 +8,11 @@ use Rattle.enet_peer.specs.Calls as peers
 use Rattle.enet_slot.specs.Slot.{SlotState, changed}
 use Rattle.enet_host.specs.declared.calm.Calm.{Calm}
 use Rattle.enet_host.specs.declared.skips.Skips.{Skips}
-use Rattle.enet_host.specs.Skips.{entry, IsWithin, Rests, KeepsSkips}
+use Rattle.enet_host.specs.Skips.{entry, IsWithin, Rests, rest_at, IsDueAfter, KeepsSkips}
 use Rattle.enet_host.specs.Private.Skips.{IsPartOf, SlotRests, PassesOver, PassesTurns, AwakeAt}
 use Rattle.enet_host.specs.Private.Ticking.{all_ticked}
 use Rattle.enet_host.proofs.Asking.{some-same}
-use Rattle.enet_host.proofs.Skipping.{rests-for-part}
+use Rattle.enet_host.proofs.Skipping.{rests-for-part, Noted, noted-here}
 use Rattle.enet_host.proofs.Turning.{turn-from-zero}
 
 -- what is passed over, and what is awake, where slot 0 is first
@@ -54,24 +54,37 @@ ticked-rests now i calm s t old was fits within r is =
     let there : slice_get (all_ticked now old) i ≡ Some (f s) = slice_get-map f old i ∙ ap (option_map f) was in
     subst (Rests calm) (sym (r.still now fits within) ∙ some-same (slice_get (all_ticked now old) i) (f s) t there is) r
 
+ticked-due : (now i : ℕ) (calm rest : Calm) (s t : SlotState) (old : List SlotState) → slice_get old i ≡ Some s → now < 2 ^ 32 → IsWithin calm now → Rests calm s
+    → slice_get (all_ticked now old) i ≡ Some t → IsDueAfter rest s → IsDueAfter rest t
+ticked-due now i calm rest s t old was fits within r is due =
+    let f = λ (u : SlotState). changed (λ p. peers.ticked p now) u in
+    let there : slice_get (all_ticked now old) i ≡ Some (f s) = slice_get-map f old i ∙ ap (option_map f) was in
+    subst (IsDueAfter rest) (sym (r.still now fits within) ∙ some-same (slice_get (all_ticked now old) i) (f s) t there is) due
+
 -- so they rest afterwards, too
 pub ticked-keeps : (n now : ℕ) (skips : Skips) (old new : List SlotState) → KeepsSkips n skips old → now < 2 ^ 32 → IsWithin skips.calm now → new ≡ all_ticked now old → KeepsSkips n skips new
 ticked-keeps n now skips old new k fits within same =
     subst (KeepsSkips n skips) (sym same)
     (record {
       marks = k.marks;
+      noted = k.noted;
       asleep = λ i t there less.
           let len = length-map old (changed (λ p. peers.ticked p now)) in
           let inside : i < length old = subst (λ (c : ℕ). i < c) len (slice_get_within (all_ticked now old) i t there) in
           let was : slice_get old i ≡ Some (get_or old i t) = slice_get-get_or old i t inside in
           ticked-rests now i skips.calm (get_or old i t) t old was fits within (k.asleep i (get_or old i t) was less) there;
+      due = λ i t there less.
+          let len = length-map old (changed (λ p. peers.ticked p now)) in
+          let inside : i < length old = subst (λ (c : ℕ). i < c) len (slice_get_within (all_ticked now old) i t there) in
+          let was : slice_get old i ≡ Some (get_or old i t) = slice_get-get_or old i t inside in
+          ticked-due now i skips.calm (rest_at skips.rests.items i) (get_or old i t) t old was fits within (k.asleep i (get_or old i t) was less) there (k.due i (get_or old i t) was less);
     })
 
 -- The slot `number` was awake, and all from it to `after` sleep; its entry becomes its own number, or `after` where it fell asleep.
 fell-asleep : (old new : Skips) (slots : List SlotState) (n number after v : ℕ) → KeepsSkips n old slots → number < n → entry old.next.items number ≤ number
     → ((i : ℕ) → number < i → i < v → i < entry old.next.items i) → (number < v → SlotRests new.calm slots number) → IsPartOf new.calm old.calm
-    → new.next.items ≡ slice_set old.next.items number v → KeepsSkips n new slots
-fell-asleep old new slots n number after v k inside awake run sleeps part set =
+    → Noted old.rests.items new.rests.items slots number v → new.next.items ≡ slice_set old.next.items number v → KeepsSkips n new slots
+fell-asleep old new slots n number after v k inside awake run sleeps part noted set =
     let xs = old.next.items in
     let here : entry new.next.items number ≡ v = ap (λ (ys : List ℕ). entry ys number) set ∙ get_or-set_same xs number v 0 (subst (λ (c : ℕ). number < c) (sym k.marks.count) inside) in
     let other : (i : ℕ) → i ≢ number → entry new.next.items i ≡ entry xs i = λ i apart. ap (λ (ys : List ℕ). entry ys i) set ∙ get_or-set_other xs number i v 0 apart in
@@ -99,19 +112,27 @@ fell-asleep old new slots n number after v k inside awake run sleeps part set =
             sleeps reach s (subst (λ (m : ℕ). slice_get slots m ≡ Some s) at there)
         | inr apart ↦ rests-for-part new.calm old.calm s part (k.asleep i s there (subst (λ (e : ℕ). i < e) (other i apart) less))
       ];
+      noted = noted.count ∙ k.noted;
+      due = λ i s there less. elim (cases_eq i number) [
+        | inl at ↦
+            let reach : number < v = omega (arith, less, ap (entry new.next.items) at, here, at) in
+            subst (λ (m : ℕ). IsDueAfter (rest_at new.rests.items m) s) (sym at)
+            (noted-here old.rests.items new.rests.items slots number v noted reach s (subst (λ (m : ℕ). slice_get slots m ≡ Some s) at there))
+        | inr apart ↦ subst (λ (c : Calm). IsDueAfter c s) (sym (noted.others i apart)) (k.due i s there (subst (λ (e : ℕ). i < e) (other i apart) less))
+      ];
     }
 
 -- a slot that was awake was looked at
 pub looked-at : (old new : Skips) (calm : Calm) (slots : List SlotState) (n number after v : ℕ) → KeepsSkips n old slots → number < n → entry old.next.items number ≤ number
     → PassesTurns old.next.items n 0 (number + 1) after → after ≤ n → (v ≡ number) ⊎ ((v ≡ after) × SlotRests calm slots number) → IsPartOf calm old.calm → new.calm ≡ calm
-    → new.next.items ≡ slice_set old.next.items number v → KeepsSkips n new slots
-looked-at old new calm slots n number after v k inside awake passes end (inl same) part is set =
+    → Noted old.rests.items new.rests.items slots number v → new.next.items ≡ slice_set old.next.items number v → KeepsSkips n new slots
+looked-at old new calm slots n number after v k inside awake passes end (inl same) part is noted set =
     fell-asleep old new slots n number after v k inside awake (λ i past less. absurd (omega (arith, past, less, same))) (λ less. absurd (omega (arith, less, same)))
-    (subst (λ (c : Calm). IsPartOf c old.calm) (sym is) part) set
-looked-at old new calm slots n number after v k inside awake passes end (inr asleep) part is set =
+    (subst (λ (c : Calm). IsPartOf c old.calm) (sym is) part) noted set
+looked-at old new calm slots n number after v k inside awake passes end (inr asleep) part is noted set =
     fell-asleep old new slots n number after v k inside awake
     (λ i past less. passed-slot old.next.items n (number + 1) after i passes (omega (arith, less, asleep.0, end)) (omega (arith, past)) (omega (arith, less, asleep.0)))
-    (λ less. subst (λ (c : Calm). SlotRests c slots number) (sym is) asleep.1) (subst (λ (c : Calm). IsPartOf c old.calm) (sym is) part) set
+    (λ less. subst (λ (c : Calm). SlotRests c slots number) (sym is) asleep.1) (subst (λ (c : Calm). IsPartOf c old.calm) (sym is) part) noted set
 
 -- a later one is awake as before
 pub later-awake : (xs ys : List ℕ) (n number after v : ℕ) → number < after → ys ≡ slice_set xs number v → AwakeAt xs n 0 after → AwakeAt ys n 0 after
@@ -122,8 +143,8 @@ later-awake xs ys n number after v later set awake = λ i inside at.
 
 -- one entry passes over slots that are passed over already
 pub joined : (old new : Skips) (slots : List SlotState) (n start last : ℕ) → KeepsSkips n old slots → PassesOver old.next.items start last → start < last → start < n
-    → new.calm ≡ old.calm → new.next.items ≡ slice_set old.next.items start last → KeepsSkips n new slots
-joined old new slots n start last k run some inside is set =
+    → new.calm ≡ old.calm → new.rests.items ≡ old.rests.items → new.next.items ≡ slice_set old.next.items start last → KeepsSkips n new slots
+joined old new slots n start last k run some inside is same_rests set =
     let xs = old.next.items in
     let here : entry new.next.items start ≡ last = ap (λ (ys : List ℕ). entry ys start) set ∙ get_or-set_same xs start last 0 (subst (λ (c : ℕ). start < c) (sym k.marks.count) inside) in
     let other : (i : ℕ) → i ≢ start → entry new.next.items i ≡ entry xs i = λ i apart. ap (λ (ys : List ℕ). entry ys i) set ∙ get_or-set_other xs start i last 0 apart in
@@ -143,7 +164,9 @@ joined old new slots n start last k run some inside is set =
           | inr apart ↦ still i (k.marks.passed i j low (subst (λ (e : ℕ). i < e) (other j apart) over))
         ];
       };
+      noted = ap length same_rests ∙ k.noted;
       asleep = λ i s there less. subst (λ (c : Calm). Rests c s) (sym is) (k.asleep i s there (was i less));
+      due = λ i s there less. subst (λ (rs : List Calm). IsDueAfter (rest_at rs i) s) (sym same_rests) (k.due i s there (was i less));
     }
 
 -- those after slot `number` are passed over once that was marked

@@ -1,5 +1,5 @@
 -- Slots that sleep are passed over.
-use Rattle.std.proofs.Common.{◌≡◌, ◌≢◌, ℕ, ◌+◌, ◌-◌, ◌<◌, ◌≤◌, ◌⊎◌, inl, inr, min, Some, List, length, replicate, slice_get, slice_set, sym, ap, subst, ◌∙◌, arith}
+use Rattle.std.proofs.Common.{◌≡◌, ◌≢◌, ℕ, ◌+◌, ◌-◌, ◌<◌, ◌≤◌, ◌⊎◌, inl, inr, min, Some, List, length, replicate, slice_get, slice_set, refl, sym, ap, subst, ◌∙◌, arith}
 use Rattle.std.proofs.lemmas.Bool.{cases_lt, cases_eq}
 use Rattle.std.proofs.lemmas.List.{get_or-set_other, get_or-set_same, get_or-replicate, get_or_past, length-set, length-replicate}
 use Rattle.enet_slot.specs.declared.slot.Slot.{Slot}
@@ -14,8 +14,9 @@ use Rattle.enet_host.specs.Serving.{Served}
 use Rattle.enet_host.specs.Private.Shown.{SlotGives, SlotPasses, SlotGivesEvent}
 use Rattle.enet_host.specs.declared.calm.Calm.{Calm}
 use Rattle.enet_host.specs.declared.skips.Skips.{Skips}
-use Rattle.enet_host.specs.Skips.{entry, Marks, Rests, KeepsSkips}
-use Rattle.enet_host.specs.Private.Skips.{IsPartOf, SlotRests, PassesTurns, AwakeAt}
+use Rattle.enet_host.specs.Skips.{entry, Marks, Rests, rest_at, IsDueAfter, KeepsSkips}
+use Rattle.enet_host.specs.Private.Skips.{AllAwake, IsPartOf, SlotRests, SlotIsDue, StaysAsleep, PassesTurns, AwakeAt}
+use Rattle.enet_host.proofs.Bringing.{rests-until-due}
 use Rattle.enet_host.proofs.Asking.{get-set-other}
 use Rattle.enet_host.proofs.Turning.{turn-below, same-turn, passed-between}
 
@@ -23,20 +24,25 @@ use Rattle.enet_host.proofs.Turning.{turn-below, same-turn, passed-between}
 none-marked : (n i : ℕ) → entry (replicate n 0) i ≡ 0
 none-marked n i = elim (cases_lt i n) [ inl inside ↦ get_or-replicate n i 0 0 inside | inr past ↦ get_or_past (replicate n 0) i 0 (omega (arith, past, length-replicate {A = ℕ} n 0)) ]
 
-pub skips-none : (n : ℕ) (skips : Skips) (slots : List SlotState) → skips.next.items ≡ replicate n 0 → KeepsSkips n skips slots
-skips-none n skips slots e =
-    let none : (i : ℕ) → entry skips.next.items i ≡ 0 = λ i. ap (λ (xs : List ℕ). entry xs i) e ∙ none-marked n i in
+pub skips-none : (n : ℕ) (skips : Skips) (slots : List SlotState) → AllAwake n skips → KeepsSkips n skips slots
+skips-none n skips slots all =
+    let none : (i : ℕ) → entry skips.next.items i ≡ 0 = λ i. ap (λ (xs : List ℕ). entry xs i) all.0 ∙ none-marked n i in
     record {
-      marks = record { count = ap length e ∙ length-replicate {A = ℕ} n 0; passed = λ i j low less. absurd (omega (arith, less, none j)) };
+      marks = record { count = ap length all.0 ∙ length-replicate {A = ℕ} n 0; passed = λ i j low less. absurd (omega (arith, less, none j)) };
+      noted = all.1;
       asleep = λ i s there less. absurd (omega (arith, less, none i));
+      due = λ i s there less. absurd (omega (arith, less, none i));
     }
 
 -- a slot that is awake may change
 pub skips-set : (n : ℕ) (skips : Skips) (slots : List SlotState) (i : ℕ) (t : SlotState) → KeepsSkips n skips slots → entry skips.next.items i ≤ i → KeepsSkips n skips (slice_set slots i t)
 skips-set n skips slots i t k awake = record {
   marks = k.marks;
+  noted = k.noted;
   asleep = λ j s there less. elim (cases_eq j i)
       [ inl same ↦ absurd (omega (arith, subst (λ (m : ℕ). m < entry skips.next.items m) same less, awake)) | inr other ↦ k.asleep j s (get-set-other slots i j t s other there) less ];
+  due = λ j s there less. elim (cases_eq j i)
+      [ inl same ↦ absurd (omega (arith, subst (λ (m : ℕ). m < entry skips.next.items m) same less, awake)) | inr other ↦ k.due j s (get-set-other slots i j t s other there) less ];
 }
 
 pub skips-at : (n : ℕ) (skips : Skips) (xs : List Slot) (i : ℕ) (y : Slot) → KeepsSkips n skips (all_shown xs) → entry skips.next.items i ≤ i → KeepsSkips n skips (all_shown (slice_set xs i y))
@@ -148,9 +154,9 @@ passed-after old new n number place i j w marks low past over =
       ]
     ]
 
-pub woken : (old new : Skips) (number place n : ℕ) (slots : List SlotState) → Waking old.next.items new.next.items number place → new.calm ≡ old.calm
+pub woken : (old new : Skips) (number place n : ℕ) (slots : List SlotState) → Waking old.next.items new.next.items number place → new.calm ≡ old.calm → new.rests.items ≡ old.rests.items
     → ((m : ℕ) → m + 1 ≡ place → entry new.next.items m ≤ m) → KeepsSkips n old slots → KeepsSkips n new slots
-woken old new number place n slots w calm stop k =
+woken old new number place n slots w calm rests stop k =
     let olds = old.next.items in
     let news = new.next.items in
     record {
@@ -159,34 +165,51 @@ woken old new number place n slots w calm stop k =
         passed = λ i j low over. elim (cases_lt j place)
             [ inl less ↦ passed-before olds news n number place i j w k.marks stop low less over | inr past ↦ passed-after olds news n number place i j w k.marks low past over ];
       };
+      noted = ap length rests ∙ k.noted;
       asleep = λ i s there less. subst (λ (c : Calm). Rests c s) (sym calm) (k.asleep i s there (still-marked olds news number place i w less));
+      due = λ i s there less. subst (λ (rs : List Calm). IsDueAfter (rest_at rs i) s) (sym rests) (k.due i s there (still-marked olds news number place i w less));
     }
 
 -- The slots from `number` on were looked at anew; `next` is the first of them that is awake, or their number.
-pub record Refreshed (calm : Calm) (xs : List ℕ) (slots : List SlotState) (n number next : ℕ) : Type 0 where
+pub record Refreshed (calm : Calm) (rests : List Calm) (xs : List ℕ) (slots : List SlotState) (n number next : ℕ) : Type 0 where
   pub count : length xs ≡ n
   pub all : length slots ≡ n
   pub within : number ≤ n
   pub low : number ≤ next
   pub run : (i : ℕ) → number ≤ i → i < next → i < entry xs i
   pub passed : (i j : ℕ) → number ≤ j → j ≤ i → i < entry xs j → i < entry xs i
+  pub noted : length rests ≡ n
   pub asleep : (i : ℕ) (s : SlotState) → number ≤ i → slice_get slots i ≡ Some s → i < entry xs i → Rests calm s
+  pub due : (i : ℕ) (s : SlotState) → number ≤ i → slice_get slots i ≡ Some s → i < entry xs i → IsDueAfter (rest_at rests i) s
 
-pub refreshed-first : (calm : Calm) (xs : List ℕ) (slots : List SlotState) (n : ℕ) → length xs ≡ n → length slots ≡ n → Refreshed calm xs slots n n n
-refreshed-first calm xs slots n count all = record {
+pub refreshed-first : (calm : Calm) (rests : List Calm) (xs : List ℕ) (slots : List SlotState) (n : ℕ) → length xs ≡ n → length slots ≡ n → length rests ≡ n
+    → Refreshed calm rests xs slots n n n
+refreshed-first calm rests xs slots n count all noted = record {
   count = count;
   all = all;
   within = omega arith;
   low = omega arith;
   run = λ i past less. absurd (omega (arith, past, less));
   passed = λ i j past low less. absurd (omega (arith, less, get_or_past xs j 0 (omega (arith, past, count))));
+  noted = noted;
   asleep = λ i s past there less. absurd (omega (arith, less, get_or_past xs i 0 (omega (arith, past, count))));
+  due = λ i s past there less. absurd (omega (arith, less, get_or_past xs i 0 (omega (arith, past, count))));
 }
 
+-- one slot was looked at: only its note changed, and is right where the slot sleeps
+pub record Noted (old new : List Calm) (slots : List SlotState) (i v : ℕ) : Type 0 where
+  pub here : (v ≡ i) ⊎ SlotIsDue new slots i
+  pub others : (j : ℕ) → j ≢ i → rest_at new j ≡ rest_at old j
+  pub count : length new ≡ length old
+
+pub noted-here : (old new : List Calm) (slots : List SlotState) (i v : ℕ) → Noted old new slots i v → i < v → SlotIsDue new slots i
+noted-here old new slots i v m more = elim m.here [ inl same ↦ absurd (omega (arith, same, more)) | inr due ↦ due ]
+
 -- one slot more, whose entry is its own number, or past it where it sleeps
-refreshed-by : (old calm : Calm) (xs : List ℕ) (slots : List SlotState) (n number next m v : ℕ) → Refreshed old xs slots n number next → IsPartOf calm old → m + 1 ≡ number → m ≤ v
-    → ((i : ℕ) → m < i → i < v → i < entry xs i) → (m < v → SlotRests calm slots m) → Refreshed calm (slice_set xs m v) slots n m v
-refreshed-by old calm xs slots n number next m v r part is low run sleeps =
+refreshed-by : (old calm : Calm) (rs rests : List Calm) (xs : List ℕ) (slots : List SlotState) (n number next m v : ℕ) → Refreshed old rs xs slots n number next → IsPartOf calm old
+    → Noted rs rests slots m v → m + 1 ≡ number → m ≤ v
+    → ((i : ℕ) → m < i → i < v → i < entry xs i) → (m < v → SlotRests calm slots m) → Refreshed calm rests (slice_set xs m v) slots n m v
+refreshed-by old calm rs rests xs slots n number next m v r part noted is low run sleeps =
     let inside : m < length xs = omega (arith, is, r.within, r.count) in
     let here : entry (slice_set xs m v) m ≡ v = get_or-set_same xs m v 0 inside in
     let other : (i : ℕ) → m < i → entry (slice_set xs m v) i ≡ entry xs i = λ i more. get_or-set_other xs m i v 0 (λ same. absurd (omega (arith, more, same))) in
@@ -210,20 +233,84 @@ refreshed-by old calm xs slots n number next m v r part is low run sleeps =
             let same : i ≡ m = omega (arith, past, at) in
             sleeps (omega (arith, less, ap (entry (slice_set xs m v)) same, here, same)) s (subst (λ (k : ℕ). slice_get slots k ≡ Some s) same there)
       ];
+      noted = noted.count ∙ r.noted;
+      due = λ i s past there less. elim (cases_lt m i) [
+        | inl more ↦
+            subst (λ (c : Calm). IsDueAfter c s) (sym (noted.others i (λ same. absurd (omega (arith, more, same)))))
+            (r.due i s (omega (arith, more, is)) there (subst (λ (e : ℕ). i < e) (other i more) less))
+        | inr at ↦
+            let same : i ≡ m = omega (arith, past, at) in
+            let slept : m < v = omega (arith, less, ap (entry (slice_set xs m v)) same, here, same) in
+            subst (λ (k : ℕ). IsDueAfter (rest_at rests k) s) (sym same) (noted-here rs rests slots m v noted slept s (subst (λ (k : ℕ). slice_get slots k ≡ Some s) same there))
+      ];
     }
 
-pub refreshed-more : (old calm : Calm) (xs : List ℕ) (slots : List SlotState) (n number next m v : ℕ) → Refreshed old xs slots n number next → IsPartOf calm old → m + 1 ≡ number
-    → (v ≡ m) ⊎ ((v ≡ next) × SlotRests calm slots m) → Refreshed calm (slice_set xs m v) slots n m v
-refreshed-more old calm xs slots n number next m v r part is (inl awake) =
-    refreshed-by old calm xs slots n number next m v r part is (omega (arith, awake)) (λ i more less. absurd (omega (arith, more, less, awake))) (λ more. absurd (omega (arith, more, awake)))
-refreshed-more old calm xs slots n number next m v r part is (inr asleep) =
-    refreshed-by old calm xs slots n number next m v r part is (omega (arith, asleep.0, r.low, is)) (λ i more less. r.run i (omega (arith, more, is)) (omega (arith, less, asleep.0))) (λ more. asleep.1)
+pub refreshed-more : (old calm : Calm) (rs rests : List Calm) (xs : List ℕ) (slots : List SlotState) (n number next m v : ℕ) → Refreshed old rs xs slots n number next → IsPartOf calm old
+    → Noted rs rests slots m v → m + 1 ≡ number → (v ≡ m) ⊎ ((v ≡ next) × SlotRests calm slots m) → Refreshed calm rests (slice_set xs m v) slots n m v
+refreshed-more old calm rs rests xs slots n number next m v r part noted is (inl awake) =
+    refreshed-by old calm rs rests xs slots n number next m v r part noted is (omega (arith, awake)) (λ i more less. absurd (omega (arith, more, less, awake))) (λ more. absurd (omega (arith, more, awake)))
+refreshed-more old calm rs rests xs slots n number next m v r part noted is (inr asleep) =
+    refreshed-by old calm rs rests xs slots n number next m v r part noted is (omega (arith, asleep.0, r.low, is)) (λ i more less. r.run i (omega (arith, more, is)) (omega (arith, less, asleep.0))) (λ more. asleep.1)
 
-pub refreshed-all : (skips : Skips) (slots : List SlotState) (n number next : ℕ) → Refreshed skips.calm skips.next.items slots n number next → number ≡ 0 → KeepsSkips n skips slots
+pub refreshed-all : (skips : Skips) (slots : List SlotState) (n number next : ℕ) → Refreshed skips.calm skips.rests.items skips.next.items slots n number next → number ≡ 0
+    → KeepsSkips n skips slots
 refreshed-all skips slots n number next r none = record {
   marks = record { count = r.count; passed = λ i j low less. r.passed i j (omega (arith, none)) low less };
+  noted = r.noted;
   asleep = λ i s there less. r.asleep i s (omega (arith, none)) there less;
+  due = λ i s there less. r.due i s (omega (arith, none)) there less;
 }
+
+-- a slot that was asleep stays so for as long as nothing is due there
+pub stays-asleep : (n i : ℕ) (skips : Skips) (slots : List SlotState) (calm : Calm) → KeepsSkips n skips slots → StaysAsleep skips.next.items skips.rests.items i calm → SlotRests calm slots i
+stays-asleep n i skips slots calm k stays = λ s there.
+    let rest = rest_at skips.rests.items i in
+    rests-until-due calm rest.from rest.lasts s (k.asleep i s there stays.0).sleeps (k.due i s there stays.0) (λ moment fits within. stays.1 moment fits within)
+
+-- The slots from `number` on were asked whether they still sleep; the entries before it are as they were.
+pub record Roused (old : Skips) (calm : Calm) (rests : List Calm) (xs : List ℕ) (n number next : ℕ) : Type 0 where
+  pub count : length xs ≡ n
+  pub within : number ≤ n
+  pub all_noted : length rests ≡ n
+  pub noted : rests ≡ old.rests.items
+  pub before : (i : ℕ) → i < number → entry xs i ≡ entry old.next.items i
+  pub looked : (slots : List SlotState) → length slots ≡ n → KeepsSkips n old slots → Refreshed calm rests xs slots n number next
+
+pub roused-first : (old : Skips) (calm : Calm) (n : ℕ) → length old.next.items ≡ n → length old.rests.items ≡ n → Roused old calm old.rests.items old.next.items n n n
+roused-first old calm n count noted = record {
+  count = count;
+  within = omega arith;
+  all_noted = noted;
+  noted = refl;
+  before = λ i less. refl;
+  looked = λ slots all k. refreshed-first calm old.rests.items old.next.items slots n count all noted;
+}
+
+pub roused-more : (old : Skips) (was calm : Calm) (rests : List Calm) (xs : List ℕ) (n number next m v : ℕ) → Roused old was rests xs n number next → IsPartOf calm was → m + 1 ≡ number
+    → (v ≡ m) ⊎ ((v ≡ next) × StaysAsleep xs rests m calm) → Roused old calm rests (slice_set xs m v) n m v
+roused-more old was calm rests xs n number next m v r part is found = record {
+  count = length-set xs m v ∙ r.count;
+  within = omega (arith, is, r.within);
+  all_noted = r.all_noted;
+  noted = r.noted;
+  before = λ i less. get_or-set_other xs m i v 0 (λ same. absurd (omega (arith, less, same))) ∙ r.before i (omega (arith, less, is));
+  looked = λ slots all k.
+      let asleep : StaysAsleep xs rests m calm → (m < entry old.next.items m) × IsPartOf calm (rest_at old.rests.items m) = λ stays.
+      (subst (λ (e : ℕ). m < e) (r.before m (omega (arith, is))) stays.0, subst (λ (rs : List Calm). IsPartOf calm (rest_at rs m)) r.noted stays.1) in
+      let due : StaysAsleep xs rests m calm → SlotIsDue rests slots m = λ stays.
+      subst (λ (rs : List Calm). SlotIsDue rs slots m) (sym r.noted) (λ s there. k.due m s there (asleep stays).0) in
+      refreshed-more was calm rests rests xs slots n number next m v (r.looked slots all k) part
+      (record {
+        here = elim found [ inl awake ↦ inl awake | inr stays ↦ inr (due stays.1) ];
+        others = λ j other. refl;
+        count = refl;
+      })
+      is (elim found [ inl awake ↦ inl awake | inr stays ↦ inr (stays.0, stays-asleep n m old slots calm k (asleep stays.1)) ]);
+}
+
+pub roused-all : (old new : Skips) (n number next : ℕ) → Roused old new.calm new.rests.items new.next.items n number next → number ≡ 0
+    → (slots : List SlotState) → length slots ≡ n → KeepsSkips n old slots → KeepsSkips n new slots
+roused-all old new n number next r none = λ slots all k. refreshed-all new slots n number next (r.looked slots all k) none
 
 -- so many turns more are passed over
 pub passes-more : (next : List ℕ) (n from first turn number end sleeping last : ℕ) → Marks n next → from < n → number < n → turn_of n from number ≡ turn

@@ -1,8 +1,8 @@
 -- Which slots are passed over where slots are asked in turn, or time goes on.
 use Rattle.std.specs.Prelude.{◌≡◌, ℕ, ◌^◌, ◌<◌, ◌≤◌, Some, List, length, get_or, slice_get}
-use Rattle.enet_rtt.specs.Clock.{elapsed_time}
+use Rattle.enet_rtt.specs.Clock.{elapsed_time, HappensIn}
 use Rattle.enet_peer.specs.Calls as peers
-use Rattle.enet_slot.specs.Slot.{SlotState, changed}
+use Rattle.enet_slot.specs.Slot.{SlotState, changed, is_due}
 use Rattle.enet_slot.specs.Sleeping.{Sleeps}
 use Rattle.enet_host.specs.declared.calm.Calm.{Calm}
 use Rattle.enet_host.specs.declared.skips.Skips.{Skips}
@@ -25,7 +25,16 @@ pub record Rests (calm : Calm) (s : SlotState) : Type 0 where
   pub sleeps : Sleeps s
   pub still : (moment : ℕ) → moment < 2 ^ 32 → IsWithin calm moment → changed (λ p. peers.ticked p moment) s ≡ s
 
--- slots that are passed over rest
+-- the time of a slot at whose end time brings it something first, as it was noted when the slot fell asleep
+abbrev pub rest_at : List Calm → ℕ → Calm
+rest_at rests i = get_or rests i (record { from = 0; lasts = 0 })
+
+abbrev pub IsDueAfter : Calm → SlotState → Type 0
+IsDueAfter rest s = HappensIn (λ later. is_due later s) rest.from rest.lasts
+
+-- slots that are passed over rest, and it is noted when time brings them something
 pub record KeepsSkips (peers : ℕ) (skips : Skips) (slots : List SlotState) : Type 0 where
   pub marks : Marks peers skips.next.items
+  pub noted : length skips.rests.items ≡ peers
   pub asleep : (i : ℕ) (s : SlotState) → slice_get slots i ≡ Some s → i < entry skips.next.items i → Rests skips.calm s
+  pub due : (i : ℕ) (s : SlotState) → slice_get slots i ≡ Some s → i < entry skips.next.items i → IsDueAfter (rest_at skips.rests.items i) s

@@ -43,7 +43,8 @@ impl Calm {
 
     /// What is left of it from the moment `now` on, but at most so many milliseconds.
     pub(crate) fn cut(self, now: u32, most: u32) -> Calm
-        ensures { (later : ℕ) → later < 2 ^ 32 → IsWithin result later → IsWithin self later × (elapsed_time later now < most) }
+        ensures part { (later : ℕ) → later < 2 ^ 32 → IsWithin result later → IsWithin self later × (elapsed_time later now < most) }
+        ensures from { result.from ≡ now }
     {
         let left = self.lasts.saturating_sub(elapsed(now, self.from));
         Calm {

@@ -1,8 +1,8 @@
 //! Which slots of a host need not be asked, and for how long not ticked.
 
-ghost use Rattle.std.specs.Prelude.{◌≡◌, ℕ, ◌-◌, ◌<◌, ◌≤◌, ◌⊎◌, min, nat_lt, IsTrue, IfOk, IfErr, List, length, replicate, slice_set};
-ghost use Rattle.enet_host.specs.Skips.{entry, Marks, KeepsSkips};
-ghost use Rattle.enet_host.specs.Private.Skips.{IsPartOf, SlotRests, PassesOver, PassesTurns, AwakeAt};
+ghost use Rattle.std.specs.Prelude.{◌≡◌, ◌≢◌, ℕ, ◌-◌, ◌<◌, ◌≤◌, ◌⊎◌, min, nat_lt, IsTrue, IfOk, IfErr, List, length, slice_set};
+ghost use Rattle.enet_host.specs.Skips.{entry, rest_at, Marks, KeepsSkips};
+ghost use Rattle.enet_host.specs.Private.Skips.{AllAwake, IsPartOf, SlotRests, SlotIsDue, StaysAsleep, PassesOver, PassesTurns, AwakeAt};
 ghost use Rattle.enet_slot.specs.Slot.{SlotState};
 ghost use Rattle.enet_slot.specs.Slotted.{all_shown};
 
@@ -20,6 +20,8 @@ pub(crate) struct Skips {
     /// An entry a slot. One past the slot's own number says that it sleeps, as do all between it and the entry: the next slot that
     /// is worth asking, or the number of slots. With any other the slot is awake.
     pub(crate) next: Vec<u16>,
+    /// An entry a slot. Where the slot sleeps, time brings it something first when this is over.
+    pub(crate) rests: Vec<Calm>,
     /// A time in which a tick changes nothing of the slots that sleep.
     pub(crate) calm: Calm,
 }
@@ -27,14 +29,18 @@ pub(crate) struct Skips {
 impl Skips {
     /// So many slots, all of them awake. E1 where memory is refused.
     pub(crate) fn new(alloc: Global, peers: u16) -> Result<Skips, Refusal>
-        ensures entries { IfOk result (λ skips. skips.next.items ≡ replicate peers 0) }
+        ensures awake { IfOk result (λ skips. AllAwake peers skips) }
         ensures memory { IfErr result (λ why. why ≡ Refusal.Memory) }
     {
         let Ok(next) = vec![in alloc; 0u16; usize::from(peers)] else {
             return Err(Refusal::Memory);
         };
+        let Ok(rests) = vec![in alloc; Calm::none(); usize::from(peers)] else {
+            return Err(Refusal::Memory);
+        };
         Ok(Skips {
             next,
+            rests,
             calm: Calm::none(),
         })
     }
@@ -70,6 +76,7 @@ impl Skips {
     pub(crate) fn refresh(&mut self, slots: &[Slot], peers: u16, now: u32)
         requires all { length slots.now ≡ peers }
         requires count { length self.old.next.items ≡ peers }
+        requires rests { length self.old.rests.items ≡ peers }
         ensures { KeepsSkips peers self.new (all_shown slots.now) }
     {
         self.calm = Calm::after(now);
@@ -77,8 +84,47 @@ impl Skips {
         let mut number = peers;
         while number > 0 {
             number -= 1;
-            next = awake_from(slots, number, next, now, &mut self.calm);
+            next = awake_from(slots, number, next, now, &mut self.calm, &mut self.rests);
             self.next[usize::from(number)] = next;
+        }
+    }
+
+    /// Wakes each slot to which the moment `now` may bring something, if there are such slots.
+    pub(crate) fn rouse(&mut self, peers: u16, now: u32)
+        requires count { length self.old.next.items ≡ peers }
+        requires rests { length self.old.rests.items ≡ peers }
+        ensures { (slots : List SlotState) → length slots ≡ peers → KeepsSkips peers self.old slots → KeepsSkips peers self.new slots }
+    {
+        if self.calm.covers(now) {
+            return;
+        }
+        let mut calm = Calm::after(now);
+        let mut awake = peers;
+        let mut number = peers;
+        while number > 0 {
+            number -= 1;
+            awake = self.asleep_from(number, awake, now, &mut calm);
+            self.next[usize::from(number)] = awake;
+        }
+        self.calm = calm;
+    }
+
+    /// The first slot from this one on that is awake or to which the moment `now` may bring something, where `next` is the first of
+    /// those after it. Where this is none, the time in which nothing happens, which begins now, lasts no longer than its rest.
+    fn asleep_from(&self, number: u16, next: u16, now: u32, calm: &mut Calm) -> u16
+        requires entry { number < length self.now.next.items }
+        requires rest { number < length self.now.rests.items }
+        requires begun { calm.old.from ≡ now }
+        ensures next { (result ≡ number) ⊎ ((result ≡ next) × StaysAsleep self.now.next.items self.now.rests.items number calm.new) }
+        ensures part { IsPartOf calm.new calm.old }
+        ensures begun { calm.new.from ≡ now }
+    {
+        let rest = self.rests[usize::from(number)];
+        if self.sleeps(number) && rest.covers(now) {
+            *calm = rest.cut(now, calm.lasts);
+            next
+        } else {
+            number
         }
     }
 
@@ -92,7 +138,7 @@ impl Skips {
         let mut number = self.next_turn(peers, 0, 0);
         while number < peers {
             let after = self.next_turn(peers, 0, number + 1);
-            let next = awake_from(slots, number, after, now, &mut self.calm);
+            let next = awake_from(slots, number, after, now, &mut self.calm, &mut self.rests);
             self.mark(number, next);
             self.pass_at_once(number + 1, after);
             number = after;
@@ -115,6 +161,7 @@ impl Skips {
         requires { number < length self.old.next.items }
         ensures entries { self.new.next.items ≡ slice_set self.old.next.items number entry }
         ensures calm { self.new.calm ≡ self.old.calm }
+        ensures rests { self.new.rests.items ≡ self.old.rests.items }
     {
         self.next[usize::from(number)] = entry;
     }
@@ -153,16 +200,32 @@ impl Skips {
 }
 
 /// The first slot from this one on that is awake at the moment `now`, where `next` is the first of those after it. Where this one
-/// sleeps, the time in which nothing happens lasts no longer than nothing happens there.
-fn awake_from(slots: &[Slot], number: u16, next: u16, now: u32, calm: &mut Calm) -> u16
-    requires { number < length slots.now }
+/// sleeps, the time in which nothing happens lasts no longer than nothing happens there, which is noted.
+fn awake_from(
+    slots: &[Slot],
+    number: u16,
+    next: u16,
+    now: u32,
+    calm: &mut Calm,
+    rests: &mut Vec<Calm>,
+) -> u16
+    requires within { number < length slots.now }
+    requires entry { number < length rests.old.items }
     ensures next { (result ≡ number) ⊎ ((result ≡ next) × SlotRests calm.new (all_shown slots.now) number) }
     ensures part { IsPartOf calm.new calm.old }
+    ensures noted { (result ≡ number) ⊎ SlotIsDue rests.new.items (all_shown slots.now) number }
+    ensures others { (i : ℕ) → i ≢ number → rest_at rests.new.items i ≡ rest_at rests.old.items i }
+    ensures count { length rests.new.items ≡ length rests.old.items }
 {
     let slot = &slots[usize::from(number)];
     if !slot.is_asleep() {
         return number;
     }
-    *calm = calm.cut(now, slot.due_in(now));
+    let due = slot.due_in(now);
+    *calm = calm.cut(now, due);
+    rests[usize::from(number)] = Calm {
+        from: now,
+        lasts: due,
+    };
     next
 }

@@ -51,7 +51,7 @@ fn tick_awake(slots: &mut Vec<Slot>, skips: &Skips, peers: u16, now: u32)
 
 /// Time has come to the host's clock at each slot. Where a second or more has passed since the bandwidth was last shared out, it is
 /// shared out among the connected peers; when that is from then on. Those that sleep cost nothing but at such a moment, and where
-/// time brings one of them something.
+/// time brings one of them something: then that one is woken, and of the others no more is looked at than when time does so there.
 pub(crate) fn pass_time(
     slots: &mut Vec<Slot>,
     skips: &mut Skips,
@@ -71,6 +71,7 @@ pub(crate) fn pass_time(
 {
     let peers = start.config.peers;
     let shares = elapsed(start.clock, shared_at) >= SHARING_INTERVAL;
+    skips.rouse(peers, start.clock);
     if !shares && skips.calm.covers(start.clock) {
         tick_awake(slots, skips, peers, start.clock);
         skips.rest(slots, peers, start.clock);

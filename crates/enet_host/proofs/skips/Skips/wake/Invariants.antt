@@ -6,6 +6,7 @@ abbrev pub invariant-loop-place : goal.invariant-loop-place
 invariant-loop-place l = record {
   waking : Waking l.fn.self.next.items l.self.next.items l.number l.place;
   calm : l.self.calm ≡ l.fn.self.calm;
+  rests : l.self.rests.items ≡ l.fn.self.rests.items;
 }
 
 abbrev pub decreases-loop-place : goal.decreases-loop-place

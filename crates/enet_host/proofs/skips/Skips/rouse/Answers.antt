@@ -1,0 +1,29 @@
+use Rattle.std.proofs.Common.{ℕ, ◌-◌, slice_set, sym, subst, arith}
+use Rattle.enet_host.proofs.Skipping.{Roused, roused-first, roused-more}
+use Rattle.enet_host.proofs.skips.Skips.rouse.Goals as goal
+
+pub loop-number-init : goal.loop-number-init
+loop-number-init c = record { roused = roused-first c.args.self.now _ c.args.peers c.requires.count c.requires.rests; calm = c.after-calm.ensures.from }
+
+pub loop-number-preserved : goal.loop-number-preserved
+loop-number-preserved c =
+    let skips = c.loop-number.self in
+    let number = c.loop-number.number in
+    let calm = c.asleep_from-awake.new.calm in
+    let next = c.asleep_from-awake.result in
+    record {
+      roused = subst (λ (i : ℕ). Roused c.args.self.now calm skips.rests.items (slice_set skips.next.items i next) c.args.peers (number - 1) next) (sym c.from.ensures)
+          (roused-more c.args.self.now c.loop-number.calm calm skips.rests.items skips.next.items c.args.peers number c.loop-number.awake (number - 1) next c.loop-number.invariant.roused
+          c.asleep_from-awake.ensures.part (omega (arith, c.loop-number-test.true)) c.asleep_from-awake.ensures.next);
+      calm = c.asleep_from-awake.ensures.begun;
+    }
+
+pub asleep_from-awake-requires-clause-entry : goal.asleep_from-awake-requires-clause-entry
+asleep_from-awake-requires-clause-entry c =
+    let r = c.loop-number.invariant.roused in
+    omega (arith, r.count, r.within, c.loop-number-test.true)
+
+pub asleep_from-awake-requires-clause-rest : goal.asleep_from-awake-requires-clause-rest
+asleep_from-awake-requires-clause-rest c =
+    let r = c.loop-number.invariant.roused in
+    omega (arith, r.all_noted, r.within, c.loop-number-test.true)

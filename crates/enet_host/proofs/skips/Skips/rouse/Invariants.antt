@@ -1,0 +1,12 @@
+use Rattle.std.proofs.Common.{◌≡◌}
+use Rattle.enet_host.proofs.Skipping.{Roused}
+use Rattle.enet_host.proofs.skips.Skips.rouse.Given as goal
+
+abbrev pub invariant-loop-number : goal.invariant-loop-number
+invariant-loop-number l = record {
+  roused : Roused l.fn.self l.calm l.self.rests.items l.self.next.items l.peers l.number l.awake;
+  calm : l.calm.from ≡ l.now;
+}
+
+abbrev pub decreases-loop-number : goal.decreases-loop-number
+decreases-loop-number l = l.number
