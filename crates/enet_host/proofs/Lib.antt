@@ -10,3 +10,4 @@ pub mod Holding
 pub mod Foretold
 pub mod Bringing
 pub mod Resting
+pub mod Soon

@@ -2,3 +2,4 @@
 pub mod Shown
 pub mod Skips
 pub mod Ticking
+pub mod Foretelling

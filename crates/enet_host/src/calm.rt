@@ -1,10 +1,21 @@
 //! A time in which nothing happens.
 
-ghost use Rattle.std.specs.Prelude.{◌≡◌, ℕ, ◌<◌, ◌^◌, IsTrue};
-ghost use Rattle.enet_rtt.specs.Clock.{elapsed_time};
+ghost use Rattle.std.specs.Prelude.{◌≡◌, ℕ, ◌<◌, ◌^◌, Bool, IsTrue, IfSome};
+ghost use Rattle.enet_rtt.specs.Clock.{elapsed_time, HappensIn};
 ghost use Rattle.enet_host.specs.Skips.{IsWithin};
+ghost use Rattle.enet_host.specs.Private.Foretelling.{HappensSoon};
 
 use enet_rtt::elapsed;
+
+/// How many milliseconds ahead a host foretells that time brings something.
+const FORESIGHT: u32 = 1000;
+
+/// A wait of so many milliseconds, or the greatest number where it isn't foretold.
+pub(crate) fn foretold(wait: u32) -> u32
+    ensures { (now : ℕ) (happens : ℕ → Bool) → HappensIn happens now wait → HappensSoon happens now result }
+{
+    if wait > FORESIGHT { u32::MAX } else { wait }
+}
 
 /// A time in which nothing happens, in milliseconds of a clock that counts modulo 2^32.
 #[derive(Clone, Copy)]
@@ -51,5 +62,20 @@ impl Calm {
             from: now,
             lasts: left.min(most),
         }
+    }
+
+    /// In how many milliseconds after the moment `now` that is foretold which happens first at its end; None where this time does
+    /// not tell.
+    pub(crate) fn ends_in(self, now: u32) -> Option<u32>
+        ensures { IfSome result (λ wait. (happens : ℕ → Bool) → HappensIn happens self.from self.lasts → HappensSoon happens now wait) }
+    {
+        let left = self.lasts.saturating_sub(elapsed(now, self.from));
+        if left > FORESIGHT {
+            return Some(u32::MAX);
+        }
+        if left > 0 && self.lasts < u32::MAX {
+            return Some(left);
+        }
+        None
     }
 }

@@ -13,7 +13,7 @@ use crate::ticking::SHARING_INTERVAL;
 use bytes::Bytes;
 use enet_codec::{Packet, PeerRef};
 use enet_rtt::elapsed;
-use enet_slot::{first_available, next_due};
+use enet_slot::first_available;
 
 impl HostCore {
     /// The name that the next peer gets: that of the lowest slot that is free and has a generation left. None where there is
@@ -32,7 +32,9 @@ impl HostCore {
         ensures { IsDueIn self.now result }
     {
         let clock = self.start.clock;
-        let peers = next_due(&self.slots, clock);
+        let peers = self
+            .skips
+            .due_in(&self.slots, self.start.config.peers, clock);
         peers.min(SHARING_INTERVAL.saturating_sub(elapsed(clock, self.shared_at)))
     }
 

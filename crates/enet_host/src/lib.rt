@@ -18,7 +18,8 @@
 //! changes nothing.
 //! Only tested, by `check_hosts`: that calls succeed with ample memory, worked scripts, captured files, foreign bytes. Neither: that
 //! a slot which has nothing falls asleep, and that those asleep, free ones and those of idle connections, are looked at by no call of
-//! `service` or of those that tell events, and by `tick` only where bandwidth is shared out or time brings that slot something.
+//! `service` or of those that tell events, by `due_in` only where what was noted of them doesn't tell, and by `tick` only where
+//! bandwidth is shared out or time brings that slot something.
 #![tactic(auto)]
 
 mod calls;

@@ -1,12 +1,15 @@
 //! Which slots of a host need not be asked, and for how long not ticked.
 
-ghost use Rattle.std.specs.Prelude.{◌≡◌, ◌≢◌, ℕ, ◌-◌, ◌<◌, ◌≤◌, ◌⊎◌, min, nat_lt, IsTrue, IfOk, IfErr, List, length, slice_set};
+ghost use Rattle.std.specs.Prelude.{◌≡◌, ◌≢◌, ℕ, ◌-◌, ◌<◌, ◌≤◌, ◌⊎◌, min, nat_lt, IsTrue, IfOk, IfErr, IfSome, List, length, slice_set};
+ghost use Rattle.std.specs.List.{list_any};
+ghost use Rattle.enet_rtt.specs.Clock.{HappensIn};
+ghost use Rattle.enet_host.specs.Private.Foretelling.{is_due_soon, SlotIsDueSoon};
 ghost use Rattle.enet_host.specs.Skips.{entry, rest_at, Marks, KeepsSkips};
 ghost use Rattle.enet_host.specs.Private.Skips.{AllAwake, IsPartOf, SlotRests, SlotIsDue, StaysAsleep, PassesOver, PassesTurns, AwakeAt};
 ghost use Rattle.enet_slot.specs.Slot.{SlotState};
 ghost use Rattle.enet_slot.specs.Slotted.{all_shown};
 
-use crate::calm::Calm;
+use crate::calm::{Calm, foretold};
 use crate::turns::slot_of_turn;
 use enet_codec::Refusal;
 use enet_slot::Slot;
@@ -196,6 +199,48 @@ impl Skips {
             next += sleeping.min(peers - next);
         }
         next
+    }
+}
+
+impl Skips {
+    /// In how many milliseconds after the moment `now` time brings the peers of the slots anything first, where that is within a
+    /// second; else 4,294,967,295. Of a slot that sleeps it was noted.
+    pub(crate) fn due_in(&self, slots: &[Slot], peers: u16, now: u32) -> u32
+        requires all { length slots.now ≡ peers }
+        requires skips { KeepsSkips peers self.now (all_shown slots.now) }
+        ensures { HappensIn (λ (later : ℕ). list_any (is_due_soon now later) (all_shown slots.now)) now result }
+    {
+        let mut wait = u32::MAX;
+        for number in 0..peers {
+            wait = wait.min(self.slot_due_in(slots, peers, number, now));
+        }
+        wait
+    }
+
+    /// The same of one slot.
+    fn slot_due_in(&self, slots: &[Slot], peers: u16, number: u16, now: u32) -> u32
+        requires all { length slots.now ≡ peers }
+        requires within { number < peers }
+        requires skips { KeepsSkips peers self.now (all_shown slots.now) }
+        ensures { SlotIsDueSoon now (all_shown slots.now) number result }
+    {
+        if let Some(wait) = self.noted_due_in(number, now) {
+            return wait;
+        }
+        foretold(slots[usize::from(number)].due_in(now))
+    }
+
+    /// The same of one slot, as far as it was noted.
+    fn noted_due_in(&self, number: u16, now: u32) -> Option<u32>
+        requires { number < length self.now.rests.items }
+        ensures { IfSome result (λ wait. (slots : List SlotState) (peers : ℕ) → KeepsSkips peers self.now slots → SlotIsDueSoon now slots number wait) }
+    {
+        let rest = self.rests[usize::from(number)];
+        if self.sleeps(number) {
+            rest.ends_in(now)
+        } else {
+            None
+        }
     }
 }
 

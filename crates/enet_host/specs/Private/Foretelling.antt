@@ -1,0 +1,20 @@
+-- What happens within a second.
+use Rattle.std.specs.Prelude.{◌≡◌, ℕ, ◌&&◌, Bool, nat_le, Some, List, slice_get}
+use Rattle.enet_rtt.specs.Clock.{elapsed_time, HappensIn}
+use Rattle.enet_slot.specs.Slot.{SlotState, is_due}
+
+-- whether a moment comes at most a second after another one
+abbrev pub is_soon : ℕ → ℕ → Bool
+is_soon now later = nat_le (elapsed_time later now) 1000
+
+-- from the moment `now` on it first happens after so many milliseconds, if that is within a second
+abbrev pub HappensSoon : (ℕ → Bool) → ℕ → ℕ → Type 0
+HappensSoon happens now wait = HappensIn (λ later. is_soon now later && happens later) now wait
+
+-- a moment within a second of another one brings the peer of a slot something
+abbrev pub is_due_soon : ℕ → ℕ → SlotState → Bool
+is_due_soon now later s = is_soon now later && is_due later s
+
+-- the same of slot i
+abbrev pub SlotIsDueSoon : ℕ → List SlotState → ℕ → ℕ → Type 0
+SlotIsDueSoon now slots i wait = (s : SlotState) → slice_get slots i ≡ Some s → HappensSoon (λ later. is_due later s) now wait
