@@ -1,6 +1,6 @@
 //! A time in which nothing happens.
 
-ghost use Rattle.std.specs.Prelude.{◌≡◌, ℕ, ◌<◌, ◌^◌, Bool, IsTrue, IfSome};
+ghost use Rattle.std.specs.Prelude.{◌≡◌, ℕ, ◌-◌, ◌<◌, ◌^◌, Bool, IsTrue, IfSome};
 ghost use Rattle.enet_rtt.specs.Clock.{elapsed_time, HappensIn};
 ghost use Rattle.enet_host.specs.Skips.{IsWithin};
 ghost use Rattle.enet_host.specs.Private.Foretelling.{HappensSoon};
@@ -52,12 +52,19 @@ impl Calm {
         elapsed(now, self.from) < self.lasts
     }
 
+    /// How much of it is left from the moment `now` on, in milliseconds.
+    fn left(self, now: u32) -> u32
+        ensures { result ≡ self.lasts - elapsed_time now self.from }
+    {
+        self.lasts.saturating_sub(elapsed(now, self.from))
+    }
+
     /// What is left of it from the moment `now` on, but at most so many milliseconds.
     pub(crate) fn cut(self, now: u32, most: u32) -> Calm
         ensures part { (later : ℕ) → later < 2 ^ 32 → IsWithin result later → IsWithin self later × (elapsed_time later now < most) }
         ensures from { result.from ≡ now }
     {
-        let left = self.lasts.saturating_sub(elapsed(now, self.from));
+        let left = self.left(now);
         Calm {
             from: now,
             lasts: left.min(most),
@@ -69,12 +76,12 @@ impl Calm {
     pub(crate) fn ends_in(self, now: u32) -> Option<u32>
         ensures { IfSome result (λ wait. (happens : ℕ → Bool) → HappensIn happens self.from self.lasts → HappensSoon happens now wait) }
     {
-        let left = self.lasts.saturating_sub(elapsed(now, self.from));
-        if left > FORESIGHT {
+        let rest = self.left(now);
+        if rest > FORESIGHT {
             return Some(u32::MAX);
         }
-        if left > 0 && self.lasts < u32::MAX {
-            return Some(left);
+        if rest > 0 && self.lasts < u32::MAX {
+            return Some(rest);
         }
         None
     }
