@@ -1,5 +1,5 @@
 -- A slot is given out.
-use Rattle.std.proofs.Common.{◌≡◌, ◌≢◌, ℕ, ◌<◌, Bool, false, Option, Some, None, Result, Ok, Err, IfOk, IfErr, OnOk, OnErr, List, length, slice_set, get_or, sym, ap, subst, ◌∙◌}
+use Rattle.std.proofs.Common.{◌≡◌, ◌≢◌, ℕ, ◌<◌, false, Option, Some, None, Result, Ok, Err, IfOk, IfErr, OnOk, OnErr, List, length, slice_set, get_or, sym, ap, subst, ◌∙◌}
 use Rattle.enet_codec.specs.declared.command.Offer.{Offer}
 use Rattle.enet_codec.specs.declared.address.Addr.{Addr}
 use Rattle.enet_codec.specs.declared.config.Config.{Config}
@@ -10,6 +10,8 @@ use Rattle.enet_codec.specs.declared.refusal.Refusal.TheVariants.{Memory}
 use Rattle.enet_codec.specs.declared.stop.Stop.TheVariants as stop
 use Rattle.enet_slot.specs.declared.giving.Question.{Question}
 use Rattle.enet_slot.specs.declared.slot.Slot.{Slot}
+use Rattle.enet_slot.specs.declared.all.Seat.{Seat}
+use Rattle.enet_slot.specs.Seating.{IsSeat}
 use Rattle.enet_slot.specs.Slot.{SlotState, name_of}
 use Rattle.enet_slot.specs.Giving.{Basis, asking, answering}
 use Rattle.enet_host.specs.Opening.{available, Connects, no_memory, asks}
@@ -54,5 +56,8 @@ no-memory-at basis xs from o i x y answer fine unknown found read same is =
     subst (λ (ss : List SlotState). Offers (record { basis = basis; slots = all_shown xs }) from o answer ss) (sym (same-shown xs i x y read same))
     (subst (λ (a : Received). Offers (record { basis = basis; slots = all_shown xs }) from o a (all_shown xs)) (sym is) (receiving.no_memory i fine unknown found))
 
-pub known-in : (xs ys : List Slot) (from : Addr) (o : Offer) (r b : Bool) → r ≡ is_known (all_shown ys) from o → ys ≡ xs → r ≡ b → is_known (all_shown xs) from o ≡ b
-known-in xs ys from o r b e same is = sym (subst (λ (zs : List Slot). r ≡ is_known (all_shown zs) from o) same e) ∙ is
+-- what was found for an offer among the slots of a vector
+pub seat-in : (xs ys : List Slot) (from : Addr) (word generations : ℕ) (r seat : Seat) → IsSeat from word generations (all_shown ys) r → ys ≡ xs → r ≡ seat
+    → IsSeat from word generations (all_shown xs) seat
+seat-in xs ys from word generations r seat e same is =
+    subst (λ (zs : List Slot). IsSeat from word generations (all_shown zs) seat) same (subst (λ (t : Seat). IsSeat from word generations (all_shown ys) t) is e)

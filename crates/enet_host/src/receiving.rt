@@ -11,7 +11,7 @@ use crate::skips::Skips;
 use enet_codec::{Addr, Header, MAX_CHANNELS, NO_PEER, Received, Stop};
 use enet_connect::Offer;
 use enet_peer::{read_heading, read_offer};
-use enet_slot::{Slot, Start, any_is_connection, first_available};
+use enet_slot::{Seat, Slot, Start, seat_for};
 
 /// The answer to a datagram of which nothing was looked at.
 const fn stopped(why: Stop) -> Received
@@ -71,11 +71,12 @@ fn take_offer(
     if let Some(why) = offer_refused(&offer) {
         return stopped(why);
     }
-    if any_is_connection(slots, from, offer.connect_id) {
-        return HANDLED_ONE;
-    }
-    let Some(place) = first_available(slots, start.config.generations) else {
-        return stopped(Stop::NoSlot);
+    let place = match seat_for(slots, from, offer.connect_id, start.config.generations) {
+        Seat::Known => return HANDLED_ONE,
+        Seat::At(place) => place,
+        Seat::Full => {
+            return stopped(Stop::NoSlot);
+        }
     };
     skips.wake(place as u16);
     let slot = &mut slots[place];

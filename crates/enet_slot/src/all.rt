@@ -1,13 +1,15 @@
 //! The slots of a host: which can be given out, whether one holds a connection, what a moment brings to all of them, and what the
 //! host's bandwidths do to them.
 
-ghost use Rattle.std.specs.Prelude.{◌≡◌, ℕ, ◌<◌, ◌≤◌, true, map, replicate, length, All, OnOk, OnErr, IfOk, IfErr, IfSome};
+ghost use Rattle.std.specs.Prelude.{◌≡◌, ℕ, ◌+◌, ◌<◌, ◌≤◌, true, List, map, replicate, length, get_or, All, OnOk, OnErr, IfOk, IfErr, IfSome};
 ghost use Rattle.std.specs.List.{count_by, list_any, position};
 ghost use Rattle.enet_codec.specs.Config.{is_in_range};
 ghost use Rattle.enet_rtt.specs.Clock.{HappensIn};
 ghost use Rattle.enet_peer.specs.Peering.{Peering};
 ghost use Rattle.enet_peer.specs.Calls as peers;
-ghost use Rattle.enet_slot.specs.Slot.{changed, is_due};
+ghost use Rattle.enet_slot.specs.Slot.{SlotState, changed, is_due};
+ghost use Rattle.enet_slot.specs.Seating.{IsSeat};
+ghost use Rattle.enet_slot.specs.Private.Seating.{IsFirstOf};
 ghost use Rattle.enet_slot.specs.Giving.{unused_slot, joined_slots, is_available};
 ghost use Rattle.enet_slot.specs.Hearing.{is_connection};
 ghost use Rattle.enet_slot.specs.Sharing.{is_standing, wants_room, shared};
@@ -72,6 +74,46 @@ pub fn any_is_connection(slots: &[Slot], from: Addr, connect_id: u32) -> bool
     ensures { result ≡ list_any (is_connection from connect_id) (all_shown slots.now) }
 {
     any_of(slots, from, connect_id)
+}
+
+/// What a host finds among its slots for an offer.
+#[derive(Clone, Copy)]
+pub enum Seat {
+    /// One holds the offer's connection already.
+    Known,
+    /// Else this is the first that is free and has a generation left.
+    At(usize),
+    /// Else there is none.
+    Full,
+}
+
+/// The first of the slots up to this one that is free and has a generation left of so many, where `first` is that of those before it.
+fn first_with(first: Option<usize>, slot: &Slot, place: usize, generations: u32) -> Option<usize>
+    ensures { (slots : List SlotState) → get_or slots place unused_slot ≡ slot.now.slot → place < length slots → IsFirstOf generations slots place first
+        → IsFirstOf generations slots (place + 1) result }
+{
+    if first.is_none() && slot.is_available(generations) {
+        return Some(place);
+    }
+    first
+}
+
+/// Where an offer from this address with this connect id is to go, if so many generations are allowed. Each slot is looked at once.
+pub fn seat_for(slots: &[Slot], from: Addr, connect_id: u32, generations: u32) -> Seat
+    ensures { IsSeat from connect_id generations (all_shown slots.now) result }
+{
+    let mut first = None;
+    for place in 0..slots.len() {
+        let slot = &slots[place];
+        if slot.is_connection(from, connect_id) {
+            return Seat::Known;
+        }
+        first = first_with(first, slot, place, generations);
+    }
+    match first {
+        Some(place) => Seat::At(place),
+        None => Seat::Full,
+    }
 }
 
 /// Time has come to `now`, in milliseconds, at each slot.

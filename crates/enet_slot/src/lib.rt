@@ -8,6 +8,7 @@
 //! answers true has nothing to put out and nothing to tell (`Sleeps`). `tick` is its peer's (`changed`), and `due_in` says in how many
 //! milliseconds that brings something. Want of memory changes nothing.
 //! Over all slots of a host: `unused_slots` and `joined_slots` make them, `first_available` and `any_is_connection` look for one,
+//! `seat_for` for both at once (`IsSeat`),
 //! `tick_all`, `set_bandwidth` (`changed`) and `share_out` (`shared`) are one change on each, and `next_due` says in how many
 //! milliseconds time brings any of their peers something.
 //! Only tested, with the host's calls by `check_hosts`: that calls succeed with ample memory.
@@ -23,8 +24,8 @@ mod sharing;
 mod slot;
 
 pub use all::{
-    any_is_connection, first_available, joined_slots, next_due, set_bandwidth, share_out, tick_all,
-    unused_slots,
+    Seat, any_is_connection, first_available, joined_slots, next_due, seat_for, set_bandwidth,
+    share_out, tick_all, unused_slots,
 };
 pub use calls::Setting;
 pub use giving::{Question, Start};
