@@ -6,6 +6,7 @@ ghost use Rattle.std.specs.String.{string_bytes};
 ghost use Rattle.enet_codec.specs.Refusal.{label_of};
 ghost use Rattle.enet_text.specs.Texts.{address_text, bytes_text, event_text, peer_text, received_text};
 
+use crate::pushing::push_bytes;
 use enet_codec::{Addr, Event, Packet, PeerRef, Received, Refusal};
 use std::alloc::{AllocError, Global};
 
@@ -89,8 +90,7 @@ fn receive_text(alloc: Global, peer: PeerRef, packet: &Packet) -> Result<String,
 pub fn bytes_text(alloc: Global, bytes: &[u8]) -> Result<String, AllocError>
     ensures { IfOk result (λ text. string_bytes text ≡ bytes_text bytes.now) }
 {
-    if bytes.is_empty() {
-        return String::from_str(alloc, "-");
-    }
-    hex::encode(alloc, bytes)
+    let mut text = String::with_capacity(alloc, bytes.len().saturating_mul(2))?;
+    push_bytes(&mut text, bytes)?;
+    Ok(text)
 }

@@ -17,6 +17,7 @@ mod fault;
 mod inspecting;
 mod line;
 mod pcap;
+mod pushing;
 mod texts;
 mod words;
 
