@@ -1,12 +1,12 @@
 //! The texts of answers, without the line feed that ends a line.
 
-ghost use Rattle.std.specs.Prelude.{◌≡◌, ◌++◌, codes, IfOk};
+ghost use Rattle.std.specs.Prelude.{◌≡◌, ◌++◌, codes, IfOk, OnOk};
 ghost use Rattle.std.specs.Fmt.{decimal};
 ghost use Rattle.std.specs.String.{string_bytes};
 ghost use Rattle.enet_codec.specs.Refusal.{label_of};
 ghost use Rattle.enet_text.specs.Texts.{address_text, bytes_text, event_text, peer_text, received_text};
 
-use crate::pushing::push_bytes;
+use crate::pushing::{push_bytes, push_number};
 use enet_codec::{Addr, Event, Packet, PeerRef, Received, Refusal};
 use std::alloc::{AllocError, Global};
 
@@ -29,9 +29,22 @@ pub fn peer_text(alloc: Global, peer: PeerRef) -> Result<String, AllocError>
 pub fn address_text(alloc: Global, addr: Addr) -> Result<String, AllocError>
     ensures { IfOk result (λ text. string_bytes text ≡ address_text addr) }
 {
+    let mut text = String::new(alloc);
+    push_address(&mut text, addr)?;
+    Ok(text)
+}
+
+/// What `address_text` gives, put behind the text that is there. An error where there is no memory for it.
+pub(crate) fn push_address(text: &mut String, addr: Addr) -> Result<(), AllocError>
+    ensures { OnOk result (string_bytes text.new ≡ string_bytes text.old ++ address_text addr) }
+{
     let [first, second, third, fourth] = addr.ip.to_be_bytes();
-    let port = addr.port;
-    format!(in alloc; "{first}.{second}.{third}.{fourth}:{port}")
+    push_number(text, "", first)?;
+    push_number(text, ".", second)?;
+    push_number(text, ".", third)?;
+    push_number(text, ".", fourth)?;
+    push_number(text, ":", addr.port)?;
+    Ok(())
 }
 
 /// What came of a datagram: how many commands were handled, and the number of the stop, if there was one. An error

@@ -1,10 +1,10 @@
 //! The text of a datagram.
 
-ghost use Rattle.std.specs.Prelude.{◌≡◌, ◌≤◌, drop, length, IfOk};
+ghost use Rattle.std.specs.Prelude.{◌≡◌, ◌≤◌, ◌++◌, drop, length, List, ℕ, IfOk, OnOk};
 ghost use Rattle.std.specs.String.{string_bytes};
 ghost use Rattle.enet_text.specs.Described.{Describes, Tells, is_compressed, why_unread};
 
-use crate::texts::{command_line, header_line, stop_line};
+use crate::texts::{push_command_line, push_header_line, push_stop_line};
 use enet_codec::{Stop, read_command, read_header};
 use std::alloc::{AllocError, Global};
 
@@ -17,16 +17,23 @@ const COMPRESSED: u8 = 0x40;
 pub fn describe(alloc: Global, datagram: &[u8]) -> Result<String, AllocError>
     ensures { IfOk result (λ text. Describes datagram.now (string_bytes text)) }
 {
+    let mut text = String::with_capacity(alloc, datagram.len().saturating_mul(2))?;
+    push_description(&mut text, datagram)?;
+    Ok(text)
+}
+
+/// What `describe` gives, put behind the text that is there. An error where there is no memory for it.
+pub(crate) fn push_description(text: &mut String, datagram: &[u8]) -> Result<(), AllocError>
+    ensures { OnOk result ((told : List ℕ) × (string_bytes text.new ≡ string_bytes text.old ++ told) × Describes datagram.now told) }
+{
     let Some((header, len)) = read_header(datagram) else {
-        return stop_line(alloc, why_unread(datagram), 0, datagram);
+        return push_stop_line(text, why_unread(datagram), 0, datagram);
     };
-    let line = header_line(alloc, &header)?;
-    let text = if header.compressed {
-        stop_line(alloc, Stop::Compressed, len, bytes_after(datagram, len))?
-    } else {
-        commands_text(alloc, datagram, len)?
-    };
-    format!(in alloc; "{line}{text}")
+    push_header_line(text, &header)?;
+    if header.compressed {
+        return push_stop_line(text, Stop::Compressed, len, bytes_after(datagram, len));
+    }
+    push_commands(text, datagram, len)
 }
 
 // Why a datagram has no header that can be read.
@@ -51,24 +58,21 @@ fn is_compressed(datagram: &[u8]) -> bool
 }
 
 // The lines of all that stands behind the header, which ends at a place.
-fn commands_text(alloc: Global, datagram: &[u8], header: usize) -> Result<String, AllocError>
+fn push_commands(text: &mut String, datagram: &[u8], header: usize) -> Result<(), AllocError>
     requires { header ≤ length datagram.now }
-    ensures { IfOk result (λ text. Tells header (drop header datagram.now) (string_bytes text)) }
+    ensures { OnOk result ((told : List ℕ) × (string_bytes text.new ≡ string_bytes text.old ++ told)
+        × Tells header (drop header datagram.now) told) }
 {
-    let mut text = String::new(alloc);
     let mut place = header;
     while place < datagram.len() {
         let rest = bytes_after(datagram, place);
         let Some((command, len)) = read_command(rest) else {
-            let line = stop_line(alloc, Stop::BadCommand, place, rest)?;
-            text.push_str(line.as_str())?;
-            return Ok(text);
+            return push_stop_line(text, Stop::BadCommand, place, rest);
         };
-        let line = command_line(alloc, &command)?;
-        text.push_str(line.as_str())?;
+        push_command_line(text, &command)?;
         place += len;
     }
-    Ok(text)
+    Ok(())
 }
 
 // The bytes from a place on.

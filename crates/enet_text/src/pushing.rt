@@ -1,15 +1,29 @@
-//! Bytes in hex, put behind the text that is there.
+//! Numbers and bytes, put behind the text that is there.
 
 ghost use Rattle.std.specs.Prelude.{◌≡◌, ◌++◌, ◌*◌, ◌<◌, ◌≤◌, length, slice_index, OnOk};
 ghost use Rattle.std.specs.String.{string_bytes};
 ghost use Rattle.hex.specs.Hex.{encode_lower, lower_digits};
 ghost use Rattle.enet_text.specs.Texts.{bytes_text};
 
+use itoa::{Buffer, Integer};
 use std::alloc::AllocError;
 use std::str::from_utf8;
 
 /// The most bytes whose hex digits are put into a text at once.
 const CHUNK: usize = 64;
+
+/// A number in decimal, behind its name. An error where there is no memory for it.
+pub(crate) fn push_number<I: Integer>(
+    text: &mut String,
+    name: &str,
+    number: I,
+) -> Result<(), AllocError>
+    ensures { OnOk result (string_bytes text.new ≡ string_bytes text.old ++ name.now ++ I.text number) }
+{
+    let mut digits = Buffer::new();
+    text.push_str(name)?;
+    text.push_str(digits.format(number))
+}
 
 /// Bytes in hex of lower case, or `-` for none. An error where there is no memory for them.
 pub(crate) fn push_bytes(text: &mut String, bytes: &[u8]) -> Result<(), AllocError>

@@ -1,67 +1,78 @@
-//! The lines that tell a header, a command and a stop.
+//! The lines that tell a header, a command and a stop, each put behind the text that is there.
 
-ghost use Rattle.std.specs.Prelude.{◌≡◌, ◌++◌, codes, if◌then◌else◌, [], IfOk};
+ghost use Rattle.std.specs.Prelude.{◌≡◌, ◌++◌, codes, if◌then◌else◌, [], OnOk};
 ghost use Rattle.std.specs.Fmt.{decimal};
 ghost use Rattle.std.specs.String.{string_bytes};
 ghost use Rattle.enet_codec.specs.Message.{view};
 ghost use Rattle.enet_text.specs.InspectTexts.{command_line, fields_text, flag_text, fragment_text, head_text, header_line, id_text, limits_text, name_of, offer_text, payload_text, peer_text, sent_text, sessions_text, sizes_text, stop_line, throttle_text, verify_text};
 
-use crate::bytes_text;
+use crate::pushing::{push_bytes, push_number};
 use enet_codec::{Command, Fragment, Head, Header, NO_PEER, Offer, Stop, Verify};
-use std::alloc::{AllocError, Global};
+use std::alloc::AllocError;
 
 /// The line of a header. An error where there is no memory for it.
-pub(crate) fn header_line(alloc: Global, header: &Header) -> Result<String, AllocError>
-    ensures { IfOk result (λ line. string_bytes line ≡ header_line header.now) }
+pub(crate) fn push_header_line(text: &mut String, header: &Header) -> Result<(), AllocError>
+    ensures { OnOk result (string_bytes text.new ≡ string_bytes text.old ++ header_line header.now) }
 {
-    let peer = peer_text(alloc, header.peer)?;
-    let session = header.session;
-    let compressed = flag_text(" compressed", header.compressed);
-    let sent = sent_text(alloc, header.sent)?;
-    format!(in alloc; "  peer {peer} session {session}{compressed}{sent}\n")
+    text.push_str("  peer ")?;
+    push_peer(text, header.peer)?;
+    push_number(text, " session ", header.session)?;
+    push_flag(text, " compressed", header.compressed)?;
+    push_sent(text, header.sent)?;
+    text.push_str("\n")?;
+    Ok(())
 }
 
-fn peer_text(alloc: Global, peer: u16) -> Result<String, AllocError>
-    ensures { IfOk result (λ text. string_bytes text ≡ peer_text peer) }
+fn push_peer(text: &mut String, peer: u16) -> Result<(), AllocError>
+    ensures { OnOk result (string_bytes text.new ≡ string_bytes text.old ++ peer_text peer) }
 {
     if peer == NO_PEER {
-        return String::from_str(alloc, "none");
+        text.push_str("none")?;
+    } else {
+        push_number(text, "", peer)?;
     }
-    format!(in alloc; "{peer}")
+    Ok(())
 }
 
-fn sent_text(alloc: Global, sent: Option<u16>) -> Result<String, AllocError>
-    ensures { IfOk result (λ text. string_bytes text ≡ sent_text sent) }
+fn push_sent(text: &mut String, sent: Option<u16>) -> Result<(), AllocError>
+    ensures { OnOk result (string_bytes text.new ≡ string_bytes text.old ++ sent_text sent) }
 {
     match sent {
-        None => Ok(String::new(alloc)),
-        Some(time) => format!(in alloc; " sent {time}"),
+        None => Ok(()),
+        Some(time) => push_number(text, " sent ", time),
     }
 }
 
 /// The line of a stop: its number and name, the place in the datagram, and the bytes from there on. An error where there is
 /// no memory for it.
-pub(crate) fn stop_line(
-    alloc: Global,
+pub(crate) fn push_stop_line(
+    text: &mut String,
     stop: Stop,
     place: usize,
     rest: &[u8],
-) -> Result<String, AllocError>
-    ensures { IfOk result (λ line. string_bytes line ≡ stop_line stop place rest.now) }
+) -> Result<(), AllocError>
+    ensures { OnOk result (string_bytes text.new ≡ string_bytes text.old ++ stop_line stop place rest.now) }
 {
-    let label = stop.label();
-    let bytes = bytes_text(alloc, rest)?;
-    format!(in alloc; "  {label} at byte {place}: {bytes}\n")
+    text.push_str("  ")?;
+    text.push_str(stop.label())?;
+    push_number(text, " at byte ", place)?;
+    text.push_str(": ")?;
+    push_bytes(text, rest)?;
+    text.push_str("\n")?;
+    Ok(())
 }
 
 /// The line of a command. An error where there is no memory for it.
-pub(crate) fn command_line(alloc: Global, command: &Command<'_>) -> Result<String, AllocError>
-    ensures { IfOk result (λ line. string_bytes line ≡ command_line (view command.now)) }
+pub(crate) fn push_command_line(text: &mut String, command: &Command<'_>) -> Result<(), AllocError>
+    ensures { OnOk result (string_bytes text.new ≡ string_bytes text.old ++ command_line (view command.now)) }
 {
     let (name, head) = named(command);
-    let head = head_text(alloc, head)?;
-    let fields = fields_text(alloc, command)?;
-    format!(in alloc; "  {name}{head}{fields}\n")
+    text.push_str("  ")?;
+    text.push_str(name)?;
+    push_head(text, head)?;
+    push_fields(text, command)?;
+    text.push_str("\n")?;
+    Ok(())
 }
 
 // The name of a command, and its head.
@@ -85,188 +96,207 @@ fn named(command: &Command<'_>) -> (&'static str, Head)
     }
 }
 
-fn flag_text(name: &'static str, set: bool) -> &'static str
-    ensures { result.now ≡ flag_text name.now set }
+fn push_flag(text: &mut String, name: &str, set: bool) -> Result<(), AllocError>
+    ensures { OnOk result (string_bytes text.new ≡ string_bytes text.old ++ flag_text name.now set) }
 {
-    if set { name } else { "" }
+    if set {
+        text.push_str(name)?;
+    }
+    Ok(())
 }
 
-fn head_text(alloc: Global, head: Head) -> Result<String, AllocError>
-    ensures { IfOk result (λ text. string_bytes text ≡ head_text head) }
+fn push_head(text: &mut String, head: Head) -> Result<(), AllocError>
+    ensures { OnOk result (string_bytes text.new ≡ string_bytes text.old ++ head_text head) }
 {
-    let channel = head.channel;
-    let number = head.number;
-    let acknowledge = flag_text(" acknowledge", head.acknowledge);
-    let unsequenced = flag_text(" unsequenced", head.unsequenced);
-    format!(in alloc; " channel {channel} number {number}{acknowledge}{unsequenced}")
+    push_number(text, " channel ", head.channel)?;
+    push_number(text, " number ", head.number)?;
+    push_flag(text, " acknowledge", head.acknowledge)?;
+    push_flag(text, " unsequenced", head.unsequenced)?;
+    Ok(())
 }
 
 // The fields of a command, its payload among them.
-fn fields_text(alloc: Global, command: &Command<'_>) -> Result<String, AllocError>
-    ensures { IfOk result (λ text. string_bytes text ≡ fields_text (view command.now).body) }
+fn push_fields(text: &mut String, command: &Command<'_>) -> Result<(), AllocError>
+    ensures { OnOk result (string_bytes text.new ≡ string_bytes text.old ++ fields_text (view command.now).body) }
 {
     match *command {
         Command::Acknowledge {
             received_number,
             received_time,
             ..
-        } => {
-            format!(in alloc; " received_number {received_number} received_time {received_time}")
-        }
-        Command::Connect { offer, .. } => offer_text(alloc, offer),
-        Command::VerifyConnect { verify, .. } => verify_text(alloc, verify),
-        Command::Disconnect { info, .. } => format!(in alloc; " info {info}"),
-        Command::Ping { .. } => Ok(String::new(alloc)),
-        Command::SendReliable { payload, .. } => payload_text(alloc, payload),
+        } => push_received(text, received_number, received_time),
+        Command::Connect { offer, .. } => push_offer(text, offer),
+        Command::VerifyConnect { verify, .. } => push_verify(text, verify),
+        Command::Disconnect { info, .. } => push_number(text, " info ", info),
+        Command::Ping { .. } => Ok(()),
+        Command::SendReliable { payload, .. } => push_payload(text, payload),
         Command::SendUnreliable {
             unreliable,
             payload,
             ..
-        } => numbered_text(alloc, " unreliable ", unreliable, payload),
+        } => push_numbered(text, " unreliable ", unreliable, payload),
         Command::SendFragment {
             fragment,
             payload,
             ..
-        } => fragment_text(alloc, fragment, payload),
+        } => push_fragment(text, fragment, payload),
         Command::SendUnsequenced { group, payload, .. } => {
-            numbered_text(alloc, " group ", group, payload)
+            push_numbered(text, " group ", group, payload)
         }
         Command::BandwidthLimit {
             incoming,
             outgoing,
             ..
-        } => limits_text(alloc, incoming, outgoing),
+        } => push_limits(text, incoming, outgoing),
         Command::ThrottleConfigure {
             interval,
             acceleration,
             deceleration,
             ..
-        } => throttle_text(alloc, interval, acceleration, deceleration),
+        } => push_throttle(text, interval, acceleration, deceleration),
         Command::SendUnreliableFragment {
             fragment,
             payload,
             ..
-        } => fragment_text(alloc, fragment, payload),
+        } => push_fragment(text, fragment, payload),
     }
 }
 
-fn payload_text(alloc: Global, payload: &[u8]) -> Result<String, AllocError>
-    ensures { IfOk result (λ text. string_bytes text ≡ payload_text payload.now) }
+// What an acknowledgement acknowledges.
+fn push_received(text: &mut String, number: u16, time: u16) -> Result<(), AllocError>
+    ensures { OnOk result (string_bytes text.new
+        ≡ string_bytes text.old ++ (codes " received_number " ++ decimal number ++ codes " received_time " ++ decimal time)) }
 {
-    let length = payload.len();
-    let bytes = bytes_text(alloc, payload)?;
-    format!(in alloc; " length {length} payload {bytes}")
+    push_number(text, " received_number ", number)?;
+    push_number(text, " received_time ", time)?;
+    Ok(())
+}
+
+fn push_payload(text: &mut String, payload: &[u8]) -> Result<(), AllocError>
+    ensures { OnOk result (string_bytes text.new ≡ string_bytes text.old ++ payload_text payload.now) }
+{
+    push_number(text, " length ", payload.len())?;
+    text.push_str(" payload ")?;
+    push_bytes(text, payload)?;
+    Ok(())
 }
 
 // A number of the packet, by its name, and the payload.
-fn numbered_text(
-    alloc: Global,
+fn push_numbered(
+    text: &mut String,
     name: &str,
     number: u16,
     payload: &[u8],
-) -> Result<String, AllocError>
-    ensures { IfOk result (λ text. string_bytes text ≡ name.now ++ decimal number ++ payload_text payload.now) }
+) -> Result<(), AllocError>
+    ensures { OnOk result (string_bytes text.new
+        ≡ string_bytes text.old ++ (name.now ++ decimal number ++ payload_text payload.now)) }
 {
-    let payload = payload_text(alloc, payload)?;
-    format!(in alloc; "{name}{number}{payload}")
+    push_number(text, name, number)?;
+    push_payload(text, payload)?;
+    Ok(())
 }
 
-fn fragment_text(alloc: Global, fragment: Fragment, payload: &[u8]) -> Result<String, AllocError>
-    ensures { IfOk result (λ text. string_bytes text ≡ fragment_text fragment payload.now) }
+fn push_fragment(text: &mut String, fragment: Fragment, payload: &[u8]) -> Result<(), AllocError>
+    ensures { OnOk result (string_bytes text.new ≡ string_bytes text.old ++ fragment_text fragment payload.now) }
 {
-    let Fragment {
-        start,
-        count,
-        number,
-        total,
-        offset,
-    } = fragment;
-    let payload = payload_text(alloc, payload)?;
-    format!(in alloc;
-        " start {start} fragment {number} count {count} offset {offset} total {total}{payload}"
-    )
+    push_number(text, " start ", fragment.start)?;
+    push_number(text, " fragment ", fragment.number)?;
+    push_number(text, " count ", fragment.count)?;
+    push_number(text, " offset ", fragment.offset)?;
+    push_number(text, " total ", fragment.total)?;
+    push_payload(text, payload)?;
+    Ok(())
 }
 
-fn offer_text(alloc: Global, offer: Offer) -> Result<String, AllocError>
-    ensures { IfOk result (λ text. string_bytes text ≡ offer_text offer) }
+fn push_offer(text: &mut String, offer: Offer) -> Result<(), AllocError>
+    ensures { OnOk result (string_bytes text.new ≡ string_bytes text.old ++ offer_text offer) }
 {
-    let sessions = sessions_text(
-        alloc,
+    push_sessions(
+        text,
         offer.outgoing_peer,
         offer.incoming_session,
         offer.outgoing_session,
     )?;
-    let sizes = sizes_text(alloc, offer.mtu, offer.window, offer.channels)?;
-    let limits = limits_text(alloc, offer.incoming_bandwidth, offer.outgoing_bandwidth)?;
-    let throttle = throttle_text(
-        alloc,
+    push_sizes(text, offer.mtu, offer.window, offer.channels)?;
+    push_limits(text, offer.incoming_bandwidth, offer.outgoing_bandwidth)?;
+    push_throttle(
+        text,
         offer.throttle_interval,
         offer.acceleration,
         offer.deceleration,
     )?;
-    let id = id_text(alloc, offer.connect_id)?;
-    let info = offer.info;
-    format!(in alloc; "{sessions}{sizes}{limits}{throttle}{id} info {info}")
+    push_id(text, offer.connect_id)?;
+    push_number(text, " info ", offer.info)?;
+    Ok(())
 }
 
-fn verify_text(alloc: Global, verify: Verify) -> Result<String, AllocError>
-    ensures { IfOk result (λ text. string_bytes text ≡ verify_text verify) }
+fn push_verify(text: &mut String, verify: Verify) -> Result<(), AllocError>
+    ensures { OnOk result (string_bytes text.new ≡ string_bytes text.old ++ verify_text verify) }
 {
-    let sessions = sessions_text(
-        alloc,
+    push_sessions(
+        text,
         verify.outgoing_peer,
         verify.incoming_session,
         verify.outgoing_session,
     )?;
-    let sizes = sizes_text(alloc, verify.mtu, verify.window, verify.channels)?;
-    let limits = limits_text(alloc, verify.incoming_bandwidth, verify.outgoing_bandwidth)?;
-    let throttle = throttle_text(
-        alloc,
+    push_sizes(text, verify.mtu, verify.window, verify.channels)?;
+    push_limits(text, verify.incoming_bandwidth, verify.outgoing_bandwidth)?;
+    push_throttle(
+        text,
         verify.throttle_interval,
         verify.acceleration,
         verify.deceleration,
     )?;
-    let id = id_text(alloc, verify.connect_id)?;
-    format!(in alloc; "{sessions}{sizes}{limits}{throttle}{id}")
+    push_id(text, verify.connect_id)?;
+    Ok(())
 }
 
-fn sessions_text(alloc: Global, peer: u16, incoming: u8, outgoing: u8) -> Result<String, AllocError>
-    ensures { IfOk result (λ text. string_bytes text ≡ sessions_text peer incoming outgoing) }
+fn push_sessions(text: &mut String, peer: u16, incoming: u8, outgoing: u8) -> Result<(), AllocError>
+    ensures { OnOk result (string_bytes text.new ≡ string_bytes text.old ++ sessions_text peer incoming outgoing) }
 {
-    format!(in alloc;
-        " outgoing_peer {peer} incoming_session {incoming} outgoing_session {outgoing}"
-    )
+    push_number(text, " outgoing_peer ", peer)?;
+    push_number(text, " incoming_session ", incoming)?;
+    push_number(text, " outgoing_session ", outgoing)?;
+    Ok(())
 }
 
-fn sizes_text(alloc: Global, mtu: u32, window: u32, channels: u32) -> Result<String, AllocError>
-    ensures { IfOk result (λ text. string_bytes text ≡ sizes_text mtu window channels) }
+fn push_sizes(text: &mut String, mtu: u32, window: u32, channels: u32) -> Result<(), AllocError>
+    ensures { OnOk result (string_bytes text.new ≡ string_bytes text.old ++ sizes_text mtu window channels) }
 {
-    format!(in alloc; " mtu {mtu} window {window} channels {channels}")
+    push_number(text, " mtu ", mtu)?;
+    push_number(text, " window ", window)?;
+    push_number(text, " channels ", channels)?;
+    Ok(())
 }
 
-fn limits_text(alloc: Global, incoming: u32, outgoing: u32) -> Result<String, AllocError>
-    ensures { IfOk result (λ text. string_bytes text ≡ limits_text incoming outgoing) }
+fn push_limits(text: &mut String, incoming: u32, outgoing: u32) -> Result<(), AllocError>
+    ensures { OnOk result (string_bytes text.new ≡ string_bytes text.old ++ limits_text incoming outgoing) }
 {
-    format!(in alloc; " incoming_bandwidth {incoming} outgoing_bandwidth {outgoing}")
+    push_number(text, " incoming_bandwidth ", incoming)?;
+    push_number(text, " outgoing_bandwidth ", outgoing)?;
+    Ok(())
 }
 
-fn throttle_text(
-    alloc: Global,
+fn push_throttle(
+    text: &mut String,
     interval: u32,
     acceleration: u32,
     deceleration: u32,
-) -> Result<String, AllocError>
-    ensures { IfOk result (λ text. string_bytes text ≡ throttle_text interval acceleration deceleration) }
+) -> Result<(), AllocError>
+    ensures { OnOk result (string_bytes text.new
+        ≡ string_bytes text.old ++ throttle_text interval acceleration deceleration) }
 {
-    format!(in alloc;
-        " throttle_interval {interval} acceleration {acceleration} deceleration {deceleration}"
-    )
+    push_number(text, " throttle_interval ", interval)?;
+    push_number(text, " acceleration ", acceleration)?;
+    push_number(text, " deceleration ", deceleration)?;
+    Ok(())
 }
 
 // A connect id, as eight hex digits.
-fn id_text(alloc: Global, id: u32) -> Result<String, AllocError>
-    ensures { IfOk result (λ text. string_bytes text ≡ id_text id) }
+fn push_id(text: &mut String, id: u32) -> Result<(), AllocError>
+    ensures { OnOk result (string_bytes text.new ≡ string_bytes text.old ++ id_text id) }
 {
-    let digits = bytes_text(alloc, &id.to_be_bytes())?;
-    format!(in alloc; " connect_id {digits}")
+    text.push_str(" connect_id ")?;
+    push_bytes(text, &id.to_be_bytes())?;
+    Ok(())
 }

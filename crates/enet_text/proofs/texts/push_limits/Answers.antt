@@ -1,0 +1,6 @@
+use Rattle.std.proofs.Common.{refl, append_assoc}
+use Rattle.enet_text.proofs.texts.push_limits.Goals as goal
+
+pub returns : goal.returns
+returns c =
+    simp (append_assoc, c.in_ok-push_number-2.ensures, c.in_ok-push_number.ensures) refl
