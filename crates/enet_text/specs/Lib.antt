@@ -4,3 +4,4 @@ pub mod InspectTexts
 pub mod Described
 pub mod Lines
 pub mod Faults
+pub mod Private

@@ -1,11 +1,16 @@
 //! An input is read, and its datagrams are told one after another.
 
-use crate::address_text;
-use crate::datagram::describe;
+ghost use Rattle.std.specs.Prelude.{◌≡◌, ◌++◌, length, OnOk};
+ghost use Rattle.std.specs.String.{string_bytes};
+ghost use Rattle.enet_text.specs.Private.InputTexts.{number_text, way_text};
+
+use crate::answers::push_address;
+use crate::datagram::push_description;
 use crate::fault::InspectFault;
 use crate::line::{Line, read_line};
 use crate::pcap::{Captured, Datagram, Format, datagram_in, is_capture, read_format, read_packet};
-use std::alloc::Global;
+use crate::pushing::{push_number, push_padded};
+use std::alloc::{AllocError, Global};
 use std::io::{ErrorKind, Read, Write};
 
 /// Reads the input to its end, and writes what each datagram of it says: a line with its number, counted from 0, and its length, and
@@ -44,6 +49,7 @@ fn tell_all<W: Write>(alloc: Global, input: &[u8], writer: &mut W) -> Result<(),
 
 // Tells the datagrams of lines in hex.
 fn tell_lines<W: Write>(alloc: Global, input: &[u8], writer: &mut W) -> Result<(), InspectFault> {
+    let mut text = String::new(alloc);
     let mut lines = 0u64;
     let mut told = 0u64;
     for line in input.split(|byte| *byte == b'\n') {
@@ -51,7 +57,10 @@ fn tell_lines<W: Write>(alloc: Global, input: &[u8], writer: &mut W) -> Result<(
         match read_line(alloc, line)? {
             Some(Line::PassedOver) => {}
             Some(Line::Datagram(bytes)) => {
-                tell(alloc, told, "", bytes.as_slice(), writer)?;
+                let bytes = bytes.as_slice();
+                text.clear();
+                push_length(&mut text, told, bytes)?;
+                tell(&mut text, bytes, writer)?;
                 told = told.saturating_add(1);
             }
             None => return Err(InspectFault::BadLine(lines)),
@@ -67,6 +76,8 @@ fn tell_capture<W: Write>(
     packets: &[u8],
     writer: &mut W,
 ) -> Result<(), InspectFault> {
+    let width = if format.nanoseconds { 9 } else { 6 };
+    let mut text = String::new(alloc);
     let mut rest = packets;
     let mut told = 0u64;
     let mut others = 0u64;
@@ -80,48 +91,54 @@ fn tell_capture<W: Write>(
         rest = behind;
         match datagram_in(format, captured.bytes) {
             Some(datagram) => {
-                tell_captured(alloc, told, format, captured, datagram, writer)?;
+                text.clear();
+                push_length(&mut text, told, datagram.payload)?;
+                push_way(&mut text, captured, datagram, width)?;
+                tell(&mut text, datagram.payload, writer)?;
                 told = told.saturating_add(1);
             }
             None => others = others.saturating_add(1),
         }
     }
-    let text = format!(in alloc; "{others} other packets\n")?;
+    text.clear();
+    push_number(&mut text, "", others)?;
+    text.push_str(" other packets\n")?;
     write_text(text.as_str(), writer)
 }
 
-// Tells a datagram of a capture: whence and whither it went, and when.
-fn tell_captured<W: Write>(
-    alloc: Global,
-    number: u64,
-    format: Format,
-    captured: Captured<'_>,
-    datagram: Datagram<'_>,
-    writer: &mut W,
-) -> Result<(), InspectFault> {
-    let from = address_text(alloc, datagram.from)?;
-    let to = address_text(alloc, datagram.to)?;
-    let seconds = captured.seconds;
-    let parts = captured.parts;
-    let way = if format.nanoseconds {
-        format!(in alloc; " from {from} to {to} at {seconds}.{parts:09}")?
-    } else {
-        format!(in alloc; " from {from} to {to} at {seconds}.{parts:06}")?
-    };
-    tell(alloc, number, way.as_str(), datagram.payload, writer)
+// The number of a datagram, and its length.
+fn push_length(text: &mut String, number: u64, bytes: &[u8]) -> Result<(), AllocError>
+    ensures { OnOk result (string_bytes text.new ≡ string_bytes text.old ++ number_text number (length bytes.now)) }
+{
+    push_number(text, "datagram ", number)?;
+    push_number(text, " length ", bytes.len())?;
+    Ok(())
 }
 
-// Tells a datagram, with its number, its length, and what is known of its way.
-fn tell<W: Write>(
-    alloc: Global,
-    number: u64,
-    way: &str,
-    bytes: &[u8],
-    writer: &mut W,
-) -> Result<(), InspectFault> {
-    let length = bytes.len();
-    let lines = describe(alloc, bytes)?;
-    let text = format!(in alloc; "datagram {number} length {length}{way}\n{lines}")?;
+// Whence and whither a datagram of a capture went, and when: in seconds and parts of one, which have so many digits.
+fn push_way(
+    text: &mut String,
+    captured: Captured<'_>,
+    datagram: Datagram<'_>,
+    width: usize,
+) -> Result<(), AllocError>
+    ensures { OnOk result (string_bytes text.new ≡ string_bytes text.old
+        ++ way_text datagram.entry.from datagram.entry.to captured.entry.seconds captured.entry.parts width) }
+{
+    text.push_str(" from ")?;
+    push_address(text, datagram.from)?;
+    text.push_str(" to ")?;
+    push_address(text, datagram.to)?;
+    push_number(text, " at ", captured.seconds)?;
+    text.push_str(".")?;
+    push_padded(text, captured.parts, width)?;
+    Ok(())
+}
+
+// Tells a datagram, behind what the text says of it.
+fn tell<W: Write>(text: &mut String, bytes: &[u8], writer: &mut W) -> Result<(), InspectFault> {
+    text.push_str("\n")?;
+    push_description(text, bytes)?;
     write_text(text.as_str(), writer)
 }
 

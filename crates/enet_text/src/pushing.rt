@@ -3,6 +3,7 @@
 ghost use Rattle.std.specs.Prelude.{◌≡◌, ◌++◌, ◌*◌, ◌<◌, ◌≤◌, length, slice_index, OnOk};
 ghost use Rattle.std.specs.String.{string_bytes};
 ghost use Rattle.hex.specs.Hex.{encode_lower, lower_digits};
+ghost use Rattle.enet_text.specs.Private.InputTexts.{padded_text};
 ghost use Rattle.enet_text.specs.Texts.{bytes_text};
 
 use itoa::{Buffer, Integer};
@@ -23,6 +24,20 @@ pub(crate) fn push_number<I: Integer>(
     let mut digits = Buffer::new();
     text.push_str(name)?;
     text.push_str(digits.format(number))
+}
+
+/// A number in decimal, with zeros in front up to a width. An error where there is no memory for it.
+pub(crate) fn push_padded(text: &mut String, number: u32, width: usize) -> Result<(), AllocError>
+    ensures { OnOk result (string_bytes text.new ≡ string_bytes text.old ++ padded_text width number) }
+{
+    let mut digits = Buffer::new();
+    let digits = digits.format(number);
+    let zeros = width.saturating_sub(digits.len());
+    for _ in 0..zeros {
+        text.push_str("0")?;
+    }
+    text.push_str(digits)?;
+    Ok(())
 }
 
 /// Bytes in hex of lower case, or `-` for none. An error where there is no memory for them.
