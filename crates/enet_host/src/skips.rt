@@ -92,13 +92,14 @@ impl Skips {
         }
     }
 
-    /// Wakes each slot to which the moment `now` may bring something, if there are such slots.
+    /// Wakes each slot to which the moment `now` may bring something, if there are such slots. A time that lasts 0 stays, as where
+    /// nothing was noted yet: then all slots are ticked, and looked at anew.
     pub(crate) fn rouse(&mut self, peers: u16, now: u32)
         requires count { length self.old.next.items ≡ peers }
         requires rests { length self.old.rests.items ≡ peers }
         ensures { (slots : List SlotState) → length slots ≡ peers → KeepsSkips peers self.old slots → KeepsSkips peers self.new slots }
     {
-        if self.calm.covers(now) {
+        if self.calm.lasts == 0 || self.calm.covers(now) {
             return;
         }
         let mut calm = Calm::after(now);
