@@ -2,14 +2,14 @@
 
 ghost use Rattle.std.specs.Prelude.{◌≡◌, ◌++◌, length, OnOk};
 ghost use Rattle.std.specs.String.{string_bytes};
-ghost use Rattle.enet_text.specs.Private.InputTexts.{number_text, way_text};
+ghost use Rattle.enet_text.specs.Private.InputTexts.{number_text};
 
 use crate::answers::push_address;
 use crate::datagram::push_description;
 use crate::fault::InspectFault;
 use crate::line::{Line, read_line};
 use crate::pcap::{Captured, Datagram, Format, datagram_in, is_capture, read_format, read_packet};
-use crate::pushing::{push_number, push_padded};
+use crate::pushing::push_number;
 use std::alloc::{AllocError, Global};
 use std::io::{ErrorKind, Read, Write};
 
@@ -76,7 +76,6 @@ fn tell_capture<W: Write>(
     packets: &[u8],
     writer: &mut W,
 ) -> Result<(), InspectFault> {
-    let width = if format.nanoseconds { 9 } else { 6 };
     let mut text = String::new(alloc);
     let mut rest = packets;
     let mut told = 0u64;
@@ -93,7 +92,7 @@ fn tell_capture<W: Write>(
             Some(datagram) => {
                 text.clear();
                 push_length(&mut text, told, datagram.payload)?;
-                push_way(&mut text, captured, datagram, width)?;
+                push_way(&mut text, captured, datagram, format.nanoseconds)?;
                 tell(&mut text, datagram.payload, writer)?;
                 told = told.saturating_add(1);
             }
@@ -115,24 +114,24 @@ fn push_length(text: &mut String, number: u64, bytes: &[u8]) -> Result<(), Alloc
     Ok(())
 }
 
-// Whence and whither a datagram of a capture went, and when: in seconds and parts of one, which have so many digits.
+// Whence and whither a datagram of a capture went, and when: in seconds, and in billionths or millionths of one.
 fn push_way(
     text: &mut String,
     captured: Captured<'_>,
     datagram: Datagram<'_>,
-    width: usize,
-) -> Result<(), AllocError>
-    ensures { OnOk result (string_bytes text.new ≡ string_bytes text.old
-        ++ way_text datagram.entry.from datagram.entry.to captured.entry.seconds captured.entry.parts width) }
-{
+    nanoseconds: bool,
+) -> Result<(), AllocError> {
     text.push_str(" from ")?;
     push_address(text, datagram.from)?;
     text.push_str(" to ")?;
     push_address(text, datagram.to)?;
     push_number(text, " at ", captured.seconds)?;
-    text.push_str(".")?;
-    push_padded(text, captured.parts, width)?;
-    Ok(())
+    let parts = captured.parts;
+    if nanoseconds {
+        write!(text, ".{parts:09}")
+    } else {
+        write!(text, ".{parts:06}")
+    }
 }
 
 // Tells a datagram, behind what the text says of it.

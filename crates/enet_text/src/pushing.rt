@@ -1,43 +1,27 @@
 //! Numbers and bytes, put behind the text that is there.
 
-ghost use Rattle.std.specs.Prelude.{◌≡◌, ◌++◌, ◌*◌, ◌<◌, ◌≤◌, length, slice_index, OnOk};
+ghost use Rattle.std.specs.Prelude.{◌≡◌, ◌++◌, ◌*◌, ◌<◌, ◌≤◌, length, slice_index, IfSome, OnOk};
 ghost use Rattle.std.specs.String.{string_bytes};
 ghost use Rattle.hex.specs.Hex.{encode_lower, lower_digits};
-ghost use Rattle.enet_text.specs.Private.InputTexts.{padded_text};
 ghost use Rattle.enet_text.specs.Texts.{bytes_text};
 
-use itoa::{Buffer, Integer};
 use std::alloc::AllocError;
+use std::fmt::Display;
 use std::str::from_utf8;
 
 /// The most bytes whose hex digits are put into a text at once.
 const CHUNK: usize = 64;
 
 /// A number in decimal, behind its name. An error where there is no memory for it.
-pub(crate) fn push_number<I: Integer>(
+pub(crate) fn push_number<N: Display + Drop>(
     text: &mut String,
     name: &str,
-    number: I,
+    number: N,
 ) -> Result<(), AllocError>
-    ensures { OnOk result (string_bytes text.new ≡ string_bytes text.old ++ name.now ++ I.text number) }
+    ensures { IfSome (N.output number) (λ told. OnOk result (string_bytes text.new ≡ string_bytes text.old ++ name.now ++ told)) }
 {
-    let mut digits = Buffer::new();
     text.push_str(name)?;
-    text.push_str(digits.format(number))
-}
-
-/// A number in decimal, with zeros in front up to a width. An error where there is no memory for it.
-pub(crate) fn push_padded(text: &mut String, number: u32, width: usize) -> Result<(), AllocError>
-    ensures { OnOk result (string_bytes text.new ≡ string_bytes text.old ++ padded_text width number) }
-{
-    let mut digits = Buffer::new();
-    let digits = digits.format(number);
-    let zeros = width.saturating_sub(digits.len());
-    for _ in 0..zeros {
-        text.push_str("0")?;
-    }
-    text.push_str(digits)?;
-    Ok(())
+    write!(text, "{number}")
 }
 
 /// Bytes in hex of lower case, or `-` for none. An error where there is no memory for them.
