@@ -9,7 +9,7 @@ use Rattle.enet_slot.specs.Slot.{SlotState, name_of}
 use Rattle.enet_host.specs.Turns.{turn_of, IsFirst, HoldsNowhere}
 use Rattle.enet_slot.specs.Serving.{Passes, Gives}
 use Rattle.enet_slot.specs.Calls.{tells}
-use Rattle.enet_slot.proofs.Sleeping.{passes-asleep, mute-asleep}
+use Rattle.enet_slot.proofs.Waiting.{passes-waiting, mute-waiting}
 use Rattle.enet_host.specs.declared.skips.Skips.{Skips}
 use Rattle.enet_host.specs.Skips.{KeepsSkips}
 use Rattle.enet_host.specs.Private.Skips.{PassesTurns}
@@ -89,7 +89,7 @@ all-passed now n from k m skips old new count rests passes more asked = λ i s t
     record {
       before = λ less. elim (cases_lt (turn_of n from i) k) [
         | inl earlier ↦ (asked i s t a b).before earlier
-        | inr later ↦ subst (λ (u : SlotState). Passes now s u) (sym ((asked i s t a b).after later)) (passes-asleep now s (rests.asleep i s a (passes i inside later less)).sleeps)
+        | inr later ↦ subst (λ (u : SlotState). Passes now s u) (sym ((asked i s t a b).after later)) (passes-waiting now s (rests.asleep i s a (passes i inside later less)).waits)
       ];
       after = λ past. (asked i s t a b).after (omega (arith, past, more));
     }
@@ -184,7 +184,7 @@ pub none-passed : (slots : List SlotState) (n from k m : ℕ) (skips : Skips) �
     → NoneBefore tells slots n from k → NoneBefore tells slots n from m
 none-passed slots n from k m skips count rests passes none = λ j s a less.
     let inside : j < n = subst (λ (c : ℕ). j < c) count (slice_get_within slots j s a) in
-    elim (cases_lt (turn_of n from j) k) [ inl earlier ↦ none j s a earlier | inr later ↦ mute-asleep s (rests.asleep j s a (passes j inside later less)).sleeps ]
+    elim (cases_lt (turn_of n from j) k) [ inl earlier ↦ none j s a earlier | inr later ↦ mute-waiting s (rests.asleep j s a (passes j inside later less)).waits ]
 
 pub none-at-all : (holds : SlotState → Bool) (slots : List SlotState) (n from k : ℕ) → from < n → length slots ≡ n → n ≤ k → NoneBefore holds slots n from k
     → HoldsNowhere holds slots

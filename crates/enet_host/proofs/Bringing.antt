@@ -10,8 +10,8 @@ use Rattle.enet_peer.proofs.Calm.{nothing-due}
 use Rattle.enet_slot.specs.Slot.{SlotState, changed, with_changed, with_peer, with_peer_in, is_due_in}
 use Rattle.enet_slot.specs.Slot as slot
 use Rattle.enet_slot.specs.Sharing.{is_standing, shared}
-use Rattle.enet_peer.specs.Sleeping as peered
-use Rattle.enet_slot.specs.Sleeping.{sleeps_in, Sleeps}
+use Rattle.enet_peer.specs.Waiting as peered
+use Rattle.enet_slot.specs.Waiting.{waits_in, Waits}
 use Rattle.enet_host.specs.declared.calm.Calm.{Calm}
 use Rattle.enet_host.specs.Skips.{IsWithin, Rests}
 use Rattle.enet_host.specs.Host.{Host, HoldsNoFree}
@@ -43,19 +43,19 @@ calm-slot now s None held none busy = refl
 calm-slot now s (Some p) held none busy =
     ap (λ (q : Peering). with_peer s q) (nothing-due p now none) ∙ kept-in p.state s p (busy p refl) ∙ ap (λ (o : Option Peering). record s { peer = o }) (sym held)
 
--- one that sleeps is not free
-busy-asleep : (s : SlotState) → Sleeps s → (p : Peering) → s.peer ≡ Some p → p.state ≢ state.Free
-busy-asleep s sleeps p held free =
-    let asleep : peered.Sleeps p = subst sleeps_in held sleeps in
-    let e : false ≡ true = ap peers.is_connected (sym free) ∙ asleep.connected in
+-- one that waits is not free
+busy-waits : (s : SlotState) → Waits s → (p : Peering) → s.peer ≡ Some p → p.state ≢ state.Free
+busy-waits s waits p held free =
+    let waiting : peered.Waits p = subst waits_in held waits in
+    let e : false ≡ true = ap peers.is_connected (sym free) ∙ waiting.connected in
     absurd (cc)
 
 -- it rests for as long as it is not due
-pub rests-until-due : (calm : Calm) (now wait : ℕ) (s : SlotState) → Sleeps s → HappensIn (λ (later : ℕ). slot.is_due later s) now wait
+pub rests-until-due : (calm : Calm) (now wait : ℕ) (s : SlotState) → Waits s → HappensIn (λ (later : ℕ). slot.is_due later s) now wait
     → ((moment : ℕ) → moment < 2 ^ 32 → IsWithin calm moment → elapsed_time moment now < wait) → Rests calm s
-rests-until-due calm now wait s sleeps due early = record {
-  sleeps = sleeps;
-  still = λ moment fits within. calm-slot moment s s.peer refl (due.before moment fits (early moment fits within)) (busy-asleep s sleeps);
+rests-until-due calm now wait s waits due early = record {
+  waits = waits;
+  still = λ moment fits within. calm-slot moment s s.peer refl (due.before moment fits (early moment fits within)) (busy-waits s waits);
 }
 
 calm-slots : (now : ℕ) (slots : List SlotState) → list_any (slot.is_due now) slots ≡ false → HoldsNoFree slots → map (changed (λ (p : Peering). peers.ticked p now)) slots ≡ slots

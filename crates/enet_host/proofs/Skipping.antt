@@ -7,7 +7,7 @@ use Rattle.enet_slot.specs.Slot.{SlotState}
 use Rattle.enet_slot.specs.Calls.{tells}
 use Rattle.enet_slot.specs.Slotted.{shown, all_shown}
 use Rattle.enet_slot.proofs.Shown.{set-shown}
-use Rattle.enet_slot.proofs.Sleeping.{mute-asleep}
+use Rattle.enet_slot.proofs.Waiting.{mute-waiting}
 use Rattle.enet_host.specs.Turns.{turn_of, IsFirst}
 use Rattle.enet_codec.specs.declared.event.Event.{Event}
 use Rattle.enet_host.specs.Serving.{Served}
@@ -61,12 +61,12 @@ skips-gives-event n i event skips old new k awake g = subst (KeepsSkips n skips)
 
 -- a slot rests for a part of the time, too
 pub rests-for-part : (part whole : Calm) (s : SlotState) → IsPartOf part whole → Rests whole s → Rests part s
-rests-for-part part whole s within r = record { sleeps = r.sleeps; still = λ moment fits h. r.still moment fits (within moment fits h) }
+rests-for-part part whole s within r = record { waits = r.waits; still = λ moment fits h. r.still moment fits (within moment fits h) }
 
 -- a slot that has an event is awake
 pub teller-awake : (n i from : ℕ) (skips : Skips) (slots : List SlotState) → KeepsSkips n skips slots → IsFirst tells slots from i → entry skips.next.items i ≤ i
 teller-awake n i from skips slots k first = elim (cases_lt i (entry skips.next.items i)) [
-  | inl past ↦ let mute = sym first.here ∙ mute-asleep first.slot (k.asleep i first.slot first.there past).sleeps in absurd (cc)
+  | inl past ↦ let mute = sym first.here ∙ mute-waiting first.slot (k.asleep i first.slot first.there past).waits in absurd (cc)
   | inr awake ↦ awake
 ]
 
@@ -265,7 +265,7 @@ refreshed-all skips slots n number next r none = record {
 pub stays-asleep : (n i : ℕ) (skips : Skips) (slots : List SlotState) (calm : Calm) → KeepsSkips n skips slots → StaysAsleep skips.next.items skips.rests.items i calm → SlotRests calm slots i
 stays-asleep n i skips slots calm k stays = λ s there.
     let rest = rest_at skips.rests.items i in
-    rests-until-due calm rest.from rest.lasts s (k.asleep i s there stays.0).sleeps (k.due i s there stays.0) (λ moment fits within. stays.1 moment fits within)
+    rests-until-due calm rest.from rest.lasts s (k.asleep i s there stays.0).waits (k.due i s there stays.0) (λ moment fits within. stays.1 moment fits within)
 
 -- The slots from `number` on were asked whether they still sleep; the entries before it are as they were.
 pub record Roused (old : Skips) (calm : Calm) (rests : List Calm) (xs : List ℕ) (n number next : ℕ) : Type 0 where

@@ -3,7 +3,7 @@ use Rattle.std.specs.Prelude.{◌≡◌, ℕ, ◌^◌, ◌<◌, ◌≤◌, Some,
 use Rattle.enet_rtt.specs.Clock.{elapsed_time, HappensIn}
 use Rattle.enet_peer.specs.Calls as peers
 use Rattle.enet_slot.specs.Slot.{SlotState, changed, is_due}
-use Rattle.enet_slot.specs.Sleeping.{Sleeps}
+use Rattle.enet_slot.specs.Waiting.{Waits}
 use Rattle.enet_host.specs.declared.calm.Calm.{Calm}
 use Rattle.enet_host.specs.declared.skips.Skips.{Skips}
 
@@ -20,9 +20,9 @@ pub record Marks (peers : ℕ) (next : List ℕ) : Type 0 where
 abbrev pub IsWithin : Calm → ℕ → Type 0
 IsWithin calm moment = elapsed_time moment calm.from < calm.lasts
 
--- a slot sleeps, and a tick at a moment of this time changes nothing of it
+-- a slot only waits, and a tick at a moment of this time changes nothing of it
 pub record Rests (calm : Calm) (s : SlotState) : Type 0 where
-  pub sleeps : Sleeps s
+  pub waits : Waits s
   pub still : (moment : ℕ) → moment < 2 ^ 32 → IsWithin calm moment → changed (λ p. peers.ticked p moment) s ≡ s
 
 -- the time of a slot at whose end time brings it something first, as it was noted when the slot fell asleep

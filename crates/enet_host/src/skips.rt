@@ -15,9 +15,9 @@ use enet_codec::Refusal;
 use enet_slot::Slot;
 use std::alloc::Global;
 
-/// Which slots of a host sleep: they are free, or their peer is connected and has nothing to send and nothing to tell. Where slots
-/// are asked in turn, and at a tick within `calm`, these are passed over. A slot falls asleep as time goes on or where bandwidths
-/// are set, and is woken before anything else comes to it.
+/// Which slots of a host sleep: they are free, or their peer is connected and has nothing to tell and nothing that goes, though what
+/// was sent may be unacknowledged. Where slots are asked in turn, and at a tick within `calm`, these are passed over. A slot falls
+/// asleep as time goes on or where bandwidths are set, and is woken before anything else comes to it.
 #[derive(Drop)]
 pub(crate) struct Skips {
     /// An entry a slot. One past the slot's own number says that it sleeps, as do all between it and the entry: the next slot that
@@ -264,7 +264,7 @@ fn awake_from(
     ensures count { length rests.new.items ≡ length rests.old.items }
 {
     let slot = &slots[usize::from(number)];
-    if !slot.is_asleep() {
+    if !slot.only_waits() {
         return number;
     }
     let due = slot.due_in(now);

@@ -1,5 +1,5 @@
 -- An outbox with nothing to send puts nothing out, and has nothing that is late.
-use Rattle.std.proofs.Common.{All, subst, ◌≡◌, ℕ, zero, suc, Bool, true, false, ◌||◌, ◌&&◌, not, nat_lt, ◌==◌, List, [], ◌∷◌, length, refl, sym, ap, ◌∙◌, arith, Option, Some, None}
+use Rattle.std.proofs.Common.{All, subst, ◌≡◌, ℕ, zero, suc, Bool, true, false, ◌||◌, ◌&&◌, not, nat_lt, ◌==◌, List, [], ◌∷◌, length, refl, sym, ap, ◌∙◌, arith, Option, Some, None, is_some}
 use Rattle.std.proofs.lemmas.Bool.Decides.{nat_tests}
 use Rattle.std.specs.List.{slice_get, list_all, list_any, position}
 use Rattle.enet_senders.specs.Controlling.{Commands}
@@ -15,7 +15,7 @@ use Rattle.enet_outbox.specs.declared.parts.Pace.{Pace}
 use Rattle.enet_outbox.specs.Outbox.{Outbox, has_no_packet, has_no_reliable}
 use Rattle.enet_outbox.specs.Emission.{Filling, filled}
 use Rattle.enet_outbox.specs.Invariant.{HasNothing}
-use Rattle.enet_outbox.specs.Private.Packing.{IsAtRest}
+use Rattle.enet_outbox.specs.Resting.{IsAtRest}
 use Rattle.enet_senders.proofs.Sets.{next-none}
 use Rattle.std.proofs.lemmas.List.Elements.{All-nil}
 use Rattle.enet_outbox.proofs.Filled.{Keeps, by-filling}
@@ -72,14 +72,28 @@ none_passes p (s ∷ rest) e =
     ap (λ (xs : List Sent). list_any p xs || list_any (λ (t : SendingEnd). list_any p t.sender.sent) rest) (sent-none s (all-left (has_no_reliable s) (list_all has_no_reliable rest) e))
     ∙ none_passes p rest (all-right (has_no_reliable s) (list_all has_no_reliable rest) e)
 
-control-none : (now timeout : ℕ) (c : Commands) → controlling.is_idle c ≡ true → controlling.next now timeout c ≡ None
+empty : {X : Type 0} (xs : List X) → (length xs == 0) ≡ true → xs ≡ []
+empty [] e = refl
+empty (x ∷ xs) e = absurd (let y : false ≡ true = sym (not-none x xs) ∙ e in cc)
+
+abbrev due_place : List SentControl → Option ℕ
+due_place sent = position (λ (p : SentControl). p.transmission.due) sent
+
+-- channel 0xFF, where nothing is queued and nothing is due to go again
+control-none : (now timeout : ℕ) (c : Commands) → controlling.is_still c ≡ true → controlling.next now timeout c ≡ None
 control-none now timeout c e =
-    ap (λ (xs : List _). controlling.next_of now timeout c (position (λ (p : SentControl). p.transmission.due) xs)) (empty c.sent (all-right (length c.queued == 0) (length c.sent == 0) e))
-    ∙ ap (λ (xs : List Numbered). controlling.next_queued now timeout c xs) (empty c.queued (all-left (length c.queued == 0) (length c.sent == 0) e))
+    ap (λ (o : Option ℕ). controlling.next_of now timeout c o) (nowhere (due_place c.sent) (all-right (length c.queued == 0) (not (is_some (due_place c.sent))) e))
+    ∙ ap (λ (xs : List Numbered). controlling.next_queued now timeout c xs) (empty c.queued (all-left (length c.queued == 0) (not (is_some (due_place c.sent))) e))
   where
-    empty : {X : Type 0} (xs : List X) → (length xs == 0) ≡ true → xs ≡ []
-    empty [] e = refl
-    empty (x ∷ xs) e = absurd (let y : false ≡ true = sym (not-none x xs) ∙ e in cc)
+    nowhere : (o : Option ℕ) → not (is_some o) ≡ true → o ≡ None
+    nowhere None e = refl
+    nowhere (Some i) e = absurd (cc)
+
+-- an idle channel 0xFF is still
+idle-still : (c : Commands) → controlling.is_idle c ≡ true → controlling.is_still c ≡ true
+idle-still c e =
+    ap (λ (b : Bool). b && not (is_some (due_place c.sent))) (all-left (length c.queued == 0) (length c.sent == 0) e)
+    ∙ ap (λ (xs : List SentControl). not (is_some (due_place xs))) (empty c.sent (all-right (length c.queued == 0) (length c.sent == 0) e))
 
 -- a datagram that stays empty
 abbrev StaysEmpty : Outbox → Filling → Type 0
@@ -89,7 +103,7 @@ StaysEmpty o f = (f.messages ≡ []) × (f.outbox ≡ o)
 pub rests : (o : Outbox) → HasNothing o → IsAtRest o
 rests o h = record {
   acknowledgements = h.acknowledgements;
-  control = h.control;
+  control = idle-still o.control h.control;
   unsequenced = h.unsequenced;
   still = λ i e there. record {
     queued = none-queued e.sender.queued (all-at has_no_packet o.senders i e h.packets there);

@@ -10,8 +10,9 @@ ghost use Rattle.enet_sender.specs.Due.{SendingEnd};
 ghost use Rattle.enet_codec.specs.Message.{view, payload_of};
 ghost use Rattle.enet_outbox.specs.Emission.{acknowledgement_of, unsequenced_of, filled, Emits};
 ghost use Rattle.enet_outbox.specs.Invariant.{HasNothing};
+ghost use Rattle.enet_outbox.specs.Resting.{IsAtRest};
 ghost use Rattle.enet_senders.specs.Senders.{IsStill};
-ghost use Rattle.enet_outbox.specs.Private.Packing.{header_asking, IsAtRest, Leads, taken_in, place_in, asked_for, refuses, GoesIn, PacksAcknowledgements, PacksControls, PacksUnsequenced, PacksChannel, PacksChannels};
+ghost use Rattle.enet_outbox.specs.Private.Packing.{header_asking, Leads, taken_in, place_in, asked_for, refuses, GoesIn, PacksAcknowledgements, PacksControls, PacksUnsequenced, PacksChannel, PacksChannels};
 
 use crate::{Acknowledgement, Destination, Outbox, Pace, Unsequenced, lists};
 use enet_codec::{Command, Head, Header, NO_PEER, write_acknowledge, write_command, write_header};
@@ -487,12 +488,13 @@ impl Outbox {
             && self.control.is_idle()
     }
 
-    /// Whether there is surely nothing that goes at any moment before a call: no acknowledgement, nothing unsequenced, nothing on
-    /// channel 0xFF, and on no other channel anything queued or due to go again. What is only unacknowledged may be there.
-    fn is_at_rest(&self) -> bool
+    /// Whether there is surely nothing that goes before a call or a moment: no acknowledgement, nothing unsequenced, and on no channel
+    /// anything queued or due to go again. What is only unacknowledged may be there. Where it answers true, `emit` puts nothing out
+    /// and changes nothing; it may also answer false where nothing goes.
+    pub fn is_at_rest(&self) -> bool
         ensures { IsTrue result → IsAtRest self.now.outbox }
     {
-        self.control.is_idle()
+        self.control.is_still()
             && self.acknowledgements.is_empty()
             && self.unsequenced.is_empty()
             && self.senders.next_ready(0) >= self.senders.len()

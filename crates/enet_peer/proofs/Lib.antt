@@ -9,4 +9,4 @@ pub mod Unmatched
 pub mod Steps
 pub mod Each
 pub mod Calm
-pub mod Sleeping
+pub mod Waiting

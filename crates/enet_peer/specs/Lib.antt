@@ -9,4 +9,5 @@ pub mod Reachable
 pub mod Handling
 pub mod Heading
 pub mod Sleeping
+pub mod Waiting
 pub mod Private

@@ -4,6 +4,7 @@ ghost use Rattle.std.specs.Prelude.{◌≡◌, is_some, IsTrue};
 ghost use Rattle.enet_outbox.specs.Outbox.{transit_of};
 ghost use Rattle.enet_peer.specs.Calls.{next_event};
 ghost use Rattle.enet_peer.specs.Sleeping.{Sleeps};
+ghost use Rattle.enet_peer.specs.Waiting.{Waits};
 
 use crate::{Peer, PeerState};
 
@@ -55,5 +56,13 @@ impl Peer {
         ensures { IsTrue result → Sleeps self.now.peer }
     {
         self.is_connected() && !self.has_event() && self.outbox.has_nothing()
+    }
+
+    /// Whether it is connected and has surely nothing to tell and nothing that goes, though what was sent may be unacknowledged. Until
+    /// a call, a command or a moment brings it something, `emit` and `next_event` then give nothing and change nothing.
+    pub fn only_waits(&self) -> bool
+        ensures { IsTrue result → Waits self.now.peer }
+    {
+        self.is_connected() && self.outbox.is_at_rest() && !self.has_event()
     }
 }

@@ -3,7 +3,7 @@
 ghost use Rattle.std.specs.Prelude.{◌≡◌, ℕ, ◌+◌, ◌<◌, ◌≤◌, nat_lt, false, IsTrue, IfOk, IfErr, IfNone, OnOk, OnErr, length, slice_get};
 ghost use Rattle.std.specs.List.{list_any};
 ghost use Rattle.enet_rtt.specs.Clock.{HappensIn};
-ghost use Rattle.enet_senders.specs.Controlling.{after_acknowledgement, acknowledged_control, after_lateness, cleared, Did, is_idle, lateness, next, next_queued, next_resent, nothing_controlled, ends, is_late, with_marked, with_queued};
+ghost use Rattle.enet_senders.specs.Controlling.{after_acknowledgement, acknowledged_control, after_lateness, cleared, Did, is_idle, is_still, lateness, next, next_queued, next_resent, nothing_controlled, ends, is_late, with_marked, with_queued};
 
 use crate::queue::{
     any_ends, any_late, is_in_span, lateness, make_room, mark, next_late, position_of,
@@ -241,6 +241,14 @@ impl ControlChannel {
         ensures { result ≡ nat_lt 0 (length self.now.commands.queued) }
     {
         !self.queued.is_empty()
+    }
+
+    /// Whether nothing goes before a call or a moment brings it something: nothing is queued, and nothing that was sent is due to
+    /// go again. What was sent may be unacknowledged.
+    pub fn is_still(&self) -> bool
+        ensures { result ≡ is_still self.now.commands }
+    {
+        self.queued.is_empty() && position_of_due(&self.sent).is_none()
     }
 
     /// Whether nothing is queued or unacknowledged. Then there is room for one command.

@@ -1,5 +1,5 @@
 pub mod Changes
 pub mod Shown
 pub mod OverAll
-pub mod Sleeping
+pub mod Waiting
 pub mod Seating

@@ -7,4 +7,5 @@ pub mod Sharing
 pub mod Calls
 pub mod Slotted
 pub mod Sleeping
+pub mod Waiting
 pub mod Private

@@ -3,6 +3,7 @@
 ghost use Rattle.std.specs.Prelude.{◌≤◌, IfSome, IfNone, IsTrue};
 ghost use Rattle.enet_slot.specs.Serving.{Gives, Passes};
 ghost use Rattle.enet_slot.specs.Sleeping.{Sleeps};
+ghost use Rattle.enet_slot.specs.Waiting.{Waits};
 
 use crate::Slot;
 
@@ -33,6 +34,18 @@ impl Slot {
     {
         match &self.peer {
             Some(peer) => peer.is_asleep(),
+            None => true,
+        }
+    }
+
+    /// Whether it is free, or its peer is connected and has surely nothing to tell and nothing that goes, though what was sent may be
+    /// unacknowledged. Until a call, a datagram or a moment brings it something, `serve` and `take` then give nothing and change
+    /// nothing.
+    pub fn only_waits(&self) -> bool
+        ensures { IsTrue result → Waits self.now.slot }
+    {
+        match &self.peer {
+            Some(peer) => peer.only_waits(),
             None => true,
         }
     }

@@ -3,8 +3,7 @@ use Rattle.std.specs.Prelude.{◌≡◌, ℕ, ◌+◌, ◌%◌, ◌==◌, not, B
 use Rattle.std.specs.List.{AllByRecursion, list_any, range_with_len}
 use Rattle.enet_codec.specs.Message.{IsMessage, Message, canonical}
 use Rattle.enet_throttle.specs.Throttle.{Throttling, is_admitted, next_counter}
-use Rattle.enet_senders.specs.Controlling.{Commands, is_idle}
-use Rattle.enet_senders.specs.Senders.{IsStill}
+use Rattle.enet_senders.specs.Controlling.{Commands}
 use Rattle.enet_sender.specs.Due.{SendingEnd}
 use Rattle.enet_outbox.specs.declared.parts.Acknowledgement.{Acknowledgement}
 use Rattle.enet_outbox.specs.declared.parts.Unsequenced.{Unsequenced}
@@ -133,10 +132,3 @@ header_asking now to asking = record {
   compressed = false;
   sent = if asking then Some (now % 65536) else None;
 }
-
--- nothing goes at any moment before a call: there is nothing but commands that wait for their acknowledgement
-pub record IsAtRest (o : Outbox) : Type 0 where
-  pub acknowledgements : length o.acknowledgements ≡ 0
-  pub control : is_idle o.control ≡ true
-  pub unsequenced : length o.unsequenced ≡ 0
-  pub still : (i : ℕ) (e : SendingEnd) → slice_get o.senders i ≡ Some e → IsStill e.sender

@@ -1,25 +1,25 @@
--- A sleeping peer that is asked for a datagram puts nothing out and stays as it is.
+-- A peer that only waits puts nothing out when it is asked for a datagram, and stays as it is.
 use Rattle.std.proofs.Common.{◌≡◌, ℕ, true, ◌&&◌, if◌then◌else◌, None, List, refl, sym, ap, ◌∙◌}
 use Rattle.enet_outbox.specs.Outbox.{Outbox, is_done}
-use Rattle.enet_outbox.proofs.Idle.{nothing-goes}
+use Rattle.enet_outbox.proofs.Idle.{rest-goes}
 use Rattle.enet_peer.specs.declared.parts.PeerState.{PeerState}
 use Rattle.enet_peer.specs.declared.parts.PeerState.TheVariants as state
 use Rattle.enet_peer.specs.Peering.{Peering}
 use Rattle.enet_peer.specs.Endings.{is_later, disconnecting}
 use Rattle.enet_peer.specs.Calls.{is_connected, pace_of, gone_on, gone_on_in, PutsOut}
-use Rattle.enet_peer.specs.Sleeping.{Sleeps}
+use Rattle.enet_peer.specs.Waiting.{Waits}
 
 pub connected-is : (st : PeerState) → is_connected st ≡ true → st ≡ state.Connected
 connected-is state.Connected e = refl
 connected-is st e = absurd (cc)
 
-stays : (p : Peering) → Sleeps p → gone_on p ≡ p
+stays : (p : Peering) → Waits p → gone_on p ≡ p
 stays p s =
     let connected = connected-is p.state s.connected in
     ap (λ (st : PeerState). gone_on_in st p) connected
     ∙ ap (λ (st : PeerState). if is_later st && is_done p.outbox then disconnecting p p.info else p) connected
 
-pub puts-nothing : (now : ℕ) (buf : List ℕ) (p : Peering) → Sleeps p → PutsOut now None p p buf
+pub puts-nothing : (now : ℕ) (buf : List ℕ) (p : Peering) → Waits p → PutsOut now None p p buf
 puts-nothing now buf p s =
-    let none = nothing-goes (pace_of p now) p.outbox s.empty in
+    let none = rest-goes (pace_of p now) p.outbox s.rests in
     record { emits = none.0; after = sym (stays p s) ∙ ap (λ (o : Outbox). gone_on (record p { outbox = o })) none.1 }
