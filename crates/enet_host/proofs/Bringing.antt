@@ -50,6 +50,13 @@ busy-waits s waits p held free =
     let e : false ≡ true = ap peers.is_connected (sym free) ∙ waiting.connected in
     absurd (cc)
 
+-- one that is free rests whatever time comes
+pub free-rests : (calm : Calm) (s : SlotState) → s.peer ≡ None → Rests calm s
+free-rests calm s free = record {
+  waits = subst waits_in (sym free) tt;
+  still = λ moment fits within. ap (λ (o : Option Peering). with_changed (λ (p : Peering). peers.ticked p moment) s o) free;
+}
+
 -- it rests for as long as it is not due
 pub rests-until-due : (calm : Calm) (now wait : ℕ) (s : SlotState) → Waits s → HappensIn (λ (later : ℕ). slot.is_due later s) now wait
     → ((moment : ℕ) → moment < 2 ^ 32 → IsWithin calm moment → elapsed_time moment now < wait) → Rests calm s

@@ -297,7 +297,7 @@ keeps-fresh c r skips xs slots is go awake e count held =
       event = h.0;
       few = h.2;
       held = subst HoldsNoFree (sym e) held;
-      resting = skips-none c.peers skips (all_shown xs) awake;
+      resting = skips-none c.peers skips (all_shown xs) (ap length e ∙ count) awake;
     }
 
 pub keeps-opened : (c : Config) (r : Bool) (skips : Skips) (xs : List Slot) → r ≡ is_in_range c → r ≡ true → AllAwake c.peers skips → all_shown xs ≡ replicate c.peers unused_slot

@@ -11,3 +11,4 @@ pub mod Foretold
 pub mod Bringing
 pub mod Resting
 pub mod Soon
+pub mod DueIn

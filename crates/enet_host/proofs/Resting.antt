@@ -1,5 +1,5 @@
 -- A tick that goes to the slots that are awake alone.
-use Rattle.std.proofs.Common.{◌≡◌, ◌≢◌, ℕ, zero, suc, ◌+◌, ◌^◌, ◌<◌, ◌≤◌, ◌⊎◌, inl, inr, Some, List, [], ◌∷◌, ◌++◌, length, map, take, drop, slice_get, slice_set, get_or, refl, sym, ap, ap₂, subst, ◌∙◌, arith}
+use Rattle.std.proofs.Common.{◌≡◌, ◌≢◌, ℕ, zero, suc, ◌+◌, ◌^◌, ◌<◌, ◌≤◌, ◌⊎◌, inl, inr, Some, None, List, [], ◌∷◌, ◌++◌, length, map, take, drop, slice_get, slice_set, get_or, refl, sym, ap, ap₂, subst, ◌∙◌, arith}
 use Rattle.std.proofs.lemmas.Bool.{cases_eq}
 use Rattle.std.proofs.lemmas.List.{get_or-set_other, get_or-set_same, length-set, length-map}
 use Rattle.std.proofs.lemmas.Option.{slice_get_within, slice_get-get_or, slice_get-map}
@@ -8,11 +8,11 @@ use Rattle.enet_peer.specs.Calls as peers
 use Rattle.enet_slot.specs.Slot.{SlotState, changed}
 use Rattle.enet_host.specs.declared.calm.Calm.{Calm}
 use Rattle.enet_host.specs.declared.skips.Skips.{Skips}
-use Rattle.enet_host.specs.Skips.{entry, IsWithin, Rests, rest_at, IsDueAfter, KeepsSkips}
-use Rattle.enet_host.specs.Private.Skips.{IsPartOf, SlotRests, PassesOver, PassesTurns, AwakeAt}
+use Rattle.enet_host.specs.Skips.{entry, IsPartOf, IsWithin, EndsWith, Rests, rest_at, IsDueAfter, KeepsSkips}
+use Rattle.enet_host.specs.Private.Skips.{SlotRests, PassesOver, PassesTurns, AwakeAt}
 use Rattle.enet_host.specs.Private.Ticking.{all_ticked}
 use Rattle.enet_host.proofs.Asking.{some-same}
-use Rattle.enet_host.proofs.Skipping.{rests-for-part, Noted, noted-here}
+use Rattle.enet_host.proofs.Skipping.{rests-for-part, ends-for-part, Noted, noted-here}
 use Rattle.enet_host.proofs.Turning.{turn-from-zero}
 
 -- what is passed over, and what is awake, where slot 0 is first
@@ -47,44 +47,39 @@ ticked-past n now k m skips slots count fits rests calm passes more =
     let inside : i < n = subst (λ (c : ℕ). i < c) count (slice_get_within slots i s there) in
     (rests.asleep i s there (passed-slot skips.next.items n k m i passes inside past less)).still now fits calm)
 
-ticked-rests : (now i : ℕ) (calm : Calm) (s t : SlotState) (old : List SlotState) → slice_get old i ≡ Some s → now < 2 ^ 32 → IsWithin calm now → Rests calm s
-    → slice_get (all_ticked now old) i ≡ Some t → Rests calm t
-ticked-rests now i calm s t old was fits within r is =
+ticked-same : (now i : ℕ) (calm : Calm) (s t : SlotState) (old : List SlotState) → slice_get old i ≡ Some s → now < 2 ^ 32 → IsWithin calm now → Rests calm s
+    → slice_get (all_ticked now old) i ≡ Some t → s ≡ t
+ticked-same now i calm s t old was fits within r is =
     let f = λ (u : SlotState). changed (λ p. peers.ticked p now) u in
     let there : slice_get (all_ticked now old) i ≡ Some (f s) = slice_get-map f old i ∙ ap (option_map f) was in
-    subst (Rests calm) (sym (r.still now fits within) ∙ some-same (slice_get (all_ticked now old) i) (f s) t there is) r
-
-ticked-due : (now i : ℕ) (calm rest : Calm) (s t : SlotState) (old : List SlotState) → slice_get old i ≡ Some s → now < 2 ^ 32 → IsWithin calm now → Rests calm s
-    → slice_get (all_ticked now old) i ≡ Some t → IsDueAfter rest s → IsDueAfter rest t
-ticked-due now i calm rest s t old was fits within r is due =
-    let f = λ (u : SlotState). changed (λ p. peers.ticked p now) u in
-    let there : slice_get (all_ticked now old) i ≡ Some (f s) = slice_get-map f old i ∙ ap (option_map f) was in
-    subst (IsDueAfter rest) (sym (r.still now fits within) ∙ some-same (slice_get (all_ticked now old) i) (f s) t there is) due
+    sym (r.still now fits within) ∙ some-same (slice_get (all_ticked now old) i) (f s) t there is
 
 -- so they rest afterwards, too
 pub ticked-keeps : (n now : ℕ) (skips : Skips) (old new : List SlotState) → KeepsSkips n skips old → now < 2 ^ 32 → IsWithin skips.calm now → new ≡ all_ticked now old → KeepsSkips n skips new
 ticked-keeps n now skips old new k fits within same =
+    let was : (i : ℕ) (t : SlotState) → slice_get (all_ticked now old) i ≡ Some t → slice_get old i ≡ Some (get_or old i t) = λ i t there.
+    let len = length-map old (changed (λ p. peers.ticked p now)) in
+    slice_get-get_or old i t (subst (λ (c : ℕ). i < c) len (slice_get_within (all_ticked now old) i t there)) in
+    let stays : (i : ℕ) (t : SlotState) → slice_get (all_ticked now old) i ≡ Some t → i < entry skips.next.items i → get_or old i t ≡ t = λ i t there less.
+    ticked-same now i skips.calm (get_or old i t) t old (was i t there) fits within (k.asleep i (get_or old i t) (was i t there) less) there in
     subst (KeepsSkips n skips) (sym same)
     (record {
       marks = k.marks;
       noted = k.noted;
-      asleep = λ i t there less.
-          let len = length-map old (changed (λ p. peers.ticked p now)) in
-          let inside : i < length old = subst (λ (c : ℕ). i < c) len (slice_get_within (all_ticked now old) i t there) in
-          let was : slice_get old i ≡ Some (get_or old i t) = slice_get-get_or old i t inside in
-          ticked-rests now i skips.calm (get_or old i t) t old was fits within (k.asleep i (get_or old i t) was less) there;
-      due = λ i t there less.
-          let len = length-map old (changed (λ p. peers.ticked p now)) in
-          let inside : i < length old = subst (λ (c : ℕ). i < c) len (slice_get_within (all_ticked now old) i t there) in
-          let was : slice_get old i ≡ Some (get_or old i t) = slice_get-get_or old i t inside in
-          ticked-due now i skips.calm (rest_at skips.rests.items i) (get_or old i t) t old was fits within (k.asleep i (get_or old i t) was less) there (k.due i (get_or old i t) was less);
+      asleep = λ i t there less. subst (Rests skips.calm) (stays i t there less) (k.asleep i (get_or old i t) (was i t there) less);
+      due = λ i t there less. subst (IsDueAfter (rest_at skips.rests.items i)) (stays i t there less) (k.due i (get_or old i t) (was i t there) less);
+      ends = λ i t there less. subst (EndsWith skips.calm (rest_at skips.rests.items i)) (stays i t there less) (k.ends i (get_or old i t) (was i t there) less);
+      within = k.within;
+      spare = λ i t there past.
+          let free = k.spare i (get_or old i t) (was i t there) past in
+          (free.0, subst (λ (s : SlotState). s.peer ≡ None) (stays i t there free.0) free.1);
     })
 
 -- The slot `number` was awake, and all from it to `after` sleep; its entry becomes its own number, or `after` where it fell asleep.
 fell-asleep : (old new : Skips) (slots : List SlotState) (n number after v : ℕ) → KeepsSkips n old slots → number < n → entry old.next.items number ≤ number
     → ((i : ℕ) → number < i → i < v → i < entry old.next.items i) → (number < v → SlotRests new.calm slots number) → IsPartOf new.calm old.calm
-    → Noted old.rests.items new.rests.items slots number v → new.next.items ≡ slice_set old.next.items number v → KeepsSkips n new slots
-fell-asleep old new slots n number after v k inside awake run sleeps part noted set =
+    → Noted new.calm old.rests.items new.rests.items slots number v → new.next.items ≡ slice_set old.next.items number v → new.used ≡ old.used → KeepsSkips n new slots
+fell-asleep old new slots n number after v k inside awake run sleeps part noted set used =
     let xs = old.next.items in
     let here : entry new.next.items number ≡ v = ap (λ (ys : List ℕ). entry ys number) set ∙ get_or-set_same xs number v 0 (subst (λ (c : ℕ). number < c) (sym k.marks.count) inside) in
     let other : (i : ℕ) → i ≢ number → entry new.next.items i ≡ entry xs i = λ i apart. ap (λ (ys : List ℕ). entry ys i) set ∙ get_or-set_other xs number i v 0 apart in
@@ -117,22 +112,37 @@ fell-asleep old new slots n number after v k inside awake run sleeps part noted 
         | inl at ↦
             let reach : number < v = omega (arith, less, ap (entry new.next.items) at, here, at) in
             subst (λ (m : ℕ). IsDueAfter (rest_at new.rests.items m) s) (sym at)
-            (noted-here old.rests.items new.rests.items slots number v noted reach s (subst (λ (m : ℕ). slice_get slots m ≡ Some s) at there))
+            ((noted-here new.calm old.rests.items new.rests.items slots number v noted reach).0 s (subst (λ (m : ℕ). slice_get slots m ≡ Some s) at there))
         | inr apart ↦ subst (λ (c : Calm). IsDueAfter c s) (sym (noted.others i apart)) (k.due i s there (subst (λ (e : ℕ). i < e) (other i apart) less))
       ];
+      ends = λ i s there less. elim (cases_eq i number) [
+        | inl at ↦
+            let reach : number < v = omega (arith, less, ap (entry new.next.items) at, here, at) in
+            subst (λ (m : ℕ). EndsWith new.calm (rest_at new.rests.items m) s) (sym at) (inr (noted-here new.calm old.rests.items new.rests.items slots number v noted reach).1)
+        | inr apart ↦
+            ends-for-part new.calm old.calm (rest_at new.rests.items i) s part
+            (subst (λ (c : Calm). EndsWith old.calm c s) (sym (noted.others i apart)) (k.ends i s there (subst (λ (e : ℕ). i < e) (other i apart) less)))
+      ];
+      within = subst (λ (m : ℕ). m ≤ n) (sym used) k.within;
+      spare = λ i s there past.
+          let was = k.spare i s there (subst (λ (m : ℕ). m ≤ i) used past) in
+          elim (cases_eq i number) [
+            | inl at ↦ absurd (omega (arith, subst (λ (m : ℕ). m < entry xs m) at was.0, awake))
+            | inr apart ↦ (subst (λ (e : ℕ). i < e) (sym (other i apart)) was.0, was.1)
+          ];
     }
 
 -- a slot that was awake was looked at
 pub looked-at : (old new : Skips) (calm : Calm) (slots : List SlotState) (n number after v : ℕ) → KeepsSkips n old slots → number < n → entry old.next.items number ≤ number
     → PassesTurns old.next.items n 0 (number + 1) after → after ≤ n → (v ≡ number) ⊎ ((v ≡ after) × SlotRests calm slots number) → IsPartOf calm old.calm → new.calm ≡ calm
-    → Noted old.rests.items new.rests.items slots number v → new.next.items ≡ slice_set old.next.items number v → KeepsSkips n new slots
-looked-at old new calm slots n number after v k inside awake passes end (inl same) part is noted set =
+    → Noted new.calm old.rests.items new.rests.items slots number v → new.next.items ≡ slice_set old.next.items number v → new.used ≡ old.used → KeepsSkips n new slots
+looked-at old new calm slots n number after v k inside awake passes end (inl same) part is noted set used =
     fell-asleep old new slots n number after v k inside awake (λ i past less. absurd (omega (arith, past, less, same))) (λ less. absurd (omega (arith, less, same)))
-    (subst (λ (c : Calm). IsPartOf c old.calm) (sym is) part) noted set
-looked-at old new calm slots n number after v k inside awake passes end (inr asleep) part is noted set =
+    (subst (λ (c : Calm). IsPartOf c old.calm) (sym is) part) noted set used
+looked-at old new calm slots n number after v k inside awake passes end (inr asleep) part is noted set used =
     fell-asleep old new slots n number after v k inside awake
     (λ i past less. passed-slot old.next.items n (number + 1) after i passes (omega (arith, less, asleep.0, end)) (omega (arith, past)) (omega (arith, less, asleep.0)))
-    (λ less. subst (λ (c : Calm). SlotRests c slots number) (sym is) asleep.1) (subst (λ (c : Calm). IsPartOf c old.calm) (sym is) part) noted set
+    (λ less. subst (λ (c : Calm). SlotRests c slots number) (sym is) asleep.1) (subst (λ (c : Calm). IsPartOf c old.calm) (sym is) part) noted set used
 
 -- a later one is awake as before
 pub later-awake : (xs ys : List ℕ) (n number after v : ℕ) → number < after → ys ≡ slice_set xs number v → AwakeAt xs n 0 after → AwakeAt ys n 0 after
@@ -143,8 +153,8 @@ later-awake xs ys n number after v later set awake = λ i inside at.
 
 -- one entry passes over slots that are passed over already
 pub joined : (old new : Skips) (slots : List SlotState) (n start last : ℕ) → KeepsSkips n old slots → PassesOver old.next.items start last → start < last → start < n
-    → new.calm ≡ old.calm → new.rests.items ≡ old.rests.items → new.next.items ≡ slice_set old.next.items start last → KeepsSkips n new slots
-joined old new slots n start last k run some inside is same_rests set =
+    → new.calm ≡ old.calm → new.rests.items ≡ old.rests.items → new.used ≡ old.used → new.next.items ≡ slice_set old.next.items start last → KeepsSkips n new slots
+joined old new slots n start last k run some inside is same_rests used set =
     let xs = old.next.items in
     let here : entry new.next.items start ≡ last = ap (λ (ys : List ℕ). entry ys start) set ∙ get_or-set_same xs start last 0 (subst (λ (c : ℕ). start < c) (sym k.marks.count) inside) in
     let other : (i : ℕ) → i ≢ start → entry new.next.items i ≡ entry xs i = λ i apart. ap (λ (ys : List ℕ). entry ys i) set ∙ get_or-set_other xs start i last 0 apart in
@@ -167,6 +177,13 @@ joined old new slots n start last k run some inside is same_rests set =
       noted = ap length same_rests ∙ k.noted;
       asleep = λ i s there less. subst (λ (c : Calm). Rests c s) (sym is) (k.asleep i s there (was i less));
       due = λ i s there less. subst (λ (rs : List Calm). IsDueAfter (rest_at rs i) s) (sym same_rests) (k.due i s there (was i less));
+      ends = λ i s there less.
+          subst (λ (c : Calm). EndsWith c (rest_at new.rests.items i) s) (sym is)
+          (subst (λ (rs : List Calm). EndsWith old.calm (rest_at rs i) s) (sym same_rests) (k.ends i s there (was i less)));
+      within = subst (λ (m : ℕ). m ≤ n) (sym used) k.within;
+      spare = λ i s there past.
+          let free = k.spare i s there (subst (λ (m : ℕ). m ≤ i) used past) in
+          (still i free.0, free.1);
     }
 
 -- those after slot `number` are passed over once that was marked

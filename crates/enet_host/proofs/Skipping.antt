@@ -1,7 +1,9 @@
 -- Slots that sleep are passed over.
-use Rattle.std.proofs.Common.{◌≡◌, ◌≢◌, ℕ, ◌+◌, ◌-◌, ◌<◌, ◌≤◌, ◌⊎◌, inl, inr, min, Some, List, length, replicate, slice_get, slice_set, refl, sym, ap, subst, ◌∙◌, arith}
+use Rattle.std.proofs.Common.{◌≡◌, ◌≢◌, ℕ, ◌+◌, ◌-◌, ◌<◌, ◌≤◌, ◌⊎◌, inl, inr, min, max, Some, None, List, length, replicate, slice_get, slice_set, get_or, refl, sym, ap, subst, ◌∙◌, arith}
 use Rattle.std.proofs.lemmas.Bool.{cases_lt, cases_eq}
 use Rattle.std.proofs.lemmas.List.{get_or-set_other, get_or-set_same, get_or-replicate, get_or_past, length-set, length-replicate}
+use Rattle.std.proofs.lemmas.Option.{slice_get_within, slice_get-get_or}
+use Rattle.enet_slot.specs.Giving.{unused_slot}
 use Rattle.enet_slot.specs.declared.slot.Slot.{Slot}
 use Rattle.enet_slot.specs.Slot.{SlotState}
 use Rattle.enet_slot.specs.Calls.{tells}
@@ -14,9 +16,9 @@ use Rattle.enet_host.specs.Serving.{Served}
 use Rattle.enet_host.specs.Private.Shown.{SlotGives, SlotPasses, SlotGivesEvent}
 use Rattle.enet_host.specs.declared.calm.Calm.{Calm}
 use Rattle.enet_host.specs.declared.skips.Skips.{Skips}
-use Rattle.enet_host.specs.Skips.{entry, Marks, Rests, rest_at, IsDueAfter, KeepsSkips}
-use Rattle.enet_host.specs.Private.Skips.{AllAwake, IsPartOf, SlotRests, SlotIsDue, StaysAsleep, PassesTurns, AwakeAt}
-use Rattle.enet_host.proofs.Bringing.{rests-until-due}
+use Rattle.enet_host.specs.Skips.{entry, IsPartOf, EndsWith, Marks, Rests, rest_at, IsDueAfter, KeepsSkips}
+use Rattle.enet_host.specs.Private.Skips.{AllAwake, SlotRests, SlotIsDue, SlotIsFree, StaysAsleep, PassesTurns, AwakeAt}
+use Rattle.enet_host.proofs.Bringing.{rests-until-due, free-rests}
 use Rattle.enet_host.proofs.Asking.{get-set-other}
 use Rattle.enet_host.proofs.Turning.{turn-below, same-turn, passed-between}
 
@@ -24,14 +26,17 @@ use Rattle.enet_host.proofs.Turning.{turn-below, same-turn, passed-between}
 none-marked : (n i : ℕ) → entry (replicate n 0) i ≡ 0
 none-marked n i = elim (cases_lt i n) [ inl inside ↦ get_or-replicate n i 0 0 inside | inr past ↦ get_or_past (replicate n 0) i 0 (omega (arith, past, length-replicate {A = ℕ} n 0)) ]
 
-pub skips-none : (n : ℕ) (skips : Skips) (slots : List SlotState) → AllAwake n skips → KeepsSkips n skips slots
-skips-none n skips slots all =
+pub skips-none : (n : ℕ) (skips : Skips) (slots : List SlotState) → length slots ≡ n → AllAwake n skips → KeepsSkips n skips slots
+skips-none n skips slots count all =
     let none : (i : ℕ) → entry skips.next.items i ≡ 0 = λ i. ap (λ (xs : List ℕ). entry xs i) all.0 ∙ none-marked n i in
     record {
       marks = record { count = ap length all.0 ∙ length-replicate {A = ℕ} n 0; passed = λ i j low less. absurd (omega (arith, less, none j)) };
       noted = all.1;
       asleep = λ i s there less. absurd (omega (arith, less, none i));
       due = λ i s there less. absurd (omega (arith, less, none i));
+      ends = λ i s there less. absurd (omega (arith, less, none i));
+      within = omega (arith, all.2);
+      spare = λ i s there past. absurd (omega (arith, past, all.2, slice_get_within slots i s there, count));
     }
 
 -- a slot that is awake may change
@@ -43,6 +48,16 @@ skips-set n skips slots i t k awake = record {
       [ inl same ↦ absurd (omega (arith, subst (λ (m : ℕ). m < entry skips.next.items m) same less, awake)) | inr other ↦ k.asleep j s (get-set-other slots i j t s other there) less ];
   due = λ j s there less. elim (cases_eq j i)
       [ inl same ↦ absurd (omega (arith, subst (λ (m : ℕ). m < entry skips.next.items m) same less, awake)) | inr other ↦ k.due j s (get-set-other slots i j t s other there) less ];
+  ends = λ j s there less. elim (cases_eq j i)
+      [ inl same ↦ absurd (omega (arith, subst (λ (m : ℕ). m < entry skips.next.items m) same less, awake)) | inr other ↦ k.ends j s (get-set-other slots i j t s other there) less ];
+  within = k.within;
+  spare = λ j s there past. elim (cases_eq j i) [
+    | inl same ↦
+        let inside : j < length slots = omega (arith, slice_get_within (slice_set slots i t) j s there, length-set slots i t) in
+        let slept = (k.spare j (get_or slots j s) (slice_get-get_or slots j s inside) past).0 in
+        absurd (omega (arith, subst (λ (m : ℕ). m < entry skips.next.items m) same slept, awake))
+    | inr other ↦ k.spare j s (get-set-other slots i j t s other there) past
+  ];
 }
 
 pub skips-at : (n : ℕ) (skips : Skips) (xs : List Slot) (i : ℕ) (y : Slot) → KeepsSkips n skips (all_shown xs) → entry skips.next.items i ≤ i → KeepsSkips n skips (all_shown (slice_set xs i y))
@@ -62,6 +77,10 @@ skips-gives-event n i event skips old new k awake g = subst (KeepsSkips n skips)
 -- a slot rests for a part of the time, too
 pub rests-for-part : (part whole : Calm) (s : SlotState) → IsPartOf part whole → Rests whole s → Rests part s
 rests-for-part part whole s within r = record { waits = r.waits; still = λ moment fits h. r.still moment fits (within moment fits h) }
+
+pub ends-for-part : (part whole rest : Calm) (s : SlotState) → IsPartOf part whole → EndsWith whole rest s → EndsWith part rest s
+ends-for-part part whole rest s within (inl free) = inl free
+ends-for-part part whole rest s within (inr r) = inr (λ moment fits h. r moment fits (within moment fits h))
 
 -- a slot that has an event is awake
 pub teller-awake : (n i from : ℕ) (skips : Skips) (slots : List SlotState) → KeepsSkips n skips slots → IsFirst tells slots from i → entry skips.next.items i ≤ i
@@ -155,8 +174,8 @@ passed-after old new n number place i j w marks low past over =
     ]
 
 pub woken : (old new : Skips) (number place n : ℕ) (slots : List SlotState) → Waking old.next.items new.next.items number place → new.calm ≡ old.calm → new.rests.items ≡ old.rests.items
-    → ((m : ℕ) → m + 1 ≡ place → entry new.next.items m ≤ m) → KeepsSkips n old slots → KeepsSkips n new slots
-woken old new number place n slots w calm rests stop k =
+    → new.used ≡ max old.used (number + 1) → ((m : ℕ) → m + 1 ≡ place → entry new.next.items m ≤ m) → KeepsSkips n old slots → KeepsSkips n new slots
+woken old new number place n slots w calm rests used stop k =
     let olds = old.next.items in
     let news = new.next.items in
     record {
@@ -168,6 +187,13 @@ woken old new number place n slots w calm rests stop k =
       noted = ap length rests ∙ k.noted;
       asleep = λ i s there less. subst (λ (c : Calm). Rests c s) (sym calm) (k.asleep i s there (still-marked olds news number place i w less));
       due = λ i s there less. subst (λ (rs : List Calm). IsDueAfter (rest_at rs i) s) (sym rests) (k.due i s there (still-marked olds news number place i w less));
+      ends = λ i s there less.
+          subst (λ (c : Calm). EndsWith c (rest_at new.rests.items i) s) (sym calm)
+          (subst (λ (rs : List Calm). EndsWith old.calm (rest_at rs i) s) (sym rests) (k.ends i s there (still-marked olds news number place i w less)));
+      within = omega (arith, used, k.within, w.inside, k.marks.count);
+      spare = λ i s there past.
+          let was = k.spare i s there (omega (arith, past, used)) in
+          (subst (λ (e : ℕ). i < e) (sym (w.after i (omega (arith, past, used)))) was.0, was.1);
     }
 
 -- The slots from `number` on were looked at anew; `next` is the first of them that is awake, or their number.
@@ -181,6 +207,7 @@ pub record Refreshed (calm : Calm) (rests : List Calm) (xs : List ℕ) (slots : 
   pub noted : length rests ≡ n
   pub asleep : (i : ℕ) (s : SlotState) → number ≤ i → slice_get slots i ≡ Some s → i < entry xs i → Rests calm s
   pub due : (i : ℕ) (s : SlotState) → number ≤ i → slice_get slots i ≡ Some s → i < entry xs i → IsDueAfter (rest_at rests i) s
+  pub ends : (i : ℕ) (s : SlotState) → number ≤ i → slice_get slots i ≡ Some s → i < entry xs i → EndsWith calm (rest_at rests i) s
 
 pub refreshed-first : (calm : Calm) (rests : List Calm) (xs : List ℕ) (slots : List SlotState) (n : ℕ) → length xs ≡ n → length slots ≡ n → length rests ≡ n
     → Refreshed calm rests xs slots n n n
@@ -194,20 +221,21 @@ refreshed-first calm rests xs slots n count all noted = record {
   noted = noted;
   asleep = λ i s past there less. absurd (omega (arith, less, get_or_past xs i 0 (omega (arith, past, count))));
   due = λ i s past there less. absurd (omega (arith, less, get_or_past xs i 0 (omega (arith, past, count))));
+  ends = λ i s past there less. absurd (omega (arith, less, get_or_past xs i 0 (omega (arith, past, count))));
 }
 
--- one slot was looked at: only its note changed, and is right where the slot sleeps
-pub record Noted (old new : List Calm) (slots : List SlotState) (i v : ℕ) : Type 0 where
-  pub here : (v ≡ i) ⊎ SlotIsDue new slots i
+-- one slot was looked at: only its note changed, and is right where the slot sleeps; then the common rest ends no later
+pub record Noted (calm : Calm) (old new : List Calm) (slots : List SlotState) (i v : ℕ) : Type 0 where
+  pub here : (v ≡ i) ⊎ (SlotIsDue new slots i × IsPartOf calm (rest_at new i))
   pub others : (j : ℕ) → j ≢ i → rest_at new j ≡ rest_at old j
   pub count : length new ≡ length old
 
-pub noted-here : (old new : List Calm) (slots : List SlotState) (i v : ℕ) → Noted old new slots i v → i < v → SlotIsDue new slots i
-noted-here old new slots i v m more = elim m.here [ inl same ↦ absurd (omega (arith, same, more)) | inr due ↦ due ]
+pub noted-here : (calm : Calm) (old new : List Calm) (slots : List SlotState) (i v : ℕ) → Noted calm old new slots i v → i < v → SlotIsDue new slots i × IsPartOf calm (rest_at new i)
+noted-here calm old new slots i v m more = elim m.here [ inl same ↦ absurd (omega (arith, same, more)) | inr due ↦ due ]
 
 -- one slot more, whose entry is its own number, or past it where it sleeps
 refreshed-by : (old calm : Calm) (rs rests : List Calm) (xs : List ℕ) (slots : List SlotState) (n number next m v : ℕ) → Refreshed old rs xs slots n number next → IsPartOf calm old
-    → Noted rs rests slots m v → m + 1 ≡ number → m ≤ v
+    → Noted calm rs rests slots m v → m + 1 ≡ number → m ≤ v
     → ((i : ℕ) → m < i → i < v → i < entry xs i) → (m < v → SlotRests calm slots m) → Refreshed calm rests (slice_set xs m v) slots n m v
 refreshed-by old calm rs rests xs slots n number next m v r part noted is low run sleeps =
     let inside : m < length xs = omega (arith, is, r.within, r.count) in
@@ -241,24 +269,64 @@ refreshed-by old calm rs rests xs slots n number next m v r part noted is low ru
         | inr at ↦
             let same : i ≡ m = omega (arith, past, at) in
             let slept : m < v = omega (arith, less, ap (entry (slice_set xs m v)) same, here, same) in
-            subst (λ (k : ℕ). IsDueAfter (rest_at rests k) s) (sym same) (noted-here rs rests slots m v noted slept s (subst (λ (k : ℕ). slice_get slots k ≡ Some s) same there))
+            subst (λ (k : ℕ). IsDueAfter (rest_at rests k) s) (sym same) ((noted-here calm rs rests slots m v noted slept).0 s (subst (λ (k : ℕ). slice_get slots k ≡ Some s) same there))
+      ];
+      ends = λ i s past there less. elim (cases_lt m i) [
+        | inl more ↦
+            ends-for-part calm old (rest_at rests i) s part
+            (subst (λ (c : Calm). EndsWith old c s) (sym (noted.others i (λ same. absurd (omega (arith, more, same)))))
+            (r.ends i s (omega (arith, more, is)) there (subst (λ (e : ℕ). i < e) (other i more) less)))
+        | inr at ↦
+            let same : i ≡ m = omega (arith, past, at) in
+            let slept : m < v = omega (arith, less, ap (entry (slice_set xs m v)) same, here, same) in
+            subst (λ (k : ℕ). EndsWith calm (rest_at rests k) s) (sym same) (inr (noted-here calm rs rests slots m v noted slept).1)
       ];
     }
 
 pub refreshed-more : (old calm : Calm) (rs rests : List Calm) (xs : List ℕ) (slots : List SlotState) (n number next m v : ℕ) → Refreshed old rs xs slots n number next → IsPartOf calm old
-    → Noted rs rests slots m v → m + 1 ≡ number → (v ≡ m) ⊎ ((v ≡ next) × SlotRests calm slots m) → Refreshed calm rests (slice_set xs m v) slots n m v
+    → Noted calm rs rests slots m v → m + 1 ≡ number → (v ≡ m) ⊎ ((v ≡ next) × SlotRests calm slots m) → Refreshed calm rests (slice_set xs m v) slots n m v
 refreshed-more old calm rs rests xs slots n number next m v r part noted is (inl awake) =
     refreshed-by old calm rs rests xs slots n number next m v r part noted is (omega (arith, awake)) (λ i more less. absurd (omega (arith, more, less, awake))) (λ more. absurd (omega (arith, more, awake)))
 refreshed-more old calm rs rests xs slots n number next m v r part noted is (inr asleep) =
     refreshed-by old calm rs rests xs slots n number next m v r part noted is (omega (arith, asleep.0, r.low, is)) (λ i more less. r.run i (omega (arith, more, is)) (omega (arith, less, asleep.0))) (λ more. asleep.1)
 
-pub refreshed-all : (skips : Skips) (slots : List SlotState) (n number next : ℕ) → Refreshed skips.calm skips.rests.items skips.next.items slots n number next → number ≡ 0
-    → KeepsSkips n skips slots
-refreshed-all skips slots n number next r none = record {
+-- Of the slots from `number` on, those past the used ones are free and sleep.
+pub record Spared (used : ℕ) (xs : List ℕ) (slots : List SlotState) (n number : ℕ) : Type 0 where
+  pub within : used ≤ n
+  pub spare : (i : ℕ) (s : SlotState) → number ≤ i → slice_get slots i ≡ Some s → used ≤ i → (i < entry xs i) × (s.peer ≡ None)
+
+pub spared-first : (xs : List ℕ) (slots : List SlotState) (n : ℕ) → length slots ≡ n → Spared 0 xs slots n n
+spared-first xs slots n count = record { within = omega arith; spare = λ i s past there later. absurd (omega (arith, past, count, slice_get_within slots i s there)) }
+
+-- one slot more
+pub spared-more : (used more : ℕ) (xs : List ℕ) (slots : List SlotState) (n number m v : ℕ) → Spared used xs slots n number → m + 1 ≡ number → number ≤ n → length xs ≡ n → m ≤ v → used ≤ more
+    → more ≤ max used (m + 1) → (more ≤ m → (v ≢ m) × SlotIsFree slots m) → Spared more (slice_set xs m v) slots n m
+spared-more used more xs slots n number m v sp is within count low grows most free = record {
+  within = omega (arith, most, sp.within, is, within);
+  spare = λ i s past there later. elim (cases_lt m i) [
+    | inl after ↦
+        let was = sp.spare i s (omega (arith, after, is)) there (omega (arith, grows, later)) in
+        (subst (λ (e : ℕ). i < e) (sym (get_or-set_other xs m i v 0 (λ same. absurd (omega (arith, after, same))))) was.0, was.1)
+    | inr at ↦
+        let same : i ≡ m = omega (arith, past, at) in
+        let is_free = free (omega (arith, later, same)) in
+        let apart = is_free.0 in
+        let here : entry (slice_set xs m v) m ≡ v = get_or-set_same xs m v 0 (omega (arith, is, within, count)) in
+        let past_it : m < v = elim (cases_lt m v) [ inl less ↦ less | inr over ↦ absurd (apart (omega (arith, over, low))) ] in
+        (subst (λ (k : ℕ). k < entry (slice_set xs m v) k) (sym same) (subst (λ (e : ℕ). m < e) (sym here) past_it), is_free.1 s (subst (λ (k : ℕ). slice_get slots k ≡ Some s) same there))
+  ];
+}
+
+pub refreshed-all : (skips : Skips) (slots : List SlotState) (n number next : ℕ) → Refreshed skips.calm skips.rests.items skips.next.items slots n number next
+    → Spared skips.used skips.next.items slots n number → number ≡ 0 → KeepsSkips n skips slots
+refreshed-all skips slots n number next r sp none = record {
   marks = record { count = r.count; passed = λ i j low less. r.passed i j (omega (arith, none)) low less };
   noted = r.noted;
   asleep = λ i s there less. r.asleep i s (omega (arith, none)) there less;
   due = λ i s there less. r.due i s (omega (arith, none)) there less;
+  ends = λ i s there less. r.ends i s (omega (arith, none)) there less;
+  within = sp.within;
+  spare = λ i s there past. sp.spare i s (omega (arith, none)) there past;
 }
 
 -- a slot that was asleep stays so for as long as nothing is due there
@@ -267,33 +335,57 @@ stays-asleep n i skips slots calm k stays = λ s there.
     let rest = rest_at skips.rests.items i in
     rests-until-due calm rest.from rest.lasts s (k.asleep i s there stays.0).waits (k.due i s there stays.0) (λ moment fits within. stays.1 moment fits within)
 
--- The slots from `number` on were asked whether they still sleep; the entries before it are as they were.
-pub record Roused (old : Skips) (calm : Calm) (rests : List Calm) (xs : List ℕ) (n number next : ℕ) : Type 0 where
+-- Of the used slots, which `top` is past, those from `number` on were asked whether they still sleep; the entries before and past
+-- these are as they were.
+pub record Roused (old : Skips) (calm : Calm) (rests : List Calm) (xs : List ℕ) (n top number next : ℕ) : Type 0 where
   pub count : length xs ≡ n
-  pub within : number ≤ n
+  pub within : number ≤ top
   pub all_noted : length rests ≡ n
   pub noted : rests ≡ old.rests.items
   pub before : (i : ℕ) → i < number → entry xs i ≡ entry old.next.items i
+  pub after : (i : ℕ) → top ≤ i → entry xs i ≡ entry old.next.items i
   pub looked : (slots : List SlotState) → length slots ≡ n → KeepsSkips n old slots → Refreshed calm rests xs slots n number next
 
-pub roused-first : (old : Skips) (calm : Calm) (n : ℕ) → length old.next.items ≡ n → length old.rests.items ≡ n → Roused old calm old.rests.items old.next.items n n n
+-- the slots that are not used sleep whatever comes
+unused-rest : (old : Skips) (calm : Calm) (n : ℕ) (slots : List SlotState) → length slots ≡ n → KeepsSkips n old slots → Refreshed calm old.rests.items old.next.items slots n (min old.used n) n
+unused-rest old calm n slots all k =
+    let free : (i : ℕ) (s : SlotState) → min old.used n ≤ i → slice_get slots i ≡ Some s → (i < entry old.next.items i) × (s.peer ≡ None) = λ i s past there.
+    k.spare i s there (omega (arith, past, k.within)) in
+    record {
+      count = k.marks.count;
+      all = all;
+      within = omega arith;
+      low = omega arith;
+      run = λ i past less.
+          let inside : i < length slots = omega (arith, less, all) in
+          (free i (get_or slots i unused_slot) past (slice_get-get_or slots i unused_slot inside)).0;
+      passed = λ i j past low less. k.marks.passed i j low less;
+      noted = k.noted;
+      asleep = λ i s past there less. free-rests calm s (free i s past there).1;
+      due = λ i s past there less. k.due i s there less;
+      ends = λ i s past there less. inl (free i s past there).1;
+    }
+
+pub roused-first : (old : Skips) (calm : Calm) (n : ℕ) → length old.next.items ≡ n → length old.rests.items ≡ n → Roused old calm old.rests.items old.next.items n (min old.used n) (min old.used n) n
 roused-first old calm n count noted = record {
   count = count;
   within = omega arith;
   all_noted = noted;
   noted = refl;
   before = λ i less. refl;
-  looked = λ slots all k. refreshed-first calm old.rests.items old.next.items slots n count all noted;
+  after = λ i past. refl;
+  looked = λ slots all k. unused-rest old calm n slots all k;
 }
 
-pub roused-more : (old : Skips) (was calm : Calm) (rests : List Calm) (xs : List ℕ) (n number next m v : ℕ) → Roused old was rests xs n number next → IsPartOf calm was → m + 1 ≡ number
-    → (v ≡ m) ⊎ ((v ≡ next) × StaysAsleep xs rests m calm) → Roused old calm rests (slice_set xs m v) n m v
-roused-more old was calm rests xs n number next m v r part is found = record {
+pub roused-more : (old : Skips) (was calm : Calm) (rests : List Calm) (xs : List ℕ) (n top number next m v : ℕ) → Roused old was rests xs n top number next → IsPartOf calm was → m + 1 ≡ number
+    → (v ≡ m) ⊎ ((v ≡ next) × StaysAsleep xs rests m calm) → Roused old calm rests (slice_set xs m v) n top m v
+roused-more old was calm rests xs n top number next m v r part is found = record {
   count = length-set xs m v ∙ r.count;
   within = omega (arith, is, r.within);
   all_noted = r.all_noted;
   noted = r.noted;
   before = λ i less. get_or-set_other xs m i v 0 (λ same. absurd (omega (arith, less, same))) ∙ r.before i (omega (arith, less, is));
+  after = λ i past. get_or-set_other xs m i v 0 (λ same. absurd (omega (arith, past, same, is, r.within))) ∙ r.after i past;
   looked = λ slots all k.
       let asleep : StaysAsleep xs rests m calm → (m < entry old.next.items m) × IsPartOf calm (rest_at old.rests.items m) = λ stays.
       (subst (λ (e : ℕ). m < e) (r.before m (omega (arith, is))) stays.0, subst (λ (rs : List Calm). IsPartOf calm (rest_at rs m)) r.noted stays.1) in
@@ -301,16 +393,24 @@ roused-more old was calm rests xs n number next m v r part is found = record {
       subst (λ (rs : List Calm). SlotIsDue rs slots m) (sym r.noted) (λ s there. k.due m s there (asleep stays).0) in
       refreshed-more was calm rests rests xs slots n number next m v (r.looked slots all k) part
       (record {
-        here = elim found [ inl awake ↦ inl awake | inr stays ↦ inr (due stays.1) ];
+        here = elim found [ inl awake ↦ inl awake | inr stays ↦ inr (due stays.1, stays.1.1) ];
         others = λ j other. refl;
         count = refl;
       })
       is (elim found [ inl awake ↦ inl awake | inr stays ↦ inr (stays.0, stays-asleep n m old slots calm k (asleep stays.1)) ]);
 }
 
-pub roused-all : (old new : Skips) (n number next : ℕ) → Roused old new.calm new.rests.items new.next.items n number next → number ≡ 0
+pub roused-all : (old new : Skips) (n number next : ℕ) → Roused old new.calm new.rests.items new.next.items n (min old.used n) number next → number ≡ 0 → new.used ≡ old.used
     → (slots : List SlotState) → length slots ≡ n → KeepsSkips n old slots → KeepsSkips n new slots
-roused-all old new n number next r none = λ slots all k. refreshed-all new slots n number next (r.looked slots all k) none
+roused-all old new n number next r none used = λ slots all k.
+    refreshed-all new slots n number next (r.looked slots all k)
+    (record {
+      within = subst (λ (m : ℕ). m ≤ n) (sym used) k.within;
+      spare = λ i s past there later.
+          let was = k.spare i s there (subst (λ (m : ℕ). m ≤ i) used later) in
+          (subst (λ (e : ℕ). i < e) (sym (r.after i (omega (arith, later, used)))) was.0, was.1);
+    })
+    none
 
 -- so many turns more are passed over
 pub passes-more : (next : List ℕ) (n from first turn number end sleeping last : ℕ) → Marks n next → from < n → number < n → turn_of n from number ≡ turn

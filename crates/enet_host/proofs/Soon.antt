@@ -12,7 +12,7 @@ use Rattle.enet_host.specs.Skips.{entry, rest_at, IsDueAfter, KeepsSkips}
 use Rattle.enet_host.specs.Private.Foretelling.{is_soon, is_due_soon, HappensSoon, SlotIsDueSoon}
 
 -- what doesn't happen at a moment within a second doesn't happen there soon
-not-soon : (now later : ℕ) (x b : Bool) → is_soon now later ≡ b → (elapsed_time later now ≤ 1000 → x ≡ false) → (b && x) ≡ false
+pub not-soon : (now later : ℕ) (x b : Bool) → is_soon now later ≡ b → (elapsed_time later now ≤ 1000 → x ≡ false) → (b && x) ≡ false
 not-soon now later x true e never = never (leb-true (elapsed_time later now) 1000 e)
 not-soon now later x false e never = refl
 
@@ -64,9 +64,12 @@ soon-all slots also now wait near h = record {
 -- what was noted of a slot that sleeps
 pub noted-soon : (o : Option ℕ) (skips : Skips) (rest : Calm) (i place now : ℕ) → place ≡ i → rest ≡ get_or skips.rests.items place rest → i < length skips.rests.items
     → i < entry skips.next.items i → IfSome o (λ wait. (happens : ℕ → Bool) → HappensIn happens rest.from rest.lasts → HappensSoon happens now wait)
-    → IfSome o (λ wait. (slots : List SlotState) (peers : ℕ) → KeepsSkips peers skips slots → SlotIsDueSoon now slots i wait)
+    → IfSome o (λ wait. (slots : List SlotState) (peers : ℕ) → KeepsSkips peers skips slots → (i < entry skips.next.items i) × SlotIsDueSoon now slots i wait)
 noted-soon None skips rest i place now same read inside sleeps told = tt
-noted-soon (Some wait) skips rest i place now same read inside sleeps told = λ slots peers k s there.
-    let is : rest ≡ rest_at skips.rests.items i =
-    read ∙ ap (λ (j : ℕ). get_or skips.rests.items j rest) same ∙ get_or_default skips.rests.items i rest (record { from = 0; lasts = 0 }) inside in
-    told (λ (later : ℕ). is_due later s) (subst (λ (c : Calm). IsDueAfter c s) (sym is) (k.due i s there sleeps))
+noted-soon (Some wait) skips rest i place now same read inside sleeps told = λ slots peers k. (
+  sleeps,
+  λ s there.
+      let is : rest ≡ rest_at skips.rests.items i =
+      read ∙ ap (λ (j : ℕ). get_or skips.rests.items j rest) same ∙ get_or_default skips.rests.items i rest (record { from = 0; lasts = 0 }) inside in
+      told (λ (later : ℕ). is_due later s) (subst (λ (c : Calm). IsDueAfter c s) (sym is) (k.due i s there sleeps)),
+)

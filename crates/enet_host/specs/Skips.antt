@@ -1,5 +1,5 @@
 -- Which slots are passed over where slots are asked in turn, or time goes on.
-use Rattle.std.specs.Prelude.{◌≡◌, ℕ, ◌^◌, ◌<◌, ◌≤◌, Some, List, length, get_or, slice_get}
+use Rattle.std.specs.Prelude.{◌≡◌, ℕ, ◌^◌, ◌<◌, ◌≤◌, ◌⊎◌, Some, None, List, length, get_or, slice_get}
 use Rattle.enet_rtt.specs.Clock.{elapsed_time, HappensIn}
 use Rattle.enet_peer.specs.Calls as peers
 use Rattle.enet_slot.specs.Slot.{SlotState, changed, is_due}
@@ -32,9 +32,21 @@ rest_at rests i = get_or rests i (record { from = 0; lasts = 0 })
 abbrev pub IsDueAfter : Calm → SlotState → Type 0
 IsDueAfter rest s = HappensIn (λ later. is_due later s) rest.from rest.lasts
 
--- slots that are passed over rest, and it is noted when time brings them something
+-- each moment of the one time is one of the other
+abbrev pub IsPartOf : Calm → Calm → Type 0
+IsPartOf part whole = (moment : ℕ) → moment < 2 ^ 32 → IsWithin part moment → IsWithin whole moment
+
+-- a time is over no later than another one, unless the slot is free
+abbrev pub EndsWith : Calm → Calm → SlotState → Type 0
+EndsWith calm rest s = (s.peer ≡ None) ⊎ IsPartOf calm rest
+
+-- Slots that are passed over rest, and it is noted when time brings them something. Their common rest ends no later than that of each that
+-- holds a peer. From one number on all are free and passed over.
 pub record KeepsSkips (peers : ℕ) (skips : Skips) (slots : List SlotState) : Type 0 where
   pub marks : Marks peers skips.next.items
   pub noted : length skips.rests.items ≡ peers
   pub asleep : (i : ℕ) (s : SlotState) → slice_get slots i ≡ Some s → i < entry skips.next.items i → Rests skips.calm s
   pub due : (i : ℕ) (s : SlotState) → slice_get slots i ≡ Some s → i < entry skips.next.items i → IsDueAfter (rest_at skips.rests.items i) s
+  pub ends : (i : ℕ) (s : SlotState) → slice_get slots i ≡ Some s → i < entry skips.next.items i → EndsWith skips.calm (rest_at skips.rests.items i) s
+  pub within : skips.used ≤ peers
+  pub spare : (i : ℕ) (s : SlotState) → slice_get slots i ≡ Some s → skips.used ≤ i → (i < entry skips.next.items i) × (s.peer ≡ None)

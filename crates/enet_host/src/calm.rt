@@ -8,7 +8,7 @@ ghost use Rattle.enet_host.specs.Private.Foretelling.{HappensSoon};
 use enet_rtt::elapsed;
 
 /// How many milliseconds ahead a host foretells that time brings something.
-const FORESIGHT: u32 = 1000;
+pub(crate) const FORESIGHT: u32 = 1000;
 
 /// A wait of so many milliseconds, or the greatest number where it isn't foretold.
 pub(crate) fn foretold(wait: u32) -> u32
@@ -53,8 +53,9 @@ impl Calm {
     }
 
     /// How much of it is left from the moment `now` on, in milliseconds.
-    fn left(self, now: u32) -> u32
-        ensures { result ≡ self.lasts - elapsed_time now self.from }
+    pub(crate) fn left(self, now: u32) -> u32
+        ensures left { result ≡ self.lasts - elapsed_time now self.from }
+        ensures within { (later : ℕ) → later < 2 ^ 32 → elapsed_time later now < result → IsWithin self later }
     {
         self.lasts.saturating_sub(elapsed(now, self.from))
     }

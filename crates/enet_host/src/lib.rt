@@ -25,6 +25,7 @@
 mod calls;
 mod calm;
 mod connecting;
+mod due;
 mod events;
 mod foretelling;
 mod host;

@@ -1,15 +1,12 @@
 //! Which slots of a host need not be asked, and for how long not ticked.
 
-ghost use Rattle.std.specs.Prelude.{◌≡◌, ◌≢◌, ℕ, ◌-◌, ◌<◌, ◌≤◌, ◌⊎◌, min, nat_lt, IsTrue, IfOk, IfErr, IfSome, List, length, slice_set};
-ghost use Rattle.std.specs.List.{list_any};
-ghost use Rattle.enet_rtt.specs.Clock.{HappensIn};
-ghost use Rattle.enet_host.specs.Private.Foretelling.{is_due_soon, SlotIsDueSoon};
-ghost use Rattle.enet_host.specs.Skips.{entry, rest_at, Marks, KeepsSkips};
-ghost use Rattle.enet_host.specs.Private.Skips.{AllAwake, IsPartOf, SlotRests, SlotIsDue, StaysAsleep, PassesOver, PassesTurns, AwakeAt};
+ghost use Rattle.std.specs.Prelude.{◌≡◌, ◌≢◌, ℕ, ◌-◌, ◌<◌, ◌≤◌, ◌⊎◌, ◌+◌, max, min, nat_lt, IsTrue, IfOk, IfErr, List, length, slice_set};
+ghost use Rattle.enet_host.specs.Skips.{entry, rest_at, IsPartOf, Marks, KeepsSkips};
+ghost use Rattle.enet_host.specs.Private.Skips.{AllAwake, SlotRests, SlotIsDue, SlotIsFree, StaysAsleep, PassesOver, PassesTurns, AwakeAt};
 ghost use Rattle.enet_slot.specs.Slot.{SlotState};
 ghost use Rattle.enet_slot.specs.Slotted.{all_shown};
 
-use crate::calm::{Calm, foretold};
+use crate::calm::Calm;
 use crate::turns::slot_of_turn;
 use enet_codec::Refusal;
 use enet_slot::Slot;
@@ -25,8 +22,14 @@ pub(crate) struct Skips {
     pub(crate) next: Vec<u16>,
     /// An entry a slot. Where the slot sleeps, time brings it something first when this is over.
     pub(crate) rests: Vec<Calm>,
-    /// A time in which a tick changes nothing of the slots that sleep.
+    /// A time in which a tick changes nothing of the slots that sleep; it ends no later than the time that is noted of one of these
+    /// that holds a peer.
     pub(crate) calm: Calm,
+    /// The slot with whose noted time `calm` ended when it was last cut; that it still sleeps, and that they end together, is to be
+    /// tested where that matters.
+    pub(crate) soonest: u16,
+    /// Each slot from this number on is free and sleeps.
+    pub(crate) used: u16,
 }
 
 impl Skips {
@@ -45,12 +48,15 @@ impl Skips {
             next,
             rests,
             calm: Calm::none(),
+            soonest: 0,
+            used: peers,
         })
     }
 
     /// Whether the slot of this number sleeps; one that there isn't doesn't.
-    fn sleeps(&self, number: u16) -> bool
+    pub(crate) fn sleeps(&self, number: u16) -> bool
         ensures sleeps { result ≡ nat_lt number (entry self.now.next.items number) }
+        ensures low { IsTrue result → number < 65535 }
         ensures within { IsTrue result → number < length self.now.next.items }
     {
         match self.next.get(usize::from(number)) {
@@ -67,6 +73,7 @@ impl Skips {
         if !self.sleeps(number) {
             return;
         }
+        self.used = self.used.max(number + 1);
         self.next[usize::from(number)] = number;
         let mut place = number;
         while place > 0 && self.sleeps(place - 1) {
@@ -78,22 +85,50 @@ impl Skips {
     /// Looks anew at each slot of a host with so many, at the moment `now`.
     pub(crate) fn refresh(&mut self, slots: &[Slot], peers: u16, now: u32)
         requires all { length slots.now ≡ peers }
+        requires few { peers ≤ 4095 }
         requires count { length self.old.next.items ≡ peers }
         requires rests { length self.old.rests.items ≡ peers }
         ensures { KeepsSkips peers self.new (all_shown slots.now) }
     {
         self.calm = Calm::after(now);
+        self.used = 0;
         let mut next = peers;
         let mut number = peers;
         while number > 0 {
             number -= 1;
             next = awake_from(slots, number, next, now, &mut self.calm, &mut self.rests);
             self.next[usize::from(number)] = next;
+            self.note_soonest(number);
+            self.note_used(slots, number, next);
         }
     }
 
-    /// Wakes each slot to which the moment `now` may bring something, if there are such slots. A time that lasts 0 stays, as where
-    /// nothing was noted yet: then all slots are ticked, and looked at anew.
+    /// The common rest was cut: where it ends now with that of this slot, the slot is noted.
+    fn note_soonest(&mut self, number: u16)
+        requires { number < length self.old.rests.items }
+        ensures { self.new ≡ record self.old { soonest = self.new.soonest } }
+    {
+        if self.rests[usize::from(number)].lasts == self.calm.lasts {
+            self.soonest = number;
+        }
+    }
+
+    /// The slot of this number, which got this entry, was looked at, as were those after it: unless it is free and sleeps, it is used.
+    fn note_used(&mut self, slots: &[Slot], number: u16, entry: u16)
+        requires within { number < length slots.now }
+        requires few { length slots.now ≤ 4095 }
+        ensures same { self.new ≡ record self.old { used = self.new.used } }
+        ensures more { self.old.used ≤ self.new.used }
+        ensures most { self.new.used ≤ max self.old.used (number + 1) }
+        ensures spare { self.new.used ≤ number → (entry ≢ number) × SlotIsFree (all_shown slots.now) number }
+    {
+        if entry == number || slots[usize::from(number)].peer().is_some() {
+            self.used = self.used.max(number + 1);
+        }
+    }
+
+    /// Wakes each slot to which the moment `now` may bring something, if there are such slots; only those that are used are looked at. A
+    /// time that lasts 0 stays, as where nothing was noted yet: then all slots are ticked, and looked at anew.
     pub(crate) fn rouse(&mut self, peers: u16, now: u32)
         requires count { length self.old.next.items ≡ peers }
         requires rests { length self.old.rests.items ≡ peers }
@@ -104,11 +139,17 @@ impl Skips {
         }
         let mut calm = Calm::after(now);
         let mut awake = peers;
-        let mut number = peers;
+        let mut number = self.used.min(peers);
         while number > 0 {
             number -= 1;
+            let lasts = calm.lasts;
             awake = self.asleep_from(number, awake, now, &mut calm);
             self.next[usize::from(number)] = awake;
+            self.soonest = if calm.lasts < lasts {
+                number
+            } else {
+                self.soonest
+            };
         }
         self.calm = calm;
     }
@@ -143,6 +184,7 @@ impl Skips {
         while number < peers {
             let after = self.next_turn(peers, 0, number + 1);
             let next = awake_from(slots, number, after, now, &mut self.calm, &mut self.rests);
+            self.note_soonest(number);
             self.mark(number, next);
             self.pass_at_once(number + 1, after);
             number = after;
@@ -166,6 +208,7 @@ impl Skips {
         ensures entries { self.new.next.items ≡ slice_set self.old.next.items number entry }
         ensures calm { self.new.calm ≡ self.old.calm }
         ensures rests { self.new.rests.items ≡ self.old.rests.items }
+        ensures used { self.new.used ≡ self.old.used }
     {
         self.next[usize::from(number)] = entry;
     }
@@ -203,48 +246,6 @@ impl Skips {
     }
 }
 
-impl Skips {
-    /// In how many milliseconds after the moment `now` time brings the peers of the slots anything first, where that is within a
-    /// second; else 4,294,967,295. Of a slot that sleeps it was noted.
-    pub(crate) fn due_in(&self, slots: &[Slot], peers: u16, now: u32) -> u32
-        requires all { length slots.now ≡ peers }
-        requires skips { KeepsSkips peers self.now (all_shown slots.now) }
-        ensures { HappensIn (λ (later : ℕ). list_any (is_due_soon now later) (all_shown slots.now)) now result }
-    {
-        let mut wait = u32::MAX;
-        for number in 0..peers {
-            wait = wait.min(self.slot_due_in(slots, peers, number, now));
-        }
-        wait
-    }
-
-    /// The same of one slot.
-    fn slot_due_in(&self, slots: &[Slot], peers: u16, number: u16, now: u32) -> u32
-        requires all { length slots.now ≡ peers }
-        requires within { number < peers }
-        requires skips { KeepsSkips peers self.now (all_shown slots.now) }
-        ensures { SlotIsDueSoon now (all_shown slots.now) number result }
-    {
-        if let Some(wait) = self.noted_due_in(number, now) {
-            return wait;
-        }
-        foretold(slots[usize::from(number)].due_in(now))
-    }
-
-    /// The same of one slot, as far as it was noted.
-    fn noted_due_in(&self, number: u16, now: u32) -> Option<u32>
-        requires { number < length self.now.rests.items }
-        ensures { IfSome result (λ wait. (slots : List SlotState) (peers : ℕ) → KeepsSkips peers self.now slots → SlotIsDueSoon now slots number wait) }
-    {
-        let rest = self.rests[usize::from(number)];
-        if self.sleeps(number) {
-            rest.ends_in(now)
-        } else {
-            None
-        }
-    }
-}
-
 /// The first slot from this one on that is awake at the moment `now`, where `next` is the first of those after it. Where this one
 /// sleeps, the time in which nothing happens lasts no longer than nothing happens there, which is noted.
 fn awake_from(
@@ -259,7 +260,7 @@ fn awake_from(
     requires entry { number < length rests.old.items }
     ensures next { (result ≡ number) ⊎ ((result ≡ next) × SlotRests calm.new (all_shown slots.now) number) }
     ensures part { IsPartOf calm.new calm.old }
-    ensures noted { (result ≡ number) ⊎ SlotIsDue rests.new.items (all_shown slots.now) number }
+    ensures noted { (result ≡ number) ⊎ (SlotIsDue rests.new.items (all_shown slots.now) number × IsPartOf calm.new (rest_at rests.new.items number)) }
     ensures others { (i : ℕ) → i ≢ number → rest_at rests.new.items i ≡ rest_at rests.old.items i }
     ensures count { length rests.new.items ≡ length rests.old.items }
 {

@@ -1,5 +1,6 @@
 -- What happens within a second.
-use Rattle.std.specs.Prelude.{◌≡◌, ℕ, ◌&&◌, Bool, nat_le, Some, List, slice_get}
+use Rattle.std.specs.Prelude.{◌≡◌, ℕ, ◌^◌, ◌<◌, ◌&&◌, Bool, true, false, nat_le, Some, List, slice_get}
+use Rattle.std.specs.List.{list_any}
 use Rattle.enet_rtt.specs.Clock.{elapsed_time, HappensIn}
 use Rattle.enet_slot.specs.Slot.{SlotState, is_due}
 
@@ -18,3 +19,9 @@ is_due_soon now later s = is_soon now later && is_due later s
 -- the same of slot i
 abbrev pub SlotIsDueSoon : ℕ → List SlotState → ℕ → ℕ → Type 0
 SlotIsDueSoon now slots i wait = (s : SlotState) → slice_get slots i ≡ Some s → HappensSoon (λ later. is_due later s) now wait
+
+-- Of some slots it is known that none of them is soon due within so many milliseconds, and then one slot is, unless that is the
+-- greatest number of 32 bits.
+pub record KnowsDue (now : ℕ) (slots : List SlotState) (known : ℕ → Type 0) (wait : ℕ) : Type 0 where
+  pub before : (later : ℕ) → later < 2 ^ 32 → elapsed_time later now < wait → (i : ℕ) (s : SlotState) → slice_get slots i ≡ Some s → known i → is_due_soon now later s ≡ false
+  pub first : wait < 4294967295 → (later : ℕ) → later < 2 ^ 32 → elapsed_time later now ≡ wait → list_any (is_due_soon now later) slots ≡ true

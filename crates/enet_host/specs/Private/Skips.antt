@@ -1,18 +1,14 @@
 -- Runs and turns of slots that are passed over, and parts of a calm time.
-use Rattle.std.specs.Prelude.{◌≡◌, ℕ, ◌^◌, ◌<◌, ◌≤◌, Some, List, length, replicate, slice_get}
+use Rattle.std.specs.Prelude.{◌≡◌, ℕ, ◌<◌, ◌≤◌, Some, None, List, length, replicate, slice_get}
 use Rattle.enet_slot.specs.Slot.{SlotState}
 use Rattle.enet_host.specs.declared.calm.Calm.{Calm}
 use Rattle.enet_host.specs.declared.skips.Skips.{Skips}
 use Rattle.enet_host.specs.Turns.{turn_of}
-use Rattle.enet_host.specs.Skips.{entry, IsWithin, Rests, rest_at, IsDueAfter}
+use Rattle.enet_host.specs.Skips.{entry, IsPartOf, Rests, rest_at, IsDueAfter}
 
 -- of so many slots none is passed over
 abbrev pub AllAwake : ℕ → Skips → Type 0
-AllAwake peers skips = (skips.next.items ≡ replicate peers 0) × (length skips.rests.items ≡ peers)
-
--- each moment of the one is one of the other
-abbrev pub IsPartOf : Calm → Calm → Type 0
-IsPartOf part whole = (moment : ℕ) → moment < 2 ^ 32 → IsWithin part moment → IsWithin whole moment
+AllAwake peers skips = (skips.next.items ≡ replicate peers 0) × (length skips.rests.items ≡ peers) × (skips.used ≡ peers)
 
 -- slot i rests
 abbrev pub SlotRests : Calm → List SlotState → ℕ → Type 0
@@ -21,6 +17,10 @@ SlotRests calm slots i = (s : SlotState) → slice_get slots i ≡ Some s → Re
 -- it is noted when time brings slot i something
 abbrev pub SlotIsDue : List Calm → List SlotState → ℕ → Type 0
 SlotIsDue rests slots i = (s : SlotState) → slice_get slots i ≡ Some s → IsDueAfter (rest_at rests i) s
+
+-- slot i is free
+abbrev pub SlotIsFree : List SlotState → ℕ → Type 0
+SlotIsFree slots i = (s : SlotState) → slice_get slots i ≡ Some s → s.peer ≡ None
 
 -- slot i was passed over, and for this time nothing is due there
 abbrev pub StaysAsleep : List ℕ → List Calm → ℕ → Calm → Type 0

@@ -1,4 +1,4 @@
-use Rattle.std.proofs.Common.{◌≡◌}
+use Rattle.std.proofs.Common.{◌≡◌, ◌+◌, max}
 use Rattle.enet_host.proofs.Skipping.{Waking}
 use Rattle.enet_host.proofs.skips.Skips.wake.Given as goal
 
@@ -7,6 +7,7 @@ invariant-loop-place l = record {
   waking : Waking l.fn.self.next.items l.self.next.items l.number l.place;
   calm : l.self.calm ≡ l.fn.self.calm;
   rests : l.self.rests.items ≡ l.fn.self.rests.items;
+  used : l.self.used ≡ max l.fn.self.used (l.number + 1);
 }
 
 abbrev pub decreases-loop-place : goal.decreases-loop-place
