@@ -20,25 +20,17 @@ use Rattle.enet_outbox.specs.declared.packing.Flow.{Flow}
 use Rattle.enet_outbox.specs.Outbox.{Outbox, transit_of}
 use Rattle.enet_outbox.specs.Emission.{Filling, fits, with_command, shut, repeated, asked, with_sender, data_put, data_step, due_step, channel_step, with_one_data, with_channel, channel_turns, turns_of, transit_limit}
 use Rattle.enet_outbox.specs.Private.Packing.{Holds, taken_in, place_in, Leads, asked_for, refuses, with_flow, Shares}
+use Rattle.enet_senders.proofs.Each.{set-there}
+use Rattle.enet_senders.proofs.Sets.{get-set}
 use Rattle.enet_outbox.proofs.Fillings.{fits-written, holds-written, holds-back, holds-other, unfit, holds-shut, leads-by, place-open, place-full}
 use Rattle.enet_outbox.proofs.Repeats.{repeated-go, repeated-idle, repeated-shut}
 use Rattle.enet_outbox.proofs.Turns.{left_of, left-most, left-falls, left-skipped, added-none}
 
 -- a list with one element replaced
-pub set-same : {A : Type 0} (xs : List A) (i : ℕ) (x : A) → slice_get xs i ≡ Some x → slice_set xs i x ≡ xs
-set-same [] i x e = refl
-set-same (y ∷ xs) zero x e = let is : y ≡ x = cc in ap (λ z. z ∷ xs) (sym is)
-set-same (y ∷ xs) (suc i) x e = ap (λ zs. y ∷ zs) (set-same xs i x e)
-
 pub set-twice : {A : Type 0} (xs : List A) (i : ℕ) (x y : A) → slice_set (slice_set xs i x) i y ≡ slice_set xs i y
 set-twice [] i x y = refl
 set-twice (z ∷ xs) zero x y = refl
 set-twice (z ∷ xs) (suc i) x y = ap (λ zs. z ∷ zs) (set-twice xs i x y)
-
-pub get-set : {A : Type 0} (xs : List A) (i : ℕ) (x y : A) → slice_get xs i ≡ Some x → slice_get (slice_set xs i y) i ≡ Some y
-get-set [] i x y e = cc
-get-set (z ∷ xs) zero x y e = refl
-get-set (z ∷ xs) (suc i) x y e = get-set xs i x y e
 
 sum-set : {A : Type 0} (f : A → ℕ) (xs : List A) (i : ℕ) (x y : A) → slice_get xs i ≡ Some x → sum_by f (slice_set xs i y) + f x ≡ sum_by f xs + f y
 sum-set f [] i x y e = cc
@@ -155,7 +147,7 @@ channel-begin {pace} {channel} {f} {s} {w} {p} {buf} h opened there e = record {
   holds = h;
   opened = opened;
   there = there;
-  outbox = ap (λ (ss : List SendingEnd). record f.outbox { senders = ss }) (sym (set-same f.outbox.senders channel s there))
+  outbox = ap (λ (ss : List SendingEnd). record f.outbox { senders = ss }) (sym (set-there f.outbox.senders channel s there))
       ∙ ap (λ (t : Throttling). record f.outbox { senders = slice_set f.outbox.senders channel s; throttle = t }) e.0
       ∙ ap (λ (l : Option ℕ). record f.outbox { senders = slice_set f.outbox.senders channel s; throttle = w.throttle; last = l }) e.1;
   enough = let P : Option SendingEnd → Type 0 = λ o. left_of s.sender ≤ turns_of o in subst P (sym there) (left-most s.sender);

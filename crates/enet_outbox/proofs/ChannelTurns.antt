@@ -15,7 +15,9 @@ use Rattle.enet_outbox.specs.declared.packing.Progress.{Progress}
 use Rattle.enet_outbox.specs.declared.packing.Flow.{Flow}
 use Rattle.enet_outbox.specs.Emission.{Filling}
 use Rattle.enet_outbox.specs.Private.Packing.{Holds, Shares, PacksChannel, place_in, asked_for, refuses, taken_in}
-use Rattle.enet_outbox.proofs.Channel.{ChannelAt, due_by, set-same, set-twice, get-set, did-sent, channel-begin, channel-put, channel-drop, channel-full, channel-none, channel-room}
+use Rattle.enet_senders.proofs.Each.{set-there}
+use Rattle.enet_senders.proofs.Sets.{get-set}
+use Rattle.enet_outbox.proofs.Channel.{ChannelAt, due_by, set-twice, did-sent, channel-begin, channel-put, channel-drop, channel-full, channel-none, channel-room}
 use Rattle.enet_outbox.proofs.Turns.{left_of, left-falls, left-skipped, added-fits}
 
 -- a channel that there is has a sender
@@ -46,7 +48,7 @@ pub record TurnAt (pace : Pace) (channel : ℕ) (old : List SendingEnd) (first :
 pub turn-begin : {pace : Pace} {channel : ℕ} {old : List SendingEnd} {w : Flow} {p : Progress} {from : List ℕ} (s : SendingEnd) → slice_get old channel ≡ Some s → TurnAt pace channel old s w p from old w p from
 turn-begin {pace} {channel} {old} {w} {p} {from} s there = record {
   s = s;
-  senders = sym (set-same old channel s there);
+  senders = sym (set-there old channel s there);
   there = there;
   stage = λ f h opened at e. channel-begin h opened at e;
 }

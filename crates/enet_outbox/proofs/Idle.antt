@@ -16,7 +16,7 @@ use Rattle.enet_outbox.specs.Outbox.{Outbox, has_no_packet, has_no_reliable}
 use Rattle.enet_outbox.specs.Emission.{Filling, filled}
 use Rattle.enet_outbox.specs.Invariant.{HasNothing}
 use Rattle.enet_outbox.specs.Resting.{IsAtRest}
-use Rattle.enet_senders.proofs.Sets.{next-none}
+use Rattle.enet_senders.proofs.Sets.{next-none, some-long}
 use Rattle.std.proofs.lemmas.List.Elements.{All-nil}
 use Rattle.enet_outbox.proofs.Filled.{Keeps, by-filling}
 
@@ -26,12 +26,6 @@ none-left (x ∷ xs) e = absurd (cc)
 
 some-one : {X Y : Type 0} (xs : List X) (x : X) (rest : List X) → length xs ≡ 0 → xs ≡ x ∷ rest → Y
 some-one xs x rest e f = absurd (let y : ◌≡◌ {A = List _} [] (x ∷ rest) = sym (none-left xs e) ∙ f in cc)
-
-some-long : {X : Type 0} (x : X) (xs : List X) → nat_lt 0 (length (x ∷ xs)) ≡ true
-some-long x xs = by (length (x ∷ xs)) refl
-  where
-    by : (n : ℕ) → n ≡ suc (length xs) → nat_lt 0 n ≡ true
-    by n e = grind (arith, nat_tests)
 
 not-none : {X : Type 0} (x : X) (xs : List X) → (length (x ∷ xs) == 0) ≡ false
 not-none x xs = by (length (x ∷ xs)) refl

@@ -98,7 +98,7 @@ ends-push s os o n so_far is channel =
     map_push (end_of s) os o ∙ ap₂ (λ a b. a ++ b ∷ []) so_far new ∙ sym (map-range_with_len_more new_end 0 n n (omega arith))
 
 -- a list written at one place with what stands there
-set-there : {X : Type 0} (xs : List X) (i : ℕ) (x : X) → slice_get xs i ≡ Some x → set xs i x ≡ xs
+pub set-there : {X : Type 0} (xs : List X) (i : ℕ) (x : X) → slice_get xs i ≡ Some x → set xs i x ≡ xs
 set-there [] i x there = refl
 set-there (y ∷ xs) zero x there = let is : y ≡ x = cc in ap (λ z. z ∷ xs) (sym is)
 set-there (y ∷ xs) (suc i) x there = ap (λ ys. y ∷ ys) (set-there xs i x there)

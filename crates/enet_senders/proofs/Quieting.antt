@@ -144,16 +144,16 @@ end_quiet q e = AreQuiet q e.sender.sent
 quiet-at : (q r : Quiet) (es new : List SendingEnd) (i : ℕ) (s t : SendingEnd) → slice_get es i ≡ Some s → new ≡ slice_set es i t → AllQuiet r es → AreQuiet r t.sender.sent → AllQuiet r new
 quiet-at q r es new i s t there is others one = subst (λ (xs : List SendingEnd). AllQuiet r xs) (sym is) (All-set (end_quiet r) es i t one others)
 
-some-end : (es : List SendingEnd) (i : ℕ) → i < length es → (s : SendingEnd) × (slice_get es i ≡ Some s)
-some-end [] i inside = absurd (omega arith)
-some-end (e ∷ es) zero inside = (e, refl)
-some-end (e ∷ es) (suc i) inside = some-end es i (omega arith)
+pub slice_get-some : {A : Type 0} (xs : List A) (i : ℕ) → i < length xs → (x : A) × (slice_get xs i ≡ Some x)
+slice_get-some [] i inside = absurd (omega arith)
+slice_get-some (x ∷ xs) zero inside = (x, refl)
+slice_get-some (x ∷ xs) (suc i) inside = slice_get-some xs i (omega arith)
 
 pub quiet-due : (q : Quiet) (occasion : Occasion) (es new : List SendingEnd) (i : ℕ) (result : Due) (from : List ℕ) (at : ℕ) (to : List ℕ) → FitsQuiet q → occasion.now < 2 ^ 32 → i < length es
     → ((s : SendingEnd) → slice_get es i ≡ Some s → (t : SendingEnd) × ((new ≡ slice_set es i t) × Did (next wire occasion s.sender) result s t (record { old = from; at = at; new = to })))
     → AllQuiet q es → AllQuiet (quiet_after result q occasion.now occasion.timeout) new
 quiet-due q occasion es new i result from at to fits low inside did h =
-    let one = some-end es i inside in
+    let one = slice_get-some es i inside in
     let s = one.0 in
     let r = did s one.1 in
     let here : AreQuiet q s.sender.sent = there-quiet (end_quiet q) es i s h one.1 in
@@ -178,7 +178,7 @@ quiet-unsent q occasion es new i due.Nothing from at to fits low inside unsent d
 pub quiet-fewer : (q : Quiet) (es new : List SendingEnd) (i : ℕ) (f : SendingEnd → SendingEnd) → i < length es → ((s : SendingEnd) → slice_get es i ≡ Some s → new ≡ slice_set es i (f s))
     → ((s : SendingEnd) → AreQuiet q s.sender.sent → AreQuiet q (f s).sender.sent) → AllQuiet q es → AllQuiet q new
 quiet-fewer q es new i f inside is fewer h =
-    let one = some-end es i inside in
+    let one = slice_get-some es i inside in
     quiet-at q q es new i one.0 (f one.0) one.1 (is one.0 one.1) h (fewer one.0 (there-quiet (end_quiet q) es i one.0 h one.1))
 
 pub quiet-acknowledged : (q : Quiet) (s : SendingEnd) (number : ℕ) → AreQuiet q s.sender.sent → AreQuiet q (without_place s.sender.sent (position_of number s.sender.sent))

@@ -29,8 +29,8 @@ use Rattle.enet_sender.specs.Due.{SendingEnd, Did, new_end, with_submitted}
 use Rattle.enet_senders.specs.declared.channel_set.ChannelSet.{ChannelSet}
 use Rattle.enet_senders.specs.Senders.{IsStill, ends_of, marked_end, cleared_end}
 use Rattle.enet_senders.specs.Sets.{Lacks, KeepsSets}
-use Rattle.enet_senders.proofs.Each.{end-at, ends-length}
-use Rattle.enet_senders.proofs.Quieting.{All-remove}
+use Rattle.enet_senders.proofs.Each.{end-at, ends-length, set-there}
+use Rattle.enet_senders.proofs.Quieting.{All-remove, slice_get-some}
 
 -- one word is written, in which at most the bit of channel c changes
 pub written-other : (words : List ℕ) (c word : ℕ) → c / 64 < length words → ((k : ℕ) → k < 64 → k ≢ c % 64 → bit_at word k ≡ bit_at (get_or words (c / 64) 0) k)
@@ -129,7 +129,7 @@ end-is s channels i m o e is inside read there =
     sym (end-at s channels m o inside read) ∙ ap (λ k. get_or (ends_of s channels) k (end_of s o)) is ∙ get_or_from_slice_get (ends_of s channels) i e (end_of s o) there
 
 -- what nothing that is left shows
-some-long : {X : Type 0} (x : X) (xs : List X) → nat_lt 0 (length (x ∷ xs)) ≡ true
+pub some-long : {X : Type 0} (x : X) (xs : List X) → nat_lt 0 (length (x ∷ xs)) ≡ true
 some-long x xs = by (length (x ∷ xs)) refl
   where
     by : (n : ℕ) → n ≡ suc (length xs) → nat_lt 0 n ≡ true
@@ -173,7 +173,7 @@ all-false p xs none = by (ltb (position_or_len p xs) (length xs)) refl none
     by false is e = λ k d inside. fails_before_first p xs k d (let past = ltb-false (position_or_len p xs) (length xs) is in omega arith)
 
 -- a list with one element replaced
-get-set : {A : Type 0} (xs : List A) (i : ℕ) (x y : A) → slice_get xs i ≡ Some x → slice_get (slice_set xs i y) i ≡ Some y
+pub get-set : {A : Type 0} (xs : List A) (i : ℕ) (x y : A) → slice_get xs i ≡ Some x → slice_get (slice_set xs i y) i ≡ Some y
 get-set [] i x y e = cc
 get-set (z ∷ xs) zero x y e = refl
 get-set (z ∷ xs) (suc i) x y e = get-set xs i x y e
@@ -185,20 +185,10 @@ get-other (z ∷ xs) zero (suc j) y apart = refl
 get-other (z ∷ xs) (suc i) zero y apart = refl
 get-other (z ∷ xs) (suc i) (suc j) y apart = get-other xs i j y (λ e. apart (ap suc e))
 
-set-same : {A : Type 0} (xs : List A) (i : ℕ) (x : A) → slice_get xs i ≡ Some x → slice_set xs i x ≡ xs
-set-same [] i x e = refl
-set-same (y ∷ xs) zero x e = let is : y ≡ x = cc in ap (λ z. z ∷ xs) (sym is)
-set-same (y ∷ xs) (suc i) x e = ap (λ zs. y ∷ zs) (set-same xs i x e)
-
 mapped-at : {A B : Type 0} (f : A → B) (xs : List A) (i : ℕ) (y : B) → slice_get (map f xs) i ≡ Some y → (x : A) × ((slice_get xs i ≡ Some x) × (f x ≡ y))
 mapped-at f [] i y e = absurd (cc)
 mapped-at f (x ∷ xs) zero y e = (x, (refl, cc))
 mapped-at f (x ∷ xs) (suc i) y e = mapped-at f xs i y e
-
-pub slice_get-some : {A : Type 0} (xs : List A) (i : ℕ) → i < length xs → (x : A) × (slice_get xs i ≡ Some x)
-slice_get-some [] i inside = absurd (omega arith)
-slice_get-some (x ∷ xs) zero inside = (x, refl)
-slice_get-some (x ∷ xs) (suc i) inside = slice_get-some xs i (omega arith)
 
 found-inside : {X : Type 0} (p : X → Bool) (xs : List X) (i : ℕ) → position p xs ≡ Some i → i < length xs
 found-inside p [] i e = absurd (cc)
@@ -353,7 +343,7 @@ same-unsent occasion es new c result from at to inside unsent did =
     let s = one.0 in
     let r = did s one.1 in
     let same : r.0 ≡ s = did-unsent (next wire occasion s.sender) result s r.0 from at to unsent r.1.1 in
-    r.1.0 ∙ ap (λ (x : SendingEnd). slice_set es c x) same ∙ set-same es c s one.1
+    r.1.0 ∙ ap (λ (x : SendingEnd). slice_set es c x) same ∙ set-there es c s one.1
 
 -- where nothing was due nothing that is sent is due to go again
 pub none-due-on : (occasion : Occasion) (es new : List SendingEnd) (c : ℕ) (from : List ℕ) (at : ℕ) (to : List ℕ) → c < length es → DidOn occasion c due.Nothing es new from at to

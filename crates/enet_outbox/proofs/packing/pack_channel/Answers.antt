@@ -2,7 +2,7 @@ use Rattle.std.proofs.Common.{◌≡◌, ◌<◌, ◌∙◌, sym, ap, arith, len
 use Rattle.std.specs.List.{slice_get}
 use Rattle.std.proofs.lemmas.List.{length-set}
 use Rattle.enet_sender.specs.Due.{SendingEnd}
-use Rattle.enet_outbox.proofs.Channel.{get-set}
+use Rattle.enet_senders.proofs.Sets.{get-set}
 use Rattle.enet_sender.specs.declared.outgoing.Due.TheVariants as due
 use Rattle.enet_outbox.proofs.ChannelTurns.{called, some-sender, turn-begin, turn-put, turn-drop, turn-full, turn-none, turn-falls, skip-falls, turn-length, called-room, called-adds}
 use Rattle.enet_outbox.proofs.packing.pack_channel.Goals as goal

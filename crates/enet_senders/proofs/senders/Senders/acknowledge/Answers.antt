@@ -5,7 +5,8 @@ use Rattle.enet_sender.specs.declared.outgoing.Outgoing.{Outgoing}
 use Rattle.enet_sender.specs.Due.{SendingEnd}
 use Rattle.enet_senders.specs.Senders.{ends_in}
 use Rattle.enet_senders.proofs.Quieting.{quiet-fewer, quiet-acknowledged}
-use Rattle.enet_senders.proofs.Sets.{keeps-changed, still-acknowledged, slice_get-some, inside-changed}
+use Rattle.enet_senders.proofs.Quieting.{slice_get-some}
+use Rattle.enet_senders.proofs.Sets.{keeps-changed, still-acknowledged, inside-changed}
 use Rattle.enet_senders.proofs.senders.Senders.acknowledge.Goals as goal
 
 pub note_sent-requires-clause-inside : goal.note_sent-requires-clause-inside
