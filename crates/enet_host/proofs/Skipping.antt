@@ -196,6 +196,26 @@ woken old new number place n slots w calm rests used stop k =
           (subst (λ (e : ℕ). i < e) (sym (w.after i (omega (arith, past, used)))) was.0, was.1);
     }
 
+-- something is noted of a slot that is awake
+pub touched : (n : ℕ) (old new : Skips) (slots : List SlotState) (number : ℕ) → entry old.next.items number ≤ number → new.next.items ≡ old.next.items → new.calm ≡ old.calm → new.used ≡ old.used
+    → length new.rests.items ≡ length old.rests.items → ((i : ℕ) → i ≢ number → rest_at new.rests.items i ≡ rest_at old.rests.items i) → KeepsSkips n old slots → KeepsSkips n new slots
+touched n old new slots number awake next calm used count others k =
+    let was : (i : ℕ) → i < entry new.next.items i → i < entry old.next.items i = λ i less. subst (λ (xs : List ℕ). i < entry xs i) next less in
+    let apart : (i : ℕ) → i < entry new.next.items i → i ≢ number = λ i less same. absurd (omega (arith, subst (λ (m : ℕ). m < entry old.next.items m) same (was i less), awake)) in
+    record {
+      marks = subst (Marks n) (sym next) k.marks;
+      noted = count ∙ k.noted;
+      asleep = λ i s there less. subst (λ (c : Calm). Rests c s) (sym calm) (k.asleep i s there (was i less));
+      due = λ i s there less. subst (λ (c : Calm). IsDueAfter c s) (sym (others i (apart i less))) (k.due i s there (was i less));
+      ends = λ i s there less.
+          subst (λ (c : Calm). EndsWith c (rest_at new.rests.items i) s) (sym calm)
+          (subst (λ (c : Calm). EndsWith old.calm c s) (sym (others i (apart i less))) (k.ends i s there (was i less)));
+      within = subst (λ (m : ℕ). m ≤ n) (sym used) k.within;
+      spare = λ i s there past.
+          let free = k.spare i s there (subst (λ (m : ℕ). m ≤ i) used past) in
+          (subst (λ (xs : List ℕ). i < entry xs i) (sym next) free.0, free.1);
+    }
+
 -- The slots from `number` on were looked at anew; `next` is the first of them that is awake, or their number.
 pub record Refreshed (calm : Calm) (rests : List Calm) (xs : List ℕ) (slots : List SlotState) (n number next : ℕ) : Type 0 where
   pub count : length xs ≡ n

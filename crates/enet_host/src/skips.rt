@@ -20,7 +20,8 @@ pub(crate) struct Skips {
     /// An entry a slot. One past the slot's own number says that it sleeps, as do all between it and the entry: the next slot that
     /// is worth asking, or the number of slots. With any other the slot is awake.
     pub(crate) next: Vec<u16>,
-    /// An entry a slot. Where the slot sleeps, time brings it something first when this is over.
+    /// An entry a slot. Where the slot sleeps, time brings it something first when this is over. Where it is awake, this lasts 0 if
+    /// something came to it since it was looked at.
     pub(crate) rests: Vec<Calm>,
     /// A time in which a tick changes nothing of the slots that sleep; it ends no later than the time that is noted of one of these
     /// that holds a peer.
@@ -65,8 +66,28 @@ impl Skips {
         }
     }
 
-    /// From now on the slot of this number is asked. Those before it that were passed over with it are passed over up to it.
+    /// Something comes to the slot of this number, which is asked from now on.
     pub(crate) fn wake(&mut self, number: u16)
+        ensures kept { (peers : ℕ) (slots : List SlotState) → KeepsSkips peers self.old slots → KeepsSkips peers self.new slots }
+        ensures awake { entry self.new.next.items number ≤ number }
+    {
+        self.rise(number);
+        self.touch(number);
+    }
+
+    /// The slot of this number, which is awake, is noted as one to which something came since it was looked at.
+    fn touch(&mut self, number: u16)
+        requires { entry self.old.next.items number ≤ number }
+        ensures kept { (peers : ℕ) (slots : List SlotState) → KeepsSkips peers self.old slots → KeepsSkips peers self.new slots }
+        ensures next { self.new.next.items ≡ self.old.next.items }
+    {
+        if usize::from(number) < self.rests.len() {
+            self.rests[usize::from(number)] = Calm::none();
+        }
+    }
+
+    /// From now on the slot of this number is asked. Those before it that were passed over with it are passed over up to it.
+    fn rise(&mut self, number: u16)
         ensures kept { (peers : ℕ) (slots : List SlotState) → KeepsSkips peers self.old slots → KeepsSkips peers self.new slots }
         ensures awake { entry self.new.next.items number ≤ number }
     {
@@ -247,7 +268,9 @@ impl Skips {
 }
 
 /// The first slot from this one on that is awake at the moment `now`, where `next` is the first of those after it. Where this one
-/// sleeps, the time in which nothing happens lasts no longer than nothing happens there, which is noted.
+/// sleeps, the time in which nothing happens lasts no longer than nothing happens there, which is noted. One to which something came
+/// since it was looked at, and that has commands in flight, stays awake until the next look: as long as something comes at each look, none
+/// is spent on when the earliest of these is late.
 fn awake_from(
     slots: &[Slot],
     number: u16,
@@ -265,6 +288,11 @@ fn awake_from(
     ensures count { length rests.new.items ≡ length rests.old.items }
 {
     let slot = &slots[usize::from(number)];
+    let was_touched = rests[usize::from(number)].lasts == 0;
+    if was_touched && !slot.is_asleep() {
+        rests[usize::from(number)] = Calm::after(now);
+        return number;
+    }
     if !slot.only_waits() {
         return number;
     }

@@ -1,6 +1,6 @@
 use Rattle.std.proofs.Common.{◌≡◌, ◌+◌, max}
 use Rattle.enet_host.proofs.Skipping.{Waking}
-use Rattle.enet_host.proofs.skips.Skips.wake.Given as goal
+use Rattle.enet_host.proofs.skips.Skips.rise.Given as goal
 
 abbrev pub invariant-loop-place : goal.invariant-loop-place
 invariant-loop-place l = record {
