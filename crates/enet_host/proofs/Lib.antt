@@ -12,3 +12,4 @@ pub mod Bringing
 pub mod Resting
 pub mod Soon
 pub mod DueIn
+pub mod Seating

@@ -8,11 +8,14 @@ use Rattle.enet_peer.specs.Calls as peers
 use Rattle.enet_slot.specs.Slot.{SlotState, changed}
 use Rattle.enet_host.specs.declared.calm.Calm.{Calm}
 use Rattle.enet_host.specs.declared.skips.Skips.{Skips}
+use Rattle.enet_host.specs.declared.seats.Seats.{Seats}
+use Rattle.enet_host.specs.Private.Seats.{IsSeated}
 use Rattle.enet_host.specs.Skips.{entry, IsPartOf, IsWithin, EndsWith, Rests, rest_at, IsDueAfter, KeepsSkips}
 use Rattle.enet_host.specs.Private.Skips.{SlotRests, PassesOver, PassesTurns, AwakeAt}
 use Rattle.enet_host.specs.Private.Ticking.{all_ticked}
 use Rattle.enet_host.proofs.Asking.{some-same}
 use Rattle.enet_host.proofs.Skipping.{rests-for-part, ends-for-part, Noted, noted-here}
+use Rattle.enet_host.proofs.Seating.{Seated, seated-here}
 use Rattle.enet_host.proofs.Turning.{turn-from-zero}
 
 -- what is passed over, and what is awake, where slot 0 is first
@@ -73,13 +76,14 @@ ticked-keeps n now skips old new k fits within same =
       spare = λ i t there past.
           let free = k.spare i (get_or old i t) (was i t there) past in
           (free.0, subst (λ (s : SlotState). s.peer ≡ None) (stays i t there free.0) free.1);
+      seated = λ i t there less. subst (IsSeated skips.seats i) (stays i t there less) (k.seated i (get_or old i t) (was i t there) less);
     })
 
 -- The slot `number` was awake, and all from it to `after` sleep; its entry becomes its own number, or `after` where it fell asleep.
 fell-asleep : (old new : Skips) (slots : List SlotState) (n number after v : ℕ) → KeepsSkips n old slots → number < n → entry old.next.items number ≤ number
     → ((i : ℕ) → number < i → i < v → i < entry old.next.items i) → (number < v → SlotRests new.calm slots number) → IsPartOf new.calm old.calm
-    → Noted new.calm old.rests.items new.rests.items slots number v → new.next.items ≡ slice_set old.next.items number v → new.used ≡ old.used → KeepsSkips n new slots
-fell-asleep old new slots n number after v k inside awake run sleeps part noted set used =
+    → Noted new.calm old.rests.items new.rests.items slots number v → new.next.items ≡ slice_set old.next.items number v → new.used ≡ old.used → Seated old.seats new.seats slots number v → KeepsSkips n new slots
+fell-asleep old new slots n number after v k inside awake run sleeps part noted set used seat =
     let xs = old.next.items in
     let here : entry new.next.items number ≡ v = ap (λ (ys : List ℕ). entry ys number) set ∙ get_or-set_same xs number v 0 (subst (λ (c : ℕ). number < c) (sym k.marks.count) inside) in
     let other : (i : ℕ) → i ≢ number → entry new.next.items i ≡ entry xs i = λ i apart. ap (λ (ys : List ℕ). entry ys i) set ∙ get_or-set_other xs number i v 0 apart in
@@ -130,19 +134,25 @@ fell-asleep old new slots n number after v k inside awake run sleeps part noted 
             | inl at ↦ absurd (omega (arith, subst (λ (m : ℕ). m < entry xs m) at was.0, awake))
             | inr apart ↦ (subst (λ (e : ℕ). i < e) (sym (other i apart)) was.0, was.1)
           ];
+      seated = λ i s there less. elim (cases_eq i number) [
+        | inl at ↦
+            let reach : number < v = omega (arith, less, ap (entry new.next.items) at, here, at) in
+            subst (λ (m : ℕ). IsSeated new.seats m s) (sym at) (seated-here old.seats new.seats slots number v seat reach s (subst (λ (m : ℕ). slice_get slots m ≡ Some s) at there))
+        | inr apart ↦ seat.kept i s (k.seated i s there (subst (λ (e : ℕ). i < e) (other i apart) less))
+      ];
     }
 
 -- a slot that was awake was looked at
 pub looked-at : (old new : Skips) (calm : Calm) (slots : List SlotState) (n number after v : ℕ) → KeepsSkips n old slots → number < n → entry old.next.items number ≤ number
     → PassesTurns old.next.items n 0 (number + 1) after → after ≤ n → (v ≡ number) ⊎ ((v ≡ after) × SlotRests calm slots number) → IsPartOf calm old.calm → new.calm ≡ calm
-    → Noted new.calm old.rests.items new.rests.items slots number v → new.next.items ≡ slice_set old.next.items number v → new.used ≡ old.used → KeepsSkips n new slots
-looked-at old new calm slots n number after v k inside awake passes end (inl same) part is noted set used =
+    → Noted new.calm old.rests.items new.rests.items slots number v → new.next.items ≡ slice_set old.next.items number v → new.used ≡ old.used → Seated old.seats new.seats slots number v → KeepsSkips n new slots
+looked-at old new calm slots n number after v k inside awake passes end (inl same) part is noted set used seat =
     fell-asleep old new slots n number after v k inside awake (λ i past less. absurd (omega (arith, past, less, same))) (λ less. absurd (omega (arith, less, same)))
-    (subst (λ (c : Calm). IsPartOf c old.calm) (sym is) part) noted set used
-looked-at old new calm slots n number after v k inside awake passes end (inr asleep) part is noted set used =
+    (subst (λ (c : Calm). IsPartOf c old.calm) (sym is) part) noted set used seat
+looked-at old new calm slots n number after v k inside awake passes end (inr asleep) part is noted set used seat =
     fell-asleep old new slots n number after v k inside awake
     (λ i past less. passed-slot old.next.items n (number + 1) after i passes (omega (arith, less, asleep.0, end)) (omega (arith, past)) (omega (arith, less, asleep.0)))
-    (λ less. subst (λ (c : Calm). SlotRests c slots number) (sym is) asleep.1) (subst (λ (c : Calm). IsPartOf c old.calm) (sym is) part) noted set used
+    (λ less. subst (λ (c : Calm). SlotRests c slots number) (sym is) asleep.1) (subst (λ (c : Calm). IsPartOf c old.calm) (sym is) part) noted set used seat
 
 -- a later one is awake as before
 pub later-awake : (xs ys : List ℕ) (n number after v : ℕ) → number < after → ys ≡ slice_set xs number v → AwakeAt xs n 0 after → AwakeAt ys n 0 after
@@ -153,8 +163,8 @@ later-awake xs ys n number after v later set awake = λ i inside at.
 
 -- one entry passes over slots that are passed over already
 pub joined : (old new : Skips) (slots : List SlotState) (n start last : ℕ) → KeepsSkips n old slots → PassesOver old.next.items start last → start < last → start < n
-    → new.calm ≡ old.calm → new.rests.items ≡ old.rests.items → new.used ≡ old.used → new.next.items ≡ slice_set old.next.items start last → KeepsSkips n new slots
-joined old new slots n start last k run some inside is same_rests used set =
+    → new.calm ≡ old.calm → new.rests.items ≡ old.rests.items → new.used ≡ old.used → new.seats ≡ old.seats → new.next.items ≡ slice_set old.next.items start last → KeepsSkips n new slots
+joined old new slots n start last k run some inside is same_rests used seats set =
     let xs = old.next.items in
     let here : entry new.next.items start ≡ last = ap (λ (ys : List ℕ). entry ys start) set ∙ get_or-set_same xs start last 0 (subst (λ (c : ℕ). start < c) (sym k.marks.count) inside) in
     let other : (i : ℕ) → i ≢ start → entry new.next.items i ≡ entry xs i = λ i apart. ap (λ (ys : List ℕ). entry ys i) set ∙ get_or-set_other xs start i last 0 apart in
@@ -184,6 +194,7 @@ joined old new slots n start last k run some inside is same_rests used set =
       spare = λ i s there past.
           let free = k.spare i s there (subst (λ (m : ℕ). m ≤ i) used past) in
           (still i free.0, free.1);
+      seated = λ i s there less. subst (λ (t : Seats). IsSeated t i s) (sym seats) (k.seated i s there (was i less));
     }
 
 -- those after slot `number` are passed over once that was marked

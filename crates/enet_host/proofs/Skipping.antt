@@ -16,10 +16,13 @@ use Rattle.enet_host.specs.Serving.{Served}
 use Rattle.enet_host.specs.Private.Shown.{SlotGives, SlotPasses, SlotGivesEvent}
 use Rattle.enet_host.specs.declared.calm.Calm.{Calm}
 use Rattle.enet_host.specs.declared.skips.Skips.{Skips}
+use Rattle.enet_host.specs.declared.seats.Seats.{Seats}
+use Rattle.enet_host.specs.Private.Seats.{IsSeated}
 use Rattle.enet_host.specs.Skips.{entry, IsPartOf, EndsWith, Marks, Rests, rest_at, IsDueAfter, KeepsSkips}
 use Rattle.enet_host.specs.Private.Skips.{AllAwake, SlotRests, SlotIsDue, SlotIsFree, StaysAsleep, PassesTurns, AwakeAt}
 use Rattle.enet_host.proofs.Bringing.{rests-until-due, free-rests}
 use Rattle.enet_host.proofs.Asking.{get-set-other}
+use Rattle.enet_host.proofs.Seating.{SeatsFrom}
 use Rattle.enet_host.proofs.Turning.{turn-below, same-turn, passed-between}
 
 -- at first no slot is passed over
@@ -37,6 +40,7 @@ skips-none n skips slots count all =
       ends = λ i s there less. absurd (omega (arith, less, none i));
       within = omega (arith, all.2);
       spare = λ i s there past. absurd (omega (arith, past, all.2, slice_get_within slots i s there, count));
+      seated = λ i s there less. absurd (omega (arith, less, none i));
     }
 
 -- a slot that is awake may change
@@ -58,6 +62,8 @@ skips-set n skips slots i t k awake = record {
         absurd (omega (arith, subst (λ (m : ℕ). m < entry skips.next.items m) same slept, awake))
     | inr other ↦ k.spare j s (get-set-other slots i j t s other there) past
   ];
+  seated = λ j s there less. elim (cases_eq j i)
+      [ inl same ↦ absurd (omega (arith, subst (λ (m : ℕ). m < entry skips.next.items m) same less, awake)) | inr other ↦ k.seated j s (get-set-other slots i j t s other there) less ];
 }
 
 pub skips-at : (n : ℕ) (skips : Skips) (xs : List Slot) (i : ℕ) (y : Slot) → KeepsSkips n skips (all_shown xs) → entry skips.next.items i ≤ i → KeepsSkips n skips (all_shown (slice_set xs i y))
@@ -174,8 +180,8 @@ passed-after old new n number place i j w marks low past over =
     ]
 
 pub woken : (old new : Skips) (number place n : ℕ) (slots : List SlotState) → Waking old.next.items new.next.items number place → new.calm ≡ old.calm → new.rests.items ≡ old.rests.items
-    → new.used ≡ max old.used (number + 1) → ((m : ℕ) → m + 1 ≡ place → entry new.next.items m ≤ m) → KeepsSkips n old slots → KeepsSkips n new slots
-woken old new number place n slots w calm rests used stop k =
+    → new.used ≡ max old.used (number + 1) → new.seats ≡ old.seats → ((m : ℕ) → m + 1 ≡ place → entry new.next.items m ≤ m) → KeepsSkips n old slots → KeepsSkips n new slots
+woken old new number place n slots w calm rests used seats stop k =
     let olds = old.next.items in
     let news = new.next.items in
     record {
@@ -194,12 +200,13 @@ woken old new number place n slots w calm rests used stop k =
       spare = λ i s there past.
           let was = k.spare i s there (omega (arith, past, used)) in
           (subst (λ (e : ℕ). i < e) (sym (w.after i (omega (arith, past, used)))) was.0, was.1);
+      seated = λ i s there less. subst (λ (t : Seats). IsSeated t i s) (sym seats) (k.seated i s there (still-marked olds news number place i w less));
     }
 
 -- something is noted of a slot that is awake
-pub touched : (n : ℕ) (old new : Skips) (slots : List SlotState) (number : ℕ) → entry old.next.items number ≤ number → new.next.items ≡ old.next.items → new.calm ≡ old.calm → new.used ≡ old.used
+pub touched : (n : ℕ) (old new : Skips) (slots : List SlotState) (number : ℕ) → entry old.next.items number ≤ number → new.next.items ≡ old.next.items → new.calm ≡ old.calm → new.used ≡ old.used → new.seats ≡ old.seats
     → length new.rests.items ≡ length old.rests.items → ((i : ℕ) → i ≢ number → rest_at new.rests.items i ≡ rest_at old.rests.items i) → KeepsSkips n old slots → KeepsSkips n new slots
-touched n old new slots number awake next calm used count others k =
+touched n old new slots number awake next calm used seats count others k =
     let was : (i : ℕ) → i < entry new.next.items i → i < entry old.next.items i = λ i less. subst (λ (xs : List ℕ). i < entry xs i) next less in
     let apart : (i : ℕ) → i < entry new.next.items i → i ≢ number = λ i less same. absurd (omega (arith, subst (λ (m : ℕ). m < entry old.next.items m) same (was i less), awake)) in
     record {
@@ -214,6 +221,7 @@ touched n old new slots number awake next calm used count others k =
       spare = λ i s there past.
           let free = k.spare i s there (subst (λ (m : ℕ). m ≤ i) used past) in
           (subst (λ (xs : List ℕ). i < entry xs i) (sym next) free.0, free.1);
+      seated = λ i s there less. subst (λ (t : Seats). IsSeated t i s) (sym seats) (k.seated i s there (was i less));
     }
 
 -- The slots from `number` on were looked at anew; `next` is the first of them that is awake, or their number.
@@ -338,8 +346,8 @@ spared-more used more xs slots n number m v sp is within count low grows most fr
 }
 
 pub refreshed-all : (skips : Skips) (slots : List SlotState) (n number next : ℕ) → Refreshed skips.calm skips.rests.items skips.next.items slots n number next
-    → Spared skips.used skips.next.items slots n number → number ≡ 0 → KeepsSkips n skips slots
-refreshed-all skips slots n number next r sp none = record {
+    → Spared skips.used skips.next.items slots n number → SeatsFrom skips.seats skips.next.items slots number → number ≡ 0 → KeepsSkips n skips slots
+refreshed-all skips slots n number next r sp seats none = record {
   marks = record { count = r.count; passed = λ i j low less. r.passed i j (omega (arith, none)) low less };
   noted = r.noted;
   asleep = λ i s there less. r.asleep i s (omega (arith, none)) there less;
@@ -347,6 +355,7 @@ refreshed-all skips slots n number next r sp none = record {
   ends = λ i s there less. r.ends i s (omega (arith, none)) there less;
   within = sp.within;
   spare = λ i s there past. sp.spare i s (omega (arith, none)) there past;
+  seated = λ i s there less. seats i s (omega (arith, none)) there less;
 }
 
 -- a slot that was asleep stays so for as long as nothing is due there
@@ -360,10 +369,12 @@ stays-asleep n i skips slots calm k stays = λ s there.
 pub record Roused (old : Skips) (calm : Calm) (rests : List Calm) (xs : List ℕ) (n top number next : ℕ) : Type 0 where
   pub count : length xs ≡ n
   pub within : number ≤ top
+  pub low : top ≤ n
   pub all_noted : length rests ≡ n
   pub noted : rests ≡ old.rests.items
   pub before : (i : ℕ) → i < number → entry xs i ≡ entry old.next.items i
   pub after : (i : ℕ) → top ≤ i → entry xs i ≡ entry old.next.items i
+  pub fewer : (i : ℕ) → i < entry xs i → number ≤ i → i < top → i < entry old.next.items i
   pub looked : (slots : List SlotState) → length slots ≡ n → KeepsSkips n old slots → Refreshed calm rests xs slots n number next
 
 -- the slots that are not used sleep whatever comes
@@ -390,10 +401,12 @@ pub roused-first : (old : Skips) (calm : Calm) (n : ℕ) → length old.next.ite
 roused-first old calm n count noted = record {
   count = count;
   within = omega arith;
+  low = omega arith;
   all_noted = noted;
   noted = refl;
   before = λ i less. refl;
   after = λ i past. refl;
+  fewer = λ i less past low. less;
   looked = λ slots all k. unused-rest old calm n slots all k;
 }
 
@@ -402,10 +415,20 @@ pub roused-more : (old : Skips) (was calm : Calm) (rests : List Calm) (xs : List
 roused-more old was calm rests xs n top number next m v r part is found = record {
   count = length-set xs m v ∙ r.count;
   within = omega (arith, is, r.within);
+  low = r.low;
   all_noted = r.all_noted;
   noted = r.noted;
   before = λ i less. get_or-set_other xs m i v 0 (λ same. absurd (omega (arith, less, same))) ∙ r.before i (omega (arith, less, is));
   after = λ i past. get_or-set_other xs m i v 0 (λ same. absurd (omega (arith, past, same, is, r.within))) ∙ r.after i past;
+  fewer = λ i less past low. elim (cases_lt m i) [
+    | inl more ↦ r.fewer i (subst (λ (e : ℕ). i < e) (get_or-set_other xs m i v 0 (λ same. absurd (omega (arith, more, same)))) less) (omega (arith, more, is)) low
+    | inr at ↦
+        let same : i ≡ m = omega (arith, past, at) in
+        let here : entry (slice_set xs m v) m ≡ v = get_or-set_same xs m v 0 (omega (arith, is, r.within, r.low, r.count)) in
+        let slept : m < v = omega (arith, less, ap (entry (slice_set xs m v)) same, here, same) in
+        let was : m < entry xs m = elim found [ inl awake ↦ absurd (omega (arith, slept, awake)) | inr stays ↦ stays.1.0 ] in
+        subst (λ (k : ℕ). k < entry old.next.items k) (sym same) (subst (λ (e : ℕ). m < e) (r.before m (omega (arith, is))) was)
+  ];
   looked = λ slots all k.
       let asleep : StaysAsleep xs rests m calm → (m < entry old.next.items m) × IsPartOf calm (rest_at old.rests.items m) = λ stays.
       (subst (λ (e : ℕ). m < e) (r.before m (omega (arith, is))) stays.0, subst (λ (rs : List Calm). IsPartOf calm (rest_at rs m)) r.noted stays.1) in
@@ -421,8 +444,8 @@ roused-more old was calm rests xs n top number next m v r part is found = record
 }
 
 pub roused-all : (old new : Skips) (n number next : ℕ) → Roused old new.calm new.rests.items new.next.items n (min old.used n) number next → number ≡ 0 → new.used ≡ old.used
-    → (slots : List SlotState) → length slots ≡ n → KeepsSkips n old slots → KeepsSkips n new slots
-roused-all old new n number next r none used = λ slots all k.
+    → new.seats ≡ old.seats → (slots : List SlotState) → length slots ≡ n → KeepsSkips n old slots → KeepsSkips n new slots
+roused-all old new n number next r none used seats = λ slots all k.
     refreshed-all new slots n number next (r.looked slots all k)
     (record {
       within = subst (λ (m : ℕ). m ≤ n) (sym used) k.within;
@@ -430,6 +453,8 @@ roused-all old new n number next r none used = λ slots all k.
           let was = k.spare i s there (subst (λ (m : ℕ). m ≤ i) used later) in
           (subst (λ (e : ℕ). i < e) (sym (r.after i (omega (arith, later, used)))) was.0, was.1);
     })
+    (λ i s past there less. subst (λ (t : Seats). IsSeated t i s) (sym seats) (k.seated i s there (elim (cases_lt i (min old.used n))
+    [ inl low ↦ r.fewer i less (omega (arith, none)) low | inr over ↦ subst (λ (e : ℕ). i < e) (r.after i over) less ])))
     none
 
 -- so many turns more are passed over

@@ -3,3 +3,4 @@ pub mod Shown
 pub mod Skips
 pub mod Ticking
 pub mod Foretelling
+pub mod Seats

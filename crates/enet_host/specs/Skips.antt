@@ -6,6 +6,7 @@ use Rattle.enet_slot.specs.Slot.{SlotState, changed, is_due}
 use Rattle.enet_slot.specs.Waiting.{Waits}
 use Rattle.enet_host.specs.declared.calm.Calm.{Calm}
 use Rattle.enet_host.specs.declared.skips.Skips.{Skips}
+use Rattle.enet_host.specs.Private.Seats.{IsSeated}
 
 -- the entry of a slot. Where it is past the slot's number, the slot is passed over, with all up to the entry
 abbrev pub entry : List ℕ → ℕ → ℕ
@@ -41,7 +42,7 @@ abbrev pub EndsWith : Calm → Calm → SlotState → Type 0
 EndsWith calm rest s = (s.peer ≡ None) ⊎ IsPartOf calm rest
 
 -- Slots that are passed over rest, and it is noted when time brings them something. Their common rest ends no later than that of each that
--- holds a peer. From one number on all are free and passed over.
+-- holds a peer. From one number on all are free and passed over. And it is noted which of them an offer need not look at.
 pub record KeepsSkips (peers : ℕ) (skips : Skips) (slots : List SlotState) : Type 0 where
   pub marks : Marks peers skips.next.items
   pub noted : length skips.rests.items ≡ peers
@@ -50,3 +51,4 @@ pub record KeepsSkips (peers : ℕ) (skips : Skips) (slots : List SlotState) : T
   pub ends : (i : ℕ) (s : SlotState) → slice_get slots i ≡ Some s → i < entry skips.next.items i → EndsWith skips.calm (rest_at skips.rests.items i) s
   pub within : skips.used ≤ peers
   pub spare : (i : ℕ) (s : SlotState) → slice_get slots i ≡ Some s → skips.used ≤ i → (i < entry skips.next.items i) × (s.peer ≡ None)
+  pub seated : (i : ℕ) (s : SlotState) → slice_get slots i ≡ Some s → i < entry skips.next.items i → IsSeated skips.seats i s

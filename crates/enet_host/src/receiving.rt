@@ -11,7 +11,7 @@ use crate::skips::Skips;
 use enet_codec::{Addr, Header, MAX_CHANNELS, NO_PEER, Received, Stop};
 use enet_connect::Offer;
 use enet_peer::{read_heading, read_offer};
-use enet_slot::{Seat, Slot, Start, seat_for};
+use enet_slot::{Seat, Slot, Start};
 
 /// The answer to a datagram of which nothing was looked at.
 const fn stopped(why: Stop) -> Received
@@ -63,6 +63,7 @@ fn take_offer(
     offer: Offer,
 ) -> Received
     requires many { length slots.old.items ≤ 4095 }
+    requires all { length slots.old.items ≡ start.now.config.peers }
     requires skips { KeepsSkips start.now.config.peers skips.old (all_shown slots.old.items) }
     ensures count { length slots.new.items ≡ length slots.old.items }
     ensures skips { KeepsSkips start.now.config.peers skips.new (all_shown slots.new.items) }
@@ -71,7 +72,13 @@ fn take_offer(
     if let Some(why) = offer_refused(&offer) {
         return stopped(why);
     }
-    let place = match seat_for(slots, from, offer.connect_id, start.config.generations) {
+    let place = match skips.seat_for(
+        slots,
+        start.config.peers,
+        from,
+        offer.connect_id,
+        start.config.generations,
+    ) {
         Seat::Known => return HANDLED_ONE,
         Seat::At(place) => place,
         Seat::Full => {
@@ -95,6 +102,7 @@ pub(crate) fn receive(
     bytes: &[u8],
 ) -> Received
     requires many { length slots.old.items ≤ 4095 }
+    requires all { length slots.old.items ≡ start.now.config.peers }
     requires skips { KeepsSkips start.now.config.peers skips.old (all_shown slots.old.items) }
     ensures count { length slots.new.items ≡ length slots.old.items }
     ensures skips { KeepsSkips start.now.config.peers skips.new (all_shown slots.new.items) }

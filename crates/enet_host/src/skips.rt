@@ -7,6 +7,7 @@ ghost use Rattle.enet_slot.specs.Slot.{SlotState};
 ghost use Rattle.enet_slot.specs.Slotted.{all_shown};
 
 use crate::calm::Calm;
+use crate::seats::Seats;
 use crate::turns::slot_of_turn;
 use enet_codec::Refusal;
 use enet_slot::Slot;
@@ -31,6 +32,8 @@ pub(crate) struct Skips {
     pub(crate) soonest: u16,
     /// Each slot from this number on is free and sleeps.
     pub(crate) used: u16,
+    /// What is noted of the slots that sleep, for offers.
+    pub(crate) seats: Seats,
 }
 
 impl Skips {
@@ -45,12 +48,14 @@ impl Skips {
         let Ok(rests) = vec![in alloc; Calm::none(); usize::from(peers)] else {
             return Err(Refusal::Memory);
         };
+        let seats = Seats::new(alloc, peers)?;
         Ok(Skips {
             next,
             rests,
             calm: Calm::none(),
             soonest: 0,
             used: peers,
+            seats,
         })
     }
 
@@ -113,11 +118,13 @@ impl Skips {
     {
         self.calm = Calm::after(now);
         self.used = 0;
+        self.seats.clear(peers);
         let mut next = peers;
         let mut number = peers;
         while number > 0 {
             number -= 1;
             next = awake_from(slots, number, next, now, &mut self.calm, &mut self.rests);
+            self.seats.note(slots, number, next);
             self.next[usize::from(number)] = next;
             self.note_soonest(number);
             self.note_used(slots, number, next);
@@ -206,6 +213,7 @@ impl Skips {
             let after = self.next_turn(peers, 0, number + 1);
             let next = awake_from(slots, number, after, now, &mut self.calm, &mut self.rests);
             self.note_soonest(number);
+            self.seats.note(slots, number, next);
             self.mark(number, next);
             self.pass_at_once(number + 1, after);
             number = after;
@@ -230,6 +238,7 @@ impl Skips {
         ensures calm { self.new.calm ≡ self.old.calm }
         ensures rests { self.new.rests.items ≡ self.old.rests.items }
         ensures used { self.new.used ≡ self.old.used }
+        ensures seats { self.new.seats ≡ self.old.seats }
     {
         self.next[usize::from(number)] = entry;
     }
@@ -242,6 +251,14 @@ impl Skips {
         self.next[usize::from(number)]
             .min(peers)
             .saturating_sub(number)
+    }
+
+    /// The entry of the slot of this number.
+    pub(crate) fn entry_of(&self, number: u16) -> u16
+        requires { number < length self.now.next.items }
+        ensures { result ≡ entry self.now.next.items number }
+    {
+        self.next[usize::from(number)]
     }
 
     /// The first turn from this one on whose slot is awake, where slot `from` has the first turn, 0; the number of slots where there

@@ -20,7 +20,7 @@ fn is_deaf(state: PeerState) -> bool
 
 impl Slot {
     /// Whether it holds a connection with this address and connect id, which takes something in.
-    pub(crate) fn is_connection(&self, from: Addr, connect_id: u32) -> bool
+    pub fn is_connection(&self, from: Addr, connect_id: u32) -> bool
         ensures { result ≡ is_connection from connect_id self.now.slot }
     {
         if from != self.address {

@@ -3,7 +3,7 @@
 ghost use Rattle.std.specs.Prelude.{◌≡◌, ◌+◌, min, None};
 ghost use Rattle.std.specs.Option.{option_copied};
 ghost use Rattle.enet_slot.specs.Slot.{changed, greatest};
-ghost use Rattle.enet_slot.specs.Giving.{unused_slot, is_available};
+ghost use Rattle.enet_slot.specs.Giving.{unused_slot, is_vacant, is_available};
 ghost use Rattle.enet_slot.specs.Slotted.{peer_shown};
 
 use enet_codec::Addr;
@@ -90,11 +90,18 @@ impl Slot {
         }
     }
 
+    /// Whether it is free.
+    pub fn is_vacant(&self) -> bool
+        ensures { result ≡ is_vacant self.now.slot.peer }
+    {
+        self.peer.is_none()
+    }
+
     /// Whether it is free and has a generation left of so many.
-    pub(crate) fn is_available(&self, generations: u32) -> bool
+    pub fn is_available(&self, generations: u32) -> bool
         ensures { result ≡ is_available generations self.now.slot }
     {
-        self.peer.is_none() && self.generation < generations
+        self.is_vacant() && self.generation < generations
     }
 
     /// Frees the slot where its peer is free. It keeps the sessions of the connection that it had, and its next peer has the

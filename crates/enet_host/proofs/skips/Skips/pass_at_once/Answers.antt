@@ -6,4 +6,4 @@ pub returns-then-first-last-clause-kept : goal.returns-then-first-last-clause-ke
 returns-then-first-last-clause-kept c = λ peers slots k run.
     let some = c.if-first-last.true in
     let inside = c.requires in
-    joined c.args.self.now c.mark.new.self slots peers c.args.first c.args.last k run some (omega (arith, inside, some, k.marks.count)) c.mark.ensures.calm c.mark.ensures.rests c.mark.ensures.used c.mark.ensures.entries
+    joined c.args.self.now c.mark.new.self slots peers c.args.first c.args.last k run some (omega (arith, inside, some, k.marks.count)) c.mark.ensures.calm c.mark.ensures.rests c.mark.ensures.used c.mark.ensures.seats c.mark.ensures.entries

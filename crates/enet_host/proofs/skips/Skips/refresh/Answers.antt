@@ -3,6 +3,7 @@ use Rattle.enet_slot.specs.Slotted.{all_shown}
 use Rattle.enet_slot.proofs.Shown.{length-shown}
 use Rattle.enet_host.specs.declared.skips.Skips.{Skips}
 use Rattle.enet_host.proofs.Skipping.{Refreshed, Spared, refreshed-first, refreshed-more, spared-first, spared-more}
+use Rattle.enet_host.proofs.Seating.{SeatsFrom, seats-first, seats-more}
 use Rattle.enet_host.proofs.skips.Skips.refresh.Goals as goal
 
 pub loop-number-init : goal.loop-number-init
@@ -12,6 +13,7 @@ loop-number-init c =
     record {
       refreshed = refreshed-first _ c.args.self.now.rests.items c.args.self.now.next.items slots c.args.peers c.requires.count count c.requires.rests;
       spared = spared-first c.args.self.now.next.items slots c.args.peers count;
+      seats = seats-first _ c.args.self.now.next.items slots c.args.peers c.requires.count;
     }
 
 pub loop-number-preserved : goal.loop-number-preserved
@@ -40,7 +42,14 @@ loop-number-preserved c =
     subst (λ (i : ℕ). Spared more (slice_set skips.next.items i next) slots n (number - 1)) (sym c.from.ensures)
     (spared-more skips.used more skips.next.items slots n number (number - 1) next c.loop-number.invariant.spared is r.within r.count low
     (omega (arith, was, c.note_used.ensures.more)) (omega (arith, was, c.note_used.ensures.most)) c.note_used.ensures.spare) in
+    let Asleep : Skips → Type 0 = λ s. SeatsFrom s.seats s.next.items slots (number - 1) in
+    let seats = c.note.new.self in
+    let asleep : SeatsFrom seats (slice_set skips.next.items c.from.result next) slots (number - 1) =
+    subst (λ (i : ℕ). SeatsFrom seats (slice_set skips.next.items i next) slots (number - 1)) (sym c.from.ensures)
+    (seats-more skips.seats seats skips.next.items slots number (number - 1) next c.loop-number.invariant.seats (record { here = c.note.ensures.noted; kept = c.note.ensures.kept }) is
+    (omega (arith, r.within, r.count))) in
     record {
       refreshed = subst Looked (sym used) (subst Looked (sym soon) looked);
       spared = subst Free (sym used) (subst Free (sym soon) free);
+      seats = subst Asleep (sym used) (subst Asleep (sym soon) asleep);
     }

@@ -1,10 +1,12 @@
 use Rattle.std.proofs.Common.{◌≡◌, inl, inr, List, length, slice_set, sym, ap, subst, ◌∙◌, arith}
 use Rattle.enet_host.specs.declared.calm.Calm.{Calm}
 use Rattle.enet_host.specs.declared.skips.Skips.{Skips}
+use Rattle.enet_host.specs.declared.seats.Seats.{Seats}
 use Rattle.enet_host.specs.Skips.{IsPartOf, rest_at}
 use Rattle.enet_host.specs.Private.Skips.{SlotIsDue}
 use Rattle.enet_slot.specs.Slotted.{all_shown}
 use Rattle.enet_host.proofs.Resting.{awake-slot, looked-at, later-awake, passed-after-mark, still-awake}
+use Rattle.enet_host.proofs.Seating.{Seated}
 use Rattle.enet_host.proofs.skips.Skips.rest.Goals as goal
 
 pub loop-number-preserved : goal.loop-number-preserved
@@ -38,7 +40,10 @@ loop-number-preserved c =
       others = λ i other. ap (λ (rs : List Calm). rest_at rs i) rests_is ∙ next.others i other;
       count = ap length rests_is ∙ next.count;
     })
-    set used_is in
+    set used_is (
+    subst (λ (s : Seats). Seated old.seats s slots number v) (sym c.mark.ensures.seats)
+    (subst (λ (s : Seats). Seated s c.note.new.self slots number v) (ap (λ (s : Skips). s.seats) soon) (record { here = c.note.ensures.noted; kept = c.note.ensures.kept }))
+    ) in
     record {
       rests = c.pass_at_once.ensures.kept n slots looked (passed-after-mark old.next.items marked.next.items n number last v after.passed after.within set);
       awake = still-awake marked.next.items c.pass_at_once.new.self.next.items n last c.pass_at_once.ensures.others

@@ -12,6 +12,7 @@ loop-place-init c =
       calm = refl;
       rests = refl;
       used = c.max-self.ensures;
+      seats = refl;
     }
 
 pub returns-else-sleeps-clause-kept : goal.returns-else-sleeps-clause-kept
@@ -20,10 +21,10 @@ returns-else-sleeps-clause-kept c = λ peers slots k.
     let place = c.loop-place.place in
     let items = c.loop-place.self.next.items in
     let stops : entry items (place - 1) ≤ place - 1 = grind (arith, nat_tests, c.sleeps-in-loop-place.ensures.sleeps, c.if-sleeps.false) in
-    woken c.args.self.now c.loop-place.self c.args.number place peers slots w.waking w.calm w.rests w.used
+    woken c.args.self.now c.loop-place.self c.args.number place peers slots w.waking w.calm w.rests w.used w.seats
     (λ m is. let same : m ≡ place - 1 = omega (arith, is) in subst (λ (j : ℕ). entry items j ≤ j) (sym same) stops) k
 
 pub returns-after-loop-place-clause-kept : goal.returns-after-loop-place-clause-kept
 returns-after-loop-place-clause-kept c = λ peers slots k.
     let w = c.loop-place.invariant in
-    woken c.args.self.now c.loop-place.self c.args.number c.loop-place.place peers slots w.waking w.calm w.rests w.used (λ m is. absurd (omega (arith, is, c.loop-place-test.false))) k
+    woken c.args.self.now c.loop-place.self c.args.number c.loop-place.place peers slots w.waking w.calm w.rests w.used w.seats (λ m is. absurd (omega (arith, is, c.loop-place-test.false))) k

@@ -8,6 +8,7 @@ invariant-loop-place l = record {
   calm : l.self.calm ≡ l.fn.self.calm;
   rests : l.self.rests.items ≡ l.fn.self.rests.items;
   used : l.self.used ≡ max l.fn.self.used (l.number + 1);
+  seats : l.self.seats ≡ l.fn.self.seats;
 }
 
 abbrev pub decreases-loop-place : goal.decreases-loop-place

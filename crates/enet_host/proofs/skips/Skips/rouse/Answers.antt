@@ -1,5 +1,5 @@
 use Rattle.std.proofs.Common.{ℕ, ◌-◌, min, slice_set, refl, sym, subst, arith}
-use Rattle.enet_host.proofs.Skipping.{Roused, roused-first, roused-more}
+use Rattle.enet_host.proofs.Skipping.{Roused, roused-first, roused-more, roused-all}
 use Rattle.enet_host.proofs.skips.Skips.rouse.Goals as goal
 
 pub loop-number-init : goal.loop-number-init
@@ -11,6 +11,7 @@ loop-number-init c =
       roused = subst (λ (i : ℕ). Roused old c.after-calm.result old.rests.items old.next.items n top i n) (sym c.min-number.ensures) (roused-first old c.after-calm.result n c.requires.count c.requires.rests);
       calm = c.after-calm.ensures.from;
       used = refl;
+      seats = refl;
     }
 
 pub loop-number-preserved : goal.loop-number-preserved
@@ -26,6 +27,7 @@ loop-number-preserved c =
           c.asleep_from-awake.ensures.part (omega (arith, c.loop-number-test.true)) c.asleep_from-awake.ensures.next);
       calm = c.asleep_from-awake.ensures.begun;
       used = c.loop-number.invariant.used;
+      seats = c.loop-number.invariant.seats;
     }
 
 pub asleep_from-awake-requires-clause-entry : goal.asleep_from-awake-requires-clause-entry
@@ -37,3 +39,8 @@ pub asleep_from-awake-requires-clause-rest : goal.asleep_from-awake-requires-cla
 asleep_from-awake-requires-clause-rest c =
     let r = c.loop-number.invariant.roused in
     omega (arith, r.all_noted, r.within, c.loop-number-test.true)
+
+pub returns : goal.returns
+returns c =
+    let i = c.loop-number.invariant in
+    roused-all c.args.self.now (record c.loop-number.self { calm = c.loop-number.calm }) c.args.peers c.loop-number.number c.loop-number.awake i.roused (omega (arith, c.loop-number-test.false)) i.used i.seats

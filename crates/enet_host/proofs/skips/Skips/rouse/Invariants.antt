@@ -7,6 +7,7 @@ invariant-loop-number l = record {
   roused : Roused l.fn.self l.calm l.self.rests.items l.self.next.items l.peers (min l.fn.self.used l.peers) l.number l.awake;
   calm : l.calm.from ≡ l.now;
   used : l.self.used ≡ l.fn.self.used;
+  seats : l.self.seats ≡ l.fn.self.seats;
 }
 
 abbrev pub decreases-loop-number : goal.decreases-loop-number
