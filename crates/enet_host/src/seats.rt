@@ -105,7 +105,8 @@ impl Seats {
         }
     }
 
-    /// Each slot before this one that sleeps holds a peer, and so do those from there on, up to the first that is free or to `end`.
+    /// Each slot before `free_from` that sleeps holds a peer, and so do those from there on, up to the first that is free or to `end`:
+    /// from now on that is `free_from`.
     fn pass_held(&mut self, slots: &[Slot], end: u16)
         requires { end ≤ length slots.now }
         ensures marks { self.new.marks.items ≡ self.old.marks.items }

@@ -24,7 +24,7 @@ pub(crate) struct Skips {
     /// An entry a slot. Where the slot sleeps, time brings it something first when this is over. Where it is awake, this lasts 0 if
     /// something came to it since it was looked at.
     pub(crate) rests: Vec<Calm>,
-    /// A time in which a tick changes nothing of the slots that sleep; it ends no later than the time that is noted of one of these
+    /// A time in which a tick changes nothing of the slots that sleep; it ends no later than the time that is noted of each of these
     /// that holds a peer.
     pub(crate) calm: Calm,
     /// The slot with whose noted time `calm` ended when it was last cut; that it still sleeps, and that they end together, is to be
@@ -131,7 +131,7 @@ impl Skips {
         }
     }
 
-    /// The common rest was cut: where it ends now with that of this slot, the slot is noted.
+    /// The slot of this number was looked at: where the common rest ends with what is noted of it, the slot is noted.
     fn note_soonest(&mut self, number: u16)
         requires { number < length self.old.rests.items }
         ensures { self.new ≡ record self.old { soonest = self.new.soonest } }
@@ -286,8 +286,8 @@ impl Skips {
 
 /// The first slot from this one on that is awake at the moment `now`, where `next` is the first of those after it. Where this one
 /// sleeps, the time in which nothing happens lasts no longer than nothing happens there, which is noted. One to which something came
-/// since it was looked at, and that has commands in flight, stays awake until the next look: as long as something comes at each look, none
-/// is spent on when the earliest of these is late.
+/// since it was looked at, and that has commands in flight, stays awake until the next look: so where something comes between each two
+/// looks, its commands are never gone over for the moment at which one of them is late.
 fn awake_from(
     slots: &[Slot],
     number: u16,

@@ -5,8 +5,8 @@
 //! (`GivesEvent`). After each of them a slot whose peer is free gives it up: it keeps the sessions of the connection that it had,
 //! and has the next generation (`vacated`). `ask` and `answer` give it to a peer (`asking`, `answering`). The tests of `refused_by`, in
 //! their order, say which datagrams it takes in, and `is_available` says whether it can be given out. A slot of which `is_asleep`
-//! answers true has nothing to put out and nothing to tell (`Sleeps`), and one of which `only_waits` does nothing that goes and nothing
-//! to tell (`Waits`). `tick` is its peer's (`changed`), and `due_in` says in how many
+//! answers true has nothing to put out and nothing to tell (`Sleeps`), and one of which `only_waits` answers true nothing that goes and
+//! nothing to tell (`Waits`). `tick` is its peer's (`changed`), and `due_in` says in how many
 //! milliseconds that brings something. Want of memory changes nothing.
 //! Over all slots of a host: `unused_slots` and `joined_slots` make them, `first_available` and `any_is_connection` look for one,
 //! `seat_for` for both at once (`IsSeat`),

@@ -27,8 +27,8 @@ impl Slot {
         Some(len)
     }
 
-    /// Whether it is free, or its peer is connected and has surely nothing to send and nothing to tell. Until a call, a datagram or a
-    /// moment brings it something, `serve` and `take` then give nothing and change nothing.
+    /// Whether it is free, or its peer is connected and has surely nothing to send, nothing unacknowledged and nothing to tell. Until a
+    /// call, a datagram or a moment brings it something, `serve` and `take` then give nothing and change nothing.
     pub fn is_asleep(&self) -> bool
         ensures { IsTrue result → Sleeps self.now.slot }
     {
