@@ -494,10 +494,10 @@ impl Outbox {
     pub fn is_at_rest(&self) -> bool
         ensures { IsTrue result → IsAtRest self.now.outbox }
     {
-        self.control.is_still()
-            && self.acknowledgements.is_empty()
+        self.acknowledgements.is_empty()
             && self.unsequenced.is_empty()
             && self.senders.next_ready(0) >= self.senders.len()
+            && self.control.is_still()
     }
 
     /// Looks whether the channels have nothing queued or unacknowledged.

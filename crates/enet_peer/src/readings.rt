@@ -63,6 +63,6 @@ impl Peer {
     pub fn only_waits(&self) -> bool
         ensures { IsTrue result → Waits self.now.peer }
     {
-        self.is_connected() && self.outbox.is_at_rest() && !self.has_event()
+        self.is_connected() && !self.has_event() && self.outbox.is_at_rest()
     }
 }
