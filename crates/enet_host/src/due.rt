@@ -1,6 +1,6 @@
 //! When time brings the slots of a host something.
 
-ghost use Rattle.std.specs.Prelude.{◌≡◌, ℕ, ◌<◌, ◌≤◌, ◌⊎◌, IfSome, List, length};
+ghost use Rattle.std.specs.Prelude.{◌≡◌, ℕ, ◌<◌, IfSome, List, length};
 ghost use Rattle.std.specs.List.{list_any};
 ghost use Rattle.enet_rtt.specs.Clock.{HappensIn};
 ghost use Rattle.enet_host.specs.Private.Foretelling.{is_due_soon, SlotIsDueSoon, KnowsDue};

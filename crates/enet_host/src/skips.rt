@@ -10,8 +10,12 @@ use crate::calm::Calm;
 use crate::seats::Seats;
 use crate::turns::slot_of_turn;
 use enet_codec::Refusal;
+use enet_rtt::elapsed;
 use enet_slot::Slot;
 use std::alloc::Global;
+
+/// For how many milliseconds nothing comes to a slot with commands in flight before it falls asleep.
+const SETTLING: u32 = 2;
 
 /// Which slots of a host sleep: they are free, or their peer is connected and has nothing to tell and nothing that goes, though what
 /// was sent may be unacknowledged. Where slots are asked in turn, and at a tick within `calm`, these are passed over. A slot falls
@@ -22,7 +26,7 @@ pub(crate) struct Skips {
     /// is worth asking, or the number of slots. With any other the slot is awake.
     pub(crate) next: Vec<u16>,
     /// An entry a slot. Where the slot sleeps, time brings it something first when this is over. Where it is awake, this lasts 0 if
-    /// something came to it since it was looked at.
+    /// something came to it since it was looked at, and without an end from the first look at which it had commands in flight.
     pub(crate) rests: Vec<Calm>,
     /// A time in which a tick changes nothing of the slots that sleep; it ends no later than the time that is noted of each of these
     /// that holds a peer.
@@ -126,17 +130,17 @@ impl Skips {
             next = awake_from(slots, number, next, now, &mut self.calm, &mut self.rests);
             self.seats.note(slots, number, next);
             self.next[usize::from(number)] = next;
-            self.note_soonest(number);
+            self.note_soonest(number, next);
             self.note_used(slots, number, next);
         }
     }
 
-    /// The slot of this number was looked at: where the common rest ends with what is noted of it, the slot is noted.
-    fn note_soonest(&mut self, number: u16)
+    /// The slot of this number was looked at and got this entry: where it sleeps and the common rest ends with its own, it is noted.
+    fn note_soonest(&mut self, number: u16, entry: u16)
         requires { number < length self.old.rests.items }
         ensures { self.new ≡ record self.old { soonest = self.new.soonest } }
     {
-        if self.rests[usize::from(number)].lasts == self.calm.lasts {
+        if entry != number && self.rests[usize::from(number)].lasts == self.calm.lasts {
             self.soonest = number;
         }
     }
@@ -212,7 +216,7 @@ impl Skips {
         while number < peers {
             let after = self.next_turn(peers, 0, number + 1);
             let next = awake_from(slots, number, after, now, &mut self.calm, &mut self.rests);
-            self.note_soonest(number);
+            self.note_soonest(number, next);
             self.seats.note(slots, number, next);
             self.mark(number, next);
             self.pass_at_once(number + 1, after);
@@ -285,9 +289,9 @@ impl Skips {
 }
 
 /// The first slot from this one on that is awake at the moment `now`, where `next` is the first of those after it. Where this one
-/// sleeps, the time in which nothing happens lasts no longer than nothing happens there, which is noted. One to which something came
-/// since it was looked at, and that has commands in flight, stays awake until the next look: so where something comes between each two
-/// looks, its commands are never gone over for the moment at which one of them is late.
+/// sleeps, the time in which nothing happens lasts no longer than nothing happens there, which is noted. One that has commands in
+/// flight stays awake until it was looked at for some milliseconds and nothing came to it: so they are gone over, for the moment at which
+/// one of them is late, no more often than that.
 fn awake_from(
     slots: &[Slot],
     number: u16,
@@ -305,10 +309,15 @@ fn awake_from(
     ensures count { length rests.new.items ≡ length rests.old.items }
 {
     let slot = &slots[usize::from(number)];
-    let was_touched = rests[usize::from(number)].lasts == 0;
-    if was_touched && !slot.is_asleep() {
-        rests[usize::from(number)] = Calm::after(now);
-        return number;
+    if !slot.is_asleep() {
+        let rest = rests[usize::from(number)];
+        if rest.lasts == 0 {
+            rests[usize::from(number)] = Calm::after(now);
+            return number;
+        }
+        if rest.lasts == u32::MAX && elapsed(now, rest.from) < SETTLING {
+            return number;
+        }
     }
     if !slot.only_waits() {
         return number;
