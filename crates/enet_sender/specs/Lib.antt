@@ -1,5 +1,6 @@
 pub mod CommandChoice
 pub mod Sender
+pub mod Late
 pub mod Due
 pub mod Invariant
 pub mod Course

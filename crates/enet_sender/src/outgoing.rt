@@ -11,6 +11,7 @@ ghost use Rattle.enet_sender.specs.declared.pending.Pending.{Pending};
 ghost use Rattle.enet_sender.specs.declared.sent.Sent.{Sent};
 ghost use Rattle.enet_sender.specs.Sender.{with_marked, lateness, after_lateness, ends, is_late, cleared, after_acknowledgement, acknowledged_bytes, next, next_queued, next_resent, first_sent, may_go, piece_of_body, is_more, skipped, with_skipped, left};
 ghost use Rattle.enet_sender.specs.Due.{Did, new_end, with_submitted};
+ghost use Rattle.enet_sender.specs.Late.{is_late_as};
 ghost use Rattle.enet_fragment.specs.Cutting.{piece_length, piece_count};
 ghost use Rattle.enet_sender.specs.CommandChoice.{fragment_limit};
 ghost use Rattle.enet_sender.specs.Private.Invariant.{IsShort};
@@ -24,7 +25,8 @@ ghost use Rattle.enet_sender.specs.Private.Rings.{IsFirstDue};
 use crate::course::{Course, cut};
 use crate::pending::Pending;
 use crate::ring::{
-    any_ends, any_late, first, first_due, mark_all, next_late, place_of, take_all, vacate,
+    any_ends, any_late, first, first_due, late_number, mark_all, next_late, place_of, take_all,
+    vacate,
 };
 use crate::writing::{bytes_of, due_kind, is_more, put};
 use bytes::Bytes;
@@ -345,6 +347,15 @@ impl Outgoing {
         ensures { HappensIn (λ (later : ℕ). list_any (is_late later) (sender_in pending.now self.now).sent) now result }
     {
         next_late(&self.sent, pending, now)
+    }
+
+    /// The number of a sent command that has waited out its timeout at the moment `now`, and is not due to go again already; None
+    /// exactly where there is none.
+    pub fn late_number(&self, pending: &Pending, now: u32) -> Option<u16>
+        ensures some { IfSome result (λ number. list_any (is_late_as now number) (sender_in pending.now self.now).sent ≡ true) }
+        ensures none { IfNone result (list_any (is_late now) (sender_in pending.now self.now).sent ≡ false) }
+    {
+        late_number(&self.sent, pending, now)
     }
 
     /// Each sent command that has waited out its timeout at the moment `now` is due to go again, and waits twice as long

@@ -1,12 +1,13 @@
 //! The commands of a peer, each under a key.
 
-ghost use Rattle.std.specs.Prelude.{◌≡◌, ℕ, ◌+◌, ◌<◌, ◌≤◌, Some, None, [], IsOk, IfOk, IfNone, IsTrue, option_copied};
+ghost use Rattle.std.specs.Prelude.{◌≡◌, ℕ, ◌+◌, ◌<◌, ◌≤◌, Some, None, [], true, false, IsOk, IfOk, IfSome, IfNone, IsTrue, option_copied};
 ghost use Rattle.enet_rtt.specs.Clock.{HappensIn};
 ghost use Rattle.slab.specs.Slab.{get, slab_len, Updates, HasRoomFor};
 ghost use Rattle.enet_sender.specs.Pending.{vacant};
 ghost use Rattle.enet_sender.specs.Private.Pending.{queued};
 ghost use Rattle.enet_sender.specs.Private.Rounds.{test_at};
 ghost use Rattle.enet_sender.specs.declared.sent.Sent.{Sent};
+ghost use Rattle.enet_sender.specs.Late.{is_late_as};
 ghost use Rattle.enet_sender.specs.Sender.{again, begun, ends, is_late, marked};
 ghost use Rattle.enet_sender.specs.Rings.{is_due, IsEmpty};
 
@@ -96,6 +97,17 @@ impl Pending {
         match self.slab.get(key as usize) {
             Some(sent) => sent.transmission.next_late(now),
             None => u32::MAX,
+        }
+    }
+
+    /// The number of the command under a key, if it is late at the time `now`.
+    pub(crate) fn late_number(&self, key: u32, now: u32) -> Option<u16>
+        ensures some { IfSome result (λ number. test_at (is_late_as now number) (get self.now.slab key) ≡ true) }
+        ensures none { IfNone result (test_at (is_late now) (get self.now.slab key) ≡ false) }
+    {
+        match self.slab.get(key as usize) {
+            Some(sent) if sent.transmission.is_late(now) => Some(sent.command.number),
+            _ => None,
         }
     }
 
