@@ -79,10 +79,10 @@ quiet-removed : (q : Quiet) (sent : List Sent) (o : Option ℕ) → AreQuiet q s
 quiet-removed q sent None h = h
 quiet-removed q sent (Some i) h = All-remove (IsQuiet q) sent i h
 
-if-some : {X : Type 0} (P : X → Type 0) (x n : X) → P x → Some x ≡ Some n → P n
+pub if-some : {X : Type 0} (P : X → Type 0) (x n : X) → P x → Some x ≡ Some n → P n
 if-some P x n h e = let is : x ≡ n = cc in subst P is h
 
-if-goes : {X : Type 0} (P : X → Type 0) (b : Bool) (x n : X) → P x → cond b (Some x) None ≡ Some n → P n
+pub if-goes : {X : Type 0} (P : X → Type 0) (b : Bool) (x n : X) → P x → cond b (Some x) None ≡ Some n → P n
 if-goes P true x n h e = if-some P x n h e
 if-goes P false x n h e = cc
 

@@ -178,7 +178,7 @@ get-set [] i x y e = cc
 get-set (z ∷ xs) zero x y e = refl
 get-set (z ∷ xs) (suc i) x y e = get-set xs i x y e
 
-get-other : {A : Type 0} (xs : List A) (i j : ℕ) (y : A) → j ≢ i → slice_get (slice_set xs i y) j ≡ slice_get xs j
+pub get-other : {A : Type 0} (xs : List A) (i j : ℕ) (y : A) → j ≢ i → slice_get (slice_set xs i y) j ≡ slice_get xs j
 get-other [] i j y apart = refl
 get-other (z ∷ xs) zero zero y apart = absurd (apart refl)
 get-other (z ∷ xs) zero (suc j) y apart = refl

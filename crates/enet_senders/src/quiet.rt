@@ -1,10 +1,14 @@
 //! A time during which surely nothing is late.
 
-ghost use Rattle.std.specs.Prelude.{◌≡◌};
-ghost use Rattle.enet_senders.specs.Quiets.{covers};
-ghost use Rattle.enet_senders.specs.Private.Quiets.{after_send, found_quiet, new_quiet};
+ghost use Rattle.std.specs.Prelude.{◌≡◌, ◌+◌, true, is_some, IsTrue, IfSome, Some};
+ghost use Rattle.enet_rtt.specs.Clock.{elapsed_time};
+ghost use Rattle.enet_senders.specs.Quiets.{covers, end_of};
+ghost use Rattle.enet_senders.specs.Private.Quiets.{after_send, found_quiet, new_quiet, IsAnother};
 
 use enet_rtt::elapsed;
+
+/// For how many milliseconds the commands aren't looked at again only because it isn't known any more which of them is late first.
+const LOOKING_INTERVAL: u32 = 8;
 
 /// A time during which surely no sent command is late.
 #[derive(Clone, Copy)]
@@ -15,6 +19,26 @@ pub(crate) struct Quiet {
     len: u32,
     /// No command that is sent waits less for its acknowledgement, in milliseconds.
     least: u32,
+    /// When the commands were last looked at.
+    looked: u32,
+}
+
+/// The command with which a quiet time ends: it is late then.
+#[derive(Clone, Copy)]
+pub(crate) struct Witness {
+    pub(crate) channel: u8,
+    pub(crate) number: u16,
+}
+
+/// The command of this channel and number is acknowledged: it is no witness from now on.
+pub(crate) fn dismiss(witness: &mut Option<Witness>, channel: u8, number: u16)
+    ensures { IfSome witness.new (λ left. (witness.old ≡ Some left) × IsAnother left channel number) }
+{
+    if let Some(found) = *witness {
+        if found.channel == channel && found.number == number {
+            *witness = None;
+        }
+    }
 }
 
 impl Quiet {
@@ -26,6 +50,7 @@ impl Quiet {
             from: 0,
             len: 0,
             least: u32::MAX,
+            looked: 0,
         }
     }
 
@@ -47,6 +72,7 @@ impl Quiet {
             from: now,
             len: left.min(least),
             least,
+            looked: self.looked,
         }
     }
 
@@ -58,6 +84,49 @@ impl Quiet {
             from: now,
             len: wait,
             least: self.least,
+            looked: now,
         }
+    }
+
+    /// The witness of it that is left once a command was sent at the moment `now`, which waits for `timeout` milliseconds or is sent
+    /// again: what is left of it may end before.
+    pub(crate) fn witness_after_send(
+        self,
+        witness: Option<Witness>,
+        now: u32,
+        timeout: u32,
+    ) -> Option<Witness>
+        ensures { IfSome result (λ left. (witness ≡ Some left) × (end_of (after_send self now timeout) ≡ end_of self)) }
+    {
+        let passed = elapsed(now, self.from);
+        if passed <= self.len && self.len - passed <= self.least.min(timeout) {
+            witness
+        } else {
+            None
+        }
+    }
+
+    /// In how many milliseconds after the moment `now` it ends, if it has a witness and did not end before.
+    pub(crate) fn ends_in(self, witness: Option<Witness>, now: u32) -> Option<u32>
+        ensures { IfSome result (λ wait. (wait + elapsed_time now self.from ≡ self.len) × (is_some witness ≡ true)) }
+    {
+        witness?;
+        self.len.checked_sub(elapsed(now, self.from))
+    }
+
+    /// The moment at which it ends.
+    pub(crate) fn end(self) -> u32
+        ensures { result ≡ end_of self }
+    {
+        self.from.wrapping_add(self.len)
+    }
+
+    /// Whether no command need be looked at at the moment `now`: it is in it, and it has a witness or the commands were looked at a
+    /// short while ago.
+    pub(crate) fn spares(self, witness: Option<Witness>, now: u32) -> bool
+        ensures { IsTrue result → covers self now ≡ true }
+    {
+        let is_new = elapsed(now, self.looked) < LOOKING_INTERVAL;
+        self.covers(now) && (is_new || witness.is_some())
     }
 }

@@ -1,6 +1,6 @@
 //! The channels of a peer over its commands.
 
-ghost use Rattle.std.specs.Prelude.{◌≡◌, ◌≢◌, ℕ, ◌^◌, true, false, ◌⊎◌, ◌↔◌, ◌<◌, ◌≤◌, OnOk, IfOk, IfErr, IsErrAnd, Some, [], not, length, map, take, slice_get, slice_set, All};
+ghost use Rattle.std.specs.Prelude.{◌≡◌, ◌≢◌, ℕ, ◌^◌, true, false, ◌⊎◌, ◌↔◌, ◌<◌, ◌≤◌, OnOk, IfOk, IfErr, IfSome, IsErrAnd, Some, [], not, length, map, min, take, slice_get, slice_set, All};
 ghost use Rattle.std.specs.List.{range_with_len, list_all, list_any};
 ghost use Rattle.enet_rtt.specs.Clock.{HappensIn};
 ghost use Rattle.enet_seq.specs.Numbering.{wire};
@@ -12,10 +12,11 @@ ghost use Rattle.enet_sender.specs.declared.outgoing.Outgoing.{Outgoing};
 ghost use Rattle.enet_sender.specs.declared.sent.Sent.{Sent};
 ghost use Rattle.enet_sender.specs.Rings.{end_in, IsEmpty};
 ghost use Rattle.enet_senders.specs.Senders.{ends_in, IsStill, KeepsAllIn, marked_end, cleared_end};
+ghost use Rattle.enet_senders.specs.Quiets.{IsLateAmong};
 ghost use Rattle.enet_senders.specs.Sets.{Lacks};
 
 use crate::channel_set::ChannelSet;
-use crate::quiet::Quiet;
+use crate::quiet::{Quiet, Witness, dismiss};
 use bytes::Bytes;
 use enet_codec::Refusal;
 use enet_rtt::Patience;
@@ -30,6 +31,8 @@ pub struct Senders {
     pending: Pending,
     /// While it lasts, no sent command of any channel is late.
     quiet: Quiet,
+    /// The command that is late when `quiet` ends, if it is known.
+    witness: Option<Witness>,
     /// A channel that is not in it has nothing queued, and nothing that is due to go again.
     ready: ChannelSet,
     /// A channel that is not in it has nothing sent and unacknowledged.
@@ -47,7 +50,7 @@ impl Model for Senders {
 
     ghost view = { λ s. ends_in s.pending s.channels.items };
 
-    ghost invariant = { λ s. AreSenders s.pending s.channels.items s.quiet s.ready s.flying };
+    ghost invariant = { λ s. AreSenders s.pending s.channels.items s.quiet s.witness s.ready s.flying };
 }
 
 /// An acknowledgement of a channel's command comes: the other channels stay as they were.
@@ -198,20 +201,59 @@ fn any_ends(
         .any(|channel| channel.ends(pending, now, patience, heard))
 }
 
-/// In how many milliseconds after the moment `now` a sent command of a channel is late first: 0 where one is. Channels that aren't
-/// in the set have nothing sent.
-fn next_late(channels: &[Outgoing], pending: &Pending, flying: &ChannelSet, now: u32) -> u32
+/// When a sent command is late first.
+#[derive(Clone, Copy)]
+struct Soonest {
+    /// In how many milliseconds.
+    wait: u32,
+    /// On which channel.
+    channel: usize,
+}
+
+impl Soonest {
+    /// The sooner of this one and of one on another channel.
+    fn or(self, wait: u32, channel: usize) -> Soonest
+        ensures { result.wait ≡ min self.wait wait }
+    {
+        if wait < self.wait {
+            Soonest { wait, channel }
+        } else {
+            self
+        }
+    }
+}
+
+/// When, after the moment `now`, a sent command of a channel is late first: in 0 milliseconds where one is, in 4,294,967,295 where none
+/// waits. Channels that aren't in the set have nothing sent.
+fn look_for_late(channels: &[Outgoing], pending: &Pending, flying: &ChannelSet, now: u32) -> Soonest
     requires { (i : ℕ) (e : SendingEnd) → Lacks flying.now i → slice_get (ends_in pending.now channels.now) i ≡ Some e → e.sender.sent ≡ [] }
-    ensures { HappensIn (λ (later : ℕ). list_any (λ (s : SendingEnd). list_any (is_late later) s.sender.sent) (ends_in pending.now channels.now)) now result }
+    ensures { HappensIn (λ (later : ℕ). list_any (λ (s : SendingEnd). list_any (is_late later) s.sender.sent) (ends_in pending.now channels.now)) now result.wait }
 {
-    let mut wait = u32::MAX;
+    let mut soonest = Soonest {
+        wait: u32::MAX,
+        channel: 0,
+    };
     let mut place = flying.next(0);
     'channels: while place < channels.len() {
         let channel = &channels[place];
-        wait = wait.min(channel.next_late(pending, now));
+        soonest = soonest.or(channel.next_late(pending, now), place);
         place = flying.next(place + 1);
     }
-    wait
+    soonest
+}
+
+/// A sent command of this channel that is late at the moment `now`, if there is one.
+fn witness_on(channels: &[Outgoing], pending: &Pending, channel: usize, now: u32) -> Option<Witness>
+    ensures { IfSome result (IsLateAmong (ends_in pending.now channels.now) now) }
+{
+    if channel >= channels.len() || channel > usize::from(u8::MAX) {
+        return None;
+    }
+    let number = channels[channel].late_number(pending, now)?;
+    Some(Witness {
+        channel: channel as u8,
+        number,
+    })
 }
 
 /// Whether no channel has a packet queued. Channels that aren't in the set have none.
@@ -303,6 +345,7 @@ impl Senders {
             channels,
             pending,
             quiet: Quiet::new(),
+            witness: None,
             ready: ChannelSet::none(),
             flying: ChannelSet::none(),
         })
@@ -374,6 +417,7 @@ impl Senders {
         );
         match due {
             Due::Sent { .. } => {
+                self.witness = self.quiet.witness_after_send(self.witness, now, timeout);
                 self.quiet = self.quiet.after_send(now, timeout);
                 note_sent(&self.channels, &self.pending, &mut self.flying, channel);
             }
@@ -408,6 +452,7 @@ impl Senders {
         ensures ends { (s : SendingEnd) → slice_get self.old channel ≡ Some s → self.new ≡ slice_set self.old channel (record s { sender = after_acknowledgement s.sender number }) }
     {
         let bytes = acknowledge_on(&mut self.channels, &mut self.pending, channel, number);
+        dismiss(&mut self.witness, channel, number);
         note_sent(&self.channels, &self.pending, &mut self.flying, channel);
         bytes
     }
@@ -423,25 +468,33 @@ impl Senders {
     /// Whether at the moment `now`, in milliseconds, a sent command of a channel has waited out its timeout, and is not due
     /// to go again already.
     ///
-    /// Once nothing was, it looks at no command until one can be late at the earliest.
+    /// Once nothing was, it looks at no command until one can be late at the earliest, or until it isn't known any more which one is
+    /// late first, and some milliseconds have passed.
     pub fn any_late(&mut self, now: u32) -> bool
         ensures found { result ≡ list_any (λ (s : SendingEnd). list_any (is_late now) s.sender.sent) self.old }
         ensures same { self.new ≡ self.old }
     {
-        if self.quiet.covers(now) {
+        if self.quiet.spares(self.witness, now) {
             return false;
         }
-        let wait = next_late(&self.channels, &self.pending, &self.flying, now);
+        let soonest = look_for_late(&self.channels, &self.pending, &self.flying, now);
+        let (wait, channel) = (soonest.wait, soonest.channel);
         self.quiet = self.quiet.found(now, wait);
+        self.witness = witness_on(&self.channels, &self.pending, channel, self.quiet.end());
         wait == 0
     }
 
     /// In how many milliseconds after the moment `now` a sent command of a channel has waited out its timeout first, of those
     /// that are not due to go again already: 0 where one has, and 4,294,967,295 where none waits.
+    ///
+    /// Where it is known which command is late first, it looks at none.
     pub fn next_late(&self, now: u32) -> u32
         ensures { HappensIn (λ (later : ℕ). list_any (λ (s : SendingEnd). list_any (is_late later) s.sender.sent) self.now) now result }
     {
-        next_late(&self.channels, &self.pending, &self.flying, now)
+        match self.quiet.ends_in(self.witness, now) {
+            Some(wait) => wait,
+            None => look_for_late(&self.channels, &self.pending, &self.flying, now).wait,
+        }
     }
 
     /// All that is late at the moment `now`, in milliseconds, is due to go again, and waits twice as long then.
@@ -449,6 +502,7 @@ impl Senders {
         ensures { self.new ≡ map (marked_end now) self.old }
     {
         mark_each(&mut self.channels, &mut self.pending, now);
+        self.witness = None;
         self.ready.join(&self.flying);
     }
 
@@ -473,6 +527,7 @@ impl Senders {
         ensures { self.new ≡ map cleared_end self.old }
     {
         clear_each(&mut self.channels, &mut self.pending);
+        self.witness = None;
         self.ready = ChannelSet::none();
         self.flying = ChannelSet::none();
     }
@@ -482,5 +537,6 @@ impl Senders {
         ensures { self.new ≡ take count self.old }
     {
         keep_first(&mut self.channels, &mut self.pending, count);
+        self.witness = None;
     }
 }

@@ -8,5 +8,6 @@ invariant_of-self c = record {
   kept = c.clear_each.ensures.kept;
   fits = c.self.invariant.fits;
   quiet = quiet-mapped c.self.inside.quiet cleared_end _ _ c.clear_each.ensures.ends (λ s h. quiet-none c.self.inside.quiet) c.self.invariant.quiet;
+  witnessed = tt;
   sets = keeps-cleared _ _ (ends_in c.self.inside.pending c.self.inside.channels.items) _ c.clear_each.ensures.ends;
 }

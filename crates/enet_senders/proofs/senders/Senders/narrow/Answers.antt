@@ -10,5 +10,6 @@ invariant_of-self c = record {
   kept = c.keep_first.ensures.kept;
   fits = c.self.invariant.fits;
   quiet = subst (λ (es : List SendingEnd). AllQuiet c.self.inside.quiet es) (sym c.keep_first.ensures.ends) (All-take (λ (e : SendingEnd). AreQuiet c.self.inside.quiet e.sender.sent) c.args.count _ c.self.invariant.quiet);
+  witnessed = tt;
   sets = keeps-taken c.self.inside.ready c.self.inside.flying c.args.count _ _ c.keep_first.ensures.ends c.self.invariant.sets;
 }

@@ -10,5 +10,6 @@ invariant_of-result c = record {
   kept = c.in_ok-channels.ensures.kept;
   fits = subst FitsQuiet (sym c.new.ensures) fits-new;
   quiet = subst (λ (es : List SendingEnd). AllQuiet c.new.result es) (sym c.in_ok-channels.ensures.ends) (quiet-new c.new.result 0 c.args.channels);
+  witnessed = tt;
   sets = keeps-new _ _ 0 c.args.channels _ c.in_ok-channels.ensures.ends;
 }
