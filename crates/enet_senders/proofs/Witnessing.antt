@@ -1,7 +1,9 @@
 -- Which command is late when a quiet time ends, as the senders change.
 use Rattle.std.proofs.Common.{inl, inr, ◌≡◌, ◌≢◌, ℕ, zero, suc, ◌+◌, ◌^◌, ◌<◌, Bool, true, false, ◌&&◌, ◌||◌, cond, not, leb, ◌==◌, List, [], ◌∷◌, ◌++◌, length, Option, Some, None, IfSome, is_some, refl, sym, ap, subst, ◌∙◌, arith}
 use Rattle.std.specs.List.{position, remove, slice_get, slice_set, list_any}
-use Rattle.std.proofs.lemmas.Bool.{cases_eq, eqb-true, lt-ltb}
+use Rattle.std.proofs.lemmas.Bool.{cases_eq, eqb-true, lt-ltb, or_right}
+use Rattle.std.proofs.lemmas.List.Folds.{list_any-append}
+use Rattle.std.proofs.lemmas.Map.Keys.{any_passes_from_place}
 use Rattle.std.proofs.lemmas.Option.{get_or_from_slice_get}
 use Rattle.std.proofs.lemmas.List.Quantifiers.{position-Some}
 use Rattle.enet_seq.specs.Numbering.{Numbering, wire}
@@ -15,7 +17,7 @@ use Rattle.enet_sender.specs.Late.{is_late_as}
 use Rattle.enet_sender.specs.Due.{SendingEnd, Did}
 use Rattle.enet_senders.specs.declared.quiet.Quiet.{Quiet}
 use Rattle.enet_senders.specs.declared.quiet.Witness.{Witness}
-use Rattle.enet_senders.specs.Quiets.{covers, end_of, FitsQuiet, AllQuiet, IsLateAmong}
+use Rattle.enet_senders.specs.Quiets.{covers, end_moment, FitsQuiet, AllQuiet, IsLateAmong}
 use Rattle.enet_senders.specs.Private.Quiets.{after_send, IsAnother}
 use Rattle.enet_senders.proofs.Quieting.{slice_get-some, if-some, if-goes, none-late}
 use Rattle.enet_senders.proofs.Sets.{get-set, get-other, DidOn}
@@ -30,19 +32,14 @@ any-rest : (b c : Bool) → b ≡ false → (b || c) ≡ true → c ≡ true
 any-rest true c fails e = absurd (cc)
 any-rest false c fails e = e
 
-or-later : (b c : Bool) → c ≡ true → (b || c) ≡ true
-or-later true c e = refl
-or-later false c e = e
-
 -- a list in which one passes, with more behind it
 any-append : {X : Type 0} (p : X → Bool) (xs ys : List X) → list_any p xs ≡ true → list_any p (xs ++ ys) ≡ true
-any-append p [] ys e = absurd (cc)
-any-append p (x ∷ xs) ys e = any-by (p x) (list_any p xs) (list_any p (xs ++ ys)) e (any-append p xs ys)
+any-append p xs ys e = list_any-append p xs ys ∙ ap (λ b. b || list_any p ys) e
 
 -- with another in place of one that doesn't pass
 any-set : {X : Type 0} (p : X → Bool) (xs : List X) (i : ℕ) (x y : X) → slice_get xs i ≡ Some x → p x ≡ false → list_any p xs ≡ true → list_any p (slice_set xs i y) ≡ true
 any-set p [] i x y there fails e = absurd (cc)
-any-set p (z ∷ xs) zero x y there fails e = let is : z ≡ x = cc in or-later (p y) (list_any p xs) (any-rest (p z) (list_any p xs) (ap p is ∙ fails) e)
+any-set p (z ∷ xs) zero x y there fails e = let is : z ≡ x = cc in or_right (p y) (list_any p xs) (any-rest (p z) (list_any p xs) (ap p is ∙ fails) e)
 any-set p (z ∷ xs) (suc i) x y there fails e = any-by (p z) (list_any p xs) (list_any p (slice_set xs i y)) e (any-set p xs i x y there fails)
 
 -- without one that doesn't pass
@@ -147,16 +144,16 @@ late-due moment w occasion es new i result from at to inside did h =
     late-at moment w es new i s r.0 one.1 r.1.0
     (λ same late. late-did moment w.number (next wire occasion s.sender) result s r.0 from at to (λ m e. late-next moment w.number wire occasion s.sender m e late) late r.1.1) h
 
--- the witness after a call, of which each clause says that it was one before
+-- what is there after a call was there before it, and so is what holds of it
 pub some-then : {X : Type 0} {P Q R : X → Type 0} (before after : Option X) → IfSome after (λ x. (before ≡ Some x) × R x) → IfSome before P → ((x : X) → P x → R x → Q x) → IfSome after Q
 some-then {P = P} before None h k then = tt
 some-then {P = P} before (Some x) h k then = then x (subst (λ o. IfSome o P) h.0 k) h.1
 
 pub witnessed-sent : (q r : Quiet) (before after : Option Witness) (occasion : Occasion) (es new : List SendingEnd) (i : ℕ) (result : Due) (from : List ℕ) (at : ℕ) (to : List ℕ) → i < length es → DidOn occasion i result es new from at to
-    → after_send q occasion.now occasion.timeout ≡ r → IfSome after (λ left. (before ≡ Some left) × (end_of (after_send q occasion.now occasion.timeout) ≡ end_of q)) → IfSome before (IsLateAmong es (end_of q)) → IfSome after (IsLateAmong new (end_of r))
+    → after_send q occasion.now occasion.timeout ≡ r → IfSome after (λ left. (before ≡ Some left) × (end_moment (after_send q occasion.now occasion.timeout) ≡ end_moment q)) → IfSome before (IsLateAmong es (end_moment q)) → IfSome after (IsLateAmong new (end_moment r))
 witnessed-sent q r before after occasion es new i result from at to inside did left kept h =
     some-then before after kept h
-    (λ w late same. subst (λ (m : ℕ). IsLateAmong new m w) (sym same ∙ ap end_of left) (late-due (end_of q) w occasion es new i result from at to inside did late))
+    (λ w late same. subst (λ (m : ℕ). IsLateAmong new m w) (sym same ∙ ap end_moment left) (late-due (end_moment q) w occasion es new i result from at to inside did late))
 
 pub witnessed-acknowledged : (moment : ℕ) (before after : Option Witness) (es new : List SendingEnd) (i number : ℕ) (s : SendingEnd) → slice_get es i ≡ Some s → new ≡ slice_set es i (record s { sender = record s.sender { sent = without_place s.sender.sent (position_of number s.sender.sent) } })
     → IfSome after (λ left. (before ≡ Some left) × IsAnother left i number) → IfSome before (IsLateAmong es moment) → IfSome after (IsLateAmong new moment)
@@ -172,43 +169,37 @@ witnessed-same moment (Some w) es new i f inside is same h =
     late-at moment w es new i one.0 (f one.0) one.1 (is one.0 one.1) (λ here late. ap (list_any (is_late_as moment w.number)) (same one.0) ∙ late) h
 
 -- what is late, and has a number, is late
-any-weaker : (moment n : ℕ) (xs : List Sent) → list_any (is_late_as moment n) xs ≡ true → list_any (is_late moment) xs ≡ true
-any-weaker moment n [] e = absurd (cc)
-any-weaker moment n (x ∷ xs) e = by (is_late moment x) (x.command.number == n) e (any-weaker moment n xs)
+late-of-late_as : (moment n : ℕ) (xs : List Sent) → list_any (is_late_as moment n) xs ≡ true → list_any (is_late moment) xs ≡ true
+late-of-late_as moment n [] e = absurd (cc)
+late-of-late_as moment n (x ∷ xs) e = by (is_late moment x) (x.command.number == n) e (late-of-late_as moment n xs)
   where
     by : (b c : Bool) → ((b && c) || list_any (is_late_as moment n) xs) ≡ true → (list_any (is_late_as moment n) xs ≡ true → list_any (is_late moment) xs ≡ true) → (b || list_any (is_late moment) xs) ≡ true
     by true c e then = refl
     by false c e then = then e
 
-any-at : (p : SendingEnd → Bool) (xs : List SendingEnd) (i : ℕ) (s : SendingEnd) → slice_get xs i ≡ Some s → p s ≡ true → list_any p xs ≡ true
-any-at p [] i s there e = absurd (cc)
-any-at p (x ∷ xs) zero s there e = let is : x ≡ s = cc in ap (λ b. b || list_any p xs) (ap p is ∙ e)
-any-at p (x ∷ xs) (suc i) s there e = or-later (p x) (list_any p xs) (any-at p xs i s there e)
-
 -- where a quiet time ends with something late, that is when something is late first
 any-late-at : (moment : ℕ) (w : Witness) (es : List SendingEnd) → IsLateAmong es moment w → list_any (λ (s : SendingEnd). list_any (is_late moment) s.sender.sent) es ≡ true
-any-late-at moment w es h = any-at (λ (s : SendingEnd). list_any (is_late moment) s.sender.sent) es w.channel h.sender h.there (any-weaker moment w.number h.sender.sender.sent h.late)
+any-late-at moment w es h = any_passes_from_place (λ (s : SendingEnd). list_any (is_late moment) s.sender.sent) es w.channel h.sender h.there (late-of-late_as moment w.number h.sender.sender.sent h.late)
 
 -- what is known of a witness that there is
 pub witness-there : {P : Witness → Type 0} (witness : Option Witness) → is_some witness ≡ true → IfSome witness P → (w : Witness) × P w
 witness-there None some h = absurd (cc)
 witness-there (Some w) some h = (w, h)
 
--- what was found late among the channels of a peer, as they are seen now
-pub found-late : {P Q : Witness → Type 0} (r : Option Witness) → ((w : Witness) → P w → Q w) → IfSome r P → IfSome r Q
-found-late None then h = tt
-found-late (Some w) then h = then w h
+pub and-left : (a b : Bool) → (a && b) ≡ true → a ≡ true
+and-left true b e = refl
+and-left false b e = e
 
-end-reached : (q : Quiet) (now wait later : ℕ) → FitsQuiet q → now < 2 ^ 32 → later < 2 ^ 32 → wait + elapsed_time now q.from ≡ q.len → elapsed_time later now ≡ wait → end_of q ≡ later
+end-reached : (q : Quiet) (now wait later : ℕ) → FitsQuiet q → now < 2 ^ 32 → later < 2 ^ 32 → wait + elapsed_time now q.from ≡ q.len → elapsed_time later now ≡ wait → end_moment q ≡ later
 end-reached q now wait later fits low later_low is e = let from = fits.from in let len = fits.len in omega arith
 
 before-end : (q : Quiet) (now wait later : ℕ) → FitsQuiet q → now < 2 ^ 32 → later < 2 ^ 32 → wait + elapsed_time now q.from ≡ q.len → elapsed_time later now < wait → covers q later ≡ true
 before-end q now wait later fits low later_low is less = let from = fits.from in let len = fits.len in lt-ltb _ _ (omega arith)
 
-pub ends-first : (q : Quiet) (w : Witness) (now wait : ℕ) (es : List SendingEnd) → FitsQuiet q → now < 2 ^ 32 → wait + elapsed_time now q.from ≡ q.len → AllQuiet q es → IsLateAmong es (end_of q) w
+pub ends-first : (q : Quiet) (w : Witness) (now wait : ℕ) (es : List SendingEnd) → FitsQuiet q → now < 2 ^ 32 → wait + elapsed_time now q.from ≡ q.len → AllQuiet q es → IsLateAmong es (end_moment q) w
     → HappensIn (λ (later : ℕ). list_any (λ (s : SendingEnd). list_any (is_late later) s.sender.sent) es) now wait
 ends-first q w now wait es fits low is quiet late = record {
   before = λ later later_low less. none-late q later es later_low (before-end q now wait later fits low later_low is less) quiet;
   first = λ some later later_low e.
-      ap (λ (m : ℕ). list_any (λ (s : SendingEnd). list_any (is_late m) s.sender.sent) es) (sym (end-reached q now wait later fits low later_low is e)) ∙ any-late-at (end_of q) w es late;
+      ap (λ (m : ℕ). list_any (λ (s : SendingEnd). list_any (is_late m) s.sender.sent) es) (sym (end-reached q now wait later fits low later_low is e)) ∙ any-late-at (end_moment q) w es late;
 }

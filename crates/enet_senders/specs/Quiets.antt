@@ -19,8 +19,8 @@ abbrev pub covers : Quiet → ℕ → Bool
 covers q now = nat_lt (elapsed_time now q.from) q.len
 
 -- the moment at which it ends
-abbrev pub end_of : Quiet → ℕ
-end_of q = (q.from + q.len) % 2 ^ 32
+abbrev pub end_moment : Quiet → ℕ
+end_moment q = (q.from + q.len) % 2 ^ 32
 
 -- its numbers fit 32 bits
 pub record FitsQuiet (q : Quiet) : Type 0 where
@@ -51,5 +51,5 @@ pub record AreSenders (p : Pending) (channels : List Outgoing) (q : Quiet) (witn
   pub kept : KeepsAllIn p channels
   pub fits : FitsQuiet q
   pub quiet : AllQuiet q (ends_in p channels)
-  pub witnessed : IfSome witness (IsLateAmong (ends_in p channels) (end_of q))
+  pub witnessed : IfSome witness (IsLateAmong (ends_in p channels) (end_moment q))
   pub sets : KeepsSets ready flying (ends_in p channels)

@@ -1,13 +1,13 @@
 //! A time during which surely nothing is late.
 
-ghost use Rattle.std.specs.Prelude.{◌≡◌, ◌+◌, true, is_some, IsTrue, IfSome, Some};
+ghost use Rattle.std.specs.Prelude.{◌≡◌, ◌+◌, ◌&&◌, ◌||◌, true, nat_lt, is_some, IfSome, Some};
 ghost use Rattle.enet_rtt.specs.Clock.{elapsed_time};
-ghost use Rattle.enet_senders.specs.Quiets.{covers, end_of};
+ghost use Rattle.enet_senders.specs.Quiets.{covers, end_moment};
 ghost use Rattle.enet_senders.specs.Private.Quiets.{after_send, found_quiet, new_quiet, IsAnother};
 
 use enet_rtt::elapsed;
 
-/// For how many milliseconds the commands aren't looked at again only because it isn't known any more which of them is late first.
+/// How many milliseconds pass at least between two looks at the commands that only serve to know which of them is late first.
 const LOOKING_INTERVAL: u32 = 8;
 
 /// A time during which surely no sent command is late.
@@ -19,7 +19,7 @@ pub(crate) struct Quiet {
     len: u32,
     /// No command that is sent waits less for its acknowledgement, in milliseconds.
     least: u32,
-    /// When the commands were last looked at.
+    /// When it was last found, in milliseconds by the clock.
     looked: u32,
 }
 
@@ -96,7 +96,7 @@ impl Quiet {
         now: u32,
         timeout: u32,
     ) -> Option<Witness>
-        ensures { IfSome result (λ left. (witness ≡ Some left) × (end_of (after_send self now timeout) ≡ end_of self)) }
+        ensures { IfSome result (λ left. (witness ≡ Some left) × (end_moment (after_send self now timeout) ≡ end_moment self)) }
     {
         let passed = elapsed(now, self.from);
         if passed <= self.len && self.len - passed <= self.least.min(timeout) {
@@ -106,8 +106,8 @@ impl Quiet {
         }
     }
 
-    /// In how many milliseconds after the moment `now` it ends, if it has a witness and did not end before.
-    pub(crate) fn ends_in(self, witness: Option<Witness>, now: u32) -> Option<u32>
+    /// What is left of it at the moment `now`, in milliseconds, if it has a witness and did not end before.
+    pub(crate) fn left(self, witness: Option<Witness>, now: u32) -> Option<u32>
         ensures { IfSome result (λ wait. (wait + elapsed_time now self.from ≡ self.len) × (is_some witness ≡ true)) }
     {
         witness?;
@@ -116,15 +116,15 @@ impl Quiet {
 
     /// The moment at which it ends.
     pub(crate) fn end(self) -> u32
-        ensures { result ≡ end_of self }
+        ensures { result ≡ end_moment self }
     {
         self.from.wrapping_add(self.len)
     }
 
-    /// Whether no command need be looked at at the moment `now`: it is in it, and it has a witness or the commands were looked at a
-    /// short while ago.
+    /// Whether the moment `now` is in it and asks for no look at the commands: it has a witness, or it was found less than 8
+    /// milliseconds ago.
     pub(crate) fn spares(self, witness: Option<Witness>, now: u32) -> bool
-        ensures { IsTrue result → covers self now ≡ true }
+        ensures { result ≡ (covers self now && (nat_lt (elapsed_time now self.looked) 8 || is_some witness)) }
     {
         let is_new = elapsed(now, self.looked) < LOOKING_INTERVAL;
         self.covers(now) && (is_new || witness.is_some())

@@ -206,7 +206,7 @@ fn any_ends(
 struct Soonest {
     /// In how many milliseconds.
     wait: u32,
-    /// On which channel.
+    /// On which channel; 0 where none waits.
     channel: usize,
 }
 
@@ -242,14 +242,19 @@ fn look_for_late(channels: &[Outgoing], pending: &Pending, flying: &ChannelSet, 
     soonest
 }
 
-/// A sent command of this channel that is late at the moment `now`, if there is one.
-fn witness_on(channels: &[Outgoing], pending: &Pending, channel: usize, now: u32) -> Option<Witness>
-    ensures { IfSome result (IsLateAmong (ends_in pending.now channels.now) now) }
+/// A sent command of this channel that is late at a moment, if there is one.
+fn witness_on(
+    channels: &[Outgoing],
+    pending: &Pending,
+    channel: usize,
+    moment: u32,
+) -> Option<Witness>
+    ensures { IfSome result (IsLateAmong (ends_in pending.now channels.now) moment) }
 {
     if channel >= channels.len() || channel > usize::from(u8::MAX) {
         return None;
     }
-    let number = channels[channel].late_number(pending, now)?;
+    let number = channels[channel].late_number(pending, moment)?;
     Some(Witness {
         channel: channel as u8,
         number,
@@ -468,8 +473,8 @@ impl Senders {
     /// Whether at the moment `now`, in milliseconds, a sent command of a channel has waited out its timeout, and is not due
     /// to go again already.
     ///
-    /// Once nothing was, it looks at no command until one can be late at the earliest, or until it isn't known any more which one is
-    /// late first, and some milliseconds have passed.
+    /// Once nothing was, it looks at no command until one can be late at the earliest; where it isn't known any more which is late
+    /// first, for 8 milliseconds only.
     pub fn any_late(&mut self, now: u32) -> bool
         ensures found { result ≡ list_any (λ (s : SendingEnd). list_any (is_late now) s.sender.sent) self.old }
         ensures same { self.new ≡ self.old }
@@ -491,7 +496,7 @@ impl Senders {
     pub fn next_late(&self, now: u32) -> u32
         ensures { HappensIn (λ (later : ℕ). list_any (λ (s : SendingEnd). list_any (is_late later) s.sender.sent) self.now) now result }
     {
-        match self.quiet.ends_in(self.witness, now) {
+        match self.quiet.left(self.witness, now) {
             Some(wait) => wait,
             None => look_for_late(&self.channels, &self.pending, &self.flying, now).wait,
         }

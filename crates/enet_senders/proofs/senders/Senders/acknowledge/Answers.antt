@@ -6,7 +6,7 @@ use Rattle.enet_sender.specs.Due.{SendingEnd}
 use Rattle.enet_senders.specs.Senders.{ends_in}
 use Rattle.enet_senders.proofs.Quieting.{quiet-fewer, quiet-acknowledged}
 use Rattle.enet_senders.proofs.Quieting.{slice_get-some}
-use Rattle.enet_senders.specs.Quiets.{end_of}
+use Rattle.enet_senders.specs.Quiets.{end_moment}
 use Rattle.enet_senders.proofs.Witnessing.{witnessed-acknowledged}
 use Rattle.enet_senders.proofs.Sets.{keeps-changed, still-acknowledged, inside-changed}
 use Rattle.enet_senders.proofs.senders.Senders.acknowledge.Goals as goal
@@ -29,7 +29,7 @@ invariant_of-self c =
           c.acknowledge_on-bytes.ensures.ends (λ s h. quiet-acknowledged q s c.args.number h) c.self.invariant.quiet;
       witnessed =
           let one = slice_get-some (ends_in c.self.inside.pending c.self.inside.channels.items) c.args.channel inside in
-          witnessed-acknowledged (end_of q) c.self.inside.witness c.dismiss.new.witness (ends_in c.self.inside.pending c.self.inside.channels.items) _ c.args.channel c.args.number one.0 one.1 (c.acknowledge_on-bytes.ensures.ends one.0 one.1)
+          witnessed-acknowledged (end_moment q) c.self.inside.witness c.dismiss.new.witness (ends_in c.self.inside.pending c.self.inside.channels.items) _ c.args.channel c.args.number one.0 one.1 (c.acknowledge_on-bytes.ensures.ends one.0 one.1)
           c.dismiss.ensures c.self.invariant.witnessed;
       sets = keeps-changed c.self.inside.ready c.self.inside.flying _ (ends_in c.self.inside.pending c.self.inside.channels.items) _ c.args.channel (λ (s : Sender). after_acknowledgement s c.args.number) inside
           c.acknowledge_on-bytes.ensures.ends (λ s h. still-acknowledged s c.args.number h) c.note_sent.ensures.others

@@ -5,7 +5,7 @@ use Rattle.enet_sender.specs.Due.{SendingEnd}
 use Rattle.enet_sender.specs.declared.outgoing.Due.TheVariants as due
 use Rattle.enet_senders.specs.declared.quiet.Quiet.{Quiet}
 use Rattle.enet_senders.specs.Senders.{ends_in}
-use Rattle.enet_senders.specs.Quiets.{end_of, FitsQuiet, AllQuiet, IsLateAmong}
+use Rattle.enet_senders.specs.Quiets.{end_moment, FitsQuiet, AllQuiet, IsLateAmong}
 use Rattle.enet_senders.specs.Private.Quiets.{after_send}
 use Rattle.enet_senders.specs.Sets.{KeepsSets}
 use Rattle.enet_senders.proofs.Quieting.{quiet-due, fits-after}
@@ -62,7 +62,7 @@ invariant_of-self-in-Nothing c =
       kept = c.next_due_on-due.ensures.kept;
       fits = c.self.invariant.fits;
       quiet = subst (λ (xs : List SendingEnd). AllQuiet c.self.inside.quiet xs) (sym same) c.self.invariant.quiet;
-      witnessed = subst (λ (xs : List SendingEnd). IfSome c.self.inside.witness (IsLateAmong xs (end_of c.self.inside.quiet))) (sym same) c.self.invariant.witnessed;
+      witnessed = subst (λ (xs : List SendingEnd). IfSome c.self.inside.witness (IsLateAmong xs (end_moment c.self.inside.quiet))) (sym same) c.self.invariant.witnessed;
       sets = keeps-still c.self.inside.ready c.self.inside.flying _ new c.args.channel c.note_still.ensures.others
           (λ e lacks there. c.note_still.ensures.this e lacks (ap (λ (os : List Outgoing). slice_get (ends_in c.next_due_on-due.new.pending os) c.args.channel) c.deref-in-Nothing.ensures.value ∙ there))
           (subst (λ (xs : List SendingEnd). KeepsSets c.self.inside.ready c.self.inside.flying xs) (sym same) c.self.invariant.sets);
@@ -79,6 +79,6 @@ invariant_of-self-in-NoRoom c =
       kept = c.next_due_on-due.ensures.kept;
       fits = c.self.invariant.fits;
       quiet = subst (λ (xs : List SendingEnd). AllQuiet c.self.inside.quiet xs) (sym same) c.self.invariant.quiet;
-      witnessed = subst (λ (xs : List SendingEnd). IfSome c.self.inside.witness (IsLateAmong xs (end_of c.self.inside.quiet))) (sym same) c.self.invariant.witnessed;
+      witnessed = subst (λ (xs : List SendingEnd). IfSome c.self.inside.witness (IsLateAmong xs (end_moment c.self.inside.quiet))) (sym same) c.self.invariant.witnessed;
       sets = subst (λ (xs : List SendingEnd). KeepsSets c.self.inside.ready c.self.inside.flying xs) (sym same) c.self.invariant.sets;
     }
