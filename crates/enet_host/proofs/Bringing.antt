@@ -47,7 +47,7 @@ calm-slot now s (Some p) held none busy =
 busy-waits : (s : SlotState) → Waits s → (p : Peering) → s.peer ≡ Some p → p.state ≢ state.Free
 busy-waits s waits p held free =
     let waiting : peered.Waits p = subst waits_in held waits in
-    let e : false ≡ true = ap peers.is_connected (sym free) ∙ waiting.connected in
+    let e : false ≡ true = ap peered.is_steady (sym free) ∙ waiting.steady in
     absurd (cc)
 
 -- one that is free rests whatever time comes

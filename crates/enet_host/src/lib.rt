@@ -17,7 +17,7 @@
 //! No slot of any host holds a peer that is free (`HostCore::keeps`). Want of memory, of which no clause can say when it comes,
 //! changes nothing.
 //! Only tested, by `check_hosts`: that calls succeed with ample memory, worked scripts, captured files, foreign bytes. Neither: that
-//! a slot which has nothing falls asleep, and that those asleep, free ones and those of connections that only wait, are looked at by no
+//! a slot which has nothing falls asleep, and that those asleep, free ones and those whose peer only waits, are looked at by no
 //! call of `service` or of those that tell events, by `due_in` only where what was noted of them doesn't tell, and by `tick` only where
 //! bandwidth is shared out or time brings that slot something; that slots past the last used one are looked at by `due_in` not at all,
 //! and by `tick` only where bandwidth is shared out; and that an offer looks at those asleep only where one of them may be at its

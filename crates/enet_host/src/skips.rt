@@ -17,16 +17,17 @@ use std::alloc::Global;
 /// For how many milliseconds nothing comes to a slot with commands in flight before it falls asleep.
 const SETTLING: u32 = 2;
 
-/// Which slots of a host sleep: they are free, or their peer is connected and has nothing to tell and nothing that goes, though what
-/// was sent may be unacknowledged. Where slots are asked in turn, and at a tick within `calm`, these are passed over. A slot falls
-/// asleep as time goes on or where bandwidths are set, and is woken before anything else comes to it.
+/// Which slots of a host sleep: they are free, or their peer is connected, asks for a connection or for its end, or has answered, and
+/// has nothing to tell and nothing that goes, though what was sent may be unacknowledged. Where slots are asked in turn, and at a
+/// tick within `calm`, these are passed over. A slot falls asleep as time goes on or where bandwidths are set, and is woken before
+/// anything else comes to it.
 #[derive(Drop)]
 pub(crate) struct Skips {
     /// An entry a slot. One past the slot's own number says that it sleeps, as do all between it and the entry: the next slot that
     /// is worth asking, or the number of slots. With any other the slot is awake.
     pub(crate) next: Vec<u16>,
     /// An entry a slot. Where the slot sleeps, time brings it something first when this is over. Where it is awake, this lasts 0 if
-    /// something came to it since it was looked at, and without an end from the first look at which it had commands in flight.
+    /// something came to it since it was looked at, and without an end from the first look at which it had something to do or in flight.
     pub(crate) rests: Vec<Calm>,
     /// A time in which a tick changes nothing of the slots that sleep; it ends no later than the time that is noted of each of these
     /// that holds a peer.

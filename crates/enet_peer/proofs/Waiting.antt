@@ -6,18 +6,18 @@ use Rattle.enet_peer.specs.declared.parts.PeerState.{PeerState}
 use Rattle.enet_peer.specs.declared.parts.PeerState.TheVariants as state
 use Rattle.enet_peer.specs.Peering.{Peering}
 use Rattle.enet_peer.specs.Endings.{is_later, disconnecting}
-use Rattle.enet_peer.specs.Calls.{is_connected, pace_of, gone_on, gone_on_in, PutsOut}
-use Rattle.enet_peer.specs.Waiting.{Waits}
+use Rattle.enet_peer.specs.Calls.{pace_of, gone_on, gone_on_in, PutsOut}
+use Rattle.enet_peer.specs.Waiting.{is_steady, Waits}
 
-pub connected-is : (st : PeerState) → is_connected st ≡ true → st ≡ state.Connected
-connected-is state.Connected e = refl
-connected-is st e = absurd (cc)
+stays-in : (st : PeerState) (p : Peering) → p.state ≡ st → is_steady st ≡ true → gone_on_in st p ≡ p
+stays-in state.Connecting p is e = ap (λ (st : PeerState). if is_later st && is_done p.outbox then disconnecting p p.info else p) is
+stays-in state.Answering p is e = ap (λ (st : PeerState). if is_later st && is_done p.outbox then disconnecting p p.info else p) is
+stays-in state.Connected p is e = ap (λ (st : PeerState). if is_later st && is_done p.outbox then disconnecting p p.info else p) is
+stays-in state.Disconnecting p is e = ap (λ (st : PeerState). if is_later st && is_done p.outbox then disconnecting p p.info else p) is
+stays-in st p is e = absurd (cc)
 
 stays : (p : Peering) → Waits p → gone_on p ≡ p
-stays p s =
-    let connected = connected-is p.state s.connected in
-    ap (λ (st : PeerState). gone_on_in st p) connected
-    ∙ ap (λ (st : PeerState). if is_later st && is_done p.outbox then disconnecting p p.info else p) connected
+stays p s = stays-in p.state p refl s.steady
 
 pub puts-nothing : (now : ℕ) (buf : List ℕ) (p : Peering) → Waits p → PutsOut now None p p buf
 puts-nothing now buf p s =

@@ -4,7 +4,7 @@ ghost use Rattle.std.specs.Prelude.{◌≡◌, is_some, IsTrue};
 ghost use Rattle.enet_outbox.specs.Outbox.{transit_of};
 ghost use Rattle.enet_peer.specs.Calls.{next_event};
 ghost use Rattle.enet_peer.specs.Sleeping.{Sleeps};
-ghost use Rattle.enet_peer.specs.Waiting.{Waits};
+ghost use Rattle.enet_peer.specs.Waiting.{is_steady, Waits};
 
 use crate::{Peer, PeerState};
 
@@ -58,11 +58,25 @@ impl Peer {
         self.is_connected() && !self.has_event() && self.outbox.has_nothing()
     }
 
-    /// Whether it is connected and has surely nothing to tell and nothing that goes, though what was sent may be unacknowledged. Until
-    /// a call, a command or a moment brings it something, `emit` and `next_event` then give nothing and change nothing.
+    /// Whether it is connected, asks for a connection or for its end, or has answered, and has surely nothing to tell and nothing that
+    /// goes, though what was sent may be unacknowledged. Until a call, a command or a moment brings it something, `emit` and
+    /// `next_event` then give nothing and change nothing.
     pub fn only_waits(&self) -> bool
         ensures { IsTrue result → Waits self.now.peer }
     {
-        self.is_connected() && !self.has_event() && self.outbox.is_at_rest()
+        self.is_steady() && !self.has_event() && self.outbox.is_at_rest()
+    }
+
+    /// Whether it is connected, asks for a connection or for its end, or has answered: no datagram of its own changes such a state.
+    fn is_steady(&self) -> bool
+        ensures { result ≡ is_steady self.now.peer.state }
+    {
+        matches!(
+            self.state,
+            PeerState::Connecting
+                | PeerState::Answering
+                | PeerState::Connected
+                | PeerState::Disconnecting
+        )
     }
 }

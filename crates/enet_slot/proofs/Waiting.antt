@@ -1,17 +1,24 @@
 -- A slot that only waits has nothing to put out and nothing to tell.
-use Rattle.std.proofs.Common.{◌≡◌, ℕ, false, Option, Some, None, [], refl, sym, ap, ◌∙◌}
+use Rattle.std.proofs.Common.{◌≡◌, ℕ, true, false, Option, Some, None, [], refl, sym, ap, ◌∙◌}
 use Rattle.enet_peer.specs.declared.parts.PeerState.{PeerState}
+use Rattle.enet_peer.specs.declared.parts.PeerState.TheVariants as state
 use Rattle.enet_peer.specs.Peering.{Peering}
 use Rattle.enet_peer.specs.Waiting as peers
-use Rattle.enet_peer.proofs.Waiting.{connected-is, puts-nothing}
+use Rattle.enet_peer.proofs.Waiting.{puts-nothing}
 use Rattle.enet_slot.specs.Slot.{SlotState, with_peer, with_peer_in}
 use Rattle.enet_slot.specs.Serving.{passes_by, Passes}
 use Rattle.enet_slot.specs.Calls.{peer_tells, tells}
 use Rattle.enet_slot.specs.Waiting.{waits_in, Waits}
 
+kept-peer : (st : PeerState) (s : SlotState) (p : Peering) → peers.is_steady st ≡ true → with_peer_in st s p ≡ record s { peer = Some p }
+kept-peer state.Connecting s p e = refl
+kept-peer state.Answering s p e = refl
+kept-peer state.Connected s p e = refl
+kept-peer state.Disconnecting s p e = refl
+kept-peer st s p e = absurd (cc)
+
 same-slot : (s : SlotState) (p : Peering) → s.peer ≡ Some p → peers.Waits p → with_peer s p ≡ s
-same-slot s p held waits =
-    ap (λ (st : PeerState). with_peer_in st s p) (connected-is p.state waits.connected) ∙ ap (λ (o : Option Peering). record s { peer = o }) (sym held)
+same-slot s p held waits = kept-peer p.state s p waits.steady ∙ ap (λ (o : Option Peering). record s { peer = o }) (sym held)
 
 passes-in : (now : ℕ) (s : SlotState) (o : Option Peering) → s.peer ≡ o → waits_in o → passes_by now s s o
 passes-in now s None held waits = refl

@@ -38,9 +38,9 @@ impl Slot {
         }
     }
 
-    /// Whether it is free, or its peer is connected and has surely nothing to tell and nothing that goes, though what was sent may be
-    /// unacknowledged. Until a call, a datagram or a moment brings it something, `serve` and `take` then give nothing and change
-    /// nothing.
+    /// Whether it is free, or its peer is connected, asks for a connection or for its end, or has answered, and has surely nothing to
+    /// tell and nothing that goes, though what was sent may be unacknowledged. Until a call, a datagram or a moment brings it
+    /// something, `serve` and `take` then give nothing and change nothing.
     pub fn only_waits(&self) -> bool
         ensures { IsTrue result → Waits self.now.slot }
     {
