@@ -122,17 +122,10 @@ pub(crate) fn any_late(ring: &VecDeque<u32>, pending: &Pending, now: u32) -> boo
 pub(crate) fn next_late(ring: &VecDeque<u32>, pending: &Pending, now: u32) -> u32
     ensures { HappensIn (λ (later : ℕ). list_any (λ (key : ℕ). test_at (is_late later) (get pending.now.slab key)) ring.now.items) now result }
 {
-    let (front, back) = ring.as_slices();
-    next_late_of(front, pending, now).min(next_late_of(back, pending, now))
-}
-
-/// The same of a part of a ring.
-fn next_late_of(keys: &[u32], pending: &Pending, now: u32) -> u32
-    ensures { HappensIn (λ (later : ℕ). list_any (λ (key : ℕ). test_at (is_late later) (get pending.now.slab key)) keys.now) now result }
-{
     let mut wait = u32::MAX;
-    for key in keys {
-        wait = wait.min(pending.next_late(*key, now));
+    for place in 0..ring.len() {
+        let key = ring[place];
+        wait = wait.min(pending.next_late(key, now));
     }
     wait
 }
