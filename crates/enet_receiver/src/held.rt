@@ -1,6 +1,6 @@
 //! Reliable packets that are held.
 
-ghost use Rattle.std.specs.Prelude.{◌≡◌, ◌≤◌, ◌<◌, ◌^◌, IsTrue, OnOk, OnErr, IfErr, is_some, Some, None, length};
+ghost use Rattle.std.specs.Prelude.{◌≡◌, ◌≤◌, ◌<◌, ◌^◌, IsTrue, OnOk, OnErr, IfErr, Some, None, length};
 ghost use Rattle.std.specs.Option.{IsSomeAnd, option_copied};
 ghost use Rattle.std.specs.FinMap as map;
 ghost use Rattle.enet_fragment.specs.PartialPacket.{belongs, piece_at, with_piece};
@@ -67,13 +67,6 @@ impl Held {
         ensures small { result < 2 ^ 48 }
     {
         self.packets.bytes()
-    }
-
-    /// Whether there is a packet of this number.
-    pub(crate) fn has(&self, number: u16) -> bool
-        ensures { result ≡ is_some (map.get self.now number) }
-    {
-        is_marked(&self.blocks, number)
     }
 
     /// The packet of this number, if there is one.

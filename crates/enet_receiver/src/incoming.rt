@@ -230,8 +230,8 @@ impl Incoming {
         ensures { result ≡ foreseen self.now (Some (data_command arriving.entry)) full }
     {
         match self.admit(arriving, full) {
-            Ok((place, earlier)) => {
-                let dispatches = self.dispatches(arriving, place, earlier);
+            Ok(place) => {
+                let dispatches = self.dispatches(arriving, place);
                 self.answer(Took::Held, arriving.head.number, dispatches)
             }
             Err(took) => self.answer(took, arriving.head.number, 0),
@@ -358,7 +358,7 @@ impl Incoming {
         ensures { Receives (Some (data_command arriving.entry)) full result self.old self.new }
     {
         match self.admit(arriving, full) {
-            Ok((place, _)) => {
+            Ok(place) => {
                 if self.keep(arriving, place) {
                     Took::Held
                 } else {
@@ -463,16 +463,11 @@ impl Incoming {
         }
     }
 
-    /// The number under which a command's packet is held or for which it waits, with what came of that packet, if it would be taken
-    /// in; else what becomes of it, with ample memory.
-    fn admit(
-        &self,
-        arriving: ArrivingData<'_>,
-        full: bool,
-    ) -> Result<(u16, Option<&IncomingPacket>), Took>
-        ensures held { IfOk result (λ found. (outcome wire self.now.max_packet self.now.receiver (data_command arriving.entry) full ≡ Took.Held) × (place_read wire self.now.receiver (data_command arriving.entry) ≡ Some found.0)) }
-        ensures inside { IfOk result (λ found. IsInside self.now.receiver.front found.0) }
-        ensures earlier { IfOk result (λ found. option_copied found.1 ≡ came_at self.now.receiver (data_command arriving.entry) found.0) }
+    /// The number under which a command's packet is held or for which it waits, if it would be taken in; else what becomes of
+    /// it, with ample memory.
+    fn admit(&self, arriving: ArrivingData<'_>, full: bool) -> Result<u16, Took>
+        ensures held { IfOk result (λ place. (outcome wire self.now.max_packet self.now.receiver (data_command arriving.entry) full ≡ Took.Held) × (place_read wire self.now.receiver (data_command arriving.entry) ≡ Some place)) }
+        ensures inside { IfOk result (λ place. IsInside self.now.receiver.front place) }
         ensures short { IfOk result (λ _. length arriving.entry.payload.now < 2 ^ 32) }
         ensures other { IfErr result (λ took. took ≡ outcome wire self.now.max_packet self.now.receiver (data_command arriving.entry) full) }
         ensures known { IfErr result (λ took. (took ≢ Took.Held) × (took ≢ Took.Memory)) }
@@ -488,7 +483,7 @@ impl Incoming {
             return Err(Took::Outside);
         };
         match self.outcome_of(arriving, full, place, earlier) {
-            Took::Held => Ok((place, earlier)),
+            Took::Held => Ok(place),
             took => Err(took),
         }
     }
@@ -558,19 +553,13 @@ impl Incoming {
         }
     }
 
-    /// The packet that a command makes whole once it is taken in, if it does, where this came of that packet.
-    fn completed(
-        &self,
-        arriving: ArrivingData<'_>,
-        place: u16,
-        earlier: Option<&IncomingPacket>,
-    ) -> Option<Completed>
+    /// The packet that a command makes whole once it is taken in, if it does.
+    fn completed(&self, arriving: ArrivingData<'_>, place: u16) -> Option<Completed>
         requires short { length arriving.payload.now < 2 ^ 32 }
         requires admitted { Admitted self.now.max_packet self.now.receiver (data_command arriving) place }
-        requires earlier { option_copied earlier ≡ came_at self.now.receiver (data_command arriving) place }
         ensures { Completes result self.now.receiver (data_command arriving.entry) place }
     {
-        if !self.completes(arriving, place, earlier) {
+        if !self.completes(arriving, place) {
             return None;
         }
         Some(Completed {
@@ -581,19 +570,13 @@ impl Incoming {
         })
     }
 
-    /// Whether a command that is taken in makes its packet whole, of which this came.
-    fn completes(
-        &self,
-        arriving: ArrivingData<'_>,
-        place: u16,
-        earlier: Option<&IncomingPacket>,
-    ) -> bool
+    /// Whether a command that is taken in makes its packet whole.
+    fn completes(&self, arriving: ArrivingData<'_>, place: u16) -> bool
         requires short { length arriving.payload.now < 2 ^ 32 }
         requires admitted { Admitted self.now.max_packet self.now.receiver (data_command arriving) place }
-        requires earlier { option_copied earlier ≡ came_at self.now.receiver (data_command arriving) place }
         ensures { result ≡ is_whole (grown_at self.now.receiver (data_command arriving.entry) place).making }
     {
-        match earlier {
+        match self.earlier(arriving, place) {
             None => arriving.piece().count == 1,
             Some(coming) => match coming.making.foresee(arriving.place()) {
                 Put::Whole => true,
@@ -602,22 +585,16 @@ impl Incoming {
         }
     }
 
-    /// How many packets a command that is taken in dispatches, where this came of its packet.
-    fn dispatches(
-        &self,
-        arriving: ArrivingData<'_>,
-        place: u16,
-        earlier: Option<&IncomingPacket>,
-    ) -> u32
+    /// How many packets a command that is taken in dispatches.
+    fn dispatches(&self, arriving: ArrivingData<'_>, place: u16) -> u32
         requires short { length arriving.payload.now < 2 ^ 32 }
         requires admitted { Admitted self.now.max_packet self.now.receiver (data_command arriving) place }
-        requires earlier { option_copied earlier ≡ came_at self.now.receiver (data_command arriving) place }
         requires inside { IsInside self.now.receiver.front place }
         ensures { (full : Bool) → outcome wire self.now.max_packet self.now.receiver (data_command arriving.entry) full ≡ Took.Held
             → result ≡ dispatch_count wire self.now.max_packet self.now.receiver (data_command arriving.entry) full }
     {
         dispatches(
-            self.completed(arriving, place, earlier),
+            self.completed(arriving, place),
             &self.held,
             &self.waiting,
             self.front,

@@ -60,7 +60,7 @@ fn hold(
     ensures ok { OnOk result (held.new ≡ insert held.old number (with_more (earlier_or_new (get held.old number) (data_command arriving.entry)) (data_command arriving.entry))) }
     ensures err { OnErr result (held.new ≡ held.old) }
 {
-    if held.has(number) {
+    if held.get(number).is_some() {
         return held.add(number, arriving.place(), arriving.payload);
     }
     let coming = begun(alloc, arriving)?;

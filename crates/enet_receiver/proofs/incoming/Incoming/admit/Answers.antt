@@ -15,7 +15,6 @@ returns-in_default-outcome_of c =
     record {
       held = tt;
       inside = tt;
-      earlier = tt;
       short = tt;
       other = c.outcome_of.ensures.value
           ∙ sym (outcome-read e.max_packet e.receiver d c.args.full c.in-Some.place (option_copied c.came_before-earlier.result) piece c.came_before-earlier.ensures
