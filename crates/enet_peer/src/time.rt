@@ -1,6 +1,6 @@
 //! What a moment brings.
 
-ghost use Rattle.std.specs.Prelude.{◌≡◌, ℕ, ◌≤◌, ◌<◌, ◌^◌, ◌&&◌, nat_le, IsTrue};
+ghost use Rattle.std.specs.Prelude.{◌≡◌, ℕ, ◌≤◌, ◌<◌, ◌^◌, ◌&&◌, IsTrue};
 ghost use Rattle.enet_rtt.specs.Clock.{elapsed_time, HappensIn};
 ghost use Rattle.enet_outbox.specs.Outbox.{is_quiet};
 ghost use Rattle.enet_peer.specs.Endings.{cut_off};
@@ -30,17 +30,7 @@ impl Peer {
         ensures calm { (later : ℕ) → later < 2 ^ 32 → elapsed_time later now < result → ticked self.now.peer later ≡ self.now.peer }
     {
         let late = self.outbox.next_late(now);
-        if late <= self.silent_in(now) {
-            return late;
-        }
         late.min(self.pinged_in(now))
-    }
-
-    /// In how many milliseconds after the moment `now` nothing was heard for the ping interval, if nothing comes before that.
-    fn silent_in(&self, now: u32) -> u32
-        ensures { HappensIn (λ (later : ℕ). nat_le self.now.peer.ping_interval (elapsed_time later self.now.peer.heard)) now result }
-    {
-        self.ping_interval.saturating_sub(elapsed(now, self.heard))
     }
 
     /// In how many milliseconds after the moment `now` a PING is wanted, if nothing comes before that.
@@ -48,7 +38,7 @@ impl Peer {
         ensures { HappensIn (is_pinged self.now.peer) now result }
     {
         if self.awaits_ping() {
-            return self.silent_in(now);
+            return self.ping_interval.saturating_sub(elapsed(now, self.heard));
         }
         u32::MAX
     }
@@ -86,7 +76,7 @@ impl Peer {
         ensures pinged { result ≡ is_pinged self.now.peer now }
         ensures room { IsTrue result → 1 ≤ self.now.room }
     {
-        self.ping_interval <= elapsed(now, self.heard) && self.awaits_ping()
+        self.awaits_ping() && self.ping_interval <= elapsed(now, self.heard)
     }
 
     /// Whether a PING is wanted once nothing was heard for the ping interval. Then there is room for it.
