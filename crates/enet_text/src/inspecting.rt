@@ -1,8 +1,9 @@
 //! An input is read, and its datagrams are told one after another.
 
-ghost use Rattle.std.specs.Prelude.{◌≡◌, ◌++◌, length, OnOk};
+ghost use Rattle.std.specs.Prelude.{◌≡◌, ◌++◌, codes, if◌then◌else◌, length, List, ℕ, OnOk};
 ghost use Rattle.std.specs.String.{string_bytes};
-ghost use Rattle.enet_text.specs.Private.InputTexts.{number_text};
+ghost use Rattle.enet_text.specs.Described.{Describes};
+ghost use Rattle.enet_text.specs.Private.InputTexts.{number_text, way_text, with_zeros};
 
 use crate::answers::push_address;
 use crate::datagram::push_description;
@@ -58,9 +59,8 @@ fn tell_lines<W: Write>(alloc: Global, input: &[u8], writer: &mut W) -> Result<(
             Some(Line::PassedOver) => {}
             Some(Line::Datagram(bytes)) => {
                 let bytes = bytes.as_slice();
-                text.clear();
-                push_length(&mut text, told, bytes)?;
-                tell(&mut text, bytes, writer)?;
+                fill(&mut text, told, bytes)?;
+                write_text(text.as_str(), writer)?;
                 told = told.saturating_add(1);
             }
             None => return Err(InspectFault::BadLine(lines)),
@@ -90,25 +90,49 @@ fn tell_capture<W: Write>(
         rest = behind;
         match datagram_in(format, captured.bytes) {
             Some(datagram) => {
-                text.clear();
-                push_length(&mut text, told, datagram.payload)?;
-                push_way(&mut text, captured, datagram, format.nanoseconds)?;
-                tell(&mut text, datagram.payload, writer)?;
+                fill_captured(&mut text, told, captured, datagram, format.nanoseconds)?;
+                write_text(text.as_str(), writer)?;
                 told = told.saturating_add(1);
             }
             None => others = others.saturating_add(1),
         }
     }
-    text.clear();
-    push_number(&mut text, "", others)?;
-    text.push_str(" other packets\n")?;
+    let text = format!(in alloc; "{others} other packets\n")?;
     write_text(text.as_str(), writer)
 }
 
-// The number of a datagram, and its length.
-fn push_length(text: &mut String, number: u64, bytes: &[u8]) -> Result<(), AllocError>
-    ensures { OnOk result (string_bytes text.new ≡ string_bytes text.old ++ number_text number (length bytes.now)) }
+// The text becomes what is told of a datagram: its number, its length, and what it says.
+fn fill(text: &mut String, number: u64, bytes: &[u8]) -> Result<(), AllocError>
+    ensures { OnOk result ((told : List ℕ) × (string_bytes text.new ≡ number_text number (length bytes.now) ++ codes "\n" ++ told)
+        × Describes bytes.now told) }
 {
+    begin(text, number, bytes)?;
+    text.push_str("\n")?;
+    push_description(text, bytes)
+}
+
+// The same of a datagram of a capture, with its way behind its length.
+fn fill_captured(
+    text: &mut String,
+    number: u64,
+    captured: Captured<'_>,
+    datagram: Datagram<'_>,
+    nanoseconds: bool,
+) -> Result<(), AllocError>
+    ensures { OnOk result ((told : List ℕ) × (string_bytes text.new ≡ number_text number (length datagram.entry.payload.now)
+        ++ way_text datagram.entry captured.entry nanoseconds ++ codes "\n" ++ told) × Describes datagram.entry.payload.now told) }
+{
+    begin(text, number, datagram.payload)?;
+    push_way(text, captured, datagram, nanoseconds)?;
+    text.push_str("\n")?;
+    push_description(text, datagram.payload)
+}
+
+// The text becomes the number of a datagram, and its length.
+fn begin(text: &mut String, number: u64, bytes: &[u8]) -> Result<(), AllocError>
+    ensures { OnOk result (string_bytes text.new ≡ number_text number (length bytes.now)) }
+{
+    text.clear();
     push_number(text, "datagram ", number)?;
     push_number(text, " length ", bytes.len())?;
     Ok(())
@@ -120,25 +144,26 @@ fn push_way(
     captured: Captured<'_>,
     datagram: Datagram<'_>,
     nanoseconds: bool,
-) -> Result<(), AllocError> {
+) -> Result<(), AllocError>
+    ensures { OnOk result (string_bytes text.new ≡ string_bytes text.old ++ way_text datagram.entry captured.entry nanoseconds) }
+{
     text.push_str(" from ")?;
     push_address(text, datagram.from)?;
     text.push_str(" to ")?;
     push_address(text, datagram.to)?;
     push_number(text, " at ", captured.seconds)?;
-    let parts = captured.parts;
+    push_parts(text, captured.parts, nanoseconds)
+}
+
+// Billionths or millionths of a second, behind a point.
+fn push_parts(text: &mut String, parts: u32, nanoseconds: bool) -> Result<(), AllocError>
+    ensures { OnOk result (string_bytes text.new ≡ string_bytes text.old ++ codes "." ++ with_zeros (if nanoseconds then 9 else 6) parts) }
+{
     if nanoseconds {
         write!(text, ".{parts:09}")
     } else {
         write!(text, ".{parts:06}")
     }
-}
-
-// Tells a datagram, behind what the text says of it.
-fn tell<W: Write>(text: &mut String, bytes: &[u8], writer: &mut W) -> Result<(), InspectFault> {
-    text.push_str("\n")?;
-    push_description(text, bytes)?;
-    write_text(text.as_str(), writer)
 }
 
 fn write_text<W: Write>(text: &str, writer: &mut W) -> Result<(), InspectFault> {
