@@ -21,7 +21,7 @@
 //! call of `service` or of those that tell events, by `due_in` only where what was noted of them doesn't tell, and by `tick` only where
 //! bandwidth is shared out or time brings that slot something; that slots past the last used one are looked at by `due_in` not at all,
 //! and by `tick` only where bandwidth is shared out; and that an offer looks at those asleep only where one of them may be at its
-//! address, and at those that may be given out.
+//! address, and else at those between the first that may be free and the first that is.
 #![tactic(auto)]
 
 mod calls;

@@ -151,7 +151,7 @@ fn lesser_with(first: u16, slot: &Slot, number: u16, generations: u32) -> u16
 
 impl Skips {
     /// Where an offer from this address with this connect id is to go, if so many generations are allowed. Where no slot that sleeps can
-    /// hold its connection, none of them is looked at but those that come first to be given out.
+    /// hold its connection, of these only those are looked at that stand between the first that may be free and the first that is.
     pub(crate) fn seat_for(
         &mut self,
         slots: &[Slot],

@@ -27,7 +27,8 @@ pub(crate) struct Skips {
     /// is worth asking, or the number of slots. With any other the slot is awake.
     pub(crate) next: Vec<u16>,
     /// An entry a slot. Where the slot sleeps, time brings it something first when this is over. Where it is awake, this lasts 0 if
-    /// something came to it since it was looked at, and without an end from the first look at which it had something to do or in flight.
+    /// something came to it since it was looked at, and without an end from the first look at which it had something to do or in flight;
+    /// where it was time that woke it, this is what was noted while it slept.
     pub(crate) rests: Vec<Calm>,
     /// A time in which a tick changes nothing of the slots that sleep; it ends no later than the time that is noted of each of these
     /// that holds a peer.
@@ -291,8 +292,8 @@ impl Skips {
 
 /// The first slot from this one on that is awake at the moment `now`, where `next` is the first of those after it. Where this one
 /// sleeps, the time in which nothing happens lasts no longer than nothing happens there, which is noted. One that has commands in
-/// flight stays awake until it was looked at for some milliseconds and nothing came to it: so they are gone over, for the moment at which
-/// one of them is late, no more often than that.
+/// flight stays awake until it was looked at for some milliseconds and nothing came to it, unless it was time that woke it: so they are
+/// gone over, for the moment at which one of them is late, no more often than that and than time wakes it.
 fn awake_from(
     slots: &[Slot],
     number: u16,
