@@ -10,6 +10,9 @@ use crate::pushing::{push_bytes, push_number};
 use enet_codec::{Addr, Event, Packet, PeerRef, Received, Refusal};
 use std::alloc::{AllocError, Global};
 
+/// So few bytes are sooner written in hex digit by digit than all at once.
+const FEW: usize = 24;
+
 /// A refusal: its number and its name. An error where there is no memory for the text.
 pub fn refusal_text(alloc: Global, refusal: Refusal) -> Result<String, AllocError>
     ensures { IfOk result (λ text. string_bytes text ≡ label_of refusal) }
@@ -103,6 +106,9 @@ fn receive_text(alloc: Global, peer: PeerRef, packet: &Packet) -> Result<String,
 pub fn bytes_text(alloc: Global, bytes: &[u8]) -> Result<String, AllocError>
     ensures { IfOk result (λ text. string_bytes text ≡ bytes_text bytes.now) }
 {
+    if (1..=FEW).contains(&bytes.len()) {
+        return hex::encode(alloc, bytes);
+    }
     let mut text = String::with_capacity(alloc, bytes.len().saturating_mul(2))?;
     push_bytes(&mut text, bytes)?;
     Ok(text)
