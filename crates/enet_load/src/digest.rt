@@ -31,7 +31,7 @@ impl Digest {
     pub fn bytes(&mut self, bytes: &[u8]) {
         self.number(bytes.len() as u64);
         let mut lanes = Lanes {
-            first: self.state,
+            first: 0,
             second: 1,
             third: 2,
             fourth: 3,
