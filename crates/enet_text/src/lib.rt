@@ -6,8 +6,10 @@
 //! told of a datagram (`describe`, by `Describes` over the definitions of `enet_codec`): its header, each command that the
 //! bytes behind it spell, one after another, with all its fields, and from which byte on and why the rest can't be read; what a line in hex
 //! spells (`read_line`); that reading captures is safe for every input and ends.
+//! Inside, though no clause of `inspect` says so: the text that is written of each datagram, its number, its length and its way around these
+//! lines (`fill`, `fill_captured`).
 //! Only tested, by scripts/rows and scripts/check-inspect.sh: that the texts find memory; that the lines tell of 446 captured datagrams what
-//! their remarks say, which packets of a capture are datagrams, and what is written around the lines.
+//! their remarks say, which packets of a capture are datagrams, that their texts are written in order, and the last line of a capture.
 //! Neither: what was written before reading or writing failed.
 #![tactic(auto)]
 
