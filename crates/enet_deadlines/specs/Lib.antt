@@ -1,0 +1,4 @@
+pub mod Clock
+pub mod Moments
+pub mod Sets
+pub mod Private
