@@ -1,11 +1,11 @@
 #!/usr/bin/env bash
-# Runs the built program `enet_relay inspect`: on the datagrams of the files in crates/check_peer/data, of which it must tell what
+# Runs the built program `enet_relay inspect`: on the datagrams of the files in trials/captured, of which it must tell what
 # inspected.awk derives from the remarks that stand beside them; on lines that are cut short, compressed, unreadable or passed over; and on
 # captures in pcap format that are made here, byte by byte. The last line is 'N passed, M failed'; the status is 1 where one fails. The
 # program is the one that `rt ci`, or `rt run` in crates/enet_relay, leaves; another can be named as argument.
 cd "$(dirname "$0")/.." || exit 1
 program=$(realpath -m "${1:-crates/enet_relay/out/enet_relay}")
-captures=crates/check_peer/data
+captures=trials/captured
 passed=0
 failed=0
 

@@ -1,4 +1,4 @@
-# What `enet_relay inspect` must write for the datagrams of a captured file of crates/check_peer/data, by the remarks that stand beside
+# What `enet_relay inspect` must write for the datagrams of a captured file of trials/captured, by the remarks that stand beside
 # them: names and numbers are the remarks', the flags those that ENet 1.3 gives a command of that name, and lengths, payloads and what
 # can't be read are cut out of the hex by the sizes that ENet 1.3 gives the commands.
 function number_of(hex,    i, n) {

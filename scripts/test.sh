@@ -1,8 +1,8 @@
 #!/usr/bin/env bash
-# All tests: the gate (every proof from nothing, the must-fail edits, the tests, the programs), then whether the edits that the gate
-# leaves alone still fit the text, the definitions that documents quote, the worked scripts and captured datagrams through the built program,
-# each growth of memory of worked rows refused in turn, clients of the reference library that talk through the program, and the library for
-# C. Each of the seven last ends with a line 'N passed, M failed'; the status is other than 0 where anything failed.
+# All tests: the gate (every proof from nothing, the must-fail edits, the programs), then whether the edits that the gate leaves alone still
+# fit the text, the definitions that documents quote, the trials of the crates, the worked scripts and captured datagrams through the built
+# program, each growth of memory of worked rows refused in turn, clients of the reference library that talk through the program, and the
+# library for C. Each of the eight last ends with a line 'N passed, M failed'; the status is other than 0 where anything failed.
 set -u
 cd "$(dirname "$0")/.." || exit 1
 begun=$SECONDS
@@ -17,6 +17,8 @@ bash scripts/check-edits.sh --read
 edits=$?
 python3 scripts/quotes.py
 quotes=$?
+bash scripts/check-trials.sh
+trials=$?
 bash scripts/check-rows.sh
 rows=$?
 bash scripts/check-inspect.sh
@@ -27,4 +29,4 @@ bash scripts/check-clients.sh
 clients=$?
 if bash scripts/archive-c.sh > /dev/null; then bash scripts/check-c.sh; else echo '0 passed, 1 failed'; false; fi
 library=$?
-[ "$edits $quotes $rows $inspected $memory $clients $library" = '0 0 0 0 0 0 0' ]
+[ "$edits $quotes $trials $rows $inspected $memory $clients $library" = '0 0 0 0 0 0 0 0' ]

@@ -1,5 +1,0 @@
-use Rattle.enet_submit.specs.Words.{IsDrainOf}
-use Rattle.check_queues.proofs.submit.threads.take_all.Given as goal
-
-abbrev pub invariant-loop : goal.invariant-loop
-invariant-loop g l = IsDrainOf l.queue l.drain

@@ -1,0 +1,39 @@
+#!/usr/bin/env bash
+# Runs the trials of the crates, which stand in trials/: worked values, trials of a peer, captured datagrams of the reference library byte for
+# byte, queues, wires and a service with a real host, from several threads and through sockets. Their files end in .in, which no check reads:
+# here they become a crate in a copy of the repository, and `rt try` builds all tests at once, with all that they stand on. That build isn't
+# proved; it stops at each overflow and each index or access out of range. Its files must be as `rt fmt` lays them out. Takes three minutes
+# of a processor. Prints each trial that failed; the last line is 'N passed, M failed', and the status 1 where one failed.
+cd "$(dirname "$0")/.." || exit 1
+room=$(mktemp -d) || exit 1
+trap 'rm -rf "$room"' EXIT
+there=$room/crates/trials
+
+# Makes the crate.
+copy() {
+    tar -cf - --exclude='crates/*/out' crates crates.txt HANDLES | tar -xf - -C "$room" && cp -r trials "$there" || return 1
+    find "$there/src" -name '*.in' -print0 | while IFS= read -r -d '' file; do mv "$file" "${file%.in}" || return 1; done
+    cat "$there/line" >> "$room/crates.txt"
+}
+
+if ! copy; then
+    echo 'FAILED copy: no copy of the repository could be made'
+    echo '0 passed, 1 failed'
+    exit 1
+fi
+cd "$there" || exit 1
+rt fmt > "$room/laid" 2>&1
+failed=$(grep -c '^rt: formatted ' "$room/laid")
+sed -n 's/^rt: formatted \(.*\)/FAILED trials\/\1.in: not as rt fmt lays it out/p' "$room/laid"
+data=(--data peer.txt=peer.txt)
+for file in captured/*.txt; do
+    data+=(--data "${file#captured/}=$file")
+done
+rt try --test --seconds 300 "${data[@]}" > "$room/said" 2>&1
+grep -vE '^(test .* \.\.\. ok|tests: [0-9]+|test result: .*|races: .*|run=ended status=0 .*)$' "$room/said"
+passed=$(sed -nE 's/^test result: [A-Za-z]+\. ([0-9]+) passed; ([0-9]+) failed.*/\1/p' "$room/said")
+lost=$(sed -nE 's/^test result: [A-Za-z]+\. ([0-9]+) passed; ([0-9]+) failed.*/\2/p' "$room/said")
+failed=$((failed + ${lost:-1}))
+[ "${passed:-0}" -gt 0 ] || failed=$((failed + 1))
+echo "${passed:-0} passed, $failed failed"
+[ "$failed" -eq 0 ]
