@@ -2,16 +2,20 @@
 # The host as a library for C, and libenet's API over it: `build-c.sh FOLDER [ARCHIVE]` makes of FOLDER, as /usr/local,
 #   include/gofnjerta.h   lib/libgofnjerta.a   lib/libgofnjerta.so   lib/pkgconfig/gofnjerta.pc
 # and, for programs that are written for libenet,
-#   include/gofnjerta/enet/enet.h   lib/libgofnjerta_enet.a   lib/gofnjerta/libenet.so.7   lib/pkgconfig/gofnjerta-enet.pc
+#   include/gofnjerta/enet/*.h   lib/libgofnjerta_enet.a   lib/gofnjerta/libenet.so.7   lib/pkgconfig/gofnjerta-enet.pc
+#   lib/gofnjerta/libenet.so   lib/gofnjerta/pkgconfig/libenet.pc
+# all of which may be moved together.
 # ARCHIVE is the proved part, crates/enet_c/out/libenet_c.a; where it isn't given, `rt lib` proves and builds it first. A program is
 # then compiled by
 #   cc program.c $(PKG_CONFIG_PATH=FOLDER/lib/pkgconfig pkg-config --cflags --libs gofnjerta)
 # and runs with LD_LIBRARY_PATH=FOLDER/lib, or is linked with FOLDER/lib/libgofnjerta.a, which needs nothing beside the C library. A
-# program for libenet is compiled with gofnjerta-enet in place of gofnjerta; one that is there already runs on
-# LD_LIBRARY_PATH=FOLDER/lib/gofnjerta as it is. The compiler is CC (cc), and CFLAGS comes to its flags. Says at the end how to link; the status is 1 where something failed.
+# program for libenet is compiled with gofnjerta-enet in place of gofnjerta, or, where it asks pkg-config for libenet, with
+# PKG_CONFIG_PATH=FOLDER/lib/gofnjerta/pkgconfig; one that is there already, or was compiled so, runs on
+# LD_LIBRARY_PATH=FOLDER/lib/gofnjerta as it is. The compiler is CC (cc), and CFLAGS comes to its flags. Says at the end how to link; the
+# status is 1 where something failed.
 set -eu
 [ $# -ge 1 ] || { echo "usage: build-c.sh FOLDER [ARCHIVE]" >&2; exit 1; }
-mkdir -p "$1/include/gofnjerta/enet" "$1/lib/pkgconfig" "$1/lib/gofnjerta"
+mkdir -p "$1/include/gofnjerta/enet" "$1/lib/pkgconfig" "$1/lib/gofnjerta/pkgconfig"
 folder=$(cd "$1" && pwd)
 [ $# -lt 2 ] || archive=$(realpath "$2")
 cd "$(dirname "$0")/.."
@@ -50,20 +54,27 @@ ar rcs "$folder/lib/libgofnjerta_enet.a" "$room/enet.o" "$room/gofnjerta.o" "$ro
 compile -shared -Wl,-soname,libenet.so.7 -Wl,-z,nodelete -Wl,--version-script=c/enet/enet.map -o "$folder/lib/gofnjerta/libenet.so.7" \
     "$room/enet.o" "$room/gofnjerta.o" "$room/pool.o" "$room"/parts/*.o
 cp c/gofnjerta.h "$folder/include/"
-cp c/enet/enet.h "$folder/include/gofnjerta/enet/"
+ln -sf libenet.so.7 "$folder/lib/gofnjerta/libenet.so"
+for header in c/enet/*.h; do
+    [ "$header" = c/enet/layer.h ] || cp "$header" "$folder/include/gofnjerta/enet/"
+done
 
-# A pkg-config file: its name, what it is, the folder of its headers and its library.
+# A pkg-config file in the folder $1 of lib, from which FOLDER is $prefix: its name, what it is, the folder of its headers, that of its library
+# and the library.
 describe() {
-    cat > "$folder/lib/pkgconfig/$1.pc" << END
-prefix=$folder
-Name: $1
-Description: $2
+    cat > "$folder/lib/$1/$2.pc" << END
+prefix=\${pcfiledir}/$prefix
+Name: $2
+Description: $3
 Version: 1.3.17
-Cflags: -I\${prefix}/$3
-Libs: -L\${prefix}/lib -l$4
+Cflags: -I\${prefix}/$4
+Libs: -L\${prefix}/$5 -l$6
 END
 }
-describe gofnjerta 'a proved host of ENet 1.3 without a socket' include gofnjerta
-describe gofnjerta-enet 'the API of libenet 1.3 over a proved host' include/gofnjerta gofnjerta_enet
+prefix=../..
+describe pkgconfig gofnjerta 'a proved host of ENet 1.3 without a socket' include lib gofnjerta
+describe pkgconfig gofnjerta-enet 'the API of libenet 1.3 over a proved host' include/gofnjerta lib gofnjerta_enet
+prefix=../../..
+describe gofnjerta/pkgconfig libenet 'the API of libenet 1.3 over a proved host' include/gofnjerta lib/gofnjerta enet
 echo "built: cc program.c -I$folder/include -L$folder/lib -lgofnjerta, and run it with LD_LIBRARY_PATH=$folder/lib"
 echo "for libenet's API: cc program.c -I$folder/include/gofnjerta $folder/lib/libgofnjerta_enet.a"

@@ -6,19 +6,21 @@
 #   UndefinedBehaviorSanitizer, and under valgrind;
 # - the layer: its structures lie as the reference library's header says (layout), what isn't offered is refused, and packets that are sent
 #   while others are let go come as they are (refusals); the reference library and ours do the same with packets of any length and their
-#   bytes (packets), with ten thousand calls drawn from a seed, of which all ways to end (calls), and where packets are taken peer by peer
-#   (waiting); a handle and a host go from thread to thread (threads, also with ThreadSanitizer); a million datagrams of strangers disturb
-#   nobody at a host with callbacks around each datagram (storm); the fields that programs read are the reference library's but for those
-#   that c/tests/fields.differ names (fields);
+#   bytes (packets), with ten thousand calls drawn from a seed, of which all ways to end (calls), where packets are taken peer by peer
+#   (waiting), and with what programs read and write beside their calls (alike, also as it is built for the reference library); a handle and a
+#   host go from thread to thread (threads, also with ThreadSanitizer); a million datagrams of strangers disturb nobody at a host with callbacks
+#   around each datagram (storm); the fields that programs read are the reference library's but for those that c/tests/fields.differ names
+#   (fields);
 # - conversations of the programs in clients/ that use no more than what is offered, compiled unchanged against c/enet/enet.h, with the
 #   reference library at the other end, both ways round, straight and through clients/proxy.c; one runs a program that was built for
 #   libenet on our shared library;
 # - programs that weren't written for it: libenet's tutorial (c/tests/tutorial.c) on the layer, and Debian's python3-enet, which was built
 #   for libenet, on our shared library (c/tests/binding.py), each with the reference library at the other end, both ways round;
 # - sockets by TCP, duplicatePeers, intercept, compressor and checksum (c/tests/offered.c), with each of the libraries at either end;
-# - what waits at a receiver never keeps the next packet out for good: the reference library sends, the layer receives (progress).
+# - what waits at a receiver never keeps the next packet out for good: the reference library sends, the layer receives (progress);
+# - installed below a prefix, it is found by pkg-config under libenet's name, and each header stands alone; and it is taken away.
 # Prints what failed, and as last line 'N passed, M failed'; the status is 1 where one failed or nothing was tried. It ends within 4
-# minutes. As root it installs what is missing of gcc, libenet-dev, valgrind and python3-enet.
+# minutes. As root it installs what is missing of gcc, libenet-dev, valgrind, python3-enet and pkg-config.
 cd "$(dirname "$0")/.." || exit 1
 . scripts/clients.sh
 archive=${1:-crates/enet_c/out/libenet_c.a}
@@ -212,16 +214,31 @@ conversations() {
     wait
 }
 
-# Debian's valgrind and Python binding, where they are missing.
+# A program that asks for libenet, compiled and run where the library is installed; and its end.
+installed() {
+    local prefix=$room/prefix header words
+    bash scripts/install-c.sh "$prefix" "$archive" || return 1
+    read -ra words <<< "$(PKG_CONFIG_PATH=$prefix/lib/gofnjerta/pkgconfig pkg-config --cflags --libs libenet)"
+    for header in /usr/include/enet/*.h; do
+        [ "$header" != /usr/include/enet/win32.h ] || continue
+        echo "#include <enet/${header##*/}>" | cc -Wall -Wextra -Werror "${words[0]}" -x c -c - -o "$room/header.o" || return 1
+    done
+    cc -std=gnu11 c/tests/tutorial.c -o "$room/found" "${words[@]}" || return 1
+    LD_LIBRARY_PATH=$prefix/lib/gofnjerta ldd "$room/found" | grep -q "$prefix/lib/gofnjerta/libenet.so.7" || return 1
+    bash scripts/install-c.sh --uninstall "$prefix" && [ -z "$(find "$prefix" ! -type d)" ] && [ ! -e "$prefix/lib/gofnjerta" ]
+}
+
+# Debian's valgrind, Python binding and pkg-config, where they are missing.
 install_tools() {
     local missing=()
+    command -v pkg-config || missing+=(pkg-config)
     command -v valgrind || missing+=(valgrind)
     /usr/bin/python3 -c 'import enet' || missing+=(python3-enet)
     [ ${#missing[@]} -eq 0 ] || apt-get install -y "${missing[@]}" || { apt-get update && apt-get install -y "${missing[@]}"; }
 }
 
-layer_tests=(refusals packets calls waiting)
-compared=(packets calls waiting fields)
+layer_tests=(refusals packets calls waiting alike)
+compared=(packets calls waiting fields alike)
 room=$(mktemp -d) || exit 1
 trap 'kill $(jobs -p) 2> /dev/null; wait; rm -rf "$room"' EXIT
 names=()
@@ -252,6 +269,8 @@ else
         [ "$name" = fields ] || try "$name-alike" cmp "$room/$name.out" "$room/$name-theirs.out"
     done
     try fields-differ fields_differ
+    try alike-shared env LD_LIBRARY_PATH="$room/made/lib/gofnjerta" "$room/alike-theirs"
+    try alike-shared-alike cmp "$room/alike-shared.out" "$room/alike-theirs.out"
     # Where addresses are drawn from a wide range, ThreadSanitizer doesn't start.
     try threads-raced setarch -R "$room/threads-raced"
     try lossy-shared env LD_LIBRARY_PATH="$room/made/lib" "$room/lossy-shared"
@@ -259,6 +278,7 @@ else
     try memory-valgrind "${grind[@]}" "$room/memory"
     try pool-valgrind "${grind[@]}" "$room/pool"
     try layout diff <("$room/layout-ours") <("$room/layout-theirs")
+    try installed installed
     meetings
     conversations
     for name in "${names[@]}"; do

@@ -6,19 +6,31 @@
 __attribute__((noinline)) static bool is_news(Layer *layer, const gofnjerta_event *told) {
     Slot *slot = &layer->slots[told->peer.slot];
     bool is_last = slot->name.generation == told->peer.generation;
+    if (told->peer.generation == slot->parked) {
+        slot->is_parked = false;
+        return false;
+    }
+    ENetPeer *peer = &layer->host.peers[told->peer.slot];
     if (told->kind == GOFNJERTA_CONNECT) {
         if (!is_last) layer_meet(layer, told->peer, true);
+        if (slot->known) peer->eventData = told->info;
         return slot->known;
     }
     if (is_last && slot->lingers) {
         slot->lingers = false;
         layer->lingering--;
+        layer->full_at = UINT64_MAX;
     }
     if (!is_last || !slot->known) return false;
     slot->ended = true;
     layer->ended++;
-    layer_show_peer(layer, &layer->host.peers[told->peer.slot]);
-    return true;
+    layer_show_peer(layer, peer);
+    peer->eventData = told->info;
+    if (slot->told || !slot->came) return true;
+    /* It came and went, and the program heard nothing of it yet. */
+    layer_drop_kept(layer, peer);
+    layer_forget(layer, peer);
+    return false;
 }
 
 /* What goes with each packet is part of its callers. */
@@ -75,6 +87,16 @@ static Slot *leave_line(Layer *layer) {
     return slot;
 }
 
+/* Shows whether enet_peer_receive has a packet of the slot's at hand, of which so many bytes came or went. */
+static void show_kept(Layer *layer, uint16_t number, const Kept *kept, bool came) {
+    const Slot *slot = &layer->slots[number];
+    ENetPeer *peer = &layer->host.peers[number];
+    size_t length = kept->packet ? kept->told.length : 0;
+    peer->totalWaitingData += came ? length : 0 - ENET_MIN(length, peer->totalWaitingData);
+    if (slot->first && slot->first->packet) put_mark(&peer->dispatchedCommands, &layer->marks[number].kept);
+    else take_mark(&peer->dispatchedCommands);
+}
+
 /* Keeps the event that was heard; false where there is no memory. */
 static bool keep(Layer *layer) {
     Slot *slot = &layer->slots[layer->told.peer.slot];
@@ -89,15 +111,17 @@ static bool keep(Layer *layer) {
     else slot->first = kept;
     slot->newest = kept;
     slot->kept_bytes += weight_of(kept);
+    show_kept(layer, kept->told.peer.slot, kept, true);
     stand_in_line(layer, kept->told.peer.slot);
     return true;
 }
 
 /* Takes a slot's first kept event; there is one. */
-static Kept take_kept(Slot *slot) {
+static Kept take_kept(Layer *layer, Slot *slot) {
     Kept *first = slot->first, kept = *first;
     slot->first = kept.next;
     slot->kept_bytes -= weight_of(first);
+    show_kept(layer, kept.told.peer.slot, &kept, false);
     free(first);
     return kept;
 }
@@ -105,7 +129,7 @@ static Kept take_kept(Slot *slot) {
 void layer_drop_kept(Layer *layer, const ENetPeer *peer) {
     Slot *slot = &layer->slots[peer->incomingPeerID];
     while (slot->first) {
-        Kept kept = take_kept(slot);
+        Kept kept = take_kept(layer, slot);
         enet_packet_destroy(kept.packet);
     }
     if (layer->pending && layer->told.peer.slot == peer->incomingPeerID) layer->pending = false;
@@ -113,6 +137,10 @@ void layer_drop_kept(Layer *layer, const ENetPeer *peer) {
 
 void layer_drain(Layer *layer) {
     while (layer->lingering && hear(layer) && keep(layer)) continue;
+}
+
+void layer_keep_all(Layer *layer) {
+    while (hear(layer) && keep(layer)) continue;
 }
 
 /* The same of the beginning or the end of a connection. */
@@ -142,7 +170,7 @@ __attribute__((noinline)) static bool tell_kept(Layer *layer, ENetEvent *event) 
     while (layer->line) {
         Slot *slot = leave_line(layer);
         if (!slot->first) continue;
-        Kept kept = take_kept(slot);
+        Kept kept = take_kept(layer, slot);
         if (slot->first) stand_in_line(layer, kept.told.peer.slot);
         hand_out(layer, &kept.told, kept.packet, event);
         return true;
@@ -181,7 +209,7 @@ ENetPacket *enet_peer_receive(ENetPeer *peer, enet_uint8 *channel) {
         return next.packet;
     }
     if (slot->first->told.kind != GOFNJERTA_RECEIVE) return NULL;
-    next = take_kept(slot);
+    next = take_kept(layer, slot);
     if (channel) *channel = next.told.channel;
     return next.packet;
 }

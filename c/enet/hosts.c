@@ -6,8 +6,6 @@
 
 static void show_host(ENetHost *host, const ENetAddress *address, const gofnjerta_config *config) {
     if (address && enet_socket_get_address(host->socket, &host->address) < 0) host->address = *address;
-    host->peerCount = config->peers;
-    host->channelLimit = config->channels;
     host->incomingBandwidth = config->incoming;
     host->outgoingBandwidth = config->outgoing;
     host->mtu = config->mtu;
@@ -15,11 +13,13 @@ static void show_host(ENetHost *host, const ENetAddress *address, const gofnjert
     host->maximumWaitingData = config->max_waiting;
     host->duplicatePeers = ENET_PROTOCOL_MAXIMUM_PEER_ID;
     host->randomSeed = enet_host_random_seed();
-    for (size_t i = 0; i < host->peerCount; i++) {
+    take_mark(&host->dispatchQueue);
+    for (size_t i = 0; i < config->peers; i++) {
+        Slot *slot = &layer_of(host)->slots[i];
         host->peers[i].host = host;
         host->peers[i].incomingPeerID = (enet_uint16)i;
-        host->peers[i].outgoingPeerID = ENET_PROTOCOL_MAXIMUM_PEER_ID;
-        layer_of(host)->slots[i].name.generation = layer_of(host)->slots[i].seen.generation = UINT32_MAX;
+        slot->name.generation = slot->seen.generation = slot->parked = UINT32_MAX;
+        layer_forget(layer_of(host), &host->peers[i]);
     }
 }
 
@@ -34,21 +34,27 @@ static bool open_socket(ENetHost *host, const ENetAddress *address) {
     return true;
 }
 
+static bool make_slots(Layer *layer, size_t count) {
+    layer->host.peers = calloc(count, sizeof *layer->host.peers);
+    layer->slots = calloc(count, sizeof *layer->slots);
+    layer->marks = calloc(count, sizeof *layer->marks);
+    return layer->host.peers && layer->slots && layer->marks;
+}
+
+/* A host with no peers has one in the core, where none comes. */
 ENetHost *enet_host_create(const ENetAddress *address, size_t peers, size_t channels, enet_uint32 incoming, enet_uint32 outgoing) {
-    if (peers < 1 || peers > ENET_PROTOCOL_MAXIMUM_PEER_ID) return NULL;
-    if (channels < 1 || channels > ENET_PROTOCOL_MAXIMUM_CHANNEL_COUNT) channels = ENET_PROTOCOL_MAXIMUM_CHANNEL_COUNT;
+    if (peers > ENET_PROTOCOL_MAXIMUM_PEER_ID) return NULL;
     Layer *layer = calloc(1, sizeof *layer);
     if (!layer) return NULL;
     layer->host.socket = ENET_SOCKET_NULL;
-    layer->host.peers = calloc(peers, sizeof *layer->host.peers);
-    layer->slots = calloc(peers, sizeof *layer->slots);
-    gofnjerta_config config = gofnjerta_standard((uint16_t)peers, (uint8_t)channels);
+    gofnjerta_config config = gofnjerta_standard((uint16_t)ENET_MAX(peers, 1), ENET_PROTOCOL_MAXIMUM_CHANNEL_COUNT);
     config.mtu = ENET_HOST_DEFAULT_MTU;
     config.incoming = incoming;
     config.outgoing = outgoing;
     config.generations = UINT32_MAX;
     config.clock = (uint32_t)(layer->clock = layer_now());
-    if (!layer->host.peers || !layer->slots || !open_socket(&layer->host, address) || gofnjerta_open(&layer->core, &config)) {
+    layer->full_at = UINT64_MAX;
+    if (!make_slots(layer, config.peers) || !open_socket(&layer->host, address) || gofnjerta_open(&layer->core, &config)) {
         enet_host_destroy(&layer->host);
         return NULL;
     }
@@ -56,45 +62,47 @@ ENetHost *enet_host_create(const ENetAddress *address, size_t peers, size_t chan
     layer->has_trains = setsockopt(layer->host.socket, IPPROTO_UDP, UDP_SEGMENT, &none, sizeof none) == 0;
     layer->config = config;
     show_host(&layer->host, address, &config);
+    layer->host.peerCount = peers;
+    enet_host_channel_limit(&layer->host, channels);
     return &layer->host;
 }
 
 void enet_host_destroy(ENetHost *host) {
     if (!host) return;
     Layer *layer = layer_of(host);
-    for (size_t i = 0; host->peers && i < host->peerCount; i++) host->peers[i].state = ENET_PEER_STATE_DISCONNECTED; /* no callback sends */
-    layer_release(layer);
-    for (size_t i = 0; host->peers && layer->slots && i < host->peerCount; i++) layer_drop_kept(layer, &host->peers[i]);
+    layer->ends = true;
+    for (size_t i = 0; i < layer->config.peers; i++) host->peers[i].state = ENET_PEER_STATE_DISCONNECTED;
+    layer_release(layer, 0);
+    for (size_t i = 0; i < layer->config.peers; i++) {
+        layer_drop_kept(layer, &host->peers[i]);
+        free(layer->slots[i].highest);
+    }
     enet_host_compress(host, NULL);
     gofnjerta_close(&layer->core);
     enet_socket_destroy(host->socket);
     free(layer->sent);
     free(layer->slots);
+    free(layer->marks);
     free(host->peers);
     free(layer);
 }
 
-/* The settings that the program's fields ask for. */
-static gofnjerta_config config_wanted(const Layer *layer) {
-    gofnjerta_config config = layer->config;
-    config.mtu = layer->host.mtu;
-    config.channels = (uint8_t)layer->host.channelLimit;
-    config.max_packet = (uint32_t)ENET_MIN(layer->host.maximumPacketSize, UINT32_MAX);
-    config.max_waiting = (uint32_t)ENET_MIN(layer->host.maximumWaitingData, UINT32_MAX);
-    return config;
+/* Whether all that the program's fields ask for is offered. */
+static bool is_offered(const Layer *layer) {
+    const ENetHost *host = &layer->host;
+    enet_uint32 longest = layer->begun ? layer->config.mtu : ENET_PROTOCOL_MAXIMUM_MTU;
+    return host->mtu >= ENET_PROTOCOL_MINIMUM_MTU && host->mtu <= longest && host->peerCount <= layer->config.peers && host->channelLimit > 0 &&
+           host->maximumPacketSize <= GOFNJERTA_MAX_PACKET && host->maximumWaitingData > 0;
 }
 
-static bool is_same(const gofnjerta_config *one, const gofnjerta_config *other) {
-    return one->mtu == other->mtu && one->channels == other->channels && one->max_packet == other->max_packet && one->max_waiting == other->max_waiting;
-}
-
-/* Makes the core as the program's fields ask, if that is offered: it is opened anew where they changed before it began. */
-static bool make_ready(Layer *layer) {
-    if (layer->host.channelLimit > ENET_PROTOCOL_MAXIMUM_CHANNEL_COUNT) return false;
-    gofnjerta_config wanted = config_wanted(layer);
-    if (!is_same(&wanted, &layer->config)) {
+/* Opens the core anew with the settings of its own, where they changed before it began. */
+static bool begin(Layer *layer) {
+    gofnjerta_config wanted = layer->config;
+    wanted.mtu = layer->host.mtu;
+    wanted.max_waiting = (uint32_t)ENET_MIN(layer->host.maximumWaitingData, GOFNJERTA_MAX_PACKET);
+    if (wanted.mtu != layer->config.mtu || wanted.max_waiting != layer->config.max_waiting) {
         gofnjerta_host core = {0};
-        if (layer->begun || gofnjerta_open(&core, &wanted)) return false;
+        if (gofnjerta_open(&core, &wanted)) return false;
         gofnjerta_close(&layer->core);
         layer->core = core;
         layer->config = wanted;
@@ -103,11 +111,7 @@ static bool make_ready(Layer *layer) {
 }
 
 bool layer_is_ready(Layer *layer) {
-    const ENetHost *host = &layer->host;
-    const gofnjerta_config *set = &layer->config;
-    bool is_as_set = host->mtu == set->mtu && host->channelLimit == set->channels && host->maximumPacketSize == set->max_packet &&
-                     host->maximumWaitingData == set->max_waiting;
-    return (layer->begun && is_as_set) || make_ready(layer);
+    return !layer->ends && is_offered(layer) && (layer->begun || begin(layer));
 }
 
 void enet_host_bandwidth_limit(ENetHost *host, enet_uint32 incoming, enet_uint32 outgoing) {

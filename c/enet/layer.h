@@ -34,6 +34,23 @@ typedef struct Kept {
     ENetPacket *packet;
 } Kept;
 
+/* A packet for one peer, whose bytes the core has; it holds one reference. */
+typedef struct {
+    ENetPacket *packet; /* NULL where the peer was reset since */
+    uint16_t slot;
+} Given;
+
+/* What stands in a list of a peer that isn't empty. */
+typedef union {
+    ENetListNode node;
+    ENetOutgoingCommand outgoing;
+    ENetIncomingCommand incoming;
+} Mark;
+
+typedef struct {
+    Mark queued, sent, kept;
+} Marks;
+
 /* A slot as the program sees it. */
 typedef struct {
     gofnjerta_peer name; /* its peer's, or that of the last one; of generation UINT32_MAX, which no peer has, before there was one */
@@ -42,16 +59,20 @@ typedef struct {
     bool ended;          /* the core told its end, which isn't handed out yet */
     bool is_mute;        /* the program disconnects it: no packet of it is handed out any more */
     bool lingers;        /* the program let it go, and the core hasn't told its end */
-    bool is_parked;      /* the core connects from it by the name of generation `parked`, which the program isn't given */
+    bool is_parked;      /* the core has a peer of nobody in it, of generation `parked` */
+    bool came;           /* the other end asked for the connection */
+    bool pings;          /* the program asked for a ping, and no reliable command went since */
     bool sends;          /* some of its datagrams are gathered, up to the parcel `last` */
     bool is_in_line;     /* it stands in line for its kept events, before the slot `behind` where it isn't the last */
     bool is_counted, is_limited; /* in the host's numbers of connected and of limited peers */
     uint16_t last, behind;
-    uint32_t parked;
+    uint32_t parked; /* UINT32_MAX before there was one */
     gofnjerta_peer seen; /* the last peer of which a datagram went, which the program may not know yet */
     gofnjerta_address at;
     uint32_t connect_id; /* as it stands on the wire */
     uint32_t incoming, outgoing; /* the other end's bandwidths */
+    uint32_t ping, timeouts[3];  /* in milliseconds, as the core has them; and the limit */
+    uint16_t *highest;           /* of each channel the highest number of a reliable command that went; NULL where memory was missing */
     Kept *first, *newest; /* its events that were passed over */
     size_t kept_bytes;    /* what their packets take */
 } Slot;
@@ -70,9 +91,13 @@ typedef struct {
     gofnjerta_config config;   /* the settings that it was opened with */
     bool begun;                /* they stand */
     bool releases;             /* callbacks of packets that are let go are being called */
+    bool ends;                 /* the program destroys it */
+    bool has_failed;           /* the system refused to send a datagram since the service began */
     Slot *slots;
     uint64_t clock, refreshed; /* milliseconds */
-    ENetPacket **sent;         /* packets that the program gave away since the last service, each with one reference */
+    uint64_t full_at;          /* when no slot was free for a peer that came; UINT64_MAX where one may be */
+    Marks *marks;              /* by slots */
+    Given *sent;               /* packets that the program gave away since the last service */
     size_t sent_count, sent_room;
     ENetPacket *given, *staged; /* the last of them, and the one whose bytes the core holds for several peers */
     size_t orders;             /* for how many peers the last one was */
@@ -97,19 +122,25 @@ extern bool layer_has_allocator; /* the program gave one; it may be one of the C
 
 uint64_t layer_now(void); /* the machine's clock, in milliseconds */
 
-/* Whether the program asks for nothing that isn't offered. The settings may be written until the first connect, service or flush, at
- * which the core is opened anew with them; from then on they stand. */
+/* Whether the program asks for nothing that isn't offered. At the first connect, service or flush the core is opened anew with the settings
+ * that it has of its own, mtu and maximumWaitingData. */
 bool layer_is_ready(Layer *layer);
+
+/* Sees to it that the core's next peer gets a slot that the program has done with and may use (peerCount); false where there is none. */
+bool layer_make_way(Layer *layer);
+void layer_unpark(Layer *layer, uint16_t number); /* the peer of nobody leaves the slot */
 
 void layer_forget(Layer *layer, ENetPeer *peer);         /* the program is done with this peer */
 void layer_show_peer(Layer *layer, ENetPeer *peer);      /* brings its fields up to date */
 void layer_meet(Layer *layer, gofnjerta_peer name, bool answers); /* a slot's new peer, which the other end may have asked for */
 void layer_drop_kept(Layer *layer, const ENetPeer *peer); /* drops what the peer's events told and the program didn't take */
 void layer_drain(Layer *layer);                          /* keeps what there is to tell, until no slot lingers */
+void layer_keep_all(Layer *layer);                       /* keeps what there is to tell */
 int layer_tell(Layer *layer, ENetEvent *event);          /* the next event: 1, 0 where there is none, -1 where memory is missing */
-void layer_release(Layer *layer);                          /* gives back the references to packets that were submitted */
+void layer_release(Layer *layer, enet_uint32 flag);        /* gives back the references to packets that were submitted; the last gets the flag */
+void layer_release_of(Layer *layer, const ENetPeer *peer); /* the same of one peer, at its reset */
 void layer_go_on(Layer *layer);                            /* the clock goes on to now */
-void layer_put_out(Layer *layer);                          /* sends all that the core gives */
+void layer_put_out(Layer *layer);                          /* sends all that the core gives; has_failed where the system refused one */
 void layer_count(Layer *layer, ENetPeer *peer);            /* whether it is among the host's connected and limited peers */
 
 /* Takes in what came. How many datagrams it was goes to `came`; 1 where the program made an event of one, -1 for a fault. */
@@ -131,6 +162,17 @@ static inline size_t command_length(const uint8_t *at, size_t left) {
     if (place) size += (size_t)at[place] << 8 | at[place + 1];
     return size <= left ? size : 0;
 }
+
+/* How many slots the program has in use: it may have lowered peerCount. */
+static inline size_t slots_in_use(const Layer *layer) { return ENET_MIN(layer->host.peerCount, layer->config.peers); }
+
+/* A list gets the mark alone, or nothing. */
+static inline void put_mark(ENetList *list, Mark *mark) {
+    mark->node = (ENetListNode){&list->sentinel, &list->sentinel};
+    list->sentinel = (ENetListNode){&mark->node, &mark->node};
+}
+
+static inline void take_mark(ENetList *list) { list->sentinel = (ENetListNode){&list->sentinel, &list->sentinel}; }
 
 static inline Layer *layer_of(ENetHost *host) { return (Layer *)host; }
 static inline Slot *slot_of(ENetPeer *peer) { return &layer_of(peer->host)->slots[peer->incomingPeerID]; }

@@ -1,11 +1,13 @@
 /* Peers: what the program reads of them, how they come and go, and what may be set. */
 #include "layer.h"
 
-static ENetPeerState state_shown(uint32_t state, bool told) {
+static ENetPeerState state_shown(uint32_t state, const Slot *slot) {
     switch (state) {
     case GOFNJERTA_CONNECTING: return ENET_PEER_STATE_CONNECTING;
     case GOFNJERTA_ANSWERING: return ENET_PEER_STATE_ACKNOWLEDGING_CONNECT;
-    case GOFNJERTA_CONNECTED: return told ? ENET_PEER_STATE_CONNECTED : ENET_PEER_STATE_CONNECTION_SUCCEEDED;
+    case GOFNJERTA_CONNECTED:
+        if (slot->told) return ENET_PEER_STATE_CONNECTED;
+        return slot->came ? ENET_PEER_STATE_CONNECTION_PENDING : ENET_PEER_STATE_CONNECTION_SUCCEEDED;
     case GOFNJERTA_DISCONNECT_LATER: return ENET_PEER_STATE_DISCONNECT_LATER;
     case GOFNJERTA_DISCONNECTING: return ENET_PEER_STATE_DISCONNECTING;
     case GOFNJERTA_ACKNOWLEDGING: return ENET_PEER_STATE_ACKNOWLEDGING_DISCONNECT;
@@ -28,14 +30,30 @@ void layer_count(Layer *layer, ENetPeer *peer) {
 static void clear(ENetPeer *peer) {
     *peer = (ENetPeer){.host = peer->host, .incomingPeerID = peer->incomingPeerID, .address = peer->address, .data = peer->data,
                        .outgoingPeerID = ENET_PROTOCOL_MAXIMUM_PEER_ID};
+    take_mark(&peer->acknowledgements);
+    take_mark(&peer->sentReliableCommands);
+    take_mark(&peer->sentUnreliableCommands);
+    take_mark(&peer->outgoingCommands);
+    take_mark(&peer->dispatchedCommands);
 }
 
 void layer_forget(Layer *layer, ENetPeer *peer) {
     Slot *slot = slot_of(peer);
     if (slot->ended) layer->ended--;
-    slot->known = slot->told = slot->ended = slot->is_mute = false;
+    slot->known = slot->told = slot->ended = slot->is_mute = slot->pings = false;
+    layer_unpark(layer, peer->incomingPeerID);
+    layer->full_at = UINT64_MAX;
     clear(peer);
     layer_count(layer, peer);
+}
+
+/* Gives the core what the program wrote into the fields of the ping and of the timeouts, 1 in the place of 0, which is the core's word for the
+ * standard number. */
+static void take_written(ENetPeer *peer) {
+    const Slot *slot = slot_of(peer);
+    if (peer->pingInterval != slot->ping) enet_peer_ping_interval(peer, ENET_MAX(peer->pingInterval, 1));
+    if (peer->timeoutLimit == slot->timeouts[0] && peer->timeoutMinimum == slot->timeouts[1] && peer->timeoutMaximum == slot->timeouts[2]) return;
+    enet_peer_timeout(peer, ENET_MAX(peer->timeoutLimit, 1), ENET_MAX(peer->timeoutMinimum, 1), ENET_MAX(peer->timeoutMaximum, 1));
 }
 
 /* The extreme round trips of an interval of the throttle, and those of the one before; as the readings have them, which are renewed every
@@ -62,7 +80,8 @@ void layer_show_peer(Layer *layer, ENetPeer *peer) {
         layer_count(layer, peer);
         return;
     }
-    peer->state = state_shown(read.state, slot->told);
+    take_written(peer);
+    peer->state = state_shown(read.state, slot);
     peer->outgoingPeerID = read.slot;
     peer->connectID = htonl(read.connect_id);
     peer->outgoingSessionID = read.outgoing_session;
@@ -80,6 +99,7 @@ void layer_show_peer(Layer *layer, ENetPeer *peer) {
     peer->packetThrottleAcceleration = read.acceleration;
     peer->packetThrottleDeceleration = read.deceleration;
     peer->reliableDataInTransit = read.in_transit;
+    if (!read.in_transit) take_mark(&peer->sentReliableCommands);
     show_extremes(peer);
     layer_count(layer, peer);
 }
@@ -89,11 +109,12 @@ void layer_meet(Layer *layer, gofnjerta_peer name, bool answers) {
     Slot *slot = &layer->slots[name.slot];
     slot->name = name;
     slot->known = true;
+    slot->came = answers;
     clear(peer);
-    peer->pingInterval = ENET_PEER_PING_INTERVAL;
-    peer->timeoutLimit = ENET_PEER_TIMEOUT_LIMIT;
-    peer->timeoutMinimum = ENET_PEER_TIMEOUT_MINIMUM;
-    peer->timeoutMaximum = ENET_PEER_TIMEOUT_MAXIMUM;
+    peer->pingInterval = slot->ping = ENET_PEER_PING_INTERVAL;
+    peer->timeoutLimit = slot->timeouts[0] = ENET_PEER_TIMEOUT_LIMIT;
+    peer->timeoutMinimum = slot->timeouts[1] = ENET_PEER_TIMEOUT_MINIMUM;
+    peer->timeoutMaximum = slot->timeouts[2] = ENET_PEER_TIMEOUT_MAXIMUM;
     peer->lastRoundTripTime = peer->lowestRoundTripTime = ENET_PEER_DEFAULT_ROUND_TRIP_TIME;
     if (answers) {
         /* Its VERIFY_CONNECT went, and was acknowledged just now. */
@@ -105,29 +126,9 @@ void layer_meet(Layer *layer, gofnjerta_peer name, bool answers) {
     layer_show_peer(layer, peer);
 }
 
-/* Asks the core for a connection. Where no slot is free, those of peers that the program let go may get free. */
+/* Asks the core for a connection, from a slot that the program has done with. */
 static bool ask(Layer *layer, gofnjerta_address to, uint8_t channels, uint32_t data, gofnjerta_peer *name) {
-    uint32_t answer = gofnjerta_connect(&layer->core, to, channels, data, ++layer->host.randomSeed, name);
-    if (answer == GOFNJERTA_NO_SLOT && layer->lingering) {
-        layer_drain(layer);
-        answer = gofnjerta_connect(&layer->core, to, channels, data, layer->host.randomSeed, name);
-    }
-    return answer == GOFNJERTA_OK;
-}
-
-/* The same from a slot whose last end was handed out. The core gives the lowest free one: others are let go when this is found. */
-static bool ask_anew(Layer *layer, gofnjerta_address to, uint8_t channels, uint32_t data, gofnjerta_peer *name) {
-    bool is_given, parks = false;
-    while ((is_given = ask(layer, to, channels, data, name)) && layer->slots[name->slot].known) {
-        layer->slots[name->slot].is_parked = parks = true;
-        layer->slots[name->slot].parked = name->generation;
-    }
-    for (size_t i = 0; parks && i < layer->host.peerCount; i++) {
-        Slot *slot = &layer->slots[i];
-        if (slot->is_parked) gofnjerta_disconnect_now(&layer->core, (gofnjerta_peer){(uint16_t)i, slot->parked}, 0);
-        slot->is_parked = false;
-    }
-    return is_given;
+    return layer_make_way(layer) && gofnjerta_connect(&layer->core, to, channels, data, layer->host.randomSeed, name) == GOFNJERTA_OK;
 }
 
 ENetPeer *enet_host_connect(ENetHost *host, const ENetAddress *address, size_t channels, enet_uint32 data) {
@@ -137,25 +138,38 @@ ENetPeer *enet_host_connect(ENetHost *host, const ENetAddress *address, size_t c
     if (!layer_is_ready(layer) || address->host == ENET_HOST_BROADCAST) return NULL;
     gofnjerta_address to = {ntohl(address->host), address->port};
     gofnjerta_peer name;
-    if (!ask_anew(layer, to, (uint8_t)channels, data, &name)) return NULL;
+    host->randomSeed++;
+    if (!ask(layer, to, (uint8_t)channels, data, &name)) {
+        /* Slots of peers that the program let go may get free. */
+        if (!layer->lingering) return NULL;
+        layer_drain(layer);
+        if (!ask(layer, to, (uint8_t)channels, data, &name)) return NULL;
+    }
     layer_meet(layer, name, false);
     return &host->peers[name.slot];
 }
 
-void enet_peer_ping(ENetPeer *peer) { (void)peer; }
+/* Until a reliable command goes, the core's interval is as short as it can be: where none is on the way, that is a ping. */
+void enet_peer_ping(ENetPeer *peer) {
+    Slot *slot = slot_of(peer);
+    if (peer->state != ENET_PEER_STATE_CONNECTED || slot->pings) return;
+    slot->pings = !gofnjerta_set_ping_interval(&layer_of(peer->host)->core, slot->name, 1);
+}
 
 void enet_peer_ping_interval(ENetPeer *peer, enet_uint32 ms) {
-    if (!slot_of(peer)->known) return;
-    if (gofnjerta_set_ping_interval(&layer_of(peer->host)->core, slot_of(peer)->name, ms)) return;
-    peer->pingInterval = ms ? ms : ENET_PEER_PING_INTERVAL;
+    Slot *slot = slot_of(peer);
+    if (!slot->known) return;
+    if (gofnjerta_set_ping_interval(&layer_of(peer->host)->core, slot->name, slot->pings ? 1 : ms)) return;
+    peer->pingInterval = slot->ping = ms ? ms : ENET_PEER_PING_INTERVAL;
 }
 
 void enet_peer_timeout(ENetPeer *peer, enet_uint32 limit, enet_uint32 minimum, enet_uint32 maximum) {
-    if (!slot_of(peer)->known) return;
-    if (gofnjerta_set_timeout(&layer_of(peer->host)->core, slot_of(peer)->name, limit, minimum, maximum)) return;
-    peer->timeoutLimit = limit ? limit : ENET_PEER_TIMEOUT_LIMIT;
-    peer->timeoutMinimum = minimum ? minimum : ENET_PEER_TIMEOUT_MINIMUM;
-    peer->timeoutMaximum = maximum ? maximum : ENET_PEER_TIMEOUT_MAXIMUM;
+    Slot *slot = slot_of(peer);
+    if (!slot->known) return;
+    if (gofnjerta_set_timeout(&layer_of(peer->host)->core, slot->name, limit, minimum, maximum)) return;
+    peer->timeoutLimit = slot->timeouts[0] = limit ? limit : ENET_PEER_TIMEOUT_LIMIT;
+    peer->timeoutMinimum = slot->timeouts[1] = minimum ? minimum : ENET_PEER_TIMEOUT_MINIMUM;
+    peer->timeoutMaximum = slot->timeouts[2] = maximum ? maximum : ENET_PEER_TIMEOUT_MAXIMUM;
 }
 
 void enet_peer_throttle_configure(ENetPeer *peer, enet_uint32 interval, enet_uint32 acceleration, enet_uint32 deceleration) {
@@ -189,6 +203,7 @@ static void let_go(Layer *layer, ENetPeer *peer, enet_uint32 data) {
     }
     layer_forget(layer, peer);
     layer_put_out(layer);
+    layer_release_of(layer, peer);
 }
 
 /* A connection that the program wasn't told of ends with no event. */
@@ -204,6 +219,7 @@ void enet_peer_disconnect(ENetPeer *peer, enet_uint32 data) {
     layer_drop_kept(layer, peer);
     slot->is_mute = true;
     layer_show_peer(layer, peer);
+    layer_release_of(layer, peer);
 }
 
 void enet_peer_disconnect_later(ENetPeer *peer, enet_uint32 data) {

@@ -2,30 +2,40 @@
 #include "layer.h"
 #include <string.h>
 
-/* Gives back the references to packets that were submitted. What their callbacks send stays until the next time, also where they serve the
- * host. */
-void layer_release(Layer *layer) {
+/* Gives back one reference. */
+static void give_back(Layer *layer, size_t i, enet_uint32 flag) {
+    ENetPacket *packet = layer->sent[i].packet;
+    if (!packet) return;
+    layer->sent[i].packet = NULL;
+    take_mark(&layer->host.peers[layer->sent[i].slot].outgoingCommands);
+    if (--packet->referenceCount) return;
+    packet->flags |= flag;
+    layer->given = layer->staged = NULL; /* its callback may send, and memory may be had anew */
+    enet_packet_destroy(packet);
+}
+
+/* What the callbacks send stays until the next time, also where they serve the host. */
+void layer_release(Layer *layer, enet_uint32 flag) {
     if (layer->releases) return;
     layer->releases = true;
     size_t count = layer->sent_count;
-    for (size_t i = 0; i < count; i++) {
-        ENetPacket *packet = layer->sent[i];
-        if (--packet->referenceCount == 0) {
-            packet->flags |= ENET_PACKET_FLAG_SENT;
-            layer->given = layer->staged = NULL; /* its callback may send, and memory may be had anew */
-            enet_packet_destroy(packet);
-        }
-    }
+    for (size_t i = 0; i < count; i++) give_back(layer, i, flag);
     layer->sent_count -= count;
     if (layer->sent_count) memmove(layer->sent, layer->sent + count, layer->sent_count * sizeof *layer->sent);
     layer->given = layer->staged = NULL;
     layer->releases = false;
 }
 
+void layer_release_of(Layer *layer, const ENetPeer *peer) {
+    size_t count = layer->sent_count;
+    for (size_t i = 0; i < count && i < layer->sent_count; i++)
+        if (layer->sent[i].slot == peer->incomingPeerID) give_back(layer, i, 0);
+}
+
 static bool make_room_sent(Layer *layer) {
     if (layer->sent_count < layer->sent_room) return true;
     size_t room = layer->sent_room ? layer->sent_room * 2 : 16;
-    ENetPacket **sent = realloc(layer->sent, room * sizeof *sent);
+    Given *sent = realloc(layer->sent, room * sizeof *sent);
     if (!sent) return false;
     layer->sent = sent;
     layer->sent_room = room;
@@ -53,23 +63,27 @@ static bool give(Layer *layer, const ENetPeer *peer, enet_uint8 channel, ENetPac
 
 /* A packet of which the core doesn't hold the bytes for several peers. It is held until the next service. */
 static int send_anew(Layer *layer, const ENetPeer *peer, enet_uint8 channel, ENetPacket *packet) {
-    if (layer->given == packet) return give(layer, peer, channel, packet, true) ? 0 : -1;
-    if (!make_room_sent(layer) || !give(layer, peer, channel, packet, layer->orders > 1)) return -1;
-    layer->sent[layer->sent_count++] = layer->given = packet;
-    packet->referenceCount++;
-    layer->orders = 1;
+    bool is_again = layer->given == packet;
+    if (!give(layer, peer, channel, packet, is_again || layer->orders > 1)) return -1;
+    layer->given = packet;
+    if (!is_again) layer->orders = 1;
     return 0;
 }
 
 int enet_peer_send(ENetPeer *peer, enet_uint8 channel, ENetPacket *packet) {
     Layer *layer = layer_of(peer->host);
-    if (peer->state != ENET_PEER_STATE_CONNECTED) return -1;
-    if (layer->staged != packet) return send_anew(layer, peer, channel, packet);
-    return share(layer, peer, channel, packet) ? 0 : -1;
+    uint16_t number = peer->incomingPeerID;
+    if (peer->state != ENET_PEER_STATE_CONNECTED || layer->ends || packet->dataLength > layer->host.maximumPacketSize) return -1;
+    if (!make_room_sent(layer)) return -1;
+    if (layer->staged != packet ? send_anew(layer, peer, channel, packet) : !share(layer, peer, channel, packet)) return -1;
+    layer->sent[layer->sent_count++] = (Given){packet, number};
+    packet->referenceCount++;
+    put_mark(&peer->outgoingCommands, &layer->marks[number].queued);
+    return 0;
 }
 
 void enet_host_broadcast(ENetHost *host, enet_uint8 channel, ENetPacket *packet) {
-    for (size_t i = 0; i < host->peerCount; i++)
+    for (size_t i = 0; i < slots_in_use(layer_of(host)); i++)
         if (host->peers[i].state == ENET_PEER_STATE_CONNECTED) enet_peer_send(&host->peers[i], channel, packet);
     if (packet->referenceCount == 0) enet_packet_destroy(packet);
 }

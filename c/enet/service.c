@@ -8,12 +8,15 @@
 static void count_anew(ENetHost *host) {
     if (host->serviceTime - host->bandwidthThrottleEpoch < ENET_HOST_BANDWIDTH_THROTTLE_INTERVAL) return;
     host->bandwidthThrottleEpoch = host->serviceTime;
-    for (size_t i = 0; i < host->peerCount; i++) host->peers[i].incomingDataTotal = host->peers[i].outgoingDataTotal = 0;
+    for (size_t i = 0; i < layer_of(host)->config.peers; i++) host->peers[i].incomingDataTotal = host->peers[i].outgoingDataTotal = 0;
 }
 
-/* The clock goes on to now. */
+/* The clock goes on to now, and what the program wrote into the host's fields counts. */
 void layer_go_on(Layer *layer) {
     uint64_t now = layer_now();
+    const ENetHost *host = &layer->host;
+    if (host->incomingBandwidth != layer->config.incoming || host->outgoingBandwidth != layer->config.outgoing)
+        enet_host_bandwidth_limit(&layer->host, host->incomingBandwidth, host->outgoingBandwidth);
     layer->host.serviceTime = (enet_uint32)(now - layer_clock_base);
     while (layer->clock < now) {
         uint64_t ms = now - layer->clock > 60000 ? 60000 : now - layer->clock;
@@ -23,7 +26,7 @@ void layer_go_on(Layer *layer) {
     if (now - layer->refreshed < REFRESH_MS) return;
     layer->refreshed = now;
     count_anew(&layer->host);
-    for (size_t i = 0; i < layer->host.peerCount; i++)
+    for (size_t i = 0; i < layer->config.peers; i++)
         if (layer->slots[i].known) layer_show_peer(layer, &layer->host.peers[i]);
 }
 
@@ -35,9 +38,17 @@ static int idle_ms(Layer *layer, uint64_t end) {
     return wake > now ? (int)(wake - now) : 0;
 }
 
+/* Tells what came. A program that asks for no event finds in its peers' fields what there is. */
+static int tell(Layer *layer, ENetEvent *event) {
+    if (event) return layer_tell(layer, event);
+    layer_keep_all(layer);
+    return 0;
+}
+
 int enet_host_service(ENetHost *host, ENetEvent *event, enet_uint32 timeout) {
     Layer *layer = layer_of(host);
-    layer_release(layer);
+    layer->has_failed = false;
+    layer_release(layer, ENET_PACKET_FLAG_SENT);
     if (event) {
         int told = enet_host_check_events(host, event);
         if (told) return told;
@@ -51,13 +62,13 @@ int enet_host_service(ENetHost *host, ENetEvent *event, enet_uint32 timeout) {
     uint64_t end = layer->clock + timeout;
     for (int ready = 1;;) {
         layer_put_out(layer);
+        if (layer->has_failed) return -1;
         int came = 0, answer = ready ? layer_take_in(layer, event, &came) : 0;
         if (answer) return answer;
         if (came) layer_put_out(layer);
-        if (event) {
-            int told = layer_tell(layer, event);
-            if (told) return told;
-        }
+        if (layer->has_failed) return -1;
+        int told = tell(layer, event);
+        if (told) return told;
         if (layer->clock >= end) return 0;
         struct pollfd asked = {.fd = host->socket, .events = POLLIN};
         ready = poll(&asked, 1, idle_ms(layer, end));
@@ -69,7 +80,7 @@ int enet_host_service(ENetHost *host, ENetEvent *event, enet_uint32 timeout) {
 void enet_host_flush(ENetHost *host) {
     Layer *layer = layer_of(host);
     if (!layer_is_ready(layer)) return;
-    layer_release(layer);
+    layer_release(layer, ENET_PACKET_FLAG_SENT);
     layer_go_on(layer);
     layer_put_out(layer);
 }

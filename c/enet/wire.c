@@ -4,6 +4,13 @@
 #include <netinet/udp.h>
 #include <string.h>
 
+/* Channels, and 0xFF for what belongs to none. */
+enum { NUMBERED = 256 };
+
+static void put_word(uint8_t *at, uint32_t word) {
+    for (int i = 0; i < 4; i++) at[i] = (uint8_t)(word >> (24 - 8 * i));
+}
+
 /* A datagram of a peer that wasn't seen before: what the layer keeps of it. If it answers a CONNECT, that may be the one that is noted. */
 static void see(Layer *layer, Slot *slot, const gofnjerta_datagram *gave, const uint8_t *at) {
     Arrival *arrival = &layer->arrival;
@@ -17,45 +24,92 @@ static void see(Layer *layer, Slot *slot, const gofnjerta_datagram *gave, const 
     slot->at = gave->to;
     slot->connect_id = gofnjerta_read_peer(&layer->core, gave->peer, &read) ? 0 : htonl(read.connect_id);
     slot->incoming = slot->outgoing = 0;
+    if (slot->highest) memset(slot->highest, 0, NUMBERED * sizeof *slot->highest);
+    else slot->highest = calloc(NUMBERED, sizeof *slot->highest);
 }
 
-/* How many commands but acknowledgements a datagram of the core has. */
-static uint32_t commands_in(const uint8_t *at, size_t length) {
+/* What a datagram has of commands but acknowledgements, which of them went before, and whether it has reliable ones. */
+typedef struct {
+    uint32_t count, again;
+    bool is_reliable;
+} Commands;
+
+/* Notes a reliable command, which goes again if its number isn't above those of its channel that went. */
+static void note_reliable(Commands *commands, uint16_t *highest, const uint8_t *at) {
+    uint16_t number = (uint16_t)(at[2] << 8 | at[3]);
+    commands->is_reliable = true;
+    if (!highest) return;
+    if ((uint16_t)(number - highest[at[1]] - 1) < 0x8000) highest[at[1]] = number;
+    else commands->again++;
+}
+
+/* The commands of a datagram of the core. */
+static Commands commands_in(uint16_t *highest, const uint8_t *at, size_t length) {
     static const struct {
         uint8_t size, length_at;
     } shapes[16] = {{0, 0}, {8, 0}, {48, 0}, {44, 0}, {8, 0}, {4, 0}, {6, 4}, {8, 6}, {24, 6}, {8, 6}, {12, 0}, {16, 0}, {24, 6}};
-    uint32_t count = 0;
+    Commands commands = {0};
     for (size_t i = at[0] & 0x80 ? 4 : 2; i + 4 <= length;) {
         uint8_t kind = at[i] & 0xF, place = shapes[kind].length_at;
         if (!shapes[kind].size || i + shapes[kind].size > length) break;
-        count += kind != 1;
+        commands.count += kind != 1;
+        if (at[i] & 0x80) note_reliable(&commands, highest, at + i);
         if (place) i += (size_t)at[i + place] << 8 | at[i + place + 1];
         i += shapes[kind].size;
     }
-    return count;
+    return commands;
 }
 
-/* Counts what went for the program's fields: commands, the bytes of all, and when. */
-static void note_sent(ENetPeer *peer, uint32_t now, const uint8_t *at, uint32_t length) {
-    peer->outgoingDataTotal += length - (at[0] & 0x80 ? 4 : 2);
-    peer->lastSendTime = now;
+/* Every ten seconds the share of the commands that went again counts for the mean, and they are counted anew. */
+static void count_loss(ENetPeer *peer, uint32_t now) {
     if (peer->packetLossEpoch == 0) peer->packetLossEpoch = now;
-    else if (now - peer->packetLossEpoch >= ENET_PEER_PACKET_LOSS_INTERVAL && peer->packetsSent) {
-        peer->packetLossEpoch = now;
-        peer->packetsSent = 0;
-    }
-    peer->packetsSent += commands_in(at, length);
+    if (now - peer->packetLossEpoch < ENET_PEER_PACKET_LOSS_INTERVAL || !peer->packetsSent) return;
+    uint32_t loss = (uint32_t)((uint64_t)peer->packetsLost * ENET_PEER_PACKET_LOSS_SCALE / peer->packetsSent);
+    peer->packetLossVariance = (peer->packetLossVariance * 3 + ENET_DIFFERENCE(loss, peer->packetLoss)) / 4;
+    peer->packetLoss = (peer->packetLoss * 7 + loss) / 8;
+    peer->packetLossEpoch = now;
+    peer->packetsSent = peer->packetsLost = 0;
 }
 
-/* Keeps a datagram that the core has put at the end of the gathered bytes. */
+/* Counts what went to a peer for the program's fields: commands, the bytes of all, and when. */
+static void note_sent(Layer *layer, uint16_t number, const uint8_t *at, uint32_t length) {
+    ENetPeer *peer = &layer->host.peers[number];
+    Slot *slot = &layer->slots[number];
+    Commands commands = commands_in(slot->highest, at, length);
+    peer->outgoingDataTotal += length - (at[0] & 0x80 ? 4 : 2);
+    peer->lastSendTime = layer->host.serviceTime;
+    peer->packetsSent += commands.count;
+    peer->packetsLost += commands.again;
+    count_loss(peer, layer->host.serviceTime);
+    if (!commands.is_reliable) return;
+    put_mark(&peer->sentReliableCommands, &layer->marks[number].sent);
+    if (!slot->pings) return;
+    slot->pings = false;
+    gofnjerta_set_ping_interval(&layer->core, slot->name, slot->ping);
+}
+
+/* The CONNECT that a datagram of more than a header's bytes begins with; NULL where there is none. */
+static uint8_t *offer_in(uint8_t *data, size_t length) {
+    size_t at = data[0] & 0x80 ? 4 : 2;
+    return at < length && (data[at] & 0xF) == 2 && command_length(data + at, length - at) ? data + at : NULL;
+}
+
+/* An offer of the core's asks for no longer datagrams than the program's field allows. */
+static void lower_mtu(const Layer *layer, uint8_t *data, uint32_t length) {
+    uint8_t *offer = layer->host.mtu < layer->config.mtu ? offer_in(data, length) : NULL;
+    if (offer) put_word(offer + 8, layer->host.mtu);
+}
+
+/* Keeps a datagram that the core has put at the end of the gathered bytes, unless it is of a slot that isn't in use. */
 static void gather(Layer *layer, const gofnjerta_datagram *gave) {
-    size_t i = layer->parcel_count++;
     Slot *slot = &layer->slots[gave->peer.slot];
-    ENetPeer *peer = &layer->host.peers[gave->peer.slot];
+    if (gave->peer.generation == slot->parked || gave->peer.slot >= layer->host.peerCount) return;
+    size_t i = layer->parcel_count++;
     uint8_t *at = layer->gathered + layer->gathered_bytes;
     uint32_t length = gave->length;
     if (slot->seen.generation != gave->peer.generation) see(layer, slot, gave, at);
-    if (slot->known) note_sent(peer, layer->host.serviceTime, at, length);
+    if (slot->known) note_sent(layer, gave->peer.slot, at, length);
+    lower_mtu(layer, at, length);
     if (layer->host.checksum || layer->host.compressor.context) length = layer_dress(layer, at, length, slot);
     layer->parcels[i] = (Parcel){gave->to, (uint32_t)layer->gathered_bytes, length, gave->peer.slot, 0, !slot->sends};
     if (slot->sends) layer->parcels[slot->last].next = (uint16_t)i;
@@ -87,8 +141,14 @@ static bool may_follow(const Layer *layer, const Parcel *lead, const Parcel *nex
            next->to.ip == lead->to.ip && next->to.port == lead->to.port;
 }
 
-/* Sends a train, from this parcel on, and tells which parcel of its slot comes after it, 0 where none does. What the socket doesn't take
- * is lost, as by the network; where it refuses a train, the datagrams go one by one. */
+/* Sends one part. What the socket has no room for is lost, as by the network; an answer to an earlier datagram is no fault either. */
+static void send_one(Layer *layer, gofnjerta_address to, struct iovec *part) {
+    if (send_parts(layer, to, part, 1)) return;
+    if (errno != EWOULDBLOCK && errno != EAGAIN && errno != ECONNREFUSED) layer->has_failed = true;
+}
+
+/* Sends a train, from this parcel on, and tells which parcel of its slot comes after it, 0 where none does. Where the system refuses a train,
+ * the datagrams go one by one. */
 static size_t send_train(Layer *layer, size_t i) {
     struct iovec parts[TRAIN];
     const Parcel *lead = &layer->parcels[i], *next = lead;
@@ -100,10 +160,11 @@ static size_t send_train(Layer *layer, size_t i) {
         if (next->length < lead->length) break;
         next = &layer->parcels[i];
     } while (i && may_follow(layer, lead, next, count, bytes));
-    if (send_parts(layer, lead->to, parts, count) || count == 1) return i;
+    if (count == 1) send_one(layer, lead->to, parts);
+    if (count == 1 || send_parts(layer, lead->to, parts, count)) return i;
     /* Any other error is this destination's or this moment's. */
     layer->has_trains = errno != EIO && errno != EINVAL && errno != EOPNOTSUPP;
-    for (size_t k = 0; k < count; k++) send_parts(layer, lead->to, &parts[k], 1);
+    for (size_t k = 0; k < count; k++) send_one(layer, lead->to, &parts[k]);
     return i;
 }
 
@@ -129,36 +190,66 @@ void layer_put_out(Layer *layer) {
     send_gathered(layer);
 }
 
-/* Whether another peer may come from an address: there are fewer than duplicatePeers, those that connect there from here apart. */
+/* Whether another peer may come from an address: there are fewer than duplicatePeers, those that connect there from here apart, and with those
+ * of which the program wasn't told that they ended. */
 static bool may_come(Layer *layer, const gofnjerta_address *from) {
     size_t count = 0, most = layer->host.duplicatePeers;
-    for (size_t i = 0; most < layer->host.peerCount && i < layer->host.peerCount; i++) {
+    for (size_t i = 0; most < layer->host.peerCount && i < layer->config.peers; i++) {
         const Slot *slot = &layer->slots[i];
         gofnjerta_reading read;
         if (slot->seen.generation == UINT32_MAX || slot->at.ip != from->ip || slot->lingers) continue;
+        count += slot->ended;
         if (gofnjerta_read_peer(&layer->core, slot->seen, &read)) continue;
         count += read.state != GOFNJERTA_FREE && read.state != GOFNJERTA_CONNECTING && read.state != GOFNJERTA_PARTING;
     }
     return most >= layer->host.peerCount || count < most;
 }
 
-/* How much of a datagram the core is handed. No connection begins of which the address has enough, or while an end isn't handed out, so that
- * none gets its slot. Where the packets that are kept of a peer have reached the limit on waiting data, its next ones are stopped as by the
- * host: the datagram goes as far as its first data command. */
-static size_t length_taken(Layer *layer, const gofnjerta_address *from, const uint8_t *data, size_t length) {
-    if (length < 2) return length;
-    size_t word = (size_t)data[0] << 8 | data[1], id = word & 0xFFF;
-    if (id == ENET_PROTOCOL_MAXIMUM_PEER_ID && (layer->ended || !may_come(layer, from))) return 0;
-    if (id >= layer->host.peerCount || layer->slots[id].kept_bytes < layer->config.max_waiting) return length;
-    size_t at = word & 0x8000 ? 4 : 2, step;
-    for (; at < length && (step = command_length(data + at, length - at)); at += step) {
-        uint8_t kind = data[at] & 0xF;
-        if (kind == 12 || (kind >= 6 && kind <= 9)) return at;
-    }
-    return length;
+/* Whether an offer may begin a connection: there is a slot, and the address hasn't enough. In a millisecond it is once found that there is none. */
+static bool may_begin(Layer *layer, const gofnjerta_address *from) {
+    if (layer->full_at == layer->clock || !may_come(layer, from)) return false;
+    bool has_way = layer_make_way(layer);
+    layer->full_at = has_way ? UINT64_MAX : layer->clock;
+    return has_way;
 }
 
 static uint32_t word_at(const uint8_t *at) { return (uint32_t)at[0] << 24 | (uint32_t)at[1] << 16 | (uint32_t)at[2] << 8 | at[3]; }
+
+/* An offer asks for no more channels and no longer datagrams than the program's fields allow. */
+static void lower_offer(const ENetHost *host, uint8_t *offer) {
+    uint32_t channels = word_at(offer + 16);
+    if (channels > host->channelLimit && channels <= ENET_PROTOCOL_MAXIMUM_CHANNEL_COUNT) put_word(offer + 16, (uint32_t)host->channelLimit);
+    if (word_at(offer + 8) > host->mtu) put_word(offer + 8, host->mtu);
+}
+
+/* Whether the program's limits stop a whole command: it is of a packet that is too long, or as many bytes wait as may. */
+static bool is_stopped(const Layer *layer, const Slot *slot, const uint8_t *at) {
+    uint8_t kind = at[0] & 0xF;
+    if (kind != 12 && (kind < 6 || kind > 9)) return false;
+    size_t length = kind == 8 || kind == 12 ? word_at(at + 16) : kind == 6 ? (size_t)at[4] << 8 | at[5] : (size_t)at[6] << 8 | at[7];
+    return length > layer->host.maximumPacketSize || slot->kept_bytes >= layer->host.maximumWaitingData;
+}
+
+/* How much of a datagram the core is handed: none of an offer that may not begin a connection, or for a slot that isn't in use, and no command
+ * from the first on that the program's limits stop. */
+static size_t length_taken(Layer *layer, const gofnjerta_address *from, uint8_t *data, size_t length) {
+    const ENetHost *host = &layer->host;
+    if (length < 2) return length;
+    size_t word = (size_t)data[0] << 8 | data[1], id = word & 0xFFF, at = word & 0x8000 ? 4 : 2, step;
+    if (id == ENET_PROTOCOL_MAXIMUM_PEER_ID) {
+        uint8_t *offer = offer_in(data, length);
+        if (!offer) return length;
+        if (!may_begin(layer, from)) return 0;
+        lower_offer(host, offer);
+        return length;
+    }
+    if (id >= slots_in_use(layer)) return 0;
+    const Slot *slot = &layer->slots[id];
+    if (slot->kept_bytes < host->maximumWaitingData && host->maximumPacketSize == GOFNJERTA_MAX_PACKET) return length;
+    for (; at < length && (step = command_length(data + at, length - at)); at += step)
+        if (is_stopped(layer, slot, data + at)) return at;
+    return length;
+}
 
 static void note_bandwidths(Layer *layer, uint16_t number, const uint8_t *at) {
     Slot *slot = &layer->slots[number];
@@ -212,9 +303,9 @@ static void hand_in(Layer *layer, const gofnjerta_address *from, uint8_t *data, 
     gofnjerta_received got = gofnjerta_core_receive(&layer->core, from, data, taken);
     if (!got.handled) return;
     size_t id = (size_t)(data[0] & 0xF) << 8 | data[1];
-    if (id < host->peerCount && layer->slots[id].known) note_handled(layer, (uint16_t)id, data, taken, got.handled);
-    size_t head = data[0] & 0x80 ? 4 : 2;
-    if (id == ENET_PROTOCOL_MAXIMUM_PEER_ID && command_length(data + head, taken - head) == 48) note_connect(layer, from, data + head + 20);
+    if (id < slots_in_use(layer) && layer->slots[id].known) note_handled(layer, (uint16_t)id, data, taken, got.handled);
+    const uint8_t *offer = id == ENET_PROTOCOL_MAXIMUM_PEER_ID ? offer_in(data, taken) : NULL;
+    if (offer) note_connect(layer, from, offer + 20);
 }
 
 int layer_take_in(Layer *layer, ENetEvent *event, int *came) {
@@ -242,6 +333,7 @@ int layer_take_in(Layer *layer, ENetEvent *event, int *came) {
         }
         gofnjerta_address from = {ntohl(host->receivedAddress.host), host->receivedAddress.port};
         hand_in(layer, &from, host->receivedData, host->receivedDataLength);
+        if (host->maximumWaitingData != layer->config.max_waiting) layer_keep_all(layer); /* the limit is the layer's to keep */
     }
     return 0;
 }

@@ -15,7 +15,15 @@ int main(void) {
     AT(ENetPeer, address), AT(ENetPeer, data), AT(ENetPeer, state), AT(ENetPeer, channelCount), AT(ENetPeer, incomingBandwidth), AT(ENetPeer, packetLossEpoch);
     AT(ENetPeer, packetThrottle), AT(ENetPeer, packetThrottleInterval), AT(ENetPeer, pingInterval), AT(ENetPeer, timeoutMaximum), AT(ENetPeer, lastRoundTripTime);
     AT(ENetPeer, roundTripTime), AT(ENetPeer, roundTripTimeVariance), AT(ENetPeer, mtu), AT(ENetPeer, windowSize), AT(ENetPeer, reliableDataInTransit);
-    AT(ENetPeer, eventData), AT(ENetPeer, totalWaitingData);
+    AT(ENetPeer, eventData), AT(ENetPeer, totalWaitingData), AT(ENetPeer, dispatchList), AT(ENetPeer, outgoingReliableSequenceNumber);
+    AT(ENetPeer, acknowledgements), AT(ENetPeer, sentReliableCommands), AT(ENetPeer, sentUnreliableCommands), AT(ENetPeer, outgoingCommands);
+    AT(ENetPeer, dispatchedCommands), AT(ENetPeer, flags), AT(ENetPeer, incomingUnsequencedGroup), AT(ENetPeer, unsequencedWindow);
+    AT(ENetPeer, packetsLost), AT(ENetPeer, packetLoss), AT(ENetPeer, packetLossVariance);
+    SIZE(ENetProtocol), SIZE(ENetProtocolHeader), SIZE(ENetProtocolConnect), SIZE(ENetProtocolVerifyConnect), SIZE(ENetProtocolSendFragment);
+    SIZE(ENetProtocolAcknowledge), SIZE(ENetProtocolThrottleConfigure), SIZE(ENetOutgoingCommand), SIZE(ENetIncomingCommand), SIZE(ENetList);
+    AT(ENetProtocolConnect, mtu), AT(ENetProtocolConnect, data), AT(ENetProtocolSendFragment, totalLength);
+    AT(ENetOutgoingCommand, sendAttempts), AT(ENetOutgoingCommand, packet), AT(ENetIncomingCommand, packet);
+    AT(ENetHost, dispatchQueue), AT(ENetHost, continueSending), AT(ENetHost, commands), AT(ENetHost, buffers), AT(ENetHost, bufferCount);
     AT(ENetHost, socket), AT(ENetHost, address), AT(ENetHost, incomingBandwidth), AT(ENetHost, mtu), AT(ENetHost, randomSeed), AT(ENetHost, peers);
     AT(ENetHost, peerCount), AT(ENetHost, channelLimit), AT(ENetHost, serviceTime), AT(ENetHost, checksum), AT(ENetHost, compressor), AT(ENetHost, packetData);
     AT(ENetHost, receivedAddress), AT(ENetHost, receivedData), AT(ENetHost, receivedDataLength), AT(ENetHost, totalSentData), AT(ENetHost, totalReceivedPackets);

@@ -53,13 +53,19 @@ static void settings(void) {
     SERVED(0, host->maximumPacketSize = 1000);
     SERVED(0, enet_host_channel_limit(host, 1));
     SERVED(0, enet_host_channel_limit(host, 0));
-    SERVED(-1, (enet_host_service(host, NULL, 0), enet_host_channel_limit(host, 1)));
-    SERVED(-1, (enet_host_service(host, NULL, 0), host->mtu = 1000));
+    SERVED(-1, host->channelLimit = 0);
+    SERVED(-1, host->maximumWaitingData = 0);
+    SERVED(0, host->maximumWaitingData = SIZE_MAX);
+    SERVED(0, host->peerCount = 0);
+    SERVED(-1, host->peerCount = 3);
+    SERVED(0, (enet_host_service(host, NULL, 0), enet_host_channel_limit(host, 1)));
+    SERVED(0, (enet_host_service(host, NULL, 0), host->mtu = 1000));
+    SERVED(-1, (enet_host_service(host, NULL, 0), host->mtu = 1401));
     SERVED(0, enet_host_compress(host, &compressor));
     CHECK(destroyed);
     SERVED(0, (enet_host_compress(host, &compressor), enet_host_compress(host, NULL)));
     SERVED(0, CHECK(enet_host_compress_with_range_coder(host) == -1));
-    CHECK(enet_host_create(&any, 0, 2, 0, 0) == NULL && enet_host_create(&any, 4096, 2, 0, 0) == NULL);
+    CHECK(enet_host_create(&any, 4096, 2, 0, 0) == NULL);
 }
 
 /* A host that isn't served waits as it is asked to, so that its program doesn't fill a processor; a datagram that waits changes nothing. */
@@ -175,6 +181,32 @@ static void conversation(void) {
     enet_host_destroy(client);
 }
 
+/* What the program writes while it talks: an mtu that it lowered is that of the next connection, at either end, and the other end is told of
+ * the bandwidths. */
+static void late_settings(void) {
+    ENetHost *server = enet_host_create(&any, 2, 2, 0, 0), *client = enet_host_create(NULL, 1, 2, 0, 0);
+    ENetAddress to = server->address;
+    CHECK(enet_address_set_host_ip(&to, "127.0.0.1") == 0);
+    for (int i = 0; i < 3; i++) {
+        ENetHost *lowered = i == 1 ? client : server;
+        CHECK(enet_host_service(lowered, NULL, 0) == 0);
+        if (i > 0) lowered->mtu -= 100;
+        ENetPeer *peer = enet_host_connect(client, &to, 2, 0);
+        for (int k = 0; k < 2; k++) CHECK(until(client, server, ENET_EVENT_TYPE_CONNECT).type == ENET_EVENT_TYPE_CONNECT);
+        CHECK(peer->mtu == (i ? 1300 : 1400) && server->peers[0].mtu == peer->mtu);
+        if (i == 1) {
+            client->incomingBandwidth = 50000;
+            client->outgoingBandwidth = 60000;
+            for (int k = 0; k < 20; k++) enet_host_service(client, NULL, 5), enet_host_service(server, NULL, 5);
+            CHECK(server->peers[0].incomingBandwidth == 50000 && server->peers[0].outgoingBandwidth == 60000);
+        }
+        enet_peer_disconnect(peer, 0);
+        for (int k = 0; k < 2; k++) CHECK(until(client, server, ENET_EVENT_TYPE_DISCONNECT).type == ENET_EVENT_TYPE_DISCONNECT);
+    }
+    enet_host_destroy(server);
+    enet_host_destroy(client);
+}
+
 static ENetPeer *next_to;
 static int sent_on;
 
@@ -285,6 +317,7 @@ int main(void) {
     crowds();
     nobody();
     conversation();
+    late_settings();
     letting_go();
     allocators();
     enet_deinitialize();

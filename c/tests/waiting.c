@@ -1,5 +1,5 @@
 /* A server that takes packets peer by peer (enet_peer_receive): what it passes over is kept in bounds, told in order, and no slot is used
- * again before its last end was told. */
+ * again before its last end was told, while others come. */
 #include <enet/enet.h>
 #include <stdbool.h>
 #include <stdio.h>
@@ -162,10 +162,62 @@ static void ending(void) {
     enet_host_destroy(server);
 }
 
+/* Whether a client is told of its connection within so many milliseconds, by a server that asks for no event. */
+static bool is_let_in(ENetHost *client, enet_uint32 ms) {
+    ENetEvent event;
+    for (enet_uint32 begun = enet_time_get(); enet_time_get() - begun < ms;) {
+        enet_uint8 channel;
+        enet_host_service(server, NULL, 0);
+        for (size_t i = 0; i < server->peerCount; i++) CHECK(enet_peer_receive(&server->peers[i], &channel) == NULL);
+        if (enet_host_service(client, &event, 1) > 0 && event.type == ENET_EVENT_TYPE_CONNECT) return true;
+    }
+    return false;
+}
+
+/* A server of three slots that asks for no events: behind an end that wasn't told, newcomers get the other slots, and no more of them come
+ * than that. Once it asks, it is told of all in turn, and the first slot is there again. */
+static void newcomers(void) {
+    open_server(3, 100000);
+    Client first = join(), last = {0};
+    ENetHost *more[3];
+    ENetEvent event;
+    int data, ends = 0, came = 0;
+    size_t length;
+    first.there->data = &data;
+    enet_peer_disconnect(first.peer, 5);
+    for (int i = 0; i < 10; i++) serve(&first, &first);
+    for (int i = 0; i < 3; i++) {
+        more[i] = enet_host_create(NULL, 1, 3, 0, 0);
+        last.peer = enet_host_connect(more[i], &to, 3, (enet_uint32)i);
+        CHECK(is_let_in(more[i], i < 2 ? LIMIT_MS : 300) == (i < 2));
+    }
+    CHECK(first.there->state == ENET_PEER_STATE_ZOMBIE && first.there->data == &data && enet_host_connect(server, &to, 1, 0) == NULL);
+    for (enet_uint32 begun = enet_time_get(); came < 3 && enet_time_get() - begun < LIMIT_MS;) {
+        for (int i = 0; i < 3; i++) enet_host_service(more[i], &event, 0);
+        if (enet_host_service(server, &event, 1) <= 0) continue;
+        if (event.type == ENET_EVENT_TYPE_DISCONNECT) ends += event.peer == first.there && event.data == 5 && event.peer->data == &data;
+        else CHECK(event.type == ENET_EVENT_TYPE_CONNECT && event.data == (enet_uint32)came++ && (event.peer == first.there) == (came == 3));
+        if (event.type == ENET_EVENT_TYPE_CONNECT) last.there = event.peer;
+    }
+    CHECK(ends == 1 && came == 3 && server->connectedPeers == 3);
+    CHECK(last.peer->state == ENET_PEER_STATE_CONNECTED || enet_host_service(more[2], &event, LIMIT_MS) == 1);
+    give(last.peer, 0, 44, 10, ENET_PACKET_FLAG_RELIABLE);
+    long taken = -1;
+    for (enet_uint32 begun = enet_time_get(); taken == -1 && enet_time_get() - begun < LIMIT_MS; taken = take(last.there, &length)) {
+        enet_host_service(more[2], NULL, 1);
+        enet_host_service(server, NULL, 1);
+    }
+    CHECK(taken == 44);
+    enet_host_destroy(first.host);
+    for (int i = 0; i < 3; i++) enet_host_destroy(more[i]);
+    enet_host_destroy(server);
+}
+
 int main(void) {
     if (enet_initialize() != 0) return 2;
     flood();
     ending();
+    newcomers();
     enet_deinitialize();
     printf("waiting: %s\n", failed ? "not so" : "all is so");
     return failed ? 1 : 0;
