@@ -21,6 +21,9 @@ int main(void) {
     AT(ENetPeer, packetsLost), AT(ENetPeer, packetLoss), AT(ENetPeer, packetLossVariance);
     SIZE(ENetProtocol), SIZE(ENetProtocolHeader), SIZE(ENetProtocolConnect), SIZE(ENetProtocolVerifyConnect), SIZE(ENetProtocolSendFragment);
     SIZE(ENetProtocolAcknowledge), SIZE(ENetProtocolThrottleConfigure), SIZE(ENetOutgoingCommand), SIZE(ENetIncomingCommand), SIZE(ENetList);
+    SIZE(ENetAcknowledgement), AT(ENetAcknowledgement, command);
+    printf("%d %d %d %d %d %d\n", ENET_PEER_UNSEQUENCED_WINDOWS, ENET_PEER_FREE_UNSEQUENCED_WINDOWS, ENET_PEER_RELIABLE_WINDOWS,
+           ENET_PEER_RELIABLE_WINDOW_SIZE, ENET_PEER_FREE_RELIABLE_WINDOWS, ENET_PEER_FLAG_NEEDS_DISPATCH);
     AT(ENetProtocolConnect, mtu), AT(ENetProtocolConnect, data), AT(ENetProtocolSendFragment, totalLength);
     AT(ENetOutgoingCommand, sendAttempts), AT(ENetOutgoingCommand, packet), AT(ENetIncomingCommand, packet);
     AT(ENetHost, dispatchQueue), AT(ENetHost, continueSending), AT(ENetHost, commands), AT(ENetHost, buffers), AT(ENetHost, bufferCount);
