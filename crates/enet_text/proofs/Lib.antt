@@ -1,5 +1,8 @@
 pub mod TextLemmas
 pub mod WordLemmas
+pub mod Told
+pub mod Packets
+pub mod Inputs
 pub mod Joins
 pub mod Digits
 pub mod Steps

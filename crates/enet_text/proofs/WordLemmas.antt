@@ -16,6 +16,7 @@ use Rattle.std.proofs.lemmas.List.Sums.{passes_at_first}
 use Rattle.hex.specs.Hex.{decode_of}
 use Rattle.hex.specs.declared.error.FromHexError.{FromHexError}
 use Rattle.hex.specs.declared.error.FromHexError.TheVariants.{OutOfMemory}
+use Rattle.enet_text.specs.Inspected.{lines_of}
 use Rattle.enet_text.specs.Words.{words, parts, number_below, is_number, peer_of, bytes_of}
 
 abbrev is_space : ℕ → Bool
@@ -262,3 +263,18 @@ parts-more text before after point e front back =
 pub parts-some : (text : List ℕ) → 1 ≤ length (parts text)
 unfolding parts
 parts-some text = omega (arith, length-slice_split is_point text)
+
+-- ---- lines
+
+abbrev is_feed : ℕ → Bool
+is_feed byte = byte == 10
+
+pub lines-one : (text : List ℕ) → position is_feed text ≡ None → lines_of text ≡ text ∷ []
+lines-one text e = unsplit is_feed text (ltb-false _ _ (no_place _ _ e))
+
+pub lines-more : (text before after : List ℕ) (feed : ℕ) → position is_feed text ≡ Some feed → before ≡ take feed text → after ≡ drop (feed + 1) text
+    → lines_of text ≡ before ∷ lines_of after
+lines-more text before after feed e front back =
+    let at = place_of is_feed text feed e in
+    slice_split_first is_feed text 0 (omega (arith, at.0, at.1)) ∙ ap (λ k. take k text ∷ slice_split is_feed (drop (k + 1) text)) at.0
+    ∙ ap (λ f. f ∷ slice_split is_feed (drop (feed + 1) text)) (sym front) ∙ ap (λ r. before ∷ slice_split is_feed r) (sym back)

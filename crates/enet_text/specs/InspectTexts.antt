@@ -1,5 +1,5 @@
 -- The lines that tell a header, a command and a stop. Each begins with two spaces and ends with a line feed.
-use Rattle.std.specs.Prelude.{ℕ, ◌==◌, Bool, List, [], ◌∷◌, ◌++◌, length, codes, Option, Some, None, if◌then◌else◌}
+use Rattle.std.specs.Prelude.{ℕ, ◌==◌, Bool, List, [], ◌++◌, length, codes, Option, Some, None, if◌then◌else◌}
 use Rattle.std.specs.Fmt.{decimal}
 use Rattle.std.specs.Int.{to_be_bytes, w32}
 use Rattle.enet_codec.specs.declared.stop.Stop.{Stop}

@@ -3,5 +3,7 @@ pub mod Words
 pub mod InspectTexts
 pub mod Described
 pub mod Lines
+pub mod Inspected
+pub mod Captures
 pub mod Faults
 pub mod Private

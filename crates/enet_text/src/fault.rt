@@ -2,6 +2,7 @@
 
 ghost use Rattle.std.specs.Prelude.{◌≡◌};
 ghost use Rattle.enet_text.specs.Faults.{is_unreadable};
+ghost use Rattle.enet_text.specs.declared.fault.InspectFault.TheVariants.{Memory};
 
 use std::alloc::{AllocError, AllocFailed};
 use thiserror::Error;
@@ -40,12 +41,16 @@ impl InspectFault {
 }
 
 impl From<AllocError> for InspectFault {
+    ghost from_gives = { λ _ fault. fault ≡ Memory };
+
     fn from(_error: AllocError) -> InspectFault {
         InspectFault::Memory
     }
 }
 
 impl<T: Drop> From<AllocFailed<T>> for InspectFault {
+    ghost from_gives = { λ _ fault. fault ≡ Memory };
+
     fn from(_error: AllocFailed<T>) -> InspectFault {
         InspectFault::Memory
     }

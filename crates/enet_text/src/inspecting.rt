@@ -1,9 +1,12 @@
 //! An input is read, and its datagrams are told one after another.
 
-ghost use Rattle.std.specs.Prelude.{◌≡◌, ◌++◌, codes, if◌then◌else◌, length, List, ℕ, OnOk};
+ghost use Rattle.std.specs.Prelude.{◌≡◌, ◌≢◌, ◌==◌, ◌<◌, ◌+◌, ◌++◌, [], ◌∷◌, codes, if◌then◌else◌, length, List, ℕ, min, position, None, IfOk, IfErr, IfSome, IfNone, IsSome, OnOk};
+ghost use Rattle.std.specs.Io.KnownBytes.{Appends, Keeps};
 ghost use Rattle.std.specs.String.{string_bytes};
-ghost use Rattle.enet_text.specs.Described.{Describes};
-ghost use Rattle.enet_text.specs.Private.InputTexts.{number_text, way_text, with_zeros};
+ghost use Rattle.enet_text.specs.Inspected.{IsCutOff, TellsEach, TellsLines, TellsOne, TellsSome, Wrote, found_in, lines_of, number_text};
+ghost use Rattle.enet_text.specs.Lines.{line_of};
+ghost use Rattle.enet_text.specs.Captures.{IsShortCapture, IsTold, IsToldInPart, IsToldToLine, IsToldToPacket, TellsCapture, TellsSomePackets, way_text, with_zeros};
+ghost use Rattle.enet_text.specs.Private.InputTexts.{lines_left};
 
 use crate::answers::push_address;
 use crate::datagram::push_description;
@@ -26,20 +29,60 @@ pub fn inspect<R: Read, W: Write>(
     alloc: Global,
     reader: &mut R,
     writer: &mut W,
-) -> Result<(), InspectFault> {
-    let mut input = Vec::new(alloc);
-    let outcome = match reader.read_to_end(&mut input) {
-        Ok(_) => tell_all(alloc, input.as_slice(), writer),
-        Err(error) if error.kind() == ErrorKind::OutOfMemory => Err(InspectFault::Memory),
-        Err(_) => Err(InspectFault::Io),
-    };
+) -> Result<(), InspectFault>
+    ensures whole { OnOk result (IfSome (R.remaining reader.old) (λ input.
+        Wrote (W.contents writer.old) (W.contents writer.new) (IsTold input))) }
+    ensures bad_line { IfErr result (λ fault. (number : ℕ) → fault ≡ InspectFault.BadLine number
+        → IfSome (R.remaining reader.old) (λ input.
+        Wrote (W.contents writer.old) (W.contents writer.new) (λ text. IsToldToLine input text number))) }
+    ensures cut_short { IfErr result (λ fault. (number : ℕ) → fault ≡ InspectFault.CutShort number
+        → IfSome (R.remaining reader.old) (λ input.
+        Wrote (W.contents writer.old) (W.contents writer.new) (λ text. IsToldToPacket input text number))) }
+    ensures short { IfErr result (λ fault. fault ≡ InspectFault.Memory → IfSome (R.remaining reader.old) (λ input.
+        Wrote (W.contents writer.old) (W.contents writer.new) (IsToldInPart input))) }
+{
+    let outcome = tell_input(alloc, reader, writer);
     if writer.flush().is_err() {
         return Err(InspectFault::Io);
     }
     outcome
 }
 
-fn tell_all<W: Write>(alloc: Global, input: &[u8], writer: &mut W) -> Result<(), InspectFault> {
+// Reads the input to its end, and tells what it says.
+fn tell_input<R: Read, W: Write>(
+    alloc: Global,
+    reader: &mut R,
+    writer: &mut W,
+) -> Result<(), InspectFault>
+    ensures whole { OnOk result (IfSome (R.remaining reader.old) (λ input.
+        Wrote (W.contents writer.old) (W.contents writer.new) (IsTold input))) }
+    ensures bad_line { IfErr result (λ fault. (number : ℕ) → fault ≡ InspectFault.BadLine number
+        → IfSome (R.remaining reader.old) (λ input.
+        Wrote (W.contents writer.old) (W.contents writer.new) (λ text. IsToldToLine input text number))) }
+    ensures cut_short { IfErr result (λ fault. (number : ℕ) → fault ≡ InspectFault.CutShort number
+        → IfSome (R.remaining reader.old) (λ input.
+        Wrote (W.contents writer.old) (W.contents writer.new) (λ text. IsToldToPacket input text number))) }
+    ensures short { IfErr result (λ fault. fault ≡ InspectFault.Memory → IfSome (R.remaining reader.old) (λ input.
+        Wrote (W.contents writer.old) (W.contents writer.new) (IsToldInPart input))) }
+{
+    let mut input = Vec::new(alloc);
+    match reader.read_to_end(&mut input) {
+        Ok(_) => tell_all(alloc, input.as_slice(), writer),
+        Err(error) if error.kind() == ErrorKind::OutOfMemory => Err(InspectFault::Memory),
+        Err(_) => Err(InspectFault::Io),
+    }
+}
+
+// Tells what an input says.
+fn tell_all<W: Write>(alloc: Global, input: &[u8], writer: &mut W) -> Result<(), InspectFault>
+    ensures whole { OnOk result (Wrote (W.contents writer.old) (W.contents writer.new) (IsTold input.now)) }
+    ensures bad_line { IfErr result (λ fault. (number : ℕ) → fault ≡ InspectFault.BadLine number
+        → Wrote (W.contents writer.old) (W.contents writer.new) (λ text. IsToldToLine input.now text number)) }
+    ensures cut_short { IfErr result (λ fault. (number : ℕ) → fault ≡ InspectFault.CutShort number
+        → Wrote (W.contents writer.old) (W.contents writer.new) (λ text. IsToldToPacket input.now text number)) }
+    ensures short { IfErr result (λ fault. fault ≡ InspectFault.Memory
+        → Wrote (W.contents writer.old) (W.contents writer.new) (IsToldInPart input.now)) }
+{
     if is_capture(input) {
         let (format, packets) = read_format(input)?;
         tell_capture(alloc, format, packets, writer)
@@ -49,24 +92,75 @@ fn tell_all<W: Write>(alloc: Global, input: &[u8], writer: &mut W) -> Result<(),
 }
 
 // Tells the datagrams of lines in hex.
-fn tell_lines<W: Write>(alloc: Global, input: &[u8], writer: &mut W) -> Result<(), InspectFault> {
+fn tell_lines<W: Write>(alloc: Global, input: &[u8], writer: &mut W) -> Result<(), InspectFault>
+    ensures whole { OnOk result (Wrote (W.contents writer.old) (W.contents writer.new) (TellsLines (lines_of input.now))) }
+    ensures stopped { IfErr result (λ fault. (number : ℕ) → fault ≡ InspectFault.BadLine number
+        → Wrote (W.contents writer.old) (W.contents writer.new) (λ text. IsCutOff (lines_of input.now) text number)) }
+    ensures short { IfErr result (λ fault. fault ≡ InspectFault.Memory
+        → Wrote (W.contents writer.old) (W.contents writer.new) (TellsSome (lines_of input.now))) }
+    ensures uncut { IfErr result (λ fault. (packets : ℕ) → fault ≢ InspectFault.CutShort packets) }
+{
     let mut text = String::new(alloc);
     let mut lines = 0u64;
     let mut told = 0u64;
-    for line in input.split(|byte| *byte == b'\n') {
+    let mut left = Some(input);
+    'lines: while let Some(rest) = left {
+        let (line, behind) = cut_line(rest);
         lines = lines.saturating_add(1);
-        match read_line(alloc, line)? {
-            Some(Line::PassedOver) => {}
-            Some(Line::Datagram(bytes)) => {
-                let bytes = bytes.as_slice();
-                fill(&mut text, told, bytes)?;
-                write_text(text.as_str(), writer)?;
-                told = told.saturating_add(1);
-            }
+        match tell_line(alloc, &mut text, told, line, writer)? {
+            Some(next) => told = next,
             None => return Err(InspectFault::BadLine(lines)),
         }
+        left = behind;
     }
     Ok(())
+}
+
+// The first line, and what stands behind the line feed that ends it; None where none does.
+fn cut_line(input: &[u8]) -> (&[u8], Option<&[u8]>)
+    ensures lines { lines_of input.now ≡ result.0.now ∷ lines_left result.1 }
+    ensures shorter { IfSome result.1 (λ rest. length rest.now < length input.now) }
+{
+    match line_end(input) {
+        Some(end) => (&input[..end], Some(&input[end + 1..])),
+        None => (input, None),
+    }
+}
+
+// Where the first line feed stands.
+fn line_end(input: &[u8]) -> Option<usize>
+    ensures { result ≡ position (λ byte. byte == 10) input.now }
+{
+    input.iter().position(|byte| *byte == b'\n')
+}
+
+// Tells the datagram of a line under this number, where the line has one, and gives the number of the next. None where the line can't be
+// read.
+fn tell_line<W: Write>(
+    alloc: Global,
+    text: &mut String,
+    number: u64,
+    line: &[u8],
+    writer: &mut W,
+) -> Result<Option<u64>, InspectFault>
+    ensures readable { IfOk result (λ next. IfSome next (λ _. IsSome (line_of line.now))) }
+    ensures told { IfOk result (λ next. IfSome next (λ _. Wrote (W.contents writer.old) (W.contents writer.new)
+        (TellsEach number (found_in (line_of line.now))))) }
+    ensures next { IfOk result (λ next. IfSome next (λ next. next ≡ min (number + length (found_in (line_of line.now))) 18446744073709551615)) }
+    ensures unread { IfOk result (λ next. IfNone next ((line_of line.now ≡ None) × Keeps (W.contents writer.old) (W.contents writer.new))) }
+    ensures short { IfErr result (λ fault. fault ≡ InspectFault.Memory → Keeps (W.contents writer.old) (W.contents writer.new)) }
+    ensures other { IfErr result (λ fault. (line : ℕ) → fault ≢ InspectFault.BadLine line) }
+    ensures uncut { IfErr result (λ fault. (packets : ℕ) → fault ≢ InspectFault.CutShort packets) }
+{
+    match read_line(alloc, line)? {
+        Some(Line::PassedOver) => Ok(Some(number)),
+        Some(Line::Datagram(bytes)) => {
+            fill(text, number, bytes.as_slice())?;
+            write_text(text.as_str(), writer)?;
+            Ok(Some(number.saturating_add(1)))
+        }
+        None => Ok(None),
+    }
 }
 
 // Tells the datagrams of a capture, whose packets these are.
@@ -75,15 +169,19 @@ fn tell_capture<W: Write>(
     format: Format,
     packets: &[u8],
     writer: &mut W,
-) -> Result<(), InspectFault> {
+) -> Result<(), InspectFault>
+    ensures whole { OnOk result (Wrote (W.contents writer.old) (W.contents writer.new) (TellsCapture format packets.now)) }
+    ensures stopped { IfErr result (λ fault. (number : ℕ) → fault ≡ InspectFault.CutShort number
+        → Wrote (W.contents writer.old) (W.contents writer.new) (λ text. IsShortCapture format packets.now text number)) }
+    ensures short { IfErr result (λ fault. fault ≡ InspectFault.Memory
+        → Wrote (W.contents writer.old) (W.contents writer.new) (TellsSomePackets format packets.now)) }
+    ensures other { IfErr result (λ fault. (line : ℕ) → fault ≢ InspectFault.BadLine line) }
+{
     let mut text = String::new(alloc);
     let mut rest = packets;
     let mut told = 0u64;
     let mut others = 0u64;
-    for _ in 0..packets.len() {
-        if rest.is_empty() {
-            break;
-        }
+    'packets: while !rest.is_empty() {
         let Some((captured, behind)) = read_packet(format, rest) else {
             return Err(InspectFault::CutShort(told.saturating_add(others)));
         };
@@ -103,8 +201,7 @@ fn tell_capture<W: Write>(
 
 // The text becomes what is told of a datagram: its number, its length, and what it says.
 fn fill(text: &mut String, number: u64, bytes: &[u8]) -> Result<(), AllocError>
-    ensures { OnOk result ((told : List ℕ) × (string_bytes text.new ≡ number_text number (length bytes.now) ++ codes "\n" ++ told)
-        × Describes bytes.now told) }
+    ensures { OnOk result (TellsOne number (record { way = []; bytes = bytes.now }) (string_bytes text.new)) }
 {
     begin(text, number, bytes)?;
     text.push_str("\n")?;
@@ -119,8 +216,8 @@ fn fill_captured(
     datagram: Datagram<'_>,
     nanoseconds: bool,
 ) -> Result<(), AllocError>
-    ensures { OnOk result ((told : List ℕ) × (string_bytes text.new ≡ number_text number (length datagram.entry.payload.now)
-        ++ way_text datagram.entry captured.entry nanoseconds ++ codes "\n" ++ told) × Describes datagram.entry.payload.now told) }
+    ensures { OnOk result (TellsOne number (record { way = way_text datagram.entry captured.entry nanoseconds; bytes = datagram.entry.payload.now })
+        (string_bytes text.new)) }
 {
     begin(text, number, datagram.payload)?;
     push_way(text, captured, datagram, nanoseconds)?;
@@ -166,7 +263,10 @@ fn push_parts(text: &mut String, parts: u32, nanoseconds: bool) -> Result<(), Al
     }
 }
 
-fn write_text<W: Write>(text: &str, writer: &mut W) -> Result<(), InspectFault> {
+fn write_text<W: Write>(text: &str, writer: &mut W) -> Result<(), InspectFault>
+    ensures wrote { OnOk result (Appends (W.contents writer.old) (W.contents writer.new) text.now) }
+    ensures failed { IfErr result (λ fault. fault ≡ InspectFault.Io) }
+{
     writer
         .write_all(text.as_bytes())
         .map_err(|_| InspectFault::Io)

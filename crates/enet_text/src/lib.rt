@@ -5,11 +5,12 @@
 //! address, connect id or bytes a word spells, and that no other word spells one (`u8_of` and its kin); the text of each answer. What is
 //! told of a datagram (`describe`, by `Describes` over the definitions of `enet_codec`): its header, each command that the
 //! bytes behind it spell, one after another, with all its fields, and from which byte on and why the rest can't be read; what a line in hex
-//! spells (`read_line`); that reading captures is safe for every input and ends.
-//! Inside, though no clause of `inspect` says so: the text that is written of each datagram, its number, its length and its way around these
-//! lines (`fill`, `fill_captured`).
+//! spells (`read_line`). What `inspect` writes of an input, over a reader and a writer that tell their bytes (`IsTold`): of lines in hex
+//! the text of each datagram, in order, numbered from 0 on, and which line is the first that can't be read; of a capture the packets that
+//! stand in it, one after another, each told as a datagram whose bytes stand in it, with its time, or counted in the last line, and where it
+//! is cut short. Where memory is wanting, what was written is a part of that from its beginning.
 //! Only tested, by scripts/rows and scripts/check-inspect.sh: that the texts find memory; that the lines tell of 446 captured datagrams what
-//! their remarks say, which packets of a capture are datagrams, that their texts are written in order, and the last line of a capture.
+//! their remarks say; which packets of a capture are datagrams, which of their bytes, and between which addresses.
 //! Neither: what was written before reading or writing failed.
 #![tactic(auto)]
 

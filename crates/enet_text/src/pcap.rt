@@ -1,5 +1,8 @@
 //! Captures in the classic pcap format: its packets, and the UDP datagrams over IPv4 in them.
 
+ghost use Rattle.std.specs.Prelude.{◌≡◌, ◌⊎◌, ◌≤◌, ◌<◌, ◌+◌, ℕ, length, drop, is_some, IfOk, IfErr, IfSome, IfNone, MatchOption};
+ghost use Rattle.enet_text.specs.Captures.{IsCapture, IsCutShort, IsPacket, IsWithin, link_of, magic_of, number_of};
+
 use crate::fault::InspectFault;
 use enet_codec::Addr;
 
@@ -45,12 +48,16 @@ pub(crate) struct Datagram<'a> {
 }
 
 /// Whether the input is a capture, by its first four bytes.
-pub(crate) fn is_capture(input: &[u8]) -> bool {
+pub(crate) fn is_capture(input: &[u8]) -> bool
+    ensures { result ≡ is_some (magic_of input.now) }
+{
     magic(input).is_some()
 }
 
 // The order of the bytes of its numbers, and whether its times count nanoseconds.
-fn magic(input: &[u8]) -> Option<(Order, bool)> {
+fn magic(input: &[u8]) -> Option<(Order, bool)>
+    ensures { result ≡ magic_of input.now }
+{
     let (first, _) = input.split_at_checked(4)?;
     match u32_of(first, Order::Big)? {
         0xa1b2_c3d4 => Some((Order::Big, false)),
@@ -63,7 +70,10 @@ fn magic(input: &[u8]) -> Option<(Order, bool)> {
 
 /// The format that the 24 bytes at the beginning of a capture tell, and what is left behind them. CutShort where there are fewer,
 /// LinkType where the link type isn't one that is read.
-pub(crate) fn read_format(input: &[u8]) -> Result<(Format, &[u8]), InspectFault> {
+pub(crate) fn read_format(input: &[u8]) -> Result<(Format, &[u8]), InspectFault>
+    ensures format { IfOk result (λ read. IsCapture input.now read.0 read.1.now) }
+    ensures refused { IfErr result (λ fault. (fault ≡ InspectFault.CutShort 0) ⊎ ((number : ℕ) × (fault ≡ InspectFault.LinkType number))) }
+{
     let Some((order, nanoseconds)) = magic(input) else {
         return Err(InspectFault::CutShort(0));
     };
@@ -82,7 +92,9 @@ pub(crate) fn read_format(input: &[u8]) -> Result<(Format, &[u8]), InspectFault>
     Ok((format, rest))
 }
 
-fn link_of(number: u32) -> Option<Link> {
+fn link_of(number: u32) -> Option<Link>
+    ensures { result ≡ link_of number }
+{
     match number {
         0 => Some(Link::Loopback),
         1 => Some(Link::Ethernet),
@@ -93,7 +105,10 @@ fn link_of(number: u32) -> Option<Link> {
 }
 
 /// The packet at the front, and what is left behind it. None where it is cut short.
-pub(crate) fn read_packet<'a>(format: Format, rest: &'a [u8]) -> Option<(Captured<'a>, &'a [u8])> {
+pub(crate) fn read_packet<'a>(format: Format, rest: &'a [u8]) -> Option<(Captured<'a>, &'a [u8])>
+    ensures packet { IfSome result (λ read. IsPacket format.order rest.now read.0 read.1.now) }
+    ensures cut_short { IfNone result (IsCutShort format.order rest.now) }
+{
     let (head, rest) = rest.split_at_checked(16)?;
     let kept = usize::try_from(u32_at(head, 8, format.order)?).ok()?;
     let (bytes, rest) = rest.split_at_checked(kept)?;
@@ -106,12 +121,16 @@ pub(crate) fn read_packet<'a>(format: Format, rest: &'a [u8]) -> Option<(Capture
 }
 
 /// The datagram of a packet that is UDP over IPv4. None where it is another, a fragment of one, or wasn't kept whole.
-pub(crate) fn datagram_in<'a>(format: Format, packet: &'a [u8]) -> Option<Datagram<'a>> {
+pub(crate) fn datagram_in<'a>(format: Format, packet: &'a [u8]) -> Option<Datagram<'a>>
+    ensures { IfSome result (λ datagram. IsWithin datagram.payload.now packet.now) }
+{
     udp_in(ipv4_in(format.link, packet)?)
 }
 
 // What stands behind the link's header, where that says IPv4.
-fn ipv4_in(link: Link, packet: &[u8]) -> Option<&[u8]> {
+fn ipv4_in(link: Link, packet: &[u8]) -> Option<&[u8]>
+    ensures { IfSome result (λ inside. IsWithin inside.now packet.now) }
+{
     match link {
         Link::RawIp => Some(packet),
         Link::Ethernet => typed(packet, 12),
@@ -130,7 +149,9 @@ fn ipv4_in(link: Link, packet: &[u8]) -> Option<&[u8]> {
 }
 
 // What stands behind the type of the payload at a place, where that is IPv4's.
-fn typed(packet: &[u8], place: usize) -> Option<&[u8]> {
+fn typed(packet: &[u8], place: usize) -> Option<&[u8]>
+    ensures { IfSome result (λ inside. IsWithin inside.now packet.now) }
+{
     let (_, rest) = packet.split_at_checked(place)?;
     let (kind, rest) = rest.split_at_checked(2)?;
     if u16_at(kind, 0)? == 0x0800 {
@@ -141,7 +162,9 @@ fn typed(packet: &[u8], place: usize) -> Option<&[u8]> {
 }
 
 // The datagram of an IPv4 packet. What stands behind its length fills up the frame.
-fn udp_in(packet: &[u8]) -> Option<Datagram<'_>> {
+fn udp_in(packet: &[u8]) -> Option<Datagram<'_>>
+    ensures { IfSome result (λ datagram. IsWithin datagram.payload.now packet.now) }
+{
     let first = *packet.first()?;
     let header = usize::from(first & 0x0f) * 4;
     let (packet, _) = packet.split_at_checked(usize::from(u16_at(packet, 2)?))?;
@@ -173,13 +196,17 @@ fn u16_at(bytes: &[u8], place: usize) -> Option<u16> {
 }
 
 // The number of four bytes at a place.
-fn u32_at(bytes: &[u8], place: usize, order: Order) -> Option<u32> {
+fn u32_at(bytes: &[u8], place: usize, order: Order) -> Option<u32>
+    ensures { MatchOption result (length bytes.now < place + 4) (λ number. (place + 4 ≤ length bytes.now) × (number ≡ number_of order (drop place bytes.now))) }
+{
     let (_, rest) = bytes.split_at_checked(place)?;
     u32_of(rest, order)
 }
 
 // The number of the first four bytes.
-fn u32_of(bytes: &[u8], order: Order) -> Option<u32> {
+fn u32_of(bytes: &[u8], order: Order) -> Option<u32>
+    ensures { MatchOption result (length bytes.now < 4) (λ number. (4 ≤ length bytes.now) × (number ≡ number_of order bytes.now)) }
+{
     let four = [
         *bytes.first()?,
         *bytes.get(1)?,

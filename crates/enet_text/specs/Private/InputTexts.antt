@@ -1,19 +1,14 @@
--- What is told of a datagram before its lines.
-use Rattle.std.specs.Prelude.{ℕ, ◌-◌, Bool, if◌then◌else◌, List, ◌++◌, codes, length, replicate}
-use Rattle.std.specs.Fmt.{decimal}
-use Rattle.enet_text.specs.declared.pcap.Captured.{Captured}
-use Rattle.enet_text.specs.declared.pcap.Datagram.{Datagram}
-use Rattle.enet_text.specs.Texts.{address_text}
+-- What is left of an input.
+use Rattle.std.specs.Prelude.{ℕ, ◌+◌, List, [], length, Option, Some, None}
+use Rattle.std.specs.Borrow.{Bor}
+use Rattle.enet_text.specs.Inspected.{lines_of}
 
--- Its number and its length.
-abbrev pub number_text : ℕ → ℕ → List ℕ
-number_text number len = codes "datagram " ++ decimal number ++ codes " length " ++ decimal len
+-- The lines of what is left, where anything is.
+abbrev pub lines_left : Option (Bor (List ℕ)) → List (List ℕ)
+lines_left None = []
+lines_left (Some rest) = lines_of rest.now
 
--- A number in so many digits or more, with zeros before it.
-abbrev pub with_zeros : ℕ → ℕ → List ℕ
-with_zeros digits n = replicate (digits - length (decimal n)) 48 ++ decimal n
-
--- Whence and whither it went, and when: in seconds, and in billionths or millionths of one.
-abbrev pub way_text : Datagram → Captured → Bool → List ℕ
-way_text datagram captured nanoseconds = codes " from " ++ address_text datagram.from ++ codes " to " ++ address_text datagram.to
-    ++ codes " at " ++ decimal captured.seconds ++ codes "." ++ with_zeros (if nanoseconds then 9 else 6) captured.parts
+-- One more than the bytes of it; 0 where nothing is left.
+abbrev pub bytes_left : Option (Bor (List ℕ)) → ℕ
+bytes_left None = 0
+bytes_left (Some rest) = length rest.now + 1

@@ -2,7 +2,7 @@ use Rattle.std.proofs.Common.{◌≡◌, ◌++◌, ℕ, ◌-◌, Bool, if◌then
 use Rattle.std.specs.Fmt.{decimal, format_spec, styled_decimal, padded_integral, char_count}
 use Rattle.std.specs.String.{string_bytes}
 use Rattle.enet_text.proofs.Joins.{if_ok}
-use Rattle.enet_text.specs.Private.InputTexts.{with_zeros}
+use Rattle.enet_text.specs.Captures.{with_zeros}
 use Rattle.enet_text.proofs.inspecting.push_parts.Goals as goal
 
 zeros_before : (digits : ℕ) (numeral : List ℕ) → replicate (digits - length numeral - 0 - 0) 48 ++ (numeral ++ []) ≡ replicate (digits - length numeral) 48 ++ numeral
