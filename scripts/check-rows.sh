@@ -4,7 +4,7 @@
 # (no such file: 0). A long script and its output are made by NAME.awk. A script that is listed and missing fails. Each line of
 # unreadable-lines.txt and of unreadable-lines-of-a-fleet.txt, whose escapes are printf's, is the second of a script for a pair or a
 # fleet, and the first that can't be read. Each short script that makes two hosts, and the first of a fleet, is also run by `check_memory` as one list of events,
-# in one call. Command lines are tried too; those of `demo` take ports 47100 to 47108. The last line is
+# in one call. Command lines are tried too; those of `demo` take port 47100, which no other socket may have. The last line is
 # 'N passed, M failed'; the status is 1 where one fails. The programs are those that `rt ci`, or `rt run` in crates/enet_relay and
 # crates/check_memory, leaves; another `enet_relay` can be named as argument.
 cd "$(dirname "$0")/.." || exit 1
@@ -215,9 +215,9 @@ demonstrations() {
     start_service --turns 1000000
     service_line demo-server-port-taken 1 'E14 WireFault' '' demo
     end_service
-    port=47102
+    port=47101
     start_service --turns 1000000
-    service_line demo-client-port-taken 1 'E14 WireFault' '' demo
+    service_line demo-beside-a-server 0 '' "$(demo_prints 2 3 done)" demo
     end_service
 }
 

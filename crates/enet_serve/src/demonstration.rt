@@ -24,8 +24,11 @@ use std::thread::Threads;
 /// 127.0.0.1
 const HERE: u32 = 0x7f00_0001;
 
-/// The server's port; client i has the port i + 1 above it.
+/// The server's port.
 const PORT: u16 = 47_100;
+
+/// In place of a client's port: the system chooses one.
+const ANY_PORT: u16 = 0;
 
 /// The most clients.
 const MOST: u8 = 8;
@@ -44,17 +47,17 @@ pub struct Demonstration {
     pub server: Option<Addr>,
 }
 
-/// Runs a server, unless one is named, and client i at port 47101 + i of 127.0.0.1, in threads of this process, and tells what came of
-/// each client, from client 0 on.
+/// Runs a server, unless one is named, and clients at 127.0.0.1, whose ports the system chooses, in threads of this process, and tells
+/// what came of each client, from client 0 on.
 ///
 /// Each client connects; it sends three packets `c<i> 0` to `c<i> 2` on channel 0, reliably, a server that was started here once that has
 /// all clients for peers; and it counts what comes until its service has taken its turns and no event is left. So where the turns
 /// suffice, each client gets of a server that was started here the three packets of each other one, whichever connected first; where
 /// they end early, it gets fewer.
 ///
-/// E8 where `clients` is out of its range; E14 where a port can't be had, before anything is sent; then E14 where a wire fails, E1 for want
-/// of memory, E10 where the server's run is so long that its relay has submitted as many orders as it may, E16 where threads ended and
-/// a queue isn't empty. The server's refusal is told before a client's, and that of a client before
+/// E8 where `clients` is out of its range; E14 where the server's port or one for a client can't be had, before anything is sent; then
+/// E14 where a wire fails, E1 for want of memory, E10 where the server's run is so long that its relay has submitted as many orders as it
+/// may, E16 where threads ended and a queue isn't empty. The server's refusal is told before a client's, and that of a client before
 /// that of a later one.
 pub fn demonstrate<R>(rt: &R, shown: Demonstration) -> Result<Vec<Visit>, Refusal>
 where
@@ -70,17 +73,20 @@ where
         return visit_server(rt, shown);
     }
     let settings = Settings {
-        address: address(0),
+        address: address(PORT),
         peers: u16::from(shown.clients),
         channels: CHANNELS,
         queue_capacity: QUEUE_CAPACITY,
     };
-    let guests = open_guests(rt, shown)?;
+    // The server first: the system might choose its port for a client.
     let mut server = match ChatServer::open(rt, settings) {
         Ok(server) => server,
         Err(unopened) => return Err(unopened.why),
     };
-    let visits = run_all(rt, rt.alloc(), &mut server, guests, shown);
+    let visits = match open_guests(rt, shown) {
+        Ok(guests) => run_all(rt, rt.alloc(), &mut server, guests, shown),
+        Err(why) => Err(why),
+    };
     server.close();
     visits
 }
@@ -105,11 +111,11 @@ fn server_of(shown: Demonstration) -> Addr
 {
     match shown.server {
         Some(server) => server,
-        None => address(0),
+        None => address(PORT),
     }
 }
 
-// The clients, each with its port. E14 where a port can't be had, E1 for want of memory.
+// The clients, each at a port of its own. E14 where none can be had, E1 for want of memory.
 fn open_guests<R: Net + AllocGlobal>(rt: &R, shown: Demonstration) -> Result<Vec<Guest>, Refusal>
     requires { shown.clients ≤ 8 }
     ensures guests { IfOk result (λ guests. AreGuests shown guests.items) }
@@ -121,7 +127,7 @@ fn open_guests<R: Net + AllocGlobal>(rt: &R, shown: Demonstration) -> Result<Vec
             number,
             server: server_of(shown),
         };
-        let guest = Guest::open(rt, address(number + 1), plan, u64::from(shown.turns))?;
+        let guest = Guest::open(rt, address(ANY_PORT), plan, u64::from(shown.turns))?;
         if guests.push(guest).is_err() {
             return Err(Refusal::Memory);
         }
@@ -210,12 +216,9 @@ fn first_fault_or_all(
     Ok(visits)
 }
 
-// The address so many ports above the server's.
-fn address(above: u8) -> Addr
-    ensures { result ≡ record { ip = 0x7f000001; port = 47100 + above } }
+// This port of 127.0.0.1.
+fn address(port: u16) -> Addr
+    ensures { result ≡ record { ip = 0x7f000001; port = port } }
 {
-    Addr {
-        ip: HERE,
-        port: PORT + u16::from(above),
-    }
+    Addr { ip: HERE, port }
 }
