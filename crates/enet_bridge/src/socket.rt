@@ -82,7 +82,8 @@ pub struct MioWire {
 }
 
 impl MioWire {
-    /// A socket at this address, with a receive buffer and a send buffer of 4 MB each where the system grants that.
+    /// A socket at this address, at port 0 at one that the system chooses, with a receive buffer and a send buffer of 4 MB each where the
+    /// system grants that.
     ///
     /// E14 where the address can't be had, or the system grants nothing to wait by; else E1 for want of memory.
     pub fn bind<R: Net + AllocGlobal>(rt: &R, addr: Addr) -> Result<MioWire, Refusal>
