@@ -1,5 +1,5 @@
 -- One sent command goes.
-use Rattle.std.proofs.Common.{inl, inr, ◌≡◌, ◌≢◌, ℕ, suc, ◌+◌, ◌-◌, ◌<◌, ◌≤◌, Bool, false, eqb, List, [], ◌∷◌, ◌++◌, length, map, get_or, set, take, drop, Option, Some, None, refl, sym, ap, subst, ◌∙◌, arith, All}
+use Rattle.std.proofs.Common.{inl, inr, ◌≡◌, ◌≢◌, ℕ, suc, ◌+◌, ◌-◌, ◌<◌, ◌≤◌, Bool, true, false, eqb, List, [], ◌∷◌, ◌++◌, length, map, get_or, set, take, drop, Option, Some, None, refl, sym, ap, subst, ◌∙◌, arith, All}
 use Rattle.std.specs.List.{slice_get, remove}
 use Rattle.std.proofs.lemmas.Bool.{cases_eq, eq-eqb, ne_eqb}
 use Rattle.std.proofs.lemmas.List.{length-set, length-take, get_or-take, get_or-set_same, get_or-set_other}
@@ -237,6 +237,7 @@ goes-keeps {at} {after} {r} {number} {place} {key} {p} h sent due trims first =
       passed = h.keeps.passed;
       goes_on = subst (λ (cs : List DataCommand). GoesOn r.passed cs r.number) (sym same) h.keeps.goes_on;
       counted = h.keeps.counted ∙ ap reliable_in (sym same);
+      waits = subst (All (λ (q : Sent). q.transmission.due ≡ true)) (sym (goes-queued h)) h.keeps.waits;
     }
   where
     first-fits : (sent : List ℕ) (k : ℕ) → slice_get sent 0 ≡ Some k → All (λ (k : ℕ). k ≤ vacant) sent → k ≤ vacant

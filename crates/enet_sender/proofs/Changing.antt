@@ -98,6 +98,7 @@ change-keeps {at} {after} {r} {place} {key} {p} {q} h due none =
       passed = h.keeps.passed;
       goes_on = subst (λ (cs : List DataCommand). GoesOn r.passed cs r.number) (sym same) h.keeps.goes_on;
       counted = h.keeps.counted ∙ ap reliable_in (sym same);
+      waits = subst (All (λ (q : Sent). q.transmission.due ≡ true)) (sym (change-named h).2) h.keeps.waits;
     }
 
 pub change-passes : {at after : ℕ → Option Sent} {r : Rings} {place key : ℕ} {p q : Sent} → Changes at after r place key p q → (due : ℕ) → Passes at after (keys_of r) (keys_of (with_due r due))

@@ -14,3 +14,4 @@ pub mod Piecing
 pub mod Skipping
 pub mod Rounds
 pub mod Flags
+pub mod Foretelling

@@ -1,5 +1,5 @@
 -- A command is queued under a new key.
-use Rattle.std.proofs.Common.{inl, inr, ◌≡◌, ◌≢◌, ℕ, ◌+◌, ◌<◌, ◌≤◌, true, cond, List, [], ◌∷◌, ◌++◌, length, map, get_or, Option, Some, None, sym, ap, subst, ◌∙◌, arith}
+use Rattle.std.proofs.Common.{inl, inr, ◌≡◌, ◌≢◌, ℕ, ◌+◌, ◌<◌, ◌≤◌, true, cond, List, [], ◌∷◌, ◌++◌, length, map, get_or, Option, Some, None, sym, ap, subst, ◌∙◌, arith, All}
 use Rattle.std.proofs.lemmas.Bool.{cases_eq, cases_lt}
 use Rattle.std.proofs.lemmas.List.{get_or_past, map_push}
 use Rattle.std.proofs.lemmas.List.Sums.{sum_by_push}
@@ -20,6 +20,7 @@ pub record Comes (at later : ℕ → Option Sent) (r : Rings) (key : ℕ) (p : S
   pub now : later key ≡ Some p
   pub others : (k : ℕ) → k ≢ key → later k ≡ at k
   pub short : length p.command.body ≤ 4068
+  pub waits : p.transmission.due ≡ true
   pub next : p.command.reliable ≡ true → p.command.number ≡ after r.number 1
 
 -- the rings with it
@@ -45,9 +46,13 @@ absent {at} {later} {r} {key} {p} h =
 nothing-later : {at later : ℕ → Option Sent} {r : Rings} {key : ℕ} {p : Sent} → Comes at later r key p → later vacant ≡ None
 nothing-later {at} {later} {r} {key} {p} h = let low = h.low in h.others vacant (λ same. omega arith) ∙ h.keeps.nothing
 
+pub comes-named : {at later : ℕ → Option Sent} {r : Rings} {key : ℕ} {p : Sent} → Comes at later r key p → named later (r.queued ++ key ∷ []) ≡ named at r.queued ++ p ∷ []
+comes-named {at} {later} {r} {key} {p} h =
+    named-append later r.queued (key ∷ []) ∙ ap (λ xs. named later r.queued ++ xs) (named-cons later key [] p h.now) ∙ ap (λ xs. xs ++ p ∷ []) (named-other at later key r.queued (absent h).0 h.others)
+
 pub comes-queued : {at later : ℕ → Option Sent} {r : Rings} {key : ℕ} {p : Sent} → Comes at later r key p → commands_at later (r.queued ++ key ∷ []) ≡ commands_at at r.queued ++ p.command ∷ []
 comes-queued {at} {later} {r} {key} {p} h =
-    ap (map command_of) (named-append later r.queued (key ∷ []) ∙ ap (λ xs. named later r.queued ++ xs) (named-cons later key [] p h.now) ∙ ap (λ xs. xs ++ p ∷ []) (named-other at later key r.queued (absent h).0 h.others))
+    ap (map command_of) (comes-named h)
     ∙ map_push command_of (named at r.queued) p
 
 pub comes-sent : {at later : ℕ → Option Sent} {r : Rings} {key : ℕ} {p : Sent} → Comes at later r key p → named later r.sent ≡ named at r.sent
@@ -110,6 +115,7 @@ comes-keeps {at} {later} {r} {key} {p} h =
           (goes_on-more (commands_at at r.queued) p.command r.passed r.number h.keeps.goes_on h.next);
       counted = ap (λ n. n + cond p.command.reliable 1 0) h.keeps.counted
           ∙ sym (ap reliable_in queued ∙ sum_by_push (λ (c : DataCommand). cond c.reliable 1 0) (commands_at at r.queued) p.command);
+      waits = subst (All (λ (q : Sent). q.transmission.due ≡ true)) (sym (comes-named h)) (All-push (λ (q : Sent). q.transmission.due ≡ true) (named at r.queued) p h.keeps.waits h.waits);
     }
 
 pub comes-passes : {at later : ℕ → Option Sent} {r : Rings} {key : ℕ} {p : Sent} → Comes at later r key p → Passes at later (keys_of r) (keys_of (queued_on r key p))

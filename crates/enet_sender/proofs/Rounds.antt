@@ -1,12 +1,11 @@
 -- What a ring names changes, one command after another.
-use Rattle.std.proofs.Common.{inl, inr, ◌≡◌, ◌≢◌, ℕ, zero, suc, ◌+◌, ◌%◌, ◌<◌, ◌≤◌, Bool, true, false, cond, not, ◌&&◌, ◌||◌, ltb, List, [], ◌∷◌, ◌++◌, length, map, get_or, take, Option, Some, None, is_some, refl, sym, ap, ap₂, subst, ◌∙◌, arith}
+use Rattle.std.proofs.Common.{inl, inr, ◌≡◌, ◌≢◌, ℕ, zero, suc, ◌+◌, ◌%◌, ◌<◌, ◌≤◌, Bool, true, false, cond, not, ◌&&◌, ◌||◌, ltb, List, [], ◌∷◌, ◌++◌, length, map, get_or, take, Option, Some, None, is_some, refl, sym, ap, ap₂, subst, ◌∙◌, arith, All}
 use Rattle.std.specs.List.{cons_option, list_any, position, position_or_len}
 use Rattle.std.specs.Option.{option_map}
 use Rattle.std.proofs.lemmas.Bool.{cases_eq, lt-ltb}
 use Rattle.std.proofs.lemmas.Bool.Decides.{nat_tests}
 use Rattle.std.proofs.lemmas.List.{take_more}
 use Rattle.std.proofs.lemmas.List.Elements.{All-nil}
-use Rattle.slab.specs.Slab.{Slab, get, Updates}
 use Rattle.enet_rtt.specs.Transmission as transmission
 use Rattle.enet_rtt.specs.declared.transmission.Transmission.{Transmission}
 use Rattle.enet_fragment.specs.declared.data.DataCommand.{DataCommand}
@@ -73,12 +72,12 @@ marked-twice now None = refl
 marked-twice now (Some p) = ap (λ t. Some (record p { transmission = t })) (transmission-twice now p.transmission)
 
 -- what stands under each key has the command that stood there
-marked-had : (now n : ℕ) (o : Option Sent) (q : Sent) → marked_at now n o ≡ Some q → (p : Sent) × (o ≡ Some p) × (q.command ≡ p.command)
+pub marked-had : (now n : ℕ) (o : Option Sent) (q : Sent) → marked_at now n o ≡ Some q → (p : Sent) × (o ≡ Some p) × (q.command ≡ p.command)
 marked-had now zero o q e = (q, e, refl)
 marked-had now (suc n) None q e = cc
 marked-had now (suc n) (Some p) q e = let is : marked now p ≡ q = cc in (p, refl, ap (λ (z : Sent). z.command) (sym is))
 
-marked-held : (now n : ℕ) (o : Option Sent) → one_if (is_some (marked_at now n o)) ≡ one_if (is_some o)
+pub marked-held : (now n : ℕ) (o : Option Sent) → one_if (is_some (marked_at now n o)) ≡ one_if (is_some o)
 marked-held now zero o = refl
 marked-held now (suc n) None = refl
 marked-held now (suc n) (Some p) = refl
@@ -91,20 +90,12 @@ cons-map : (f : Sent → Sent) (o : Option Sent) (xs : List Sent) → cons_optio
 cons-map f None xs = refl
 cons-map f (Some p) xs = refl
 
-named-map : (f : Sent → Sent) (at after : ℕ → Option Sent) (keys : List ℕ) (d : ℕ) → ((i : ℕ) → i < length keys → after (get_or keys i d) ≡ option_map f (at (get_or keys i d))) → named after keys ≡ map f (named at keys)
+pub named-map : (f : Sent → Sent) (at after : ℕ → Option Sent) (keys : List ℕ) (d : ℕ) → ((i : ℕ) → i < length keys → after (get_or keys i d) ≡ option_map f (at (get_or keys i d))) → named after keys ≡ map f (named at keys)
 named-map f at after [] d same = refl
 named-map f at after (k ∷ keys) d same =
     let here : after k ≡ option_map f (at k) = same 0 (omega arith) in
     let rest : named after keys ≡ map f (named at keys) = named-map f at after keys d (λ i inside. same (suc i) (omega arith)) in
     ap (λ o. cons_option o (named after keys)) here ∙ ap (λ xs. cons_option (option_map f (at k)) xs) rest ∙ cons-map f (at k) (named at keys)
-
--- what stands under a key is marked
-pub mark-step : (now key : ℕ) (s t : Slab Sent) → ((p : Sent) → get s key ≡ Some p → Updates s t key (Some (marked now p))) → (get s key ≡ None → t ≡ s) → Updates s t key (option_map (marked now) (get s key))
-mark-step now key s t some none = by (get s key) refl
-  where
-    by : (o : Option Sent) → get s key ≡ o → Updates s t key (option_map (marked now) o)
-    by None e = record { changed = ap (λ (u : Slab Sent). get u key) (none e) ∙ e; others = λ j other. ap (λ (u : Slab Sent). get u j) (none e) }
-    by (Some p) e = some p e
 
 -- what is known where all that is sent on a channel has just been marked
 pub record Marks (now : ℕ) (at after : ℕ → Option Sent) (r : Rings) : Type 0 where
@@ -167,6 +158,7 @@ marks-keeps {now} {at} {after} {r} h =
       passed = h.keeps.passed;
       goes_on = subst (λ (cs : List DataCommand). GoesOn r.passed cs r.number) (sym same) h.keeps.goes_on;
       counted = h.keeps.counted ∙ ap reliable_in (sym same);
+      waits = subst (All (λ (q : Sent). q.transmission.due ≡ true)) (sym (marks-queued h)) h.keeps.waits;
     }
 
 -- what is taken out twice
@@ -231,6 +223,7 @@ leaves-keeps {at} {after} {r} h = record {
   passed = goes_on-low r.passed (commands_at at r.queued) r.number h.keeps.passed h.keeps.goes_on;
   goes_on = refl;
   counted = refl;
+  waits = All-nil (λ (q : Sent). q.transmission.due ≡ true);
 }
 
 -- a test of each command of a ring

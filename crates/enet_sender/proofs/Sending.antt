@@ -47,6 +47,14 @@ head-named {at} {later} {r} {key} {rest} {p} h =
       named-other at later key r.sent a.sent h.others,
     )
 
+-- what is queued behind it
+waits-behind : {at later : ℕ → Option Sent} {r : Rings} {key : ℕ} {rest : List ℕ} {p : Sent} → Heads at later r key rest p → All (λ (q : Sent). q.transmission.due ≡ true) (named later rest)
+waits-behind {at} {later} {r} {key} {rest} {p} h =
+    let was : named at r.queued ≡ p ∷ named at rest = ap (named at) h.queued ∙ named-cons at key rest p h.there in
+    let same : named later rest ≡ named at rest = named-other at later key rest (alone h).behind h.others in
+    subst (All (λ (q : Sent). q.transmission.due ≡ true)) (sym same)
+    (All-tail (λ (q : Sent). q.transmission.due ≡ true) p (named at rest) (subst (All (λ (q : Sent). q.transmission.due ≡ true)) was h.keeps.waits))
+
 nothing-later : {at later : ℕ → Option Sent} {r : Rings} {key : ℕ} {rest : List ℕ} {p : Sent} → Heads at later r key rest p → later vacant ≡ None
 nothing-later {at} {later} {r} {key} {rest} {p} h = let low = head-low h in h.others vacant (λ same. omega arith) ∙ h.keeps.nothing
 
@@ -158,6 +166,7 @@ begin-keeps {at} {later} {r} {key} {rest} {p} q h now same fresh reliable few no
       passed = let low_number = after-low r.passed in let is = n.0 in omega arith;
       goes_on = subst (λ (cs : List DataCommand). GoesOn p.command.number cs r.number) (sym names.1) n.1;
       counted = counted-less (commands_at at r.queued) p.command (commands_at at rest) r.reliable names.0 h.keeps.counted reliable ∙ ap reliable_in (sym names.1);
+      waits = waits-behind h;
     }
   where
     first-of : (sent : List ℕ) (k : ℕ) → slice_get (sent ++ key ∷ []) 0 ≡ Some k → key < vacant → ((k : ℕ) → slice_get sent 0 ≡ Some k → k < vacant) → k < vacant
@@ -241,6 +250,7 @@ leave-keeps {at} {later} {r} {key} {rest} {p} h gone unreliable =
       passed = h.keeps.passed;
       goes_on = subst (λ (cs : List DataCommand). GoesOn r.passed cs r.number) (sym names.1) (same-number p.command (commands_at at rest) r.passed r.number unreliable (goes-on h));
       counted = counted-same (commands_at at r.queued) p.command (commands_at at rest) r.reliable names.0 h.keeps.counted unreliable ∙ ap reliable_in (sym names.1);
+      waits = waits-behind h;
     }
 
 -- the distance from the oldest number to the next one

@@ -1,9 +1,9 @@
 pub mod CommandChoice
 pub mod Sender
-pub mod Late
 pub mod Due
 pub mod Invariant
 pub mod Course
 pub mod Pending
+pub mod Foretold
 pub mod Rings
 pub mod Private

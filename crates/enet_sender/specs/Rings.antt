@@ -79,7 +79,7 @@ GoesOn passed [] number = passed ≡ number
 GoesOn passed (c ∷ cs) number =
     (c.reliable ≡ true → c.number ≡ after passed 1) × GoesOn (if c.reliable then c.number else passed) cs number
 
--- Each key of the rings stands in them once, and a command stands under it. Bodies are short.
+-- Each key of the rings stands in them once, and a command stands under it. Bodies are short. What is queued stands as if it were due.
 pub record Keeps (at : ℕ → Option Sent) (r : Rings) : Type 0 where
   pub nothing : at vacant ≡ None
   pub short : (key : ℕ) (p : Sent) → at key ≡ Some p → length p.command.body ≤ 4068
@@ -90,6 +90,7 @@ pub record Keeps (at : ℕ → Option Sent) (r : Rings) : Type 0 where
   pub passed : r.passed < 65536
   pub goes_on : GoesOn r.passed (commands_at at r.queued) r.number
   pub counted : r.reliable ≡ reliable_in (commands_at at r.queued)
+  pub waits : All (λ (p : Sent). p.transmission.due ≡ true) (named at r.queued)
 
 -- What clauses show of a channel and of the commands of its peer: the sender, that its rings and they fit, that a call leaves what stands under the keys
 -- of others, and that all that is queued has a place among what is sent.

@@ -18,11 +18,13 @@
 #![tactic(auto)]
 
 mod course;
+mod lateness;
 mod laws;
 mod outgoing;
 mod pending;
 mod ring;
 mod sent;
+mod timed;
 mod writing;
 
 pub use laws::{reliable_stays_left, transit_follows};

@@ -11,7 +11,6 @@ ghost use Rattle.enet_sender.specs.declared.pending.Pending.{Pending};
 ghost use Rattle.enet_sender.specs.declared.sent.Sent.{Sent};
 ghost use Rattle.enet_sender.specs.Sender.{with_marked, lateness, after_lateness, ends, is_late, cleared, after_acknowledgement, acknowledged_bytes, next, next_queued, next_resent, first_sent, may_go, piece_of_body, is_more, skipped, with_skipped, left};
 ghost use Rattle.enet_sender.specs.Due.{Did, new_end, with_submitted};
-ghost use Rattle.enet_sender.specs.Late.{is_late_as};
 ghost use Rattle.enet_fragment.specs.Cutting.{piece_length, piece_count};
 ghost use Rattle.enet_sender.specs.CommandChoice.{fragment_limit};
 ghost use Rattle.enet_sender.specs.Private.Invariant.{IsShort};
@@ -25,7 +24,7 @@ ghost use Rattle.enet_sender.specs.Private.Rings.{IsFirstDue};
 use crate::course::{Course, cut};
 use crate::pending::Pending;
 use crate::ring::{
-    any_ends, any_late, first, first_due, late_number, mark_all, next_late, place_of, take_all,
+    any_ends, any_late, first, first_due, mark_all, next_late, place_of, take_all,
     vacate,
 };
 use crate::writing::{bytes_of, due_kind, is_more, put};
@@ -349,15 +348,6 @@ impl Outgoing {
         next_late(&self.sent, pending, now)
     }
 
-    /// The number of a sent command that has waited out its timeout at the moment `now`, and is not due to go again already; None
-    /// exactly where there is none.
-    pub fn late_number(&self, pending: &Pending, now: u32) -> Option<u16>
-        ensures some { IfSome result (λ number. list_any (is_late_as now number) (sender_in pending.now self.now).sent ≡ true) }
-        ensures none { IfNone result (list_any (is_late now) (sender_in pending.now self.now).sent ≡ false) }
-    {
-        late_number(&self.sent, pending, now)
-    }
-
     /// Each sent command that has waited out its timeout at the moment `now` is due to go again, and waits twice as long
     /// then (our profile).
     pub fn mark(&mut self, pending: &mut Pending, now: u32)
@@ -368,6 +358,13 @@ impl Outgoing {
         ensures room { HasRoom self.old → HasRoom self.new }
     {
         mark_all(&self.sent, pending, now);
+        self.due_from = 0;
+    }
+
+    /// What is sent may be due to go again at any place from now on, after `Pending::mark_all`.
+    pub fn seek_anew(&mut self)
+        ensures { self.new ≡ record self.old { due_from = 0 } }
+    {
         self.due_from = 0;
     }
 

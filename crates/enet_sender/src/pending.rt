@@ -1,30 +1,32 @@
 //! The commands of a peer, each under a key.
 
 ghost use Rattle.std.specs.Prelude.{◌≡◌, ℕ, ◌+◌, ◌<◌, ◌≤◌, Some, None, [], true, false, IsOk, IfOk, IfSome, IfNone, IsTrue, option_copied};
+ghost use Rattle.std.specs.Option.{option_map};
 ghost use Rattle.enet_rtt.specs.Clock.{HappensIn};
 ghost use Rattle.slab.specs.Slab.{get, slab_len, Updates, HasRoomFor};
 ghost use Rattle.enet_sender.specs.Pending.{vacant};
 ghost use Rattle.enet_sender.specs.Private.Pending.{queued};
 ghost use Rattle.enet_sender.specs.Private.Rounds.{test_at};
 ghost use Rattle.enet_sender.specs.declared.sent.Sent.{Sent};
-ghost use Rattle.enet_sender.specs.Late.{is_late_as};
+ghost use Rattle.enet_sender.specs.Foretold.{IsLateIn, NonePasses, SomePasses};
 ghost use Rattle.enet_sender.specs.Sender.{again, begun, ends, is_late, marked};
 ghost use Rattle.enet_sender.specs.Rings.{is_due, IsEmpty};
 
 use crate::Sent;
+use crate::timed::TimedSlab;
 use enet_codec::Refusal;
 use enet_fragment::DataCommand;
-use enet_rtt::{Patience, Transmission};
-use slab::Slab;
+use enet_rtt::Patience;
 use std::alloc::Global;
 
 /// In a ring, the place of a command that was acknowledged.
 pub(crate) const VACANT: u32 = u32::MAX;
 
-/// All commands of a peer that are queued, or sent and not acknowledged, each under a key.
+/// All commands of a peer that are queued, or sent and not acknowledged, each under a key. It knows when each of them is late first: to send
+/// one or to take one out costs a step more for each doubling of their number at most, and to ask what is late costs what is late.
 #[derive(Drop)]
 pub struct Pending {
-    slab: Slab<Sent>,
+    slab: TimedSlab,
 }
 
 impl Pending {
@@ -34,7 +36,7 @@ impl Pending {
         ensures never { IsOk result }
     {
         Ok(Pending {
-            slab: Slab::new(alloc),
+            slab: TimedSlab::new(alloc),
         })
     }
 
@@ -44,7 +46,7 @@ impl Pending {
         ensures room { IsTrue result → HasRoomFor self.new.slab more }
         ensures keys { IsTrue result → self.new.slab.capacity ≤ vacant }
     {
-        self.slab.reserve(more).is_ok() && self.slab.capacity() <= VACANT as usize
+        self.slab.reserve(more)
     }
 
     /// Keeps a command under a key of its own. There must be room for both.
@@ -57,24 +59,21 @@ impl Pending {
         ensures len { slab_len self.new.slab ≡ slab_len self.old.slab + 1 }
         ensures capacity { self.new.slab.capacity ≡ self.old.slab.capacity }
     {
-        self.slab.insert_reserved(Sent {
-            command,
-            transmission: Transmission::begin(0, 0),
-        }) as u32
+        self.slab.insert(command)
     }
 
     /// The command under a key.
     pub(crate) fn get(&self, key: u32) -> Option<&Sent>
         ensures { option_copied result ≡ get self.now.slab key }
     {
-        self.slab.get(key as usize)
+        self.slab.get(key)
     }
 
     /// Whether the command under a key is due to go again.
     pub(crate) fn is_due(&self, key: u32) -> bool
         ensures { result ≡ is_due (get self.now.slab key) }
     {
-        match self.slab.get(key as usize) {
+        match self.slab.get(key) {
             Some(sent) => sent.transmission.due,
             None => false,
         }
@@ -84,7 +83,7 @@ impl Pending {
     pub(crate) fn is_late(&self, key: u32, now: u32) -> bool
         ensures { result ≡ test_at (is_late now) (get self.now.slab key) }
     {
-        match self.slab.get(key as usize) {
+        match self.slab.get(key) {
             Some(sent) => sent.transmission.is_late(now),
             None => false,
         }
@@ -94,20 +93,9 @@ impl Pending {
     pub(crate) fn next_late(&self, key: u32, now: u32) -> u32
         ensures { HappensIn (λ (later : ℕ). test_at (is_late later) (get self.now.slab key)) now result }
     {
-        match self.slab.get(key as usize) {
+        match self.slab.get(key) {
             Some(sent) => sent.transmission.next_late(now),
             None => u32::MAX,
-        }
-    }
-
-    /// The number of the command under a key, if it is late at the time `now`.
-    pub(crate) fn late_number(&self, key: u32, now: u32) -> Option<u16>
-        ensures some { IfSome result (λ number. test_at (is_late_as now number) (get self.now.slab key) ≡ true) }
-        ensures none { IfNone result (test_at (is_late now) (get self.now.slab key) ≡ false) }
-    {
-        match self.slab.get(key as usize) {
-            Some(sent) if sent.transmission.is_late(now) => Some(sent.command.number),
-            _ => None,
         }
     }
 
@@ -115,7 +103,7 @@ impl Pending {
     pub(crate) fn ends(&self, key: u32, now: u32, patience: &Patience, heard: u32) -> bool
         ensures { result ≡ test_at (ends now patience.now heard) (get self.now.slab key) }
     {
-        match self.slab.get(key as usize) {
+        match self.slab.get(key) {
             Some(sent) => sent.transmission.ends(now, patience, heard),
             None => false,
         }
@@ -123,12 +111,9 @@ impl Pending {
 
     /// Marks the command under a key as due to go again, where it is late.
     pub(crate) fn mark(&mut self, key: u32, now: u32)
-        ensures some { (p : Sent) → get self.old.slab key ≡ Some p → Updates self.old.slab self.new.slab key (Some (marked now p)) }
-        ensures none { get self.old.slab key ≡ None → self.new.slab ≡ self.old.slab }
+        ensures { Updates self.old.slab self.new.slab key (option_map (marked now) (get self.old.slab key)) }
     {
-        if let Some(sent) = self.slab.get_mut(key as usize) {
-            sent.transmission.mark(now);
-        }
+        self.slab.mark(key, now);
     }
 
     /// Takes the command under a key out.
@@ -137,24 +122,56 @@ impl Pending {
         ensures updates { Updates self.old.slab self.new.slab key None }
         ensures absent { IfNone result (self.new.slab ≡ self.old.slab) }
     {
-        self.slab.try_remove(key as usize)
+        self.slab.take(key)
     }
 
     /// The command under a key goes once more.
     pub(crate) fn send_again(&mut self, key: u32, now: u32)
         ensures { (p : Sent) → get self.old.slab key ≡ Some p → Updates self.old.slab self.new.slab key (Some (again now p)) }
     {
-        if let Some(sent) = self.slab.get_mut(key as usize) {
-            sent.transmission.send_again(now);
-        }
+        self.slab.send_again(key, now);
     }
 
     /// The command under a key goes for the first time.
     pub(crate) fn begin(&mut self, key: u32, now: u32, timeout: u32)
         ensures { (p : Sent) → get self.old.slab key ≡ Some p → Updates self.old.slab self.new.slab key (Some (begun now timeout p.command)) }
     {
-        if let Some(sent) = self.slab.get_mut(key as usize) {
-            sent.transmission = Transmission::begin(now, timeout);
-        }
+        self.slab.begin(key, now, timeout);
+    }
+
+    /// Whether at the moment `now`, in milliseconds, a command of any channel has waited out its timeout, and is not due to go again
+    /// already. It looks only at those whose timeout has passed.
+    pub fn any_late(&mut self, now: u32) -> bool
+        ensures some { IsTrue result → SomePasses (is_late now) (get self.old.slab) }
+        ensures none { result ≡ false → NonePasses (is_late now) (get self.old.slab) }
+        ensures same { self.new.slab ≡ self.old.slab }
+    {
+        self.slab.any_late(now)
+    }
+
+    /// Whether at the moment `now`, in milliseconds, a command of any channel has waited out its timeout, and its peer, heard last at
+    /// `heard`, has timed out over it by `patience`. It looks only at those whose timeout has passed.
+    pub fn any_ends(&self, now: u32, patience: &Patience, heard: u32) -> bool
+        ensures some { IsTrue result → SomePasses (ends now patience.now heard) (get self.now.slab) }
+        ensures none { result ≡ false → NonePasses (ends now patience.now heard) (get self.now.slab) }
+    {
+        self.slab.any_ends(now, patience, heard)
+    }
+
+    /// In how many milliseconds after the moment `now` a command of any channel has waited out its timeout first, of those that are not due
+    /// to go again already: 0 where one has, and 4,294,967,295 where none waits. It is a reading. None where that doesn't tell: only where
+    /// one went 2^32 milliseconds ago, and `any_late` was not asked since its timeout passed.
+    pub fn first_late(&self, now: u32) -> Option<u32>
+        ensures { IfSome result (IsLateIn (get self.now.slab) now) }
+    {
+        self.slab.first_late(now)
+    }
+
+    /// All that is late at the moment `now`, in milliseconds, is due to go again, and waits twice as long then, on any channel. Each of
+    /// these is to seek what is due anew (`Outgoing::seek_anew`). It looks only at what is late.
+    pub fn mark_all(&mut self, now: u32)
+        ensures { (key : ℕ) → get self.new.slab key ≡ option_map (marked now) (get self.old.slab key) }
+    {
+        self.slab.mark_all(now);
     }
 }

@@ -8,7 +8,6 @@ ghost use Rattle.enet_seq.specs.Windows.{ahead};
 ghost use Rattle.enet_sender.specs.declared.sent.Sent.{Sent};
 ghost use Rattle.enet_sender.specs.Pending.{vacant, times};
 ghost use Rattle.enet_sender.specs.Private.Rounds.{marked_at, taken_at, test_at};
-ghost use Rattle.enet_sender.specs.Late.{is_late_as};
 ghost use Rattle.enet_sender.specs.Sender.{ends, is_late};
 ghost use Rattle.slab.specs.Slab.{get};
 ghost use Rattle.enet_sender.specs.Rings.{at_place, is_due, NoneDue};
@@ -128,19 +127,6 @@ pub(crate) fn next_late(ring: &VecDeque<u32>, pending: &Pending, now: u32) -> u3
         wait = wait.min(pending.next_late(key, now));
     }
     wait
-}
-
-/// The number of the first command of a ring that is late.
-pub(crate) fn late_number(ring: &VecDeque<u32>, pending: &Pending, now: u32) -> Option<u16>
-    ensures some { IfSome result (λ number. list_any (λ (key : ℕ). test_at (is_late_as now number) (get pending.now.slab key)) ring.now.items ≡ true) }
-    ensures none { IfNone result (list_any (λ (key : ℕ). test_at (is_late now) (get pending.now.slab key)) ring.now.items ≡ false) }
-{
-    for place in 0..ring.len() {
-        if let Some(number) = pending.late_number(ring[place], now) {
-            return Some(number);
-        }
-    }
-    None
 }
 
 /// Marks what is late of a ring's commands as due to go again.

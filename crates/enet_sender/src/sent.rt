@@ -3,7 +3,8 @@
 use enet_fragment::DataCommand;
 use enet_rtt::Transmission;
 
-/// A command of a channel, and how it was sent so far; one that is only queued stands as if it had been sent at 0.
+/// A command of a channel, and how it was sent so far; one that is only queued stands as if it had been sent at 0, and
+/// were due to go again.
 #[derive(Drop)]
 pub struct Sent {
     /// The command, with its payload.

@@ -1,5 +1,5 @@
 -- What one channel's call leaves to the others.
-use Rattle.std.proofs.Common.{inl, inr, ◌≡◌, ◌≢◌, ℕ, zero, suc, ◌+◌, ◌<◌, ◌≤◌, List, [], ◌∷◌, length, map, get_or, set, Option, Some, None, refl, sym, ap, subst, ◌∙◌, arith, All}
+use Rattle.std.proofs.Common.{inl, inr, ◌≡◌, ◌≢◌, ℕ, zero, suc, ◌+◌, ◌<◌, ◌≤◌, true, List, [], ◌∷◌, length, map, get_or, set, Option, Some, None, refl, sym, ap, subst, ◌∙◌, arith, All}
 use Rattle.std.proofs.lemmas.Bool.{cases_eq, cases_lt}
 use Rattle.std.proofs.lemmas.List.{length-set, get_or-set_same, get_or-set_other, get_or_default, get_or_past, map-set}
 use Rattle.std.proofs.lemmas.List.Sums.{sum_by-cons, sum_by-set, get_or-le-sum_by}
@@ -80,6 +80,7 @@ keeps-other at after r keeps none short queued sent names =
       passed = keeps.passed;
       goes_on = subst (λ (cs : List DataCommand). GoesOn r.passed cs r.number) (sym same) keeps.goes_on;
       counted = keeps.counted ∙ ap reliable_in (sym same);
+      waits = subst (All (λ (p : Sent). p.transmission.due ≡ true)) (sym (named-same at after r.queued vacant queued)) keeps.waits;
     }
 
 -- a key of another channel keeps its command
@@ -212,6 +213,7 @@ keeps-none at none = record {
   passed = omega arith;
   goes_on = refl;
   counted = refl;
+  waits = All-nil (λ (p : Sent). p.transmission.due ≡ true);
 }
 
 pub keeps-one : (s : Slab Sent) (o : Outgoing) → s.slots ≡ [] → rings_of o ≡ no_rings → HasRoom o → KeepsAll (get s) (o ∷ [])

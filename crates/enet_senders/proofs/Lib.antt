@@ -3,6 +3,5 @@ pub mod Dropping
 pub mod Each
 pub mod Marking
 pub mod Nexts
-pub mod Quieting
+pub mod Lateness
 pub mod Sets
-pub mod Witnessing

@@ -1,11 +1,11 @@
 -- Which channels surely have nothing that may go, and which nothing that is sent, as the senders change.
-use Rattle.std.proofs.Common.{◌⊎◌, All, cond, ltb, is_some, nat_lt, inl, inr, bit_or, bit_and, w64, ◌≡◌, ◌≢◌, ℕ, zero, suc, ◌+◌, ◌-◌, ◌*◌, ◌/◌, ◌%◌, ◌^◌, ◌<◌, ◌≤◌, Bool, true, false, ◌&&◌, ◌||◌, not, List, [], ◌∷◌, length, map, take, get_or, set, Option, Some, None, refl, sym, ap, subst, ◌∙◌, arith}
+use Rattle.std.proofs.Common.{◌⊎◌, All, cond, ltb, is_some, nat_lt, inl, inr, bit_or, bit_and, w64, ◌≡◌, ◌≢◌, ℕ, zero, suc, ◌+◌, ◌-◌, ◌*◌, ◌/◌, ◌%◌, ◌^◌, ◌<◌, ◌≤◌, Bool, true, false, ◌&&◌, ◌||◌, not, List, [], ◌∷◌, length, map, take, drop, get_or, set, Option, Some, None, refl, sym, ap, subst, ◌∙◌, arith}
 use Rattle.std.specs.Int.{bit_at, bit_not}
-use Rattle.std.specs.List.{range_with_len, slice_get, slice_set, list_all, list_any, position, position_or_len}
+use Rattle.std.specs.List.{range_with_len, slice_get, slice_set, list_all, list_any, position, position_or_len, remove}
 use Rattle.std.proofs.lemmas.Bool.{cases_eq, ltb-false}
 use Rattle.std.proofs.lemmas.Bool.Decides.{nat_tests}
 use Rattle.std.proofs.lemmas.List.{length-set, get_or-set_same, get_or-set_other}
-use Rattle.std.proofs.lemmas.List.Elements.{All-nil}
+use Rattle.std.proofs.lemmas.List.Elements.{All-nil, All-append, All-take, All-drop}
 use Rattle.std.proofs.lemmas.List.Quantifiers.{position-Some}
 use Rattle.std.proofs.lemmas.List.Sums.{fails_before_first}
 use Rattle.std.proofs.lemmas.Nat.Bits.{bit_at_or, bit_at_set_same, bit_at_set_other, bit_at_clear_other}
@@ -30,7 +30,14 @@ use Rattle.enet_senders.specs.declared.channel_set.ChannelSet.{ChannelSet}
 use Rattle.enet_senders.specs.Senders.{IsStill, ends_of, marked_end, cleared_end}
 use Rattle.enet_senders.specs.Sets.{Lacks, KeepsSets}
 use Rattle.enet_senders.proofs.Each.{end-at, ends-length, set-there}
-use Rattle.enet_senders.proofs.Quieting.{All-remove, slice_get-some}
+
+pub All-remove : {X : Type 0} (P : X → Type 0) (xs : List X) (i : ℕ) → All P xs → All P (remove xs i)
+All-remove P xs i h = All-append P (take i xs) (drop (suc i) xs) (All-take P i xs h) (All-drop P (suc i) xs h)
+
+pub slice_get-some : {A : Type 0} (xs : List A) (i : ℕ) → i < length xs → (x : A) × (slice_get xs i ≡ Some x)
+slice_get-some [] i inside = absurd (omega arith)
+slice_get-some (x ∷ xs) zero inside = (x, refl)
+slice_get-some (x ∷ xs) (suc i) inside = slice_get-some xs i (omega arith)
 
 -- one word is written, in which at most the bit of channel c changes
 pub written-other : (words : List ℕ) (c word : ℕ) → c / 64 < length words → ((k : ℕ) → k < 64 → k ≢ c % 64 → bit_at word k ≡ bit_at (get_or words (c / 64) 0) k)

@@ -1,6 +1,4 @@
 pub mod Senders
 pub mod Controlling
 pub mod Invariant
-pub mod Quiets
 pub mod Sets
-pub mod Private

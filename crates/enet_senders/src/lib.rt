@@ -21,7 +21,6 @@ mod channel_set;
 mod control;
 mod outgoing;
 mod queue;
-mod quiet;
 mod senders;
 
 pub use control::{Control, Numbered, SentControl};

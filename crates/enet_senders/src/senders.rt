@@ -1,6 +1,6 @@
 //! The channels of a peer over its commands.
 
-ghost use Rattle.std.specs.Prelude.{◌≡◌, ◌≢◌, ℕ, ◌^◌, true, false, ◌⊎◌, ◌↔◌, ◌<◌, ◌≤◌, OnOk, IfOk, IfErr, IfSome, IsErrAnd, Some, [], not, length, map, min, take, slice_get, slice_set, All};
+ghost use Rattle.std.specs.Prelude.{◌≡◌, ◌≢◌, ℕ, ◌^◌, true, false, ◌⊎◌, ◌↔◌, ◌<◌, ◌≤◌, OnOk, IfOk, IfErr, IfSome, IsErrAnd, Some, [], not, length, map, take, slice_get, slice_set, All};
 ghost use Rattle.std.specs.List.{range_with_len, list_all, list_any};
 ghost use Rattle.enet_rtt.specs.Clock.{HappensIn};
 ghost use Rattle.enet_seq.specs.Numbering.{wire};
@@ -12,11 +12,9 @@ ghost use Rattle.enet_sender.specs.declared.outgoing.Outgoing.{Outgoing};
 ghost use Rattle.enet_sender.specs.declared.sent.Sent.{Sent};
 ghost use Rattle.enet_sender.specs.Rings.{end_in, IsEmpty};
 ghost use Rattle.enet_senders.specs.Senders.{ends_in, IsStill, KeepsAllIn, marked_end, cleared_end};
-ghost use Rattle.enet_senders.specs.Quiets.{IsLateAmong};
-ghost use Rattle.enet_senders.specs.Sets.{Lacks};
+ghost use Rattle.enet_senders.specs.Sets.{Lacks, Seek};
 
 use crate::channel_set::ChannelSet;
-use crate::quiet::{Quiet, Witness, dismiss};
 use bytes::Bytes;
 use enet_codec::Refusal;
 use enet_rtt::Patience;
@@ -29,10 +27,6 @@ use std::marker::Model;
 pub struct Senders {
     channels: Vec<Outgoing>,
     pending: Pending,
-    /// While it lasts, no sent command of any channel is late.
-    quiet: Quiet,
-    /// The command that is late when `quiet` ends, if it is known.
-    witness: Option<Witness>,
     /// A channel that is not in it has nothing queued, and nothing that is due to go again.
     ready: ChannelSet,
     /// A channel that is not in it has nothing sent and unacknowledged.
@@ -46,11 +40,11 @@ impl Model for Senders {
     ghost Value = { List SendingEnd };
 
     ghost use Rattle.enet_senders.specs.Senders.{ends_in};
-    ghost use Rattle.enet_senders.specs.Quiets.{AreSenders};
+    ghost use Rattle.enet_senders.specs.Sets.{AreSenders};
 
     ghost view = { λ s. ends_in s.pending s.channels.items };
 
-    ghost invariant = { λ s. AreSenders s.pending s.channels.items s.quiet s.witness s.ready s.flying };
+    ghost invariant = { λ s. AreSenders s.pending s.channels.items s.ready s.flying };
 }
 
 /// An acknowledgement of a channel's command comes: the other channels stay as they were.
@@ -130,17 +124,6 @@ fn skip_on(channels: &mut Vec<Outgoing>, pending: &mut Pending, channel: u8)
     channels[usize::from(channel)].skip(pending);
 }
 
-/// What is late on a channel is due to go again: the other channels stay as they were.
-fn mark_on(channels: &mut Vec<Outgoing>, pending: &mut Pending, channel: usize, now: u32)
-    requires kept { KeepsAllIn pending.old channels.old.items }
-    requires inside { channel < length channels.old.items }
-    ensures ends { (s : SendingEnd) → slice_get (ends_in pending.old channels.old.items) channel ≡ Some s
-        → ends_in pending.new channels.new.items ≡ slice_set (ends_in pending.old channels.old.items) channel (marked_end now s) }
-    ensures kept { KeepsAllIn pending.new channels.new.items }
-{
-    channels[channel].mark(pending, now);
-}
-
 /// All that is queued or sent on a channel is dropped: the other channels stay as they were.
 fn clear_on(channels: &mut Vec<Outgoing>, pending: &mut Pending, channel: usize)
     requires kept { KeepsAllIn pending.old channels.old.items }
@@ -152,15 +135,23 @@ fn clear_on(channels: &mut Vec<Outgoing>, pending: &mut Pending, channel: usize)
     channels[channel].clear(pending);
 }
 
+/// All channels seek anew what of theirs is due to go again.
+fn seek_anew(channels: &mut Vec<Outgoing>)
+    ensures { Seek channels.old.items channels.new.items }
+{
+    for channel in 0..channels.len() {
+        channels[channel].seek_anew();
+    }
+}
+
 /// What is late on any channel is due to go again.
-fn mark_each(channels: &mut Vec<Outgoing>, pending: &mut Pending, now: u32)
+fn mark_late(channels: &mut Vec<Outgoing>, pending: &mut Pending, now: u32)
     requires { KeepsAllIn pending.old channels.old.items }
     ensures ends { ends_in pending.new channels.new.items ≡ map (marked_end now) (ends_in pending.old channels.old.items) }
     ensures kept { KeepsAllIn pending.new channels.new.items }
 {
-    for channel in 0..channels.len() {
-        mark_on(channels, pending, channel, now);
-    }
+    pending.mark_all(now);
+    seek_anew(channels);
 }
 
 /// All that is queued or sent on any channel is dropped.
@@ -186,79 +177,20 @@ fn keep_first(channels: &mut Vec<Outgoing>, pending: &mut Pending, count: usize)
     channels.truncate(count);
 }
 
-/// Whether the peer, heard last at `heard`, has timed out over a sent command of a channel.
-fn any_ends(
-    channels: &[Outgoing],
-    pending: &Pending,
-    now: u32,
-    patience: &Patience,
-    heard: u32,
-) -> bool
-    ensures { result ≡ list_any (λ (o : Outgoing). list_any (ends now patience.now heard) (end_in pending.now o).sender.sent) channels.now }
-{
-    channels
-        .iter()
-        .any(|channel| channel.ends(pending, now, patience, heard))
-}
-
-/// When a sent command is late first.
-#[derive(Clone, Copy)]
-struct Soonest {
-    /// In how many milliseconds.
-    wait: u32,
-    /// On which channel; 0 where none waits.
-    channel: usize,
-}
-
-impl Soonest {
-    /// The sooner of this one and of one on another channel.
-    fn or(self, wait: u32, channel: usize) -> Soonest
-        ensures { result.wait ≡ min self.wait wait }
-    {
-        if wait < self.wait {
-            Soonest { wait, channel }
-        } else {
-            self
-        }
-    }
-}
-
-/// When, after the moment `now`, a sent command of a channel is late first: in 0 milliseconds where one is, in 4,294,967,295 where none
-/// waits. Channels that aren't in the set have nothing sent.
-fn look_for_late(channels: &[Outgoing], pending: &Pending, flying: &ChannelSet, now: u32) -> Soonest
+/// In how many milliseconds after the moment `now` a sent command of a channel is late first: 0 where one is, 4,294,967,295 where none
+/// waits. Channels that aren't in the set have nothing sent. It looks at all that is sent.
+fn look_for_late(channels: &[Outgoing], pending: &Pending, flying: &ChannelSet, now: u32) -> u32
     requires { (i : ℕ) (e : SendingEnd) → Lacks flying.now i → slice_get (ends_in pending.now channels.now) i ≡ Some e → e.sender.sent ≡ [] }
-    ensures { HappensIn (λ (later : ℕ). list_any (λ (s : SendingEnd). list_any (is_late later) s.sender.sent) (ends_in pending.now channels.now)) now result.wait }
+    ensures { HappensIn (λ (later : ℕ). list_any (λ (s : SendingEnd). list_any (is_late later) s.sender.sent) (ends_in pending.now channels.now)) now result }
 {
-    let mut soonest = Soonest {
-        wait: u32::MAX,
-        channel: 0,
-    };
+    let mut wait = u32::MAX;
     let mut place = flying.next(0);
     'channels: while place < channels.len() {
         let channel = &channels[place];
-        soonest = soonest.or(channel.next_late(pending, now), place);
+        wait = wait.min(channel.next_late(pending, now));
         place = flying.next(place + 1);
     }
-    soonest
-}
-
-/// A sent command of this channel that is late at a moment, if there is one.
-fn witness_on(
-    channels: &[Outgoing],
-    pending: &Pending,
-    channel: usize,
-    moment: u32,
-) -> Option<Witness>
-    ensures { IfSome result (IsLateAmong (ends_in pending.now channels.now) moment) }
-{
-    if channel >= channels.len() || channel > usize::from(u8::MAX) {
-        return None;
-    }
-    let number = channels[channel].late_number(pending, moment)?;
-    Some(Witness {
-        channel: channel as u8,
-        number,
-    })
+    wait
 }
 
 /// Whether no channel has a packet queued. Channels that aren't in the set have none.
@@ -349,8 +281,6 @@ impl Senders {
         Ok(Senders {
             channels,
             pending,
-            quiet: Quiet::new(),
-            witness: None,
             ready: ChannelSet::none(),
             flying: ChannelSet::none(),
         })
@@ -422,8 +352,6 @@ impl Senders {
         );
         match due {
             Due::Sent { .. } => {
-                self.witness = self.quiet.witness_after_send(self.witness, now, timeout);
-                self.quiet = self.quiet.after_send(now, timeout);
                 note_sent(&self.channels, &self.pending, &mut self.flying, channel);
             }
             Due::Nothing => note_still(&self.channels, &self.pending, &mut self.ready, channel),
@@ -457,7 +385,6 @@ impl Senders {
         ensures ends { (s : SendingEnd) → slice_get self.old channel ≡ Some s → self.new ≡ slice_set self.old channel (record s { sender = after_acknowledgement s.sender number }) }
     {
         let bytes = acknowledge_on(&mut self.channels, &mut self.pending, channel, number);
-        dismiss(&mut self.witness, channel, number);
         note_sent(&self.channels, &self.pending, &mut self.flying, channel);
         bytes
     }
@@ -467,38 +394,30 @@ impl Senders {
     pub fn any_ends(&self, now: u32, patience: &Patience, heard: u32) -> bool
         ensures { result ≡ list_any (λ (s : SendingEnd). list_any (ends now patience.now heard) s.sender.sent) self.now }
     {
-        any_ends(&self.channels, &self.pending, now, patience, heard)
+        self.pending.any_ends(now, patience, heard)
     }
 
     /// Whether at the moment `now`, in milliseconds, a sent command of a channel has waited out its timeout, and is not due
     /// to go again already.
     ///
-    /// Once nothing was, it looks at no command until one can be late at the earliest; where it isn't known any more which is late
-    /// first, for 8 milliseconds only.
+    /// It looks only at commands whose timeout has passed.
     pub fn any_late(&mut self, now: u32) -> bool
         ensures found { result ≡ list_any (λ (s : SendingEnd). list_any (is_late now) s.sender.sent) self.old }
         ensures same { self.new ≡ self.old }
     {
-        if self.quiet.spares(self.witness, now) {
-            return false;
-        }
-        let soonest = look_for_late(&self.channels, &self.pending, &self.flying, now);
-        let (wait, channel) = (soonest.wait, soonest.channel);
-        self.quiet = self.quiet.found(now, wait);
-        self.witness = witness_on(&self.channels, &self.pending, channel, self.quiet.end());
-        wait == 0
+        self.pending.any_late(now)
     }
 
     /// In how many milliseconds after the moment `now` a sent command of a channel has waited out its timeout first, of those
     /// that are not due to go again already: 0 where one has, and 4,294,967,295 where none waits.
     ///
-    /// Where it is known which command is late first, it looks at none.
+    /// It looks at no command, unless one went 2^32 milliseconds ago and nobody asked since whether it is late.
     pub fn next_late(&self, now: u32) -> u32
         ensures { HappensIn (λ (later : ℕ). list_any (λ (s : SendingEnd). list_any (is_late later) s.sender.sent) self.now) now result }
     {
-        match self.quiet.left(self.witness, now) {
+        match self.pending.first_late(now) {
             Some(wait) => wait,
-            None => look_for_late(&self.channels, &self.pending, &self.flying, now).wait,
+            None => look_for_late(&self.channels, &self.pending, &self.flying, now),
         }
     }
 
@@ -506,8 +425,7 @@ impl Senders {
     pub fn mark(&mut self, now: u32)
         ensures { self.new ≡ map (marked_end now) self.old }
     {
-        mark_each(&mut self.channels, &mut self.pending, now);
-        self.witness = None;
+        mark_late(&mut self.channels, &mut self.pending, now);
         self.ready.join(&self.flying);
     }
 
@@ -532,7 +450,6 @@ impl Senders {
         ensures { self.new ≡ map cleared_end self.old }
     {
         clear_each(&mut self.channels, &mut self.pending);
-        self.witness = None;
         self.ready = ChannelSet::none();
         self.flying = ChannelSet::none();
     }
@@ -542,6 +459,5 @@ impl Senders {
         ensures { self.new ≡ take count self.old }
     {
         keep_first(&mut self.channels, &mut self.pending, count);
-        self.witness = None;
     }
 }

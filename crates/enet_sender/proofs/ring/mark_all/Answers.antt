@@ -5,7 +5,7 @@ use Rattle.slab.specs.Slab.{get}
 use Rattle.enet_sender.specs.Sender.{marked}
 use Rattle.enet_sender.specs.Pending.{times}
 use Rattle.enet_sender.specs.Private.Rounds.{marked_at}
-use Rattle.enet_sender.proofs.Rounds.{changed-more, marked-twice, mark-step}
+use Rattle.enet_sender.proofs.Rounds.{changed-more, marked-twice}
 use Rattle.enet_sender.proofs.ring.mark_all.Goals as goal
 
 pub loop-place-preserved : goal.loop-place-preserved
@@ -14,10 +14,9 @@ loop-place-preserved c =
     let key = c.index-key.result.now in
     let inside : c.loop-place.place < length ring = omega (arith, c.loop-place-test.true, c.loop-place.invariant.end, c.args.ring.now.ok.0) in
     let key_is = sym (get_or_read ring c.loop-place.place key inside c.index-key.ensures 4294967295) in
-    let step = mark-step c.args.now key c.loop-place.pending.slab c.mark.new.self.slab c.mark.ensures.some c.mark.ensures.none in
     record {
       changed = changed-more (option_map (marked c.args.now)) (marked-twice c.args.now) (get c.args.pending.now.slab) (get c.loop-place.pending.slab) (get c.mark.new.self.slab)
-          ring c.loop-place.place key inside key_is c.loop-place.invariant.changed step.changed step.others;
+          ring c.loop-place.place key inside key_is c.loop-place.invariant.changed c.mark.ensures.changed c.mark.ensures.others;
       end = c.loop-place.invariant.end;
     }
 

@@ -24,10 +24,10 @@ channels-preserved c =
     let low : c.channels.place < length channels = c.channels-test.true in
     let inside : c.channels.place < length (ends_of s channels) = omega arith in
     let there = end-at s channels c.channels.place o low (sym c.index-channels-place.is) in
-    skip-in (λ (later : ℕ) (e : SendingEnd). list_any (is_late later) e.sender.sent) (ends_of s channels) (c.channels.place + 1) c.next-place-in-channels.result c.args.now c.or-soonest.result.wait c.next-place-in-channels.ensures.later
+    skip-in (λ (later : ℕ) (e : SendingEnd). list_any (is_late later) e.sender.sent) (ends_of s channels) (c.channels.place + 1) c.next-place-in-channels.result c.args.now c.min-wait.result c.next-place-in-channels.ensures.later
     (λ k e low less there later. none-in (is_late later) e.sender.sent (c.requires k e (c.next-place-in-channels.ensures.lacks k low less) there))
-    (subst (λ (n : ℕ). HappensIn (λ (later : ℕ). list_any (λ (e : SendingEnd). list_any (is_late later) e.sender.sent) (take (c.channels.place + 1) (ends_of s channels))) c.args.now n) (sym c.or-soonest.ensures)
-    (more-in (λ (later : ℕ) (e : SendingEnd). list_any (is_late later) e.sender.sent) (ends_of s channels) c.channels.place (end_of s o) (end_of s o) c.args.now c.channels.soonest.wait c.next_late.result inside there
+    (subst (λ (n : ℕ). HappensIn (λ (later : ℕ). list_any (λ (e : SendingEnd). list_any (is_late later) e.sender.sent) (take (c.channels.place + 1) (ends_of s channels))) c.args.now n) (sym c.min-wait.ensures)
+    (more-in (λ (later : ℕ) (e : SendingEnd). list_any (is_late later) e.sender.sent) (ends_of s channels) c.channels.place (end_of s o) (end_of s o) c.args.now c.channels.wait c.next_late.result inside there
     c.channels.invariant c.next_late.ensures))
 
 pub returns : goal.returns
@@ -35,4 +35,4 @@ returns c =
     let es = ends_of c.args.pending.now.slab c.args.channels.now in
     let len = ends-length c.args.pending.now.slab c.args.channels.now in
     let past : length es ≤ c.channels.place = omega (arith, c.channels-test.false) in
-    all-in (λ (later : ℕ) (e : SendingEnd). list_any (is_late later) e.sender.sent) es c.channels.place c.args.now c.channels.soonest.wait past c.channels.invariant
+    all-in (λ (later : ℕ) (e : SendingEnd). list_any (is_late later) e.sender.sent) es c.channels.place c.args.now c.channels.wait past c.channels.invariant

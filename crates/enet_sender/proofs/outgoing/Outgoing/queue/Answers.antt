@@ -1,4 +1,4 @@
-use Rattle.std.proofs.Common.{◌≡◌, ℕ, ◌+◌, ◌++◌, ◌∷◌, [], Bool, cond, List, sym, ap, subst, ◌∙◌, arith}
+use Rattle.std.proofs.Common.{◌≡◌, ℕ, ◌+◌, ◌++◌, ◌∷◌, [], Bool, cond, List, refl, sym, ap, subst, ◌∙◌, arith}
 use Rattle.std.proofs.lemmas.List.{length-map}
 use Rattle.slab.specs.Slab.{get}
 use Rattle.enet_sender.proofs.Counting.{reliable_in-le}
@@ -18,6 +18,7 @@ comes c = record {
   now = c.insert-key.ensures.updates.changed;
   others = c.insert-key.ensures.updates.others;
   short = c.requires.short;
+  waits = refl;
   next = c.requires.next;
 }
 

@@ -4,10 +4,7 @@ use Rattle.enet_sender.specs.Sender.{Sender, after_acknowledgement}
 use Rattle.enet_sender.specs.declared.outgoing.Outgoing.{Outgoing}
 use Rattle.enet_sender.specs.Due.{SendingEnd}
 use Rattle.enet_senders.specs.Senders.{ends_in}
-use Rattle.enet_senders.proofs.Quieting.{quiet-fewer, quiet-acknowledged}
-use Rattle.enet_senders.proofs.Quieting.{slice_get-some}
-use Rattle.enet_senders.specs.Quiets.{end_moment}
-use Rattle.enet_senders.proofs.Witnessing.{witnessed-acknowledged}
+use Rattle.enet_senders.proofs.Sets.{slice_get-some}
 use Rattle.enet_senders.proofs.Sets.{keeps-changed, still-acknowledged, inside-changed}
 use Rattle.enet_senders.proofs.senders.Senders.acknowledge.Goals as goal
 
@@ -21,16 +18,8 @@ note_sent-requires-clause-inside c =
 
 pub invariant_of-self : goal.invariant_of-self
 invariant_of-self c =
-    let q = c.self.inside.quiet in
     let inside = subst (λ (es : List SendingEnd). c.args.channel < length es) (sym c.self.view_is) c.requires in record {
       kept = c.acknowledge_on-bytes.ensures.kept;
-      fits = c.self.invariant.fits;
-      quiet = quiet-fewer q (ends_in c.self.inside.pending c.self.inside.channels.items) _ c.args.channel (λ (s : SendingEnd). record s { sender = after_acknowledgement s.sender c.args.number }) inside
-          c.acknowledge_on-bytes.ensures.ends (λ s h. quiet-acknowledged q s c.args.number h) c.self.invariant.quiet;
-      witnessed =
-          let one = slice_get-some (ends_in c.self.inside.pending c.self.inside.channels.items) c.args.channel inside in
-          witnessed-acknowledged (end_moment q) c.self.inside.witness c.dismiss.new.witness (ends_in c.self.inside.pending c.self.inside.channels.items) _ c.args.channel c.args.number one.0 one.1 (c.acknowledge_on-bytes.ensures.ends one.0 one.1)
-          c.dismiss.ensures c.self.invariant.witnessed;
       sets = keeps-changed c.self.inside.ready c.self.inside.flying _ (ends_in c.self.inside.pending c.self.inside.channels.items) _ c.args.channel (λ (s : Sender). after_acknowledgement s c.args.number) inside
           c.acknowledge_on-bytes.ensures.ends (λ s h. still-acknowledged s c.args.number h) c.note_sent.ensures.others
           (λ e lacks there. c.note_sent.ensures.this e lacks (ap (λ (os : List Outgoing). slice_get (ends_in c.acknowledge_on-bytes.new.pending os) c.args.channel) c.deref.ensures.value ∙ there)) c.self.invariant.sets;

@@ -1,0 +1,64 @@
+use Rattle.std.proofs.Common.{◌≡◌, ◌+◌, ◌<◌, ◌≤◌, inl, inr, ℕ, None, Option, List, length, sym, ap, subst, ◌∙◌, arith}
+use Rattle.std.specs.Option.{option_map}
+use Rattle.std.proofs.lemmas.Bool.{cases_eq, cases_lt}
+use Rattle.std.proofs.lemmas.List.{length-set}
+use Rattle.slab.specs.Slab.{get}
+use Rattle.enet_sender.specs.Sender.{marked}
+use Rattle.enet_sender.specs.Foretold.{AreForetold}
+use Rattle.enet_sender.proofs.Foretelling.{quiet, unmarked, foretold-marked, foretold-unmarked}
+use Rattle.enet_sender.proofs.lateness.mark_all.Goals.{then-mark_under, else-mark_under}
+use Rattle.enet_sender.proofs.lateness.mark_all.Goals as goal
+
+pub overflow_add-from : goal.overflow_add-from
+overflow_add-from c = omega (arith, c.in-Some.ensures.1, c.due.invariant.len, c.requires.few)
+
+pub due-preserved : goal.due-preserved
+due-preserved c =
+    let now = c.args.now in
+    let first = get c.args.slab.now in
+    let at = get c.due.slab in
+    let after = get c.mark_under.new.slab in
+    let moments = c.due.deadlines in
+    let key = c.in-Some.key in
+    let inv = c.due.invariant in
+    let due = c.in-Some.ensures in
+    let updates = c.mark_under.ensures.updates in
+    let done : (k : ℕ) → k < key + 1 → get c.mark_under.new.slab k ≡ option_map (marked c.args.now) (get c.args.slab.now k) = λ k low. elim (cases_eq k key) [
+      | inl same ↦ ap after same ∙ updates.changed ∙ ap (option_map (marked now)) (inv.ahead key due.0 ∙ ap first (sym same))
+      | inr other ↦ elim (cases_lt k c.due.from) [
+        | inl less ↦ updates.others k other ∙ inv.done k less
+        | inr more ↦
+            let same = inv.ahead k more in
+            updates.others k other ∙ same
+            ∙ sym (unmarked now (first k) (λ p there. quiet c.args.clock now k at moments c.requires.shown inv.foretold (due.3 k more (omega (arith, other))) p (same ∙ there)))
+      ]
+    ] in
+    let ahead : (k : ℕ) → key + 1 ≤ k → get c.mark_under.new.slab k ≡ get c.args.slab.now k = λ k more. updates.others k (λ same. omega arith) ∙ inv.ahead k (omega (arith, due.0)) in
+    elim c.if-mark_under.branch [
+      | then-mark_under w ↦
+          let is = w.deadlines-is ∙ w.clear.ensures in
+          record {
+            foretold = subst (λ (ms : List (Option ℕ)). AreForetold c.args.clock after ms) (sym is)
+                (foretold-marked c.args.clock now key at after moments inv.foretold due.1 (sym c.mark_under.ensures.late ∙ w.if-mark_under.true) updates.changed updates.others);
+            len = ap (λ (ms : List (Option ℕ)). length ms) is ∙ length-set moments key None ∙ inv.len;
+            done = done;
+            ahead = ahead;
+          }
+      | else-mark_under w ↦ record {
+        foretold = subst (λ (ms : List (Option ℕ)). AreForetold c.args.clock after ms) (sym w.deadlines-is)
+            (foretold-unmarked c.args.clock now key at after moments inv.foretold (sym c.mark_under.ensures.late ∙ w.if-mark_under.false) updates.changed updates.others);
+        len = ap (λ (ms : List (Option ℕ)). length ms) w.deadlines-is ∙ inv.len;
+        done = done;
+        ahead = ahead;
+      }
+    ]
+
+pub returns-clause-marked : goal.returns-clause-marked
+returns-clause-marked c = λ key.
+    let inv = c.due.invariant in
+    elim (cases_lt key c.due.from) [
+      | inl less ↦ inv.done key less
+      | inr more ↦
+          let same = inv.ahead key more in
+          same ∙ sym (unmarked c.args.now (get c.args.slab.now key) (λ p there. quiet c.args.clock c.args.now key (get c.due.slab) c.due.deadlines c.requires.shown inv.foretold (c.in_default.ensures key more) p (same ∙ there)))
+    ]

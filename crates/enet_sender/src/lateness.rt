@@ -1,0 +1,203 @@
+//! Which commands are late, by the moments that are noted for them.
+//!
+//! A moment is as early as its command's timeout has passed, and stays where 2^32 milliseconds more have passed, so that the clock doesn't
+//! show it any more: so what is due by its moment is asked itself whether it is late.
+
+ghost use Rattle.std.specs.Prelude.{◌≡◌, ℕ, ◌+◌, ◌-◌, ◌%◌, ◌<◌, ◌≤◌, ◌^◌, Some, true, false, IsTrue, IfNone, IfSome, length};
+ghost use Rattle.slab.specs.Slab.{get, Updates};
+ghost use Rattle.std.specs.Option.{option_map};
+ghost use Rattle.enet_rtt.specs.Clock.{elapsed_time};
+ghost use Rattle.enet_sender.specs.declared.sent.Sent.{Sent};
+ghost use Rattle.enet_sender.specs.Foretold.{AreForetold, IsLateAt, IsLateIn, KeepsTime, NonePasses, SomePasses};
+ghost use Rattle.enet_sender.specs.Pending.{vacant};
+ghost use Rattle.enet_sender.specs.Private.Rounds.{test_at};
+ghost use Rattle.enet_sender.specs.Sender.{ends, is_late, marked};
+
+use crate::Sent;
+use enet_deadlines::{Deadlines, moment_at};
+use enet_rtt::{Patience, Transmission, elapsed};
+use slab::Slab;
+
+/// The clock that does not wrap is set back to its first milliseconds once it is so far. No host runs so long.
+const FAR: u64 = 1 << 62;
+
+/// Its first milliseconds.
+const BEGINNING: u64 = 4_294_967_296;
+
+/// Whether the command under a key is late at the time `now`.
+fn is_late(slab: &Slab<Sent>, key: usize, now: u32) -> bool
+    ensures { result ≡ test_at (is_late now) (get slab.now key) }
+{
+    match slab.get(key) {
+        Some(sent) => sent.transmission.is_late(now),
+        None => false,
+    }
+}
+
+/// Whether the peer, heard last at `heard`, has timed out over the command under a key.
+fn is_end(slab: &Slab<Sent>, key: usize, now: u32, patience: &Patience, heard: u32) -> bool
+    ensures { result ≡ test_at (ends now patience.now heard) (get slab.now key) }
+{
+    match slab.get(key) {
+        Some(sent) => sent.transmission.ends(now, patience, heard),
+        None => false,
+    }
+}
+
+/// The moment at which a command is late; the clock shows `now` at `clock`.
+pub(crate) fn moment_of(transmission: Transmission, clock: u64, now: u32) -> u64
+    requires begun { 2 ^ 32 ≤ clock }
+    requires small { clock < 2 ^ 63 }
+    ensures is { result + elapsed_time now transmission.last ≡ clock + transmission.timeout }
+    ensures fits { transmission.timeout < 2 ^ 32 }
+    ensures low { transmission.last < 2 ^ 32 }
+{
+    let passed = elapsed(now, transmission.last);
+    clock - u64::from(passed) + u64::from(transmission.timeout)
+}
+
+/// The moment at which the command under a key is late, where it waits for that; the clock shows `now` at `clock`.
+fn moment_under(slab: &Slab<Sent>, key: usize, clock: u64, now: u32) -> Option<u64>
+    requires begun { 2 ^ 32 ≤ clock }
+    requires small { clock < 2 ^ 63 }
+    ensures some { IfSome result (IsLateAt (get slab.now) key clock now) }
+    ensures low { IfSome result (λ moment. moment < 2 ^ 64 - 1) }
+    ensures none { IfNone result ((p : Sent) → get slab.now key ≡ Some p → p.transmission.due ≡ true) }
+{
+    match slab.get(key) {
+        Some(sent) if !sent.transmission.due => Some(moment_of(sent.transmission, clock, now)),
+        _ => None,
+    }
+}
+
+/// The clock goes on to `now`, and what it is then is the answer.
+pub(crate) fn advance(clock: u64, slab: &Slab<Sent>, deadlines: &mut Deadlines, now: u32) -> u64
+    requires { KeepsTime slab.now deadlines.old clock }
+    ensures kept { KeepsTime slab.now deadlines.new result }
+    ensures shown { result % 2 ^ 32 ≡ now }
+    ensures len { length deadlines.new ≡ length deadlines.old }
+{
+    let next = moment_at(clock, now);
+    if next < FAR {
+        return next;
+    }
+    let anew = BEGINNING + u64::from(now);
+    for key in 0..deadlines.len() {
+        if let Some(moment) = moment_under(slab, key, anew, now) {
+            deadlines.set(key, moment);
+        }
+    }
+    anew
+}
+
+/// Whether a command is late. Where the moment of one is past and it isn't, its moment is set anew.
+pub(crate) fn any_late(slab: &Slab<Sent>, deadlines: &mut Deadlines, clock: u64, now: u32) -> bool
+    requires begun { 2 ^ 32 ≤ clock }
+    requires small { clock < 2 ^ 63 }
+    requires shown { clock % 2 ^ 32 ≡ now }
+    requires few { length deadlines.old ≤ vacant }
+    requires foretold { AreForetold clock (get slab.now) deadlines.old }
+    ensures some { IsTrue result → SomePasses (is_late now) (get slab.now) }
+    ensures none { result ≡ false → NonePasses (is_late now) (get slab.now) }
+    ensures foretold { AreForetold clock (get slab.now) deadlines.new }
+    ensures len { length deadlines.new ≡ length deadlines.old }
+{
+    let mut from = 0;
+    'due: while let Some(key) = deadlines.next_due(from, clock) {
+        if is_late(slab, key, now) {
+            return true;
+        }
+        if let Some(moment) = moment_under(slab, key, clock, now) {
+            deadlines.set(key, moment);
+        }
+        from = key + 1;
+    }
+    false
+}
+
+/// Whether the peer, heard last at `heard`, has timed out over a command.
+pub(crate) fn any_ends(
+    slab: &Slab<Sent>,
+    deadlines: &Deadlines,
+    clock: u64,
+    now: u32,
+    patience: &Patience,
+    heard: u32,
+) -> bool
+    requires shown { clock % 2 ^ 32 ≡ now }
+    requires few { length deadlines.now ≤ vacant }
+    requires foretold { AreForetold clock (get slab.now) deadlines.now }
+    ensures some { IsTrue result → SomePasses (ends now patience.now heard) (get slab.now) }
+    ensures none { result ≡ false → NonePasses (ends now patience.now heard) (get slab.now) }
+{
+    let mut from = 0;
+    'due: while let Some(key) = deadlines.next_due(from, clock) {
+        if is_end(slab, key, now, patience, heard) {
+            return true;
+        }
+        from = key + 1;
+    }
+    false
+}
+
+/// In how many milliseconds after the time `now` a command is late first, 4,294,967,295 where none waits. None where a moment is past at
+/// which its command isn't late: only where 2^32 milliseconds have passed since it went and nobody asked which is late.
+pub(crate) fn first_late(
+    slab: &Slab<Sent>,
+    deadlines: &Deadlines,
+    clock: u64,
+    now: u32,
+) -> Option<u32>
+    requires shown { clock % 2 ^ 32 ≡ now }
+    requires few { length deadlines.now ≤ vacant }
+    requires foretold { AreForetold clock (get slab.now) deadlines.now }
+    ensures { IfSome result (IsLateIn (get slab.now) now) }
+{
+    let Some(moment) = deadlines.least() else {
+        return Some(u32::MAX);
+    };
+    if clock < moment {
+        let wait = moment - clock;
+        return if wait < BEGINNING { Some(wait as u32) } else { None };
+    }
+    let key = deadlines.first_due(clock)?;
+    if is_late(slab, key, now) {
+        Some(0)
+    } else {
+        None
+    }
+}
+
+/// Marks the command under a key as due to go again, where it is late; whether it is.
+pub(crate) fn mark_under(slab: &mut Slab<Sent>, key: usize, now: u32) -> bool
+    ensures updates { Updates slab.old slab.new key (option_map (marked now) (get slab.old key)) }
+    ensures late { result ≡ test_at (is_late now) (get slab.old key) }
+    ensures capacity { slab.new.capacity ≡ slab.old.capacity }
+{
+    match slab.get_mut(key) {
+        Some(sent) => {
+            let late = sent.transmission.is_late(now);
+            sent.transmission.mark(now);
+            late
+        }
+        None => false,
+    }
+}
+
+/// Marks all that is late as due to go again.
+pub(crate) fn mark_all(slab: &mut Slab<Sent>, deadlines: &mut Deadlines, clock: u64, now: u32)
+    requires shown { clock % 2 ^ 32 ≡ now }
+    requires few { length deadlines.old ≤ vacant }
+    requires foretold { AreForetold clock (get slab.old) deadlines.old }
+    ensures marked { (key : ℕ) → get slab.new key ≡ option_map (marked now) (get slab.old key) }
+    ensures foretold { AreForetold clock (get slab.new) deadlines.new }
+    ensures len { length deadlines.new ≡ length deadlines.old }
+{
+    let mut from = 0;
+    'due: while let Some(key) = deadlines.next_due(from, clock) {
+        if mark_under(slab, key, now) {
+            deadlines.clear(key);
+        }
+        from = key + 1;
+    }
+}

@@ -1,0 +1,184 @@
+//! The commands of a peer under their keys, and when each that waits for its acknowledgement is late.
+
+ghost use Rattle.std.specs.Prelude.{◌≡◌, ℕ, ◌+◌, ◌<◌, ◌≤◌, ◌^◌, Some, None, [], false, IsTrue, IfNone, IfSome, option_copied};
+ghost use Rattle.slab.specs.Slab.{Slab, get, slab_len, Updates, HasRoomFor};
+ghost use Rattle.std.specs.Option.{option_map};
+ghost use Rattle.enet_sender.specs.declared.sent.Sent.{Sent};
+ghost use Rattle.enet_sender.specs.Foretold.{IsLateIn, NonePasses, SomePasses};
+ghost use Rattle.enet_sender.specs.Pending.{vacant};
+ghost use Rattle.enet_sender.specs.Private.Pending.{queued};
+ghost use Rattle.enet_sender.specs.Sender.{again, begun, ends, is_late, marked};
+
+use crate::Sent;
+use crate::lateness::{advance, any_ends, any_late, first_late, mark_all, mark_under, moment_of};
+use enet_deadlines::{Deadlines, moment_at};
+use enet_fragment::DataCommand;
+use enet_rtt::{Patience, Transmission};
+use slab::Slab;
+use std::alloc::Global;
+use std::marker::Model;
+
+/// The clock that does not wrap begins with so many milliseconds, so that all times of the other one lie behind it.
+const BEGINNING: u64 = 4_294_967_296;
+
+/// The commands of a peer, each under a key, and of each that is sent and not due to go again the moment at which it is late. Contracts
+/// see the commands alone, with room for as many as have a place for their moment.
+#[derive(Drop)]
+pub(crate) struct TimedSlab {
+    slab: Slab<Sent>,
+    /// By key, when a command is late.
+    deadlines: Deadlines,
+    /// The time that was last told, on a clock that does not wrap.
+    clock: u64,
+    alloc: Global,
+}
+
+impl Model for TimedSlab {
+    ghost use Rattle.slab.specs.Slab.{Slab};
+    ghost use Rattle.enet_sender.specs.declared.sent.Sent.{Sent};
+    ghost use Rattle.enet_sender.specs.Foretold.{KeepsTime, timed};
+
+    ghost Value = { Slab Sent };
+
+    ghost view = { λ t. timed t.slab t.deadlines };
+
+    ghost invariant = { λ t. KeepsTime t.slab t.deadlines t.clock };
+}
+
+impl TimedSlab {
+    /// No commands. It takes no memory.
+    pub(crate) fn new(alloc: Global) -> TimedSlab
+        ensures { result.slots ≡ [] }
+    {
+        TimedSlab {
+            slab: Slab::new(alloc),
+            deadlines: Deadlines::none(alloc),
+            clock: BEGINNING,
+            alloc,
+        }
+    }
+
+    /// Makes room for so many commands more, and for their moments; whether there is. No command changes.
+    pub(crate) fn reserve(&mut self, more: usize) -> bool
+        ensures same { self.new.slots ≡ self.old.slots }
+        ensures room { IsTrue result → HasRoomFor self.new more }
+        ensures keys { IsTrue result → self.new.capacity ≤ vacant }
+    {
+        if self.slab.reserve(more).is_err() {
+            return false;
+        }
+        let room = self.slab.capacity();
+        if room <= self.deadlines.len() {
+            return true;
+        }
+        let Ok(places) = u32::try_from(room) else {
+            return false;
+        };
+        self.deadlines.grow(self.alloc, places).is_ok()
+    }
+
+    /// Keeps a command that is queued under a key of its own.
+    pub(crate) fn insert(&mut self, command: DataCommand) -> u32
+        requires { HasRoomFor self.old 1 }
+        ensures low { result < vacant }
+        ensures none { get self.old result ≡ None }
+        ensures updates { Updates self.old self.new result (Some (queued command)) }
+        ensures len { slab_len self.new ≡ slab_len self.old + 1 }
+        ensures capacity { self.new.capacity ≡ self.old.capacity }
+    {
+        let mut transmission = Transmission::begin(0, 0);
+        transmission.due = true;
+        self.slab.insert_reserved(Sent {
+            command,
+            transmission,
+        }) as u32
+    }
+
+    /// The command under a key.
+    pub(crate) fn get(&self, key: u32) -> Option<&Sent>
+        ensures { option_copied result ≡ get self.now key }
+    {
+        self.slab.get(key as usize)
+    }
+
+    /// Takes the command under a key out.
+    pub(crate) fn take(&mut self, key: u32) -> Option<Sent>
+        ensures value { result ≡ get self.old key }
+        ensures updates { Updates self.old self.new key None }
+        ensures absent { IfNone result (self.new ≡ self.old) }
+    {
+        let sent = self.slab.try_remove(key as usize)?;
+        if !sent.transmission.due {
+            self.deadlines.clear(key as usize);
+        }
+        Some(sent)
+    }
+
+    /// The command under a key goes for the first time.
+    pub(crate) fn begin(&mut self, key: u32, now: u32, timeout: u32)
+        ensures { (p : Sent) → get self.old key ≡ Some p → Updates self.old self.new key (Some (begun now timeout p.command)) }
+    {
+        self.clock = advance(self.clock, &self.slab, &mut self.deadlines, now);
+        if let Some(sent) = self.slab.get_mut(key as usize) {
+            sent.transmission = Transmission::begin(now, timeout);
+            self.deadlines
+                .set(key as usize, self.clock + u64::from(timeout));
+        }
+    }
+
+    /// The command under a key goes once more.
+    pub(crate) fn send_again(&mut self, key: u32, now: u32)
+        ensures { (p : Sent) → get self.old key ≡ Some p → Updates self.old self.new key (Some (again now p)) }
+    {
+        self.clock = advance(self.clock, &self.slab, &mut self.deadlines, now);
+        if let Some(sent) = self.slab.get_mut(key as usize) {
+            sent.transmission.send_again(now);
+            let moment = moment_of(sent.transmission, self.clock, now);
+            self.deadlines.set(key as usize, moment);
+        }
+    }
+
+    /// Marks the command under a key as due to go again, where it is late.
+    pub(crate) fn mark(&mut self, key: u32, now: u32)
+        ensures { Updates self.old self.new key (option_map (marked now) (get self.old key)) }
+    {
+        if mark_under(&mut self.slab, key as usize, now) {
+            self.deadlines.clear(key as usize);
+        }
+    }
+
+    /// Marks all that is late as due to go again.
+    pub(crate) fn mark_all(&mut self, now: u32)
+        ensures { (key : ℕ) → get self.new key ≡ option_map (marked now) (get self.old key) }
+    {
+        self.clock = advance(self.clock, &self.slab, &mut self.deadlines, now);
+        mark_all(&mut self.slab, &mut self.deadlines, self.clock, now);
+    }
+
+    /// Whether a command is late at the time `now`.
+    pub(crate) fn any_late(&mut self, now: u32) -> bool
+        ensures some { IsTrue result → SomePasses (is_late now) (get self.old) }
+        ensures none { result ≡ false → NonePasses (is_late now) (get self.old) }
+        ensures same { self.new ≡ self.old }
+    {
+        self.clock = advance(self.clock, &self.slab, &mut self.deadlines, now);
+        any_late(&self.slab, &mut self.deadlines, self.clock, now)
+    }
+
+    /// Whether the peer, heard last at `heard`, has timed out over a command.
+    pub(crate) fn any_ends(&self, now: u32, patience: &Patience, heard: u32) -> bool
+        ensures some { IsTrue result → SomePasses (ends now patience.now heard) (get self.now) }
+        ensures none { result ≡ false → NonePasses (ends now patience.now heard) (get self.now) }
+    {
+        let clock = moment_at(self.clock, now);
+        any_ends(&self.slab, &self.deadlines, clock, now, patience, heard)
+    }
+
+    /// In how many milliseconds after the time `now` a command is late first, if that can be read off.
+    pub(crate) fn first_late(&self, now: u32) -> Option<u32>
+        ensures { IfSome result (IsLateIn (get self.now) now) }
+    {
+        let clock = moment_at(self.clock, now);
+        first_late(&self.slab, &self.deadlines, clock, now)
+    }
+}
