@@ -13,8 +13,9 @@ use Rattle.enet_rtt.specs.declared.expiry.Patience.{Patience}
 use Rattle.enet_deadlines.specs.Moments.{IsAt, IsNotDue}
 use Rattle.enet_sender.specs.declared.sent.Sent.{Sent}
 use Rattle.enet_sender.specs.Sender.{is_late, ends, marked}
-use Rattle.enet_sender.specs.Foretold.{IsForetold, AreForetold, IsLateAt, IsLateIn, KeepsTime}
+use Rattle.enet_sender.specs.Foretold.{IsForetold, AreForetold, IsLateIn, KeepsTime}
 use Rattle.enet_sender.specs.Pending.{vacant}
+use Rattle.enet_sender.specs.Private.Foretold.{IsLateAt}
 use Rattle.enet_sender.specs.Private.Rounds.{test_at}
 
 -- the clock that wraps shows no more than has passed

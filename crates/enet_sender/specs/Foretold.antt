@@ -32,15 +32,6 @@ pub record KeepsTime (s : Slab Sent) (moments : List (Option ℕ)) (clock : ℕ)
 abbrev pub timed : Slab Sent → List (Option ℕ) → Slab Sent
 timed s moments = record s { capacity = if nat_le s.capacity (length moments) then s.capacity else 0 }
 
--- the clock showing `now` at `clock`, the command under a key is late first at this moment
-pub record IsLateAt (at : ℕ → Option Sent) (key clock now moment : ℕ) : Type 0 where
-  pub command : Sent
-  pub there : at key ≡ Some command
-  pub waits : command.transmission.due ≡ false
-  pub fits : command.transmission.timeout < 2 ^ 32
-  pub low : command.transmission.last < 2 ^ 32
-  pub is : moment + elapsed_time now command.transmission.last ≡ clock + command.transmission.timeout
-
 -- a command under some key passes a test, or none does
 abbrev pub SomePasses : (Sent → Bool) → (ℕ → Option Sent) → Type 0
 SomePasses test at = (key : ℕ) × ((p : Sent) × ((key < vacant) × ((at key ≡ Some p) × (test p ≡ true))))

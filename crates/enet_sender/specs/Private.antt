@@ -6,3 +6,4 @@ pub mod Queues
 pub mod Rings
 pub mod Rounds
 pub mod Trims
+pub mod Foretold

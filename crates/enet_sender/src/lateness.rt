@@ -8,8 +8,9 @@ ghost use Rattle.slab.specs.Slab.{get, Updates};
 ghost use Rattle.std.specs.Option.{option_map};
 ghost use Rattle.enet_rtt.specs.Clock.{elapsed_time};
 ghost use Rattle.enet_sender.specs.declared.sent.Sent.{Sent};
-ghost use Rattle.enet_sender.specs.Foretold.{AreForetold, IsLateAt, IsLateIn, KeepsTime, NonePasses, SomePasses};
+ghost use Rattle.enet_sender.specs.Foretold.{AreForetold, IsLateIn, KeepsTime, NonePasses, SomePasses};
 ghost use Rattle.enet_sender.specs.Pending.{vacant};
+ghost use Rattle.enet_sender.specs.Private.Foretold.{IsLateAt};
 ghost use Rattle.enet_sender.specs.Private.Rounds.{test_at};
 ghost use Rattle.enet_sender.specs.Sender.{ends, is_late, marked};
 
@@ -18,11 +19,11 @@ use enet_deadlines::{Deadlines, moment_at};
 use enet_rtt::{Patience, Transmission, elapsed};
 use slab::Slab;
 
-/// The clock that does not wrap is set back to its first milliseconds once it is so far. No host runs so long.
+/// The clock that does not wrap is set back to its beginning once it is so far. No host runs so long.
 const FAR: u64 = 1 << 62;
 
-/// Its first milliseconds.
-const BEGINNING: u64 = 4_294_967_296;
+/// The clock that does not wrap begins with so many milliseconds, so that all times of the other one lie behind it.
+pub(crate) const BEGINNING: u64 = 4_294_967_296;
 
 /// Whether the command under a key is late at the time `now`.
 fn is_late(slab: &Slab<Sent>, key: usize, now: u32) -> bool
@@ -158,7 +159,11 @@ pub(crate) fn first_late(
     };
     if clock < moment {
         let wait = moment - clock;
-        return if wait < BEGINNING { Some(wait as u32) } else { None };
+        return if wait < BEGINNING {
+            Some(wait as u32)
+        } else {
+            None
+        };
     }
     let key = deadlines.first_due(clock)?;
     if is_late(slab, key, now) {

@@ -6,13 +6,16 @@
 //! commands and their numbers, all or none; E5 exactly above 16,384 pieces, `too_large`; a refused body comes back and
 //! nothing has changed, `refused`), `next_due` (the first due resend, else the head of the queue exactly where the sender's
 //! span and the bytes in transit let it go, written where it fits; NoRoom and Nothing change nothing), `skip`,
-//! `acknowledge`, `late`, `ends`, `is_late`, `mark`, `clear`, `left`; `next_late`, in how many milliseconds something is late
-//! first; and `late_number`, the number of a command that is late (specs/Late). Where it matters each asks that rings and slab
+//! `acknowledge`, `late`, `ends`, `is_late`, `mark`, `clear`, `left`; and `next_late`, in how many milliseconds something is late
+//! first. Where it matters each asks that rings and slab
 //! fit (`KeepsIn`, specs/Rings): each key of the rings is in the slab, once in the rings, and nothing under the mark of a vacant
 //! place; bodies are short; what is sent stands in the place of its number, of at most 8,192 the first of which isn't vacant, and
 //! none is due to go again before the place where the search for one begins; the reliable numbers of the queue go on, one by one,
 //! from the last that went to the last that was given, and are counted. Each leaves that so, and what stands under other keys
 //! (`PassesIn`; specs/Pending).
+//! Of all channels at once, exactly by specs/Foretold: `Pending::any_late`, `any_ends`, `first_late` and `mark_all`. They look only at commands
+//! whose timeout has passed, since when each is late is noted by its key from its sending until it is acknowledged or found late
+//! (`KeepsTime`, which no contract shows).
 //! Laws: how the bytes in transit change (`transit_follows`) and what stays left (`reliable_stays_left`).
 //! Only tested, by `check_peer`: that calls succeed with ample memory, and worked rows.
 #![tactic(auto)]

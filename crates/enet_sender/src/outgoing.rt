@@ -24,8 +24,7 @@ ghost use Rattle.enet_sender.specs.Private.Rings.{IsFirstDue};
 use crate::course::{Course, cut};
 use crate::pending::Pending;
 use crate::ring::{
-    any_ends, any_late, first, first_due, mark_all, next_late, place_of, take_all,
-    vacate,
+    any_ends, any_late, first, first_due, mark_all, next_late, place_of, take_all, vacate,
 };
 use crate::writing::{bytes_of, due_kind, is_more, put};
 use bytes::Bytes;

@@ -10,16 +10,15 @@ ghost use Rattle.enet_sender.specs.Private.Pending.{queued};
 ghost use Rattle.enet_sender.specs.Sender.{again, begun, ends, is_late, marked};
 
 use crate::Sent;
-use crate::lateness::{advance, any_ends, any_late, first_late, mark_all, mark_under, moment_of};
+use crate::lateness::{
+    BEGINNING, advance, any_ends, any_late, first_late, mark_all, mark_under, moment_of,
+};
 use enet_deadlines::{Deadlines, moment_at};
 use enet_fragment::DataCommand;
 use enet_rtt::{Patience, Transmission};
 use slab::Slab;
 use std::alloc::Global;
 use std::marker::Model;
-
-/// The clock that does not wrap begins with so many milliseconds, so that all times of the other one lie behind it.
-const BEGINNING: u64 = 4_294_967_296;
 
 /// The commands of a peer, each under a key, and of each that is sent and not due to go again the moment at which it is late. Contracts
 /// see the commands alone, with room for as many as have a place for their moment.

@@ -24,7 +24,7 @@ use Rattle.enet_sender.proofs.Named.{times-append, times-other, held-some}
 use Rattle.enet_sender.proofs.Foretelling.{due-not_late, unmarked}
 use Rattle.enet_sender.proofs.Rounds.{marked-had, marked-held, named-map}
 use Rattle.enet_senders.specs.Senders.{ends_of, times_in, marked_end, KeepsAll}
-use Rattle.enet_senders.specs.Sets.{seeking}
+use Rattle.enet_senders.specs.Private.Seeking.{seeking}
 
 -- what is late waits
 late-waits : (now : ℕ) (p : Sent) → is_late now p ≡ true → p.transmission.due ≡ false

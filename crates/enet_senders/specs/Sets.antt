@@ -1,5 +1,5 @@
 -- What the senders of a peer keep: which channels surely have nothing that may go, and which nothing that is sent.
-use Rattle.std.specs.Prelude.{◌≡◌, ℕ, ◌/◌, ◌%◌, List, [], Some, map, slice_get, slice_index}
+use Rattle.std.specs.Prelude.{◌≡◌, ℕ, ◌/◌, ◌%◌, List, [], Some, slice_get, slice_index}
 use Rattle.std.specs.Int.{bit_at}
 use Rattle.enet_sender.specs.Due.{SendingEnd}
 use Rattle.enet_sender.specs.declared.outgoing.Outgoing.{Outgoing}
@@ -20,10 +20,3 @@ pub record KeepsSets (ready flying : ChannelSet) (ends : List SendingEnd) : Type
 pub record AreSenders (p : Pending) (channels : List Outgoing) (ready flying : ChannelSet) : Type 0 where
   pub kept : KeepsAllIn p channels
   pub sets : KeepsSets ready flying (ends_in p channels)
-
--- all channels seek anew what is due to go again
-abbrev pub seeking : Outgoing → Outgoing
-seeking o = record o { due_from = 0 }
-
-abbrev pub Seek : List Outgoing → List Outgoing → Type 0
-Seek old new = new ≡ map seeking old

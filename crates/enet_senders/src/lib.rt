@@ -5,11 +5,9 @@
 //! `enet_sender`: `Senders::submit`, `next_due`, `skip` and `acknowledge` do what that call does on their channel, and leave
 //! every other as it was; `any_ends`, `any_late`, `have_no_packet` and `have_no_reliable` ask all channels; `mark` and `clear`
 //! do their work on each; `narrow` keeps the first ones. That each key stands in one ring once is an invariant, so no call
-//! asks it of its caller. So is it that nothing is late before the next moment at which something can be, and, while one is known,
-//! which command is late just then: the senders keep both, and no contract shows them. While that command is known, `any_late`
-//! looks at no command before that moment, and `next_late` at none up to it; where it isn't, `any_late` looks at none before that
-//! moment for 8 milliseconds after it last did. Two sets of channels are kept likewise, of those that may have something to put out
-//! and of those that may have something sent: `next_late`, `any_late`, `have_no_packet` and `have_no_reliable` look at these alone.
+//! asks it of its caller. `any_late`, `any_ends` and `mark` look only at commands whose timeout has passed, and `next_late` reads when
+//! the first one's has (`Pending` of `enet_sender`). Two sets of channels are kept, of those that may have something to put out
+//! and of those that may have something sent: `have_no_packet` and `have_no_reliable` look at these alone.
 //! `next_ready` promises of each channel that it passes over that it has nothing queued, and nothing that is due to go again.
 //! `next_late` says when something is late first. Of channel 0xFF, exactly by specs/Controlling: `queue`, `next_due`, `acknowledge`,
 //! `late`, `next_late`, `clear`, `is_idle`, `is_still`, `reserve`, `open` and the calls that only test or only mark (`ends`, `is_late`, `mark`,

@@ -12,7 +12,8 @@ ghost use Rattle.enet_sender.specs.declared.outgoing.Outgoing.{Outgoing};
 ghost use Rattle.enet_sender.specs.declared.sent.Sent.{Sent};
 ghost use Rattle.enet_sender.specs.Rings.{end_in, IsEmpty};
 ghost use Rattle.enet_senders.specs.Senders.{ends_in, IsStill, KeepsAllIn, marked_end, cleared_end};
-ghost use Rattle.enet_senders.specs.Sets.{Lacks, Seek};
+ghost use Rattle.enet_senders.specs.Sets.{Lacks};
+ghost use Rattle.enet_senders.specs.Private.Seeking.{Seek};
 
 use crate::channel_set::ChannelSet;
 use bytes::Bytes;

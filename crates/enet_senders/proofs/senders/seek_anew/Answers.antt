@@ -1,7 +1,7 @@
 use Rattle.std.proofs.Common.{◌<◌, length, set, ap, ◌∙◌, arith}
 use Rattle.std.proofs.lemmas.List.Edits.{map_over_more}
 use Rattle.enet_sender.specs.declared.outgoing.Outgoing.{Outgoing}
-use Rattle.enet_senders.specs.Sets.{seeking}
+use Rattle.enet_senders.specs.Private.Seeking.{seeking}
 use Rattle.enet_senders.proofs.senders.seek_anew.Goals as goal
 
 pub loop-channel-preserved : goal.loop-channel-preserved

@@ -1,5 +1,5 @@
 use Rattle.std.proofs.Common.{◌≡◌, ◌++◌, length, map, take, drop}
-use Rattle.enet_senders.specs.Sets.{seeking}
+use Rattle.enet_senders.specs.Private.Seeking.{seeking}
 use Rattle.enet_senders.proofs.senders.seek_anew.Given as goal
 
 abbrev pub invariant-loop-channel : goal.invariant-loop-channel
