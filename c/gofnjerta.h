@@ -222,9 +222,9 @@ uint32_t gofnjerta_throttle_configure(gofnjerta_host *host, gofnjerta_peer peer,
 /* Sets after how many milliseconds a peer that was not heard is pinged; 0 stands for 500. NO_SUCH_PEER. */
 uint32_t gofnjerta_set_ping_interval(gofnjerta_host *host, gofnjerta_peer peer, uint32_t ms);
 
-/* Sets how long a peer may leave a command unacknowledged: it ends `maximum` milliseconds after the command was first sent, or `minimum`
- * after that and after the last acknowledgement of any command, where the command was sent again so often that its own timeout has
- * grown to `limit` times the first. A 0 stands for the standard number: 32, 5,000 and 30,000. NO_SUCH_PEER. */
+/* Sets how long a peer may leave a command unacknowledged: it ends `maximum` milliseconds after the command was first sent, or once two
+ * tries have failed that were made `minimum` milliseconds after that and after the last acknowledgement of any command, where the command
+ * was sent so often that 2^(sends - 1) is at least `limit`. A 0 stands for the standard number: 32, 5,000 and 30,000. NO_SUCH_PEER. */
 uint32_t gofnjerta_set_timeout(gofnjerta_host *host, gofnjerta_peer peer, uint32_t limit, uint32_t minimum, uint32_t maximum);
 
 /* Reads what there is of a peer. NO_SUCH_PEER. */

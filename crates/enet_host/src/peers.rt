@@ -118,8 +118,8 @@ impl HostCore {
     }
 
     /// Sets how long the other end may leave a command unacknowledged: the connection ends `maximum` milliseconds (30,000 by
-    /// the standard) after its first send, or `minimum` milliseconds (5,000) after that and after the last matching
-    /// acknowledgement, once 2^(attempts - 1) is at least `limit` (32). A 0 stands for the standard number. E2 where there is
+    /// the standard) after its first send, or once two tries have failed that were made `minimum` milliseconds (5,000) after that and
+    /// after the last matching acknowledgement, where 2^(attempts - 1) is at least `limit` (32). A 0 stands for the standard number. E2 where there is
     /// no such peer.
     pub fn set_timeout(
         &mut self,

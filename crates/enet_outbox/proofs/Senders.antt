@@ -53,8 +53,8 @@ keeps-map f same transit senders keeps = record {
   counted = keeps.counted ∙ sym (transit-map f same senders);
 }
 
-pub keeps-marked : (now transit : ℕ) (senders : List SendingEnd) → KeepsOutbox transit senders → KeepsOutbox transit (map (marked_sender now) senders)
-keeps-marked now = keeps-map (marked_sender now) (λ s. transit-marked now s.sender)
+pub keeps-marked : (bound now transit : ℕ) (senders : List SendingEnd) → KeepsOutbox transit senders → KeepsOutbox transit (map (marked_sender bound now) senders)
+keeps-marked bound now = keeps-map (marked_sender bound now) (λ s. transit-marked bound now s.sender)
 
 transit-cleared : (senders : List SendingEnd) → transit_over (map cleared_sender senders) ≡ 0
 transit-cleared [] = refl

@@ -146,21 +146,21 @@ has_late o now =
     list_any (controlling.is_late now) o.control.sent
     || list_any (λ (s : SendingEnd). list_any (sender.is_late now) s.sender.sent) o.senders
 
-abbrev pub marked_sender : ℕ → SendingEnd → SendingEnd
-marked_sender now s = record s { sender = sender.with_marked now s.sender }
+abbrev pub marked_sender : ℕ → ℕ → SendingEnd → SendingEnd
+marked_sender bound now s = record s { sender = sender.with_marked bound now s.sender }
 
--- all that waited out its timeout is due to go again
-abbrev pub marked : Outbox → ℕ → Outbox
-marked o now = record o { control = controlling.with_marked now o.control; senders = map (marked_sender now) o.senders }
+-- all that waited out its timeout is due to go again, and waits longer then, as far as the bound lets timeouts grow
+abbrev pub marked : Outbox → ℕ → ℕ → Outbox
+marked o bound now = record o { control = controlling.with_marked bound now o.control; senders = map (marked_sender bound now) o.senders }
 
 -- what a moment brings: the end of the peer, which changes nothing here, resends, or nothing
 abbrev pub lateness : Outbox → ℕ → Patience → ℕ → Expiry
 lateness o now patience heard = if has_ended o now patience heard then End else (if has_late o now then Resend else No)
 
-abbrev pub after_lateness : Expiry → Outbox → ℕ → Outbox
-after_lateness No o now = o
-after_lateness Resend o now = marked o now
-after_lateness End o now = o
+abbrev pub after_lateness : Expiry → Outbox → ℕ → ℕ → Outbox
+after_lateness No o bound now = o
+after_lateness Resend o bound now = marked o bound now
+after_lateness End o bound now = o
 
 -- a round trip was measured
 abbrev pub sampled : Outbox → ℕ → ℕ → ℕ → ℕ → Outbox

@@ -72,11 +72,11 @@ pub fn accept(senders: &mut Senders, transit: &mut u32, channel: u8, number: u16
 }
 
 /// Marks all that is late as due to go again.
-pub fn mark(senders: &mut Senders, now: u32)
-    ensures senders { senders.new ≡ map (marked_sender now) senders.old }
+pub fn mark(senders: &mut Senders, now: u32, bound: u32)
+    ensures senders { senders.new ≡ map (marked_sender bound now) senders.old }
     ensures kept { (transit : ℕ) → KeepsOutbox transit senders.old → KeepsOutbox transit senders.new }
 {
-    senders.mark(now);
+    senders.mark(now, bound);
 }
 
 /// Drops all that is queued or sent on the channels.

@@ -260,16 +260,17 @@ impl Outbox {
 
     /// What the moment `now` brings: `End` where a sent command of any channel has waited out its timeout and its peer, heard
     /// last at `heard`, has timed out over it by `patience`, which changes nothing; else `Resend` where a sent command has
-    /// waited out its timeout: each such one is then due to go again, and waits twice as long; else `No` (our profile).
-    pub fn late(&mut self, now: u32, patience: &Patience, heard: u32) -> Expiry
+    /// waited out its timeout: each such one is then due to go again, and waits twice as long, but no longer than `bound`
+    /// milliseconds, or as long as it did where that is longer; else `No` (our profile).
+    pub fn late(&mut self, now: u32, patience: &Patience, heard: u32, bound: u32) -> Expiry
         ensures found { result ≡ lateness self.old.outbox now patience.now heard }
-        ensures after { self.new.outbox ≡ after_lateness result self.old.outbox now }
+        ensures after { self.new.outbox ≡ after_lateness result self.old.outbox bound now }
         ensures acknowledgement_room { self.new.acknowledgement_room ≡ self.old.acknowledgement_room }
         ensures control_room { self.new.control_room ≡ self.old.control_room }
     {
         let expiry = self.lateness(now, patience, heard);
         if expiry == Expiry::Resend {
-            self.mark(now);
+            self.mark(now, bound);
         }
         expiry
     }
@@ -308,14 +309,14 @@ impl Outbox {
     }
 
     /// Marks all that is late as due to go again.
-    fn mark(&mut self, now: u32)
-        ensures outbox { self.new.outbox ≡ marked self.old.outbox now }
+    fn mark(&mut self, now: u32, bound: u32)
+        ensures outbox { self.new.outbox ≡ marked self.old.outbox bound now }
         ensures acknowledgement_room { self.new.acknowledgement_room ≡ self.old.acknowledgement_room }
         ensures control_room { self.new.control_room ≡ self.old.control_room }
     {
-        self.control.mark(now);
+        self.control.mark(now, bound);
         self.idle = false;
-        lists::mark(&mut self.senders, now);
+        lists::mark(&mut self.senders, now, bound);
     }
 
     /// Whether no reliable command is queued or unacknowledged, on any channel. Then there is room for one command of

@@ -54,7 +54,7 @@ use Rattle.enet_peer.specs.declared.parts.PeerEvent.{PeerEvent}
 use Rattle.enet_peer.specs.declared.parts.PeerEvent.TheVariants as event
 use Rattle.enet_peer.specs.Endings.{ended, freed, disconnecting, parting, settled, is_later, cut_off_in}
 use Rattle.enet_peer.specs.CommandEffect.{Outcome, Obeys, wants_memory, answered, answered_at, is_answered_in, is_allowed, is_connect, obeyed, by_body, by_answer, by_arrival, on_data, stopped, sampled, with_answer, on_match, accepted, is_connecting, on_acknowledge, welcomed, on_verify_in, on_last_disconnect, on_disconnect_in}
-use Rattle.enet_peer.specs.Calls.{Leave, AtOnce, TellsOnce, Asks, AsksLater, Refused, Leaves, left, Submits, submitted, PutsOut, after_timeouts, after_timeouts_by, is_pinged, ticked, is_connected, pace_of, gone_on_in, Taken, Takes, next_event, event_after, packet_event, last_event, with_bandwidth, with_throttle}
+use Rattle.enet_peer.specs.Calls.{Leave, AtOnce, TellsOnce, Asks, AsksLater, Refused, Leaves, left, Submits, submitted, PutsOut, after_timeouts, growth_bound, after_timeouts_by, is_pinged, ticked, is_connected, pace_of, gone_on_in, Taken, Takes, next_event, event_after, packet_event, last_event, with_bandwidth, with_throttle}
 use Rattle.enet_peer.specs.Reachable.{IsReachable, IsStill, IsStillIn, KeepsHoldings, WaitsIn, holdings_of}
 use Rattle.enet_peer.proofs.Obeying.{obeys-holds}
 
@@ -528,24 +528,24 @@ cut-off-keeps : (p : Peering) (s : PeerState) → IsReachable p → IsReachable 
 cut-off-keeps p state.Answering h = freed-keeps p h
 cut-off-keeps p s h = ended-keeps p 0 h
 
-marked-keeps : (p : Peering) (now : ℕ) → IsReachable p → IsReachable (record p { outbox = outbox.marked p.outbox now })
-marked-keeps p now h =
+marked-keeps : (p : Peering) (bound now : ℕ) → IsReachable p → IsReachable (record p { outbox = outbox.marked p.outbox bound now })
+marked-keeps p bound now h =
     let o : Outbox = p.outbox in
     record {
-      still = still-in p.state o.unsequenced o.unsequenced o.control (controlling.with_marked now o.control) o.senders (map (marked_sender now) o.senders) (λ x. record {
+      still = still-in p.state o.unsequenced o.unsequenced o.control (controlling.with_marked bound now o.control) o.senders (map (marked_sender bound now) o.senders) (λ x. record {
         no_unsequenced = x.no_unsequenced;
-        no_control_sent = ap (map (controlling.marked now)) x.no_control_sent;
-        no_queued = at-map NoQueued NoQueued (marked_sender now) o.senders (λ i s q. q) x.no_queued;
-        no_sent = at-map NoSent NoSent (marked_sender now) o.senders (λ i s q. ap (map (sender.marked now)) q) x.no_sent;
+        no_control_sent = ap (map (controlling.marked bound now)) x.no_control_sent;
+        no_queued = at-map NoQueued NoQueued (marked_sender bound now) o.senders (λ i s q. q) x.no_queued;
+        no_sent = at-map NoSent NoSent (marked_sender bound now) o.senders (λ i s q. ap (map (sender.marked bound now)) q) x.no_sent;
       }) h.still;
       waits = h.waits;
-      places = at-map InPlace InPlace (marked_sender now) o.senders (λ i s e. e) h.places;
+      places = at-map InPlace InPlace (marked_sender bound now) o.senders (λ i s e. e) h.places;
       handed_over = h.handed_over;
     }
 
 timeouts-keep : (p : Peering) (now : ℕ) (e : Expiry) → IsReachable p → IsReachable (after_timeouts_by e p now)
 timeouts-keep p now End h = cut-off-keeps p p.state h
-timeouts-keep p now Resend h = marked-keeps p now h
+timeouts-keep p now Resend h = marked-keeps p (growth_bound p) now h
 timeouts-keep p now No h = h
 
 pub ticked-keeps : (p : Peering) (now : ℕ) → IsReachable p → IsReachable (ticked p now)

@@ -29,6 +29,10 @@ abbrev pub is_connected : PeerState → Bool
 is_connected state.Connected = true
 is_connected _ = false
 
+abbrev pub is_answering : PeerState → Bool
+is_answering state.Answering = true
+is_answering _ = false
+
 -- the first refusal but want of memory that a submission meets
 abbrev pub submission_refusal : Peering → ℕ → ℕ → Option Refusal
 submission_refusal p channel len =
@@ -112,10 +116,14 @@ abbrev pub Leaves : {T : Type 0} → Result T Refusal → Option Peering → Pee
 Leaves (Ok done) after old new = after ≡ Some new
 Leaves (Err why) after old new = (after ≡ None) × (why ≡ NotConnected) × (new ≡ old)
 
+-- how far a timeout grows: to a second once a round trip was measured, and where a client is answered; else as far as 32 bits tell
+abbrev pub growth_bound : Peering → ℕ
+growth_bound p = if p.estimate.sampled || is_answering p.state then 1000 else 4294967295
+
 -- what waited out its timeout is due to go again, or the peer's patience is over
 abbrev pub after_timeouts_by : Expiry → Peering → ℕ → Peering
 after_timeouts_by End p now = cut_off p
-after_timeouts_by Resend p now = record p { outbox = marked p.outbox now }
+after_timeouts_by Resend p now = record p { outbox = marked p.outbox (growth_bound p) now }
 after_timeouts_by No p now = p
 
 abbrev pub after_timeouts : Peering → ℕ → Peering

@@ -72,8 +72,8 @@ impl Peer {
     }
 
     /// Sets how long the other end may leave a command unacknowledged: the connection ends `maximum` milliseconds (30,000 by
-    /// the standard) after its first send, or `minimum` milliseconds (5,000) after that and after the last matching
-    /// acknowledgement, once 2^(attempts - 1) is at least `limit` (32). A 0 stands for the standard number.
+    /// the standard) after its first send, or once two tries have failed that were made `minimum` milliseconds (5,000) after that and
+    /// after the last matching acknowledgement, where 2^(attempts - 1) is at least `limit` (32). A 0 stands for the standard number.
     pub fn timeout(&mut self, limit: u32, minimum: u32, maximum: u32)
         ensures peer { self.new.peer ≡ with_timeout self.old.peer limit minimum maximum }
         ensures room { self.new.room ≡ self.old.room }

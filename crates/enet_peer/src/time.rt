@@ -4,7 +4,7 @@ ghost use Rattle.std.specs.Prelude.{◌≡◌, ℕ, ◌≤◌, ◌<◌, ◌^◌,
 ghost use Rattle.enet_rtt.specs.Clock.{elapsed_time, HappensIn};
 ghost use Rattle.enet_outbox.specs.Outbox.{is_quiet};
 ghost use Rattle.enet_peer.specs.Endings.{cut_off};
-ghost use Rattle.enet_peer.specs.Calls.{after_timeouts, is_connected, is_due, is_pinged, pinged, ticked};
+ghost use Rattle.enet_peer.specs.Calls.{after_timeouts, growth_bound, is_connected, is_due, is_pinged, pinged, ticked};
 
 use crate::{Peer, PeerState};
 use enet_rtt::{Expiry, elapsed};
@@ -47,8 +47,21 @@ impl Peer {
     fn time_out(&mut self, now: u32)
         ensures { self.new.peer ≡ after_timeouts self.old.peer now }
     {
-        if self.outbox.late(now, &self.patience, self.heard) == Expiry::End {
+        let bound = self.growth_bound();
+        if self.outbox.late(now, &self.patience, self.heard, bound) == Expiry::End {
             self.cut_off();
+        }
+    }
+
+    /// How far a timeout grows, in milliseconds: to a second once a round trip was measured, and where a client is answered; else as
+    /// far as 32 bits tell (our profile).
+    fn growth_bound(&self) -> u32
+        ensures { result ≡ growth_bound self.now.peer }
+    {
+        if self.timing.is_sampled() || self.state == PeerState::Answering {
+            1_000
+        } else {
+            u32::MAX
         }
     }
 

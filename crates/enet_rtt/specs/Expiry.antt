@@ -1,5 +1,5 @@
 -- When a sent command is due for resending, and when its peer has timed out. Times are in milliseconds.
-use Rattle.std.specs.Prelude.{ℕ, ◌-◌, ◌^◌, Bool, ◌&&◌, ◌||◌, ◌==◌, nat_le, nat_lt, if◌then◌else◌}
+use Rattle.std.specs.Prelude.{ℕ, ◌+◌, ◌-◌, ◌^◌, Bool, ◌&&◌, ◌||◌, ◌==◌, nat_le, nat_lt, if◌then◌else◌}
 use Rattle.enet_rtt.specs.Clock.{elapsed_time, since_later}
 use Rattle.enet_rtt.specs.declared.expiry.Patience.{Patience}
 use Rattle.enet_rtt.specs.declared.expiry.Expiry.{Expiry}
@@ -7,11 +7,12 @@ use Rattle.enet_rtt.specs.declared.expiry.Expiry.TheVariants.{No, Resend, End}
 use Rattle.enet_rtt.specs.declared.transmission.Transmission.{Transmission}
 
 -- The peer, last heard at `heard`, has timed out over a command: the maximum has passed since its first send, or 2^(attempts - 1) is
--- the limit or more and the minimum has passed since its first send or since the peer was heard, whichever was later.
+-- the limit or more and its last two sends, each a timeout apart, were made when the minimum had passed since its first send or since
+-- the peer was heard, whichever was later.
 abbrev pub gives_up : Patience → ℕ → ℕ → Transmission → Bool
 gives_up p now heard t =
     nat_le p.maximum (elapsed_time now t.first)
-    || (nat_le p.limit (2 ^ (t.attempts - 1)) && nat_le p.minimum (since_later now t.first heard))
+    || (nat_le p.limit (2 ^ (t.attempts - 1)) && nat_le (elapsed_time now t.last + t.timeout + p.minimum) (since_later now t.first heard))
 
 -- Nothing before the timeout has passed since the last send.
 abbrev pub expiry : Patience → ℕ → ℕ → Transmission → Expiry

@@ -1,5 +1,5 @@
 -- How a command is sent, and sent again, until it is acknowledged. Times are in milliseconds.
-use Rattle.std.specs.Prelude.{ℕ, ◌+◌, ◌*◌, min, Bool, true, false, ◌&&◌, not, nat_le, if◌then◌else◌}
+use Rattle.std.specs.Prelude.{ℕ, ◌+◌, ◌*◌, max, min, Bool, true, false, ◌&&◌, not, nat_le, if◌then◌else◌}
 use Rattle.enet_rtt.specs.Clock.{elapsed_time}
 use Rattle.enet_rtt.specs.Expiry.{gives_up}
 use Rattle.enet_rtt.specs.declared.expiry.Patience.{Patience}
@@ -25,10 +25,10 @@ is_late now t = not t.due && nat_le t.timeout (elapsed_time now t.last)
 abbrev pub ends : ℕ → Patience → ℕ → Transmission → Bool
 ends now patience heard t = is_late now t && gives_up patience now heard t
 
--- Doublings stop at the greatest number of 32 bits.
-abbrev pub doubled_time : ℕ → ℕ
-doubled_time t = min (2 * t) 4294967295
+-- A timeout doubles, but to no more than the bound; one that is past it stays.
+abbrev pub grown_time : ℕ → ℕ → ℕ
+grown_time bound t = max t (min (2 * t) bound)
 
--- Where it is late, it is due to go again, and waits twice as long then.
-abbrev pub marked : ℕ → Transmission → Transmission
-marked now t = if is_late now t then record t { timeout = doubled_time t.timeout; due = true } else t
+-- Where it is late, it is due to go again, and waits longer then, as far as the bound lets its timeout grow.
+abbrev pub marked : ℕ → ℕ → Transmission → Transmission
+marked bound now t = if is_late now t then record t { timeout = grown_time bound t.timeout; due = true } else t

@@ -1,6 +1,6 @@
 //! When a sent command is due for resending, and when its peer has timed out.
 
-ghost use Rattle.std.specs.Prelude.{◌≡◌, ◌-◌, ◌^◌, ◌&&◌, ◌||◌, false, nat_le};
+ghost use Rattle.std.specs.Prelude.{◌≡◌, ◌+◌, ◌-◌, ◌^◌, ◌<◌, ◌&&◌, ◌||◌, false, nat_le};
 ghost use Rattle.enet_rtt.specs.Clock.{since_later};
 ghost use Rattle.enet_rtt.specs.Expiry.{expiry, standard_patience, patience_with_defaults, or_default_number};
 
@@ -12,8 +12,8 @@ use crate::clock::elapsed;
 pub struct Patience {
     /// The minimum ends the peer only once 2^(attempts - 1) is this number or more.
     pub limit: u32,
-    /// Milliseconds since the command's first send or the last matching acknowledgement, whichever was later, after which a
-    /// peer may end, the limit being reached.
+    /// Milliseconds since the command's first send or the last matching acknowledgement, whichever was later, after which two
+    /// more sends that aren't acknowledged in time end the peer, the limit being reached.
     pub minimum: u32,
     /// Milliseconds since the command's first send after which a peer ends in any case.
     pub maximum: u32,
@@ -58,8 +58,9 @@ impl Patience {
 /// What is to be done at the time `now` with a command that was first sent at `first` and last at `last`, whose timeout
 /// in milliseconds is `timeout`, after so many attempts (0 counts as 1), the peer having been heard last at `heard`. Nothing
 /// before its timeout has passed since it was last sent. Then the peer ends where the maximum has passed since it was first
-/// sent, or where 2^(attempts - 1) is the limit or more and the minimum has passed since it was first sent and since the peer
-/// was heard; otherwise the command is due for resending (our profile).
+/// sent, or where 2^(attempts - 1) is the limit or more and, a timeout before it was last sent, the minimum had passed since it was
+/// first sent and since the peer was heard: so two tries that were made after the minimum have failed. Otherwise the command is due
+/// for resending (our profile).
 pub fn expired(
     patience: &Patience,
     now: u32,
@@ -71,22 +72,26 @@ pub fn expired(
 ) -> Expiry
     ensures { result ≡ expiry patience.now now heard (record { first = first; last = last; timeout = timeout; attempts = attempts; due = false }) }
 {
-    if elapsed(now, last) < timeout {
+    let waited = elapsed(now, last);
+    if waited < timeout {
         return Expiry::No;
     }
+    let tries = u64::from(waited) + u64::from(timeout);
     let silence = since_later(now, first, heard);
-    if gives_up(patience, elapsed(now, first), silence, attempts) {
+    if gives_up(patience, elapsed(now, first), silence, tries, attempts) {
         Expiry::End
     } else {
         Expiry::Resend
     }
 }
 
-// Whether a peer has timed out over a command that went first `age` milliseconds ago, after a silence of so many.
-fn gives_up(patience: &Patience, age: u32, silence: u32, attempts: u8) -> bool
-    ensures { result ≡ (nat_le patience.now.maximum age || (nat_le patience.now.limit (2 ^ (attempts - 1)) && nat_le patience.now.minimum silence)) }
+// Whether a peer has timed out over a command that went first `age` milliseconds ago, after a silence of so many, of which the last
+// two tries took `tries`.
+fn gives_up(patience: &Patience, age: u32, silence: u32, tries: u64, attempts: u8) -> bool
+    requires { tries < 2 ^ 33 }
+    ensures { result ≡ (nat_le patience.now.maximum age || (nat_le patience.now.limit (2 ^ (attempts - 1)) && nat_le (tries + patience.now.minimum) silence)) }
 {
-    let is_silent = silence >= patience.minimum;
+    let is_silent = u64::from(silence) >= tries + u64::from(patience.minimum);
     age >= patience.maximum || is_at_limit(attempts, patience.limit) && is_silent
 }
 

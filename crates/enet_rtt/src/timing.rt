@@ -63,6 +63,13 @@ impl Timing {
         self.round_trip
     }
 
+    /// Whether a round trip was measured.
+    pub fn is_sampled(&self) -> bool
+        ensures { result ≡ self.now.sampled }
+    {
+        self.sampled
+    }
+
     /// The variance of the round trip, in milliseconds.
     pub fn variance(&self) -> u32
         ensures { result ≡ self.now.variance }

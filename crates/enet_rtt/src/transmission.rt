@@ -79,13 +79,14 @@ impl Transmission {
         !self.due && expiry == Expiry::End
     }
 
-    /// Where it is late at the time `now`, it is due to go again, and waits twice as long then, at most 4,294,967,295 ms
-    /// (our profile).
-    pub fn mark(&mut self, now: u32)
-        ensures { self.new ≡ marked now self.old }
+    /// Where it is late at the time `now`, it is due to go again, and waits twice as long then, but no longer than `bound`
+    /// milliseconds, or as long as it did where that is longer (our profile).
+    pub fn mark(&mut self, now: u32, bound: u32)
+        ensures { self.new ≡ marked bound now self.old }
     {
         if self.is_late(now) {
-            self.timeout = self.timeout.saturating_mul(2);
+            let doubled = self.timeout.saturating_mul(2).min(bound);
+            self.timeout = self.timeout.max(doubled);
             self.due = true;
         }
     }

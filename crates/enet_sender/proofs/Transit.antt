@@ -84,16 +84,16 @@ transit-acknowledged s number = by_place (position_of number s.sent)
     by_place None = omega arith
     by_place (Some i) = bytes-remove s.sent i
 
-bytes-all_marked : (now : ℕ) (sent : List Sent) → all_bytes (map (marked now) sent) ≡ all_bytes sent
-bytes-all_marked now [] = refl
-bytes-all_marked now (p ∷ sent) =
+bytes-all_marked : (bound now : ℕ) (sent : List Sent) → all_bytes (map (marked bound now) sent) ≡ all_bytes sent
+bytes-all_marked bound now [] = refl
+bytes-all_marked bound now (p ∷ sent) =
     let e = sum_by-cons bytes_of p sent in
-    let f = sum_by-cons bytes_of (marked now p) (map (marked now) sent) in
-    let h = bytes-all_marked now sent in
+    let f = sum_by-cons bytes_of (marked bound now p) (map (marked bound now) sent) in
+    let h = bytes-all_marked bound now sent in
     omega arith
 
-pub transit-marked : (now : ℕ) (s : Sender) → bytes_in_transit (with_marked now s) ≡ bytes_in_transit s
-transit-marked now s = bytes-all_marked now s.sent
+pub transit-marked : (bound now : ℕ) (s : Sender) → bytes_in_transit (with_marked bound now s) ≡ bytes_in_transit s
+transit-marked bound now s = bytes-all_marked bound now s.sent
 
 -- whether a reliable command is left, by the counts
 abbrev is_left : ℕ → ℕ → Bool
@@ -120,8 +120,8 @@ left-next g occasion s n e =
     ∙ ap (λ k. is_left k (length s.sent)) (sym (counted-head s.queued c rest is)) ∙ sym (left_is s))
     (λ i p there. ap (λ k. is_some (position (λ (c : DataCommand). c.reliable) s.queued) || ltb 0 k) (length-set s.sent i (again occasion.now p))) e
 
-pub left-marked : (now : ℕ) (s : Sender) → left (with_marked now s) ≡ left s
-left-marked now s = ap (λ k. left_by s k) (length-map s.sent (marked now))
+pub left-marked : (bound now : ℕ) (s : Sender) → left (with_marked bound now s) ≡ left s
+left-marked bound now s = ap (λ k. left_by s k) (length-map s.sent (marked bound now))
   where
     left_by : Sender → ℕ → Left
     left_by s k = record { packets = ltb 0 (length s.queued); reliable = is_some (position (λ (c : DataCommand). c.reliable) s.queued) || ltb 0 k }

@@ -165,13 +165,13 @@ bytes_in_transit s = sum_by (λ (p : Sent). length p.command.body) s.sent
 abbrev pub is_late : ℕ → Sent → Bool
 is_late now p = transmission.is_late now p.transmission
 
--- where it is late, it is due to go again, and waits twice as long then
-abbrev pub marked : ℕ → Sent → Sent
-marked now p = record p { transmission = transmission.marked now p.transmission }
+-- where it is late, it is due to go again, and waits longer then, as far as the bound lets timeouts grow
+abbrev pub marked : ℕ → ℕ → Sent → Sent
+marked bound now p = record p { transmission = transmission.marked bound now p.transmission }
 
 -- all that is late is due to go again
-abbrev pub with_marked : ℕ → Sender → Sender
-with_marked now s = record s { sent = map (marked now) s.sent }
+abbrev pub with_marked : ℕ → ℕ → Sender → Sender
+with_marked bound now s = record s { sent = map (marked bound now) s.sent }
 
 -- it is late, and the peer, last heard at `heard`, has timed out over it
 abbrev pub ends : ℕ → Patience → ℕ → Sent → Bool
@@ -184,10 +184,10 @@ lateness now patience heard s =
     else (if is_some (position (is_late now) s.sent) then Resend else No)
 
 -- the end changes nothing here
-abbrev pub after_lateness : Expiry → ℕ → Sender → Sender
-after_lateness No now s = s
-after_lateness Resend now s = with_marked now s
-after_lateness End now s = s
+abbrev pub after_lateness : Expiry → ℕ → ℕ → Sender → Sender
+after_lateness No bound now s = s
+after_lateness Resend bound now s = with_marked bound now s
+after_lateness End bound now s = s
 
 -- all that is queued or sent is dropped, and the numbers stay
 abbrev pub cleared : Sender → Sender

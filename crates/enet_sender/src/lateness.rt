@@ -174,15 +174,15 @@ pub(crate) fn first_late(
 }
 
 /// Marks the command under a key as due to go again, where it is late; whether it is.
-pub(crate) fn mark_under(slab: &mut Slab<Sent>, key: usize, now: u32) -> bool
-    ensures updates { Updates slab.old slab.new key (option_map (marked now) (get slab.old key)) }
+pub(crate) fn mark_under(slab: &mut Slab<Sent>, key: usize, now: u32, bound: u32) -> bool
+    ensures updates { Updates slab.old slab.new key (option_map (marked bound now) (get slab.old key)) }
     ensures late { result ≡ test_at (is_late now) (get slab.old key) }
     ensures capacity { slab.new.capacity ≡ slab.old.capacity }
 {
     match slab.get_mut(key) {
         Some(sent) => {
             let late = sent.transmission.is_late(now);
-            sent.transmission.mark(now);
+            sent.transmission.mark(now, bound);
             late
         }
         None => false,
@@ -190,17 +190,23 @@ pub(crate) fn mark_under(slab: &mut Slab<Sent>, key: usize, now: u32) -> bool
 }
 
 /// Marks all that is late as due to go again.
-pub(crate) fn mark_all(slab: &mut Slab<Sent>, deadlines: &mut Deadlines, clock: u64, now: u32)
+pub(crate) fn mark_all(
+    slab: &mut Slab<Sent>,
+    deadlines: &mut Deadlines,
+    clock: u64,
+    now: u32,
+    bound: u32,
+)
     requires shown { clock % 2 ^ 32 ≡ now }
     requires few { length deadlines.old ≤ vacant }
     requires foretold { AreForetold clock (get slab.old) deadlines.old }
-    ensures marked { (key : ℕ) → get slab.new key ≡ option_map (marked now) (get slab.old key) }
+    ensures marked { (key : ℕ) → get slab.new key ≡ option_map (marked bound now) (get slab.old key) }
     ensures foretold { AreForetold clock (get slab.new) deadlines.new }
     ensures len { length deadlines.new ≡ length deadlines.old }
 {
     let mut from = 0;
     'due: while let Some(key) = deadlines.next_due(from, clock) {
-        if mark_under(slab, key, now) {
+        if mark_under(slab, key, now, bound) {
             deadlines.clear(key);
         }
         from = key + 1;

@@ -15,7 +15,7 @@ pub fn transit_follows()
         → bytes_in_transit (after_acknowledgement s number) + unwrap_or (acknowledged_bytes s number) 0 ≡ bytes_in_transit s }
     ensures submitted { (g : Numbering) (mtu : ℕ) (s : Sender) (p : Packet) → bytes_in_transit (submitted g mtu s p) ≡ bytes_in_transit s }
     ensures skipped { (s : Sender) → bytes_in_transit (with_skipped s) ≡ bytes_in_transit s }
-    ensures marked { (now : ℕ) (s : Sender) → bytes_in_transit (with_marked now s) ≡ bytes_in_transit s }
+    ensures marked { (bound now : ℕ) (s : Sender) → bytes_in_transit (with_marked bound now s) ≡ bytes_in_transit s }
     ensures cleared { (s : Sender) → bytes_in_transit (cleared s) ≡ 0 }
 {}
 
@@ -25,5 +25,5 @@ pub fn reliable_stays_left()
     ensures next { (g : Numbering) (occasion : Occasion) (s : Sender) (n : Next) → next g occasion s ≡ Some n
         → (left n.sender).reliable ≡ (left s).reliable }
     ensures skipped { (s : Sender) → (left (with_skipped s)).reliable ≡ (left s).reliable }
-    ensures marked { (now : ℕ) (s : Sender) → left (with_marked now s) ≡ left s }
+    ensures marked { (bound now : ℕ) (s : Sender) → left (with_marked bound now s) ≡ left s }
 {}

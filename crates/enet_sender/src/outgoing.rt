@@ -288,24 +288,26 @@ impl Outgoing {
 
     /// What the moment `now` brings: `End` where a sent command has waited out its timeout and its peer, heard last at
     /// `heard`, has timed out over it by `patience`, which changes nothing; else `Resend` where a sent command has waited out
-    /// its timeout: each such one is then due to go again, and waits twice as long; else `No` (our profile).
+    /// its timeout: each such one is then due to go again, and waits twice as long, but no longer than `bound` milliseconds, or as
+    /// long as it did where that is longer; else `No` (our profile).
     pub fn late(
         &mut self,
         pending: &mut Pending,
         now: u32,
         patience: &Patience,
         heard: u32,
+        bound: u32,
     ) -> Expiry
         requires { KeepsIn pending.old self.old }
         ensures found { result ≡ lateness now patience.now heard (sender_in pending.old self.old) }
-        ensures after { end_in pending.new self.new ≡ record (end_in pending.old self.old) { sender = after_lateness result now (sender_in pending.old self.old) } }
+        ensures after { end_in pending.new self.new ≡ record (end_in pending.old self.old) { sender = after_lateness result bound now (sender_in pending.old self.old) } }
         ensures kept { KeepsIn pending.new self.new }
         ensures passes { PassesIn pending.old self.old pending.new self.new }
         ensures room { HasRoom self.old → HasRoom self.new }
     {
         let expiry = self.lateness(pending, now, patience, heard);
         if expiry == Expiry::Resend {
-            self.mark(pending, now);
+            self.mark(pending, now, bound);
         }
         expiry
     }
@@ -348,15 +350,15 @@ impl Outgoing {
     }
 
     /// Each sent command that has waited out its timeout at the moment `now` is due to go again, and waits twice as long
-    /// then (our profile).
-    pub fn mark(&mut self, pending: &mut Pending, now: u32)
+    /// then, but no longer than `bound` milliseconds, or as long as it did where that is longer (our profile).
+    pub fn mark(&mut self, pending: &mut Pending, now: u32, bound: u32)
         requires { KeepsIn pending.old self.old }
-        ensures marked { end_in pending.new self.new ≡ record (end_in pending.old self.old) { sender = with_marked now (sender_in pending.old self.old) } }
+        ensures marked { end_in pending.new self.new ≡ record (end_in pending.old self.old) { sender = with_marked bound now (sender_in pending.old self.old) } }
         ensures kept { KeepsIn pending.new self.new }
         ensures passes { PassesIn pending.old self.old pending.new self.new }
         ensures room { HasRoom self.old → HasRoom self.new }
     {
-        mark_all(&self.sent, pending, now);
+        mark_all(&self.sent, pending, now, bound);
         self.due_from = 0;
     }
 

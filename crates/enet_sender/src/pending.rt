@@ -110,10 +110,10 @@ impl Pending {
     }
 
     /// Marks the command under a key as due to go again, where it is late.
-    pub(crate) fn mark(&mut self, key: u32, now: u32)
-        ensures { Updates self.old.slab self.new.slab key (option_map (marked now) (get self.old.slab key)) }
+    pub(crate) fn mark(&mut self, key: u32, now: u32, bound: u32)
+        ensures { Updates self.old.slab self.new.slab key (option_map (marked bound now) (get self.old.slab key)) }
     {
-        self.slab.mark(key, now);
+        self.slab.mark(key, now, bound);
     }
 
     /// Takes the command under a key out.
@@ -167,11 +167,11 @@ impl Pending {
         self.slab.first_late(now)
     }
 
-    /// All that is late at the moment `now`, in milliseconds, is due to go again, and waits twice as long then, on any channel. Each of
-    /// these is to seek what is due anew (`Outgoing::seek_anew`). It looks only at what is late.
-    pub fn mark_all(&mut self, now: u32)
-        ensures { (key : ℕ) → get self.new.slab key ≡ option_map (marked now) (get self.old.slab key) }
+    /// All that is late at the moment `now`, in milliseconds, is due to go again, and waits twice as long then, on any channel, but no
+    /// longer than `bound` milliseconds, or as long as it did where that is longer. Each of these is to seek what is due anew (`Outgoing::seek_anew`). It looks only at what is late.
+    pub fn mark_all(&mut self, now: u32, bound: u32)
+        ensures { (key : ℕ) → get self.new.slab key ≡ option_map (marked bound now) (get self.old.slab key) }
     {
-        self.slab.mark_all(now);
+        self.slab.mark_all(now, bound);
     }
 }

@@ -130,12 +130,12 @@ pub(crate) fn next_late(ring: &VecDeque<u32>, pending: &Pending, now: u32) -> u3
 }
 
 /// Marks what is late of a ring's commands as due to go again.
-pub(crate) fn mark_all(ring: &VecDeque<u32>, pending: &mut Pending, now: u32)
-    ensures { (key : ℕ) → get pending.new.slab key ≡ marked_at now (times key ring.now.items) (get pending.old.slab key) }
+pub(crate) fn mark_all(ring: &VecDeque<u32>, pending: &mut Pending, now: u32, bound: u32)
+    ensures { (key : ℕ) → get pending.new.slab key ≡ marked_at bound now (times key ring.now.items) (get pending.old.slab key) }
 {
     for place in 0..ring.len() {
         let key = ring[place];
-        pending.mark(key, now);
+        pending.mark(key, now, bound);
     }
 }
 

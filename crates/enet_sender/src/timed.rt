@@ -138,20 +138,20 @@ impl TimedSlab {
     }
 
     /// Marks the command under a key as due to go again, where it is late.
-    pub(crate) fn mark(&mut self, key: u32, now: u32)
-        ensures { Updates self.old self.new key (option_map (marked now) (get self.old key)) }
+    pub(crate) fn mark(&mut self, key: u32, now: u32, bound: u32)
+        ensures { Updates self.old self.new key (option_map (marked bound now) (get self.old key)) }
     {
-        if mark_under(&mut self.slab, key as usize, now) {
+        if mark_under(&mut self.slab, key as usize, now, bound) {
             self.deadlines.clear(key as usize);
         }
     }
 
     /// Marks all that is late as due to go again.
-    pub(crate) fn mark_all(&mut self, now: u32)
-        ensures { (key : ℕ) → get self.new key ≡ option_map (marked now) (get self.old key) }
+    pub(crate) fn mark_all(&mut self, now: u32, bound: u32)
+        ensures { (key : ℕ) → get self.new key ≡ option_map (marked bound now) (get self.old key) }
     {
         self.clock = advance(self.clock, &self.slab, &mut self.deadlines, now);
-        mark_all(&mut self.slab, &mut self.deadlines, self.clock, now);
+        mark_all(&mut self.slab, &mut self.deadlines, self.clock, now, bound);
     }
 
     /// Whether a command is late at the time `now`.

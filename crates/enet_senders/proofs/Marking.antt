@@ -4,6 +4,6 @@ use Rattle.std.proofs.lemmas.List.Edits.{map_over_more}
 use Rattle.enet_senders.specs.declared.control.SentControl.{SentControl}
 use Rattle.enet_senders.specs.Controlling.{marked}
 
-pub map_marked : (now : ℕ) (xs ys : List SentControl) (i : ℕ) (x : SentControl) → i < length xs → ys ≡ map (marked now) (take i xs) ++ drop i xs → x ≡ get_or ys i x
-    → set ys i (marked now x) ≡ map (marked now) (take (i + 1) xs) ++ drop (i + 1) xs
-map_marked now xs ys i x = map_over_more (marked now) xs ys i x
+pub map_marked : (bound now : ℕ) (xs ys : List SentControl) (i : ℕ) (x : SentControl) → i < length xs → ys ≡ map (marked bound now) (take i xs) ++ drop i xs → x ≡ get_or ys i x
+    → set ys i (marked bound now x) ≡ map (marked bound now) (take (i + 1) xs) ++ drop (i + 1) xs
+map_marked bound now xs ys i x = map_over_more (marked bound now) xs ys i x

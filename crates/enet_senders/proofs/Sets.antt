@@ -389,11 +389,11 @@ keeps-submitted ready flying ready2 mtu flags body es new c inside queued others
     keeps-one ready flying ready2 flying es new c s (with_submitted mtu s flags body) one.1 (queued s one.1) others (λ i other lacks. lacks) (λ lacks. absurd (this lacks)) (λ lacks. h.grounded c s lacks one.1) h
 
 -- all that is late is due to go again, on channels that have something sent
-pub keeps-marked : (ready flying ready2 : ChannelSet) (now : ℕ) (es new : List SendingEnd) → new ≡ map (marked_end now) es → ((i : ℕ) → Lacks ready2 i → Lacks ready i × Lacks flying i) → KeepsSets ready flying es → KeepsSets ready2 flying new
-keeps-marked ready flying ready2 now es new is both h =
-    keeps-mapped ready2 flying (marked_end now) es new is
-    (λ i e lacks at. still-none (marked_end now e).sender (h.still i e (both i lacks).0 at).queued (ap (map (marked now)) (h.grounded i e (both i lacks).1 at)))
-    (λ i e lacks at. ap (map (marked now)) (h.grounded i e lacks at))
+pub keeps-marked : (ready flying ready2 : ChannelSet) (bound now : ℕ) (es new : List SendingEnd) → new ≡ map (marked_end bound now) es → ((i : ℕ) → Lacks ready2 i → Lacks ready i × Lacks flying i) → KeepsSets ready flying es → KeepsSets ready2 flying new
+keeps-marked ready flying ready2 bound now es new is both h =
+    keeps-mapped ready2 flying (marked_end bound now) es new is
+    (λ i e lacks at. still-none (marked_end bound now e).sender (h.still i e (both i lacks).0 at).queued (ap (map (marked bound now)) (h.grounded i e (both i lacks).1 at)))
+    (λ i e lacks at. ap (map (marked bound now)) (h.grounded i e lacks at))
 
 pub keeps-cleared : (ready flying : ChannelSet) (es new : List SendingEnd) → new ≡ map cleared_end es → KeepsSets ready flying new
 keeps-cleared ready flying es new is = keeps-mapped ready flying cleared_end es new is (λ i e lacks at. still-none (cleared_end e).sender refl refl) (λ i e lacks at. refl)

@@ -134,12 +134,12 @@ acknowledged_control c number = control_at c.sent (position_of number c.sent)
 abbrev pub is_late : ℕ → SentControl → Bool
 is_late now p = transmission.is_late now p.transmission
 
--- where it is late, it is due to go again, and waits twice as long then
-abbrev pub marked : ℕ → SentControl → SentControl
-marked now p = record p { transmission = transmission.marked now p.transmission }
+-- where it is late, it is due to go again, and waits longer then, as far as the bound lets timeouts grow
+abbrev pub marked : ℕ → ℕ → SentControl → SentControl
+marked bound now p = record p { transmission = transmission.marked bound now p.transmission }
 
-abbrev pub with_marked : ℕ → Commands → Commands
-with_marked now c = record c { sent = map (marked now) c.sent }
+abbrev pub with_marked : ℕ → ℕ → Commands → Commands
+with_marked bound now c = record c { sent = map (marked bound now) c.sent }
 
 -- it is late, and the peer, last heard at `heard`, has timed out over it
 abbrev pub ends : ℕ → Patience → ℕ → SentControl → Bool
@@ -152,10 +152,10 @@ lateness now patience heard c =
     else (if is_some (position (is_late now) c.sent) then Resend else No)
 
 -- the end changes nothing here
-abbrev pub after_lateness : Expiry → ℕ → Commands → Commands
-after_lateness No now c = c
-after_lateness Resend now c = with_marked now c
-after_lateness End now c = c
+abbrev pub after_lateness : Expiry → ℕ → ℕ → Commands → Commands
+after_lateness No bound now c = c
+after_lateness Resend bound now c = with_marked bound now c
+after_lateness End bound now c = c
 
 -- all that is queued or sent is dropped, and the numbers stay
 abbrev pub cleared : Commands → Commands

@@ -14,8 +14,8 @@ abbrev pub ends_of : Slab Sent → List Outgoing → List SendingEnd
 ends_of s channels = map (end_of s) channels
 
 -- what is late there is due to go again
-abbrev pub marked_end : ℕ → SendingEnd → SendingEnd
-marked_end now s = record s { sender = with_marked now s.sender }
+abbrev pub marked_end : ℕ → ℕ → SendingEnd → SendingEnd
+marked_end bound now s = record s { sender = with_marked bound now s.sender }
 
 -- all that is queued or sent there is dropped
 abbrev pub cleared_end : SendingEnd → SendingEnd

@@ -182,15 +182,16 @@ impl ControlChannel {
 
     /// What the moment `now` brings: `End` where a sent command has waited out its timeout and its peer, heard last at
     /// `heard`, has timed out over it by `patience`, which changes nothing; else `Resend` where a sent command has waited out
-    /// its timeout: each such one is then due to go again, and waits twice as long; else `No` (our profile).
-    pub fn late(&mut self, now: u32, patience: &Patience, heard: u32) -> Expiry
+    /// its timeout: each such one is then due to go again, and waits twice as long, but no longer than `bound` milliseconds, or as
+    /// long as it did where that is longer; else `No` (our profile).
+    pub fn late(&mut self, now: u32, patience: &Patience, heard: u32, bound: u32) -> Expiry
         ensures found { result ≡ lateness now patience.now heard self.old.commands }
-        ensures after { self.new.commands ≡ after_lateness result now self.old.commands }
+        ensures after { self.new.commands ≡ after_lateness result bound now self.old.commands }
         ensures room { self.new.room ≡ self.old.room }
     {
         let expiry = lateness(&self.sent, now, patience, heard);
         if expiry == Expiry::Resend {
-            mark(&mut self.sent, now);
+            mark(&mut self.sent, now, bound);
         }
         expiry
     }
@@ -219,12 +220,12 @@ impl ControlChannel {
     }
 
     /// Each sent command that has waited out its timeout at the moment `now` is due to go again, and waits twice as long
-    /// then (our profile).
-    pub fn mark(&mut self, now: u32)
-        ensures commands { self.new.commands ≡ with_marked now self.old.commands }
+    /// then, but no longer than `bound` milliseconds, or as long as it did where that is longer (our profile).
+    pub fn mark(&mut self, now: u32, bound: u32)
+        ensures commands { self.new.commands ≡ with_marked bound now self.old.commands }
         ensures room { self.new.room ≡ self.old.room }
     {
-        mark(&mut self.sent, now);
+        mark(&mut self.sent, now, bound);
     }
 
     /// Drops all that is queued or sent. The numbers go on from where they stand. Then there is room for one command.

@@ -166,13 +166,13 @@ pub fn next_late(sent: &VecDeque<SentControl>, now: u32) -> u32
 
 /// Marks all that is late as due to go again.
 #[tactic(auto, using(crate::proofs::Marking::map_marked))]
-pub fn mark(sent: &mut VecDeque<SentControl>, now: u32)
-    ensures sent { sent.new.items ≡ map (marked now) sent.old.items }
+pub fn mark(sent: &mut VecDeque<SentControl>, now: u32, bound: u32)
+    ensures sent { sent.new.items ≡ map (marked bound now) sent.old.items }
     ensures len { deque_len sent.new ≡ deque_len sent.old }
     ensures capacity { deque_capacity sent.new ≡ deque_capacity sent.old }
 {
     for place in 0..sent.len() {
-        sent[place].transmission.mark(now);
+        sent[place].transmission.mark(now, bound);
     }
 }
 

@@ -146,12 +146,12 @@ fn seek_anew(channels: &mut Vec<Outgoing>)
 }
 
 /// What is late on any channel is due to go again.
-fn mark_late(channels: &mut Vec<Outgoing>, pending: &mut Pending, now: u32)
+fn mark_late(channels: &mut Vec<Outgoing>, pending: &mut Pending, now: u32, bound: u32)
     requires { KeepsAllIn pending.old channels.old.items }
-    ensures ends { ends_in pending.new channels.new.items ≡ map (marked_end now) (ends_in pending.old channels.old.items) }
+    ensures ends { ends_in pending.new channels.new.items ≡ map (marked_end bound now) (ends_in pending.old channels.old.items) }
     ensures kept { KeepsAllIn pending.new channels.new.items }
 {
-    pending.mark_all(now);
+    pending.mark_all(now, bound);
     seek_anew(channels);
 }
 
@@ -422,11 +422,12 @@ impl Senders {
         }
     }
 
-    /// All that is late at the moment `now`, in milliseconds, is due to go again, and waits twice as long then.
-    pub fn mark(&mut self, now: u32)
-        ensures { self.new ≡ map (marked_end now) self.old }
+    /// All that is late at the moment `now`, in milliseconds, is due to go again, and waits twice as long then, but no longer than
+    /// `bound` milliseconds, or as long as it did where that is longer.
+    pub fn mark(&mut self, now: u32, bound: u32)
+        ensures { self.new ≡ map (marked_end bound now) self.old }
     {
-        mark_late(&mut self.channels, &mut self.pending, now);
+        mark_late(&mut self.channels, &mut self.pending, now, bound);
         self.ready.join(&self.flying);
     }
 

@@ -11,7 +11,7 @@ use Rattle.enet_peer.specs.Peering.{Peering}
 use Rattle.enet_peer.specs.declared.parts.PeerState.{PeerState}
 use Rattle.enet_peer.specs.declared.parts.PeerState.TheVariants as state
 use Rattle.enet_peer.specs.Endings.{ended, freed, disconnecting, parting, settled, cut_off_in}
-use Rattle.enet_peer.specs.Calls.{Leave, AtOnce, TellsOnce, Asks, AsksLater, Refused, left, leave_by_asking, leave_now, after_timeouts, after_timeouts_by, is_pinged, ticked, is_connected, pace_of, gone_on_in}
+use Rattle.enet_peer.specs.Calls.{Leave, AtOnce, TellsOnce, Asks, AsksLater, Refused, left, leave_by_asking, leave_now, after_timeouts, after_timeouts_by, growth_bound, is_pinged, ticked, is_connected, pace_of, gone_on_in}
 use Rattle.law_connection.specs.WireLink.{WireLink}
 use Rattle.law_connection.specs.LinkSteps.{Has}
 use Rattle.law_connection.specs.Connection.{End}
@@ -38,7 +38,7 @@ holds-cut_off own other p s h = holds-stops own other p (ended p 0) (stops-ended
 
 holds-timeouts : (own other : End) (p : Peering) (now : ℕ) (x : Expiry) → Holds own other p → Holds own other (after_timeouts_by x p now)
 holds-timeouts own other p now Ends h = holds-cut_off own other p p.state h
-holds-timeouts own other p now Resend h = both-marked (with_peer own p) other p now refl h
+holds-timeouts own other p now Resend h = both-marked (with_peer own p) other p (growth_bound p) now refl h
 holds-timeouts own other p now No h = h
 
 pub holds-ticked : (own other : End) (p : Peering) (now : ℕ) → Holds own other p → Holds own other (ticked p now)

@@ -38,7 +38,7 @@ use Rattle.enet_peer.specs.declared.parts.PeerState.{PeerState}
 use Rattle.enet_peer.specs.declared.parts.PeerState.TheVariants as state
 use Rattle.enet_peer.specs.Endings.{dropped, ended, freed, disconnecting, parting, settled, is_later, cut_off_in}
 use Rattle.enet_peer.specs.CommandEffect.{Outcome, answered, answered_at, is_answered_in, is_allowed, is_of_handshake, obeyed, by_body, by_answer, by_arrival, on_data, stopped, sampled, with_answer, on_match, accepted, is_connecting, on_acknowledge, welcomed, on_verify_in, on_last_disconnect, on_disconnect_in, on_bandwidth, on_throttle}
-use Rattle.enet_peer.specs.Calls.{left, after_timeouts, after_timeouts_by, is_pinged, ticked, is_connected, pace_of, gone_on, gone_on_in}
+use Rattle.enet_peer.specs.Calls.{left, after_timeouts, after_timeouts_by, growth_bound, is_pinged, ticked, is_connected, pace_of, gone_on, gone_on_in}
 use Rattle.law_connection.specs.Steps.{Way, Asking, Now, Later, leave_by, Setting, Bandwidth, Throttle, ThrottleLimit, PingInterval, Timeout, with_setting, MaySet}
 use Rattle.enet_outbox.proofs.Filled.{by-filling}
 use Rattle.law_connection.proofs.Runs.{either, and-left}
@@ -89,7 +89,7 @@ pub record Changes (P : Peering → Type 0) : Type 0 where
   pub greets : (p : Peering) → p.state ≡ state.Answering → P p → P (record p { state = state.Connected; greeting = Some p.info })
   pub welcomes : (p : Peering) (v : Verify) (terms : Terms) → p.state ≡ state.Connecting → 28 < terms.mtu → terms.connect_id ≡ p.offer.connect_id → P p → P (welcomed p v (Some terms))
   pub acknowledges : (p : Peering) (channel number : ℕ) → is_gone p.state ≡ false → P p → P (record p { outbox = after_acknowledgement p.outbox channel number })
-  pub marks : (p : Peering) (now : ℕ) → P p → P (record p { outbox = outbox.marked p.outbox now })
+  pub marks : (p : Peering) (bound now : ℕ) → P p → P (record p { outbox = outbox.marked p.outbox bound now })
   pub gives_way : (p : Peering) → is_connected p.state ≡ true → P p → P (record p { inbox = given_way p.inbox })
   pub takes : (p : Peering) (channel : ℕ) (r : ReceivingEnd) (c : DataCommand) → is_connected p.state ≡ true → slice_get p.inbox.receivers channel ≡ Some r → P p
       → P (record p { inbox = handed_over p.inbox channel (after_command r (Some c) (is_full_for p.inbox r c)) })
@@ -135,7 +135,7 @@ kept-timeouts P k p now h = by (has_ended p.outbox now p.patience p.heard) (has_
   where
     by : (a b : Bool) → has_ended p.outbox now p.patience p.heard ≡ a → P (after_timeouts_by (cond a Ends (cond b Resend No)) p now)
     by true b e = kept-cut_off P k p now p.state refl e h
-    by false true e = k.marks p now h
+    by false true e = k.marks p (growth_bound p) now h
     by false false e = h
 
 pub kept-ticked : (P : Peering → Type 0) → Changes P → (p : Peering) (now : ℕ) → P p → P (ticked p now)

@@ -553,8 +553,8 @@ Sound-drops mtu v occasion n s sending e kind =
         }
 
 -- what waited too long is due to go again
-pub Sound-marks : (mtu : ℕ) (v : WireLink) (now : ℕ) → Sound mtu v → v.is_sending ≡ true → Sound mtu (marks v now)
-Sound-marks mtu v now s sending =
+pub Sound-marks : (mtu : ℕ) (v : WireLink) (bound now : ℕ) → Sound mtu v → v.is_sending ≡ true → Sound mtu (marks v bound now)
+Sound-marks mtu v bound now s sending =
     let l = s.link in
     let h = s.shows in
     record {
@@ -575,6 +575,6 @@ Sound-marks mtu v now s sending =
         answers = h.answers;
         acks = h.acks;
         queues = λ j. let q = h.queues sending in record { gone = q.gone; left = q.left; whole = q.whole; count = q.count; queued = q.queued; number = q.number; unreliable = q.unreliable };
-        images = λ j. Images-map mtu l.carried l.unacked v.outgoing.sent (marked now) (λ p. refl) (h.images sending);
+        images = λ j. Images-map mtu l.carried l.unacked v.outgoing.sent (marked bound now) (λ p. refl) (h.images sending);
       };
     }

@@ -178,11 +178,11 @@ tidies qs = record {
     young = λ t. (let y = h.young t in (y.0, acknowledged-idle p.outbox j number y.1, y.2));
     big = h.big;
   };
-  marks = λ p now h. record {
-    places = λ i s e. marked-places now p.outbox.senders i i (λ t there. h.places i t there) s e;
-    few = subst (λ n. n ≤ 255) (sym (length-map p.outbox.senders (marked_sender now))) h.few;
+  marks = λ p bound now h. record {
+    places = λ i s e. marked-places bound now p.outbox.senders i i (λ t there. h.places i t there) s e;
+    few = subst (λ n. n ≤ 255) (sym (length-map p.outbox.senders (marked_sender bound now))) h.few;
     receivers = h.receivers;
-    young = λ t. (let y = h.young t in (y.0, (λ i. marked-at now p.outbox.senders i ∙ ap (with_marked now) (y.1 i)), y.2));
+    young = λ t. (let y = h.young t in (y.0, (λ i. marked-at bound now p.outbox.senders i ∙ ap (with_marked bound now) (y.1 i)), y.2));
     big = h.big;
   };
   gives_way = λ p on h. record {

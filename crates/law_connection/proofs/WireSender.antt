@@ -415,19 +415,19 @@ Shows-in_transit v s h =
 
 -- a moment passes
 
-pub Shows-marked : (now : ℕ) (v s : Sender) → ShowsSender v s → ShowsSender (with_marked now v) (with_marked now s)
-Shows-marked now v s h =
-    Shows-resent v s (map (marked now) s.sent) (map (marked now) v.sent) h (ap (map (marked now)) h.sent ∙ marks s.sent) (numbers s.sent) (same s.sent)
+pub Shows-marked : (bound now : ℕ) (v s : Sender) → ShowsSender v s → ShowsSender (with_marked bound now v) (with_marked bound now s)
+Shows-marked bound now v s h =
+    Shows-resent v s (map (marked bound now) s.sent) (map (marked bound now) v.sent) h (ap (map (marked bound now)) h.sent ∙ marks s.sent) (numbers s.sent) (same s.sent)
   where
-    marks : (sent : List Sent) → map (marked now) (map wired_sent sent) ≡ map wired_sent (map (marked now) sent)
+    marks : (sent : List Sent) → map (marked bound now) (map wired_sent sent) ≡ map wired_sent (map (marked bound now) sent)
     marks [] = refl
-    marks (p ∷ sent) = (λ i. wired_sent (marked now p) ∷ marks sent i)
+    marks (p ∷ sent) = (λ i. wired_sent (marked bound now p) ∷ marks sent i)
 
-    numbers : (sent : List Sent) → numbers_of (map (marked now) sent) ≡ numbers_of sent
+    numbers : (sent : List Sent) → numbers_of (map (marked bound now) sent) ≡ numbers_of sent
     numbers [] = refl
     numbers (p ∷ sent) = (λ i. p.command.number ∷ numbers sent i)
 
-    same : (sent : List Sent) → SameCommands sent (map (marked now) sent)
+    same : (sent : List Sent) → SameCommands sent (map (marked bound now) sent)
     same [] x h = absurd h
     same (p ∷ sent) x (inl is) = (p, inl refl, ap (λ (z : Sent). z.command) (sym is))
     same (p ∷ sent) x (inr h) = let rest = same sent x h in (rest.0, inr rest.1, rest.2)
@@ -438,10 +438,10 @@ Shows-lateness now patience heard v s h =
     let late : position (is_late now) v.sent ≡ position (is_late now) s.sent = ap (position (is_late now)) h.sent ∙ position-map wired_sent (is_late now) (is_late now) s.sent (λ p k. refl) in
     (λ i. cond (is_some (gone i)) End (cond (is_some (late i)) Resend No))
 
-pub Shows-after_lateness : (expiry : Expiry) (now : ℕ) (v s : Sender) → ShowsSender v s → ShowsSender (after_lateness expiry now v) (after_lateness expiry now s)
-Shows-after_lateness No now v s h = h
-Shows-after_lateness Resend now v s h = Shows-marked now v s h
-Shows-after_lateness End now v s h = h
+pub Shows-after_lateness : (expiry : Expiry) (bound now : ℕ) (v s : Sender) → ShowsSender v s → ShowsSender (after_lateness expiry bound now v) (after_lateness expiry bound now s)
+Shows-after_lateness No bound now v s h = h
+Shows-after_lateness Resend bound now v s h = Shows-marked bound now v s h
+Shows-after_lateness End bound now v s h = h
 
 -- the end, and what is left
 

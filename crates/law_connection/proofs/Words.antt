@@ -159,10 +159,10 @@ acknowledged-says w o channel number a = by (channel == 0xFF)
     by true = without-says w o.control (position_of number o.control.sent) a
     by false = at (slice_get o.senders channel)
 
-marked-all : (w now : ℕ) (c : Commands) → AllSay w c → AllSay w (controlling.with_marked now c)
-marked-all w now c a = record {
+marked-all : (w bound now : ℕ) (c : Commands) → AllSay w c → AllSay w (controlling.with_marked bound now c)
+marked-all w bound now c a = record {
   queued = a.queued;
-  sent = λ x h. (let r = Has-from_map (marked now) c.sent x h in subst (λ (y : SentControl). Says w y.command.control) r.2 (a.sent r.0 r.1));
+  sent = λ x h. (let r = Has-from_map (marked bound now) c.sent x h in subst (λ (y : SentControl). Says w y.command.control) r.2 (a.sent r.0 r.1));
 }
 
 cleared-queued : (w number : ℕ) (what : Control) → Says w what → AllSay w (controlling.with_queued (record { number = number; queued = []; sent = [] }) what)
@@ -187,7 +187,7 @@ words w = record {
   greets = λ p e h. moves w p (record p { state = state.Connected; greeting = Some p.info }) refl (λ e. absurd (cc)) h.says h;
   welcomes = λ p v terms e big word h. record { terms = word ∙ h.offer e; offer = λ t. absurd (let y : state.Connected ≡ state.Connecting = t in cc); says = none-say w p.outbox.control.number };
   acknowledges = λ p j number here h. stays-of w p (record p { outbox = outbox.after_acknowledgement p.outbox j number }) refl refl refl (acknowledged-says w p.outbox j number h.says) h;
-  marks = λ p now h. stays-of w p (record p { outbox = outbox.marked p.outbox now }) refl refl refl (marked-all w now p.outbox.control h.says) h;
+  marks = λ p bound now h. stays-of w p (record p { outbox = outbox.marked p.outbox bound now }) refl refl refl (marked-all w bound now p.outbox.control h.says) h;
   gives_way = λ p on h. record { terms = h.terms; offer = h.offer; says = h.says };
   takes = λ p j r c on there h. record { terms = h.terms; offer = h.offer; says = h.says };
   takes_unsequenced = λ p j group payload on h. record { terms = h.terms; offer = h.offer; says = h.says };

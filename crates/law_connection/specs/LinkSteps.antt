@@ -16,7 +16,7 @@ pub data Event : Type 0 where
   Submit : (packet : Packet) → Event
   Send : (occasion : Occasion) → Event  -- the command that is due next goes into the datagram
   Drop : (occasion : Occasion) → Event  -- the throttle drops the unreliable packet that it begins
-  Mark : (now : ℕ) → Event  -- what waited too long is due to go again
+  Mark : (bound now : ℕ) → Event  -- what waited too long is due to go again
   PutsOut : Event  -- the datagram is put out
   Arrive : (command : PutOut) (max_packet : ℕ) (full : Bool) → Event  -- a command of the log comes
   ArriveAnswered : (command : PutOut) (max_packet : ℕ) (full : Bool) → Event  -- and is acknowledged
@@ -46,9 +46,9 @@ pub record Drops (occasion : Occasion) (v w : WireLink) : Type 0 where
   pub unreliable : due.command.reliable ≡ false
   pub after : w ≡ drops v due
 
-pub record Marks (now : ℕ) (v w : WireLink) : Type 0 where
+pub record Marks (bound now : ℕ) (v w : WireLink) : Type 0 where
   pub sending : v.is_sending ≡ true
-  pub after : w ≡ marks v now
+  pub after : w ≡ marks v bound now
 
 -- the sending end stops between two datagrams
 pub record StopsSending (left : Sender) (v w : WireLink) : Type 0 where
@@ -92,7 +92,7 @@ abbrev pub Happens : ℕ → Event → WireLink → WireLink → Type 0
 Happens mtu (Submit packet) v w = Submits mtu packet v w
 Happens mtu (Send occasion) v w = Sends occasion v w
 Happens mtu (Drop occasion) v w = Drops occasion v w
-Happens mtu (Mark now) v w = Marks now v w
+Happens mtu (Mark bound now) v w = Marks bound now v w
 Happens mtu PutsOut v w = w ≡ puts_out v
 Happens mtu (Arrive command max_packet full) v w = ArrivesUnanswered command max_packet full v w
 Happens mtu (ArriveAnswered command max_packet full) v w = ArrivesAnswered command max_packet full v w

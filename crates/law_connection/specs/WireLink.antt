@@ -35,8 +35,8 @@ abbrev pub drops : WireLink → Next → WireLink
 drops v n = record v { outgoing = with_skipped n.sender }
 
 -- a moment later, what waited too long is due to go again
-abbrev pub marks : WireLink → ℕ → WireLink
-marks v now = record v { outgoing = with_marked now v.outgoing }
+abbrev pub marks : WireLink → ℕ → ℕ → WireLink
+marks v bound now = record v { outgoing = with_marked bound now v.outgoing }
 
 abbrev pub with_reach : ℕ → DataCommand → PutOut
 with_reach sent_then c = record { command = c; sent_then = sent_then }

@@ -106,9 +106,9 @@ pub fn wire_sender()
     ensures acknowledged { (v s : Sender) (n : ℕ) → n ≤ reached s → reached s < n + 65536 → ShowsSender v s → ShowsSender (after_acknowledgement v (n % 65536)) (after_acknowledgement s n) }
     ensures acknowledged_bytes { (v s : Sender) (n : ℕ) → n ≤ reached s → reached s < n + 65536 → ShowsSender v s → acknowledged_bytes v (n % 65536) ≡ acknowledged_bytes s n }
     ensures in_transit { (v s : Sender) → ShowsSender v s → bytes_in_transit v ≡ bytes_in_transit s }
-    ensures marked { (now : ℕ) (v s : Sender) → ShowsSender v s → ShowsSender (with_marked now v) (with_marked now s) }
+    ensures marked { (bound now : ℕ) (v s : Sender) → ShowsSender v s → ShowsSender (with_marked bound now v) (with_marked bound now s) }
     ensures lateness { (now : ℕ) (patience : Patience) (heard : ℕ) (v s : Sender) → ShowsSender v s → lateness now patience heard v ≡ lateness now patience heard s }
-    ensures after_lateness { (expiry : Expiry) (now : ℕ) (v s : Sender) → ShowsSender v s → ShowsSender (after_lateness expiry now v) (after_lateness expiry now s) }
+    ensures after_lateness { (expiry : Expiry) (bound now : ℕ) (v s : Sender) → ShowsSender v s → ShowsSender (after_lateness expiry bound now v) (after_lateness expiry bound now s) }
     ensures cleared { (v s : Sender) → ShowsSender v s → ShowsSender (cleared v) (cleared s) }
     ensures left { (v s : Sender) → ShowsSender v s → left v ≡ left s }
     ensures reads_queued { (v s : Sender) (c : DataCommand) → ShowsSender v s → Has v.queued c → IsReadAsItself c }

@@ -11,8 +11,8 @@ changed_at change zero o = o
 changed_at change (suc n) o = change o
 
 -- marked, where it is late
-abbrev pub marked_at : ℕ → ℕ → Option Sent → Option Sent
-marked_at now n o = changed_at (option_map (marked now)) n o
+abbrev pub marked_at : ℕ → ℕ → ℕ → Option Sent → Option Sent
+marked_at bound now n o = changed_at (option_map (marked bound now)) n o
 
 -- taken out
 abbrev pub taken_at : ℕ → Option Sent → Option Sent

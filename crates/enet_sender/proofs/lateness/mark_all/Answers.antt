@@ -14,6 +14,7 @@ overflow_add-from c = omega (arith, c.in-Some.ensures.1, c.due.invariant.len, c.
 
 pub due-preserved : goal.due-preserved
 due-preserved c =
+    let bound = c.args.bound in
     let now = c.args.now in
     let first = get c.args.slab.now in
     let at = get c.due.slab in
@@ -23,14 +24,14 @@ due-preserved c =
     let inv = c.due.invariant in
     let due = c.in-Some.ensures in
     let updates = c.mark_under.ensures.updates in
-    let done : (k : ℕ) → k < key + 1 → get c.mark_under.new.slab k ≡ option_map (marked c.args.now) (get c.args.slab.now k) = λ k low. elim (cases_eq k key) [
-      | inl same ↦ ap after same ∙ updates.changed ∙ ap (option_map (marked now)) (inv.ahead key due.0 ∙ ap first (sym same))
+    let done : (k : ℕ) → k < key + 1 → get c.mark_under.new.slab k ≡ option_map (marked c.args.bound c.args.now) (get c.args.slab.now k) = λ k low. elim (cases_eq k key) [
+      | inl same ↦ ap after same ∙ updates.changed ∙ ap (option_map (marked bound now)) (inv.ahead key due.0 ∙ ap first (sym same))
       | inr other ↦ elim (cases_lt k c.due.from) [
         | inl less ↦ updates.others k other ∙ inv.done k less
         | inr more ↦
             let same = inv.ahead k more in
             updates.others k other ∙ same
-            ∙ sym (unmarked now (first k) (λ p there. quiet c.args.clock now k at moments c.requires.shown inv.foretold (due.3 k more (omega (arith, other))) p (same ∙ there)))
+            ∙ sym (unmarked bound now (first k) (λ p there. quiet c.args.clock now k at moments c.requires.shown inv.foretold (due.3 k more (omega (arith, other))) p (same ∙ there)))
       ]
     ] in
     let ahead : (k : ℕ) → key + 1 ≤ k → get c.mark_under.new.slab k ≡ get c.args.slab.now k = λ k more. updates.others k (λ same. omega arith) ∙ inv.ahead k (omega (arith, due.0)) in
@@ -39,14 +40,14 @@ due-preserved c =
           let is = w.deadlines-is ∙ w.clear.ensures in
           record {
             foretold = subst (λ (ms : List (Option ℕ)). AreForetold c.args.clock after ms) (sym is)
-                (foretold-marked c.args.clock now key at after moments inv.foretold due.1 (sym c.mark_under.ensures.late ∙ w.if-mark_under.true) updates.changed updates.others);
+                (foretold-marked c.args.clock bound now key at after moments inv.foretold due.1 (sym c.mark_under.ensures.late ∙ w.if-mark_under.true) updates.changed updates.others);
             len = ap (λ (ms : List (Option ℕ)). length ms) is ∙ length-set moments key None ∙ inv.len;
             done = done;
             ahead = ahead;
           }
       | else-mark_under w ↦ record {
         foretold = subst (λ (ms : List (Option ℕ)). AreForetold c.args.clock after ms) (sym w.deadlines-is)
-            (foretold-unmarked c.args.clock now key at after moments inv.foretold (sym c.mark_under.ensures.late ∙ w.if-mark_under.false) updates.changed updates.others);
+            (foretold-unmarked c.args.clock bound now key at after moments inv.foretold (sym c.mark_under.ensures.late ∙ w.if-mark_under.false) updates.changed updates.others);
         len = ap (λ (ms : List (Option ℕ)). length ms) w.deadlines-is ∙ inv.len;
         done = done;
         ahead = ahead;
@@ -60,5 +61,5 @@ returns-clause-marked c = λ key.
       | inl less ↦ inv.done key less
       | inr more ↦
           let same = inv.ahead key more in
-          same ∙ sym (unmarked c.args.now (get c.args.slab.now key) (λ p there. quiet c.args.clock c.args.now key (get c.due.slab) c.due.deadlines c.requires.shown inv.foretold (c.in_default.ensures key more) p (same ∙ there)))
+          same ∙ sym (unmarked c.args.bound c.args.now (get c.args.slab.now key) (λ p there. quiet c.args.clock c.args.now key (get c.due.slab) c.due.deadlines c.requires.shown inv.foretold (c.in_default.ensures key more) p (same ∙ there)))
     ]

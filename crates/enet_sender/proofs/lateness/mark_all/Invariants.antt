@@ -9,7 +9,7 @@ abbrev pub invariant-due : goal.invariant-due
 invariant-due l = record {
   foretold : AreForetold l.clock (get l.slab) l.deadlines;
   len : length l.deadlines ≡ length l.initial.deadlines;
-  done : (key : ℕ) → key < l.from → get l.slab key ≡ option_map (marked l.now) (get l.initial.slab key);
+  done : (key : ℕ) → key < l.from → get l.slab key ≡ option_map (marked l.bound l.now) (get l.initial.slab key);
   ahead : (key : ℕ) → l.from ≤ key → get l.slab key ≡ get l.initial.slab key;
 }
 

@@ -8,9 +8,9 @@ use Rattle.enet_senders.proofs.senders.mark_late.Goals as goal
 pub returns-clause-ends : goal.returns-clause-ends
 returns-clause-ends c =
     ap (ends_of c.mark_all.new.self.slab) c.seek_anew.ensures
-    ∙ ends-marked c.args.now c.args.pending.now.slab c.mark_all.new.self.slab c.args.channels.now.items c.mark_all.ensures
+    ∙ ends-marked c.args.bound c.args.now c.args.pending.now.slab c.mark_all.new.self.slab c.args.channels.now.items c.mark_all.ensures
 
 pub returns-clause-kept : goal.returns-clause-kept
 returns-clause-kept c =
     subst (λ (os : List Outgoing). KeepsAll (get c.mark_all.new.self.slab) os) (sym c.seek_anew.ensures)
-    (all-marked c.args.now c.args.pending.now.slab c.mark_all.new.self.slab c.args.channels.now.items c.mark_all.ensures c.requires)
+    (all-marked c.args.bound c.args.now c.args.pending.now.slab c.mark_all.new.self.slab c.args.channels.now.items c.mark_all.ensures c.requires)
