@@ -23,7 +23,7 @@ const LINE: Line = Line {
 
 /// 12 clients talk for so many steps of 1 ms over a bad line, some with 255 channels. The server tells each of them where all
 /// things are, and of many things at once that have changed.
-pub fn struggle(alloc: Global, seed: u64, steps: u32) -> Result<Digest> {
+pub fn struggle(alloc: Global, seed: u64, steps: u32, asks: bool) -> Result<Digest> {
     let mut world = World::open(
         alloc,
         Plan {
@@ -33,6 +33,7 @@ pub fn struggle(alloc: Global, seed: u64, steps: u32) -> Result<Digest> {
             rule: Rule::Keep,
             ms: 1,
             every: 1,
+            asks,
         },
         seed,
     )?;

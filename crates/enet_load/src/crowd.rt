@@ -1,8 +1,9 @@
 //! Many slots: a rush of joins at a host of 4,095, some hundreds of peers that talk now and then, and strangers.
 
+use crate::client::address;
 use crate::digest::Digest;
 use crate::line::Line;
-use crate::world::{Plan, Rule, World, address};
+use crate::world::{Plan, Rule, World};
 use anyhow::Result;
 use enet_codec::{Addr, Config, RELIABLE};
 use enet_host::HostCore;
@@ -24,7 +25,7 @@ const LINE: Line = Line {
 
 /// For so many steps of 10 ms clients come to a host of 4,095 slots, 40 a step until there are 3,500. 300 of them talk, each to
 /// eight others; strangers ask for connections and send what nobody can read.
-pub fn gather(alloc: Global, seed: u64, steps: u32) -> Result<Digest> {
+pub fn gather(alloc: Global, seed: u64, steps: u32, asks: bool) -> Result<Digest> {
     let mut world = World::open(
         alloc,
         Plan {
@@ -34,6 +35,7 @@ pub fn gather(alloc: Global, seed: u64, steps: u32) -> Result<Digest> {
             rule: Rule::Next(8),
             ms: 10,
             every: 16,
+            asks,
         },
         seed,
     )?;

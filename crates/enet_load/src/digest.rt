@@ -69,32 +69,39 @@ impl Digest {
         });
     }
 
-    /// A datagram that a host puts out comes: its length and its first bytes. The bodies that are in it come with their events.
+    /// A datagram that a host puts out comes, whole.
     pub fn sent(&mut self, to: Addr, bytes: &[u8]) {
         self.number(u64::from(to.ip));
         self.number(u64::from(to.port));
-        self.number(bytes.len() as u64);
-        self.bytes(&bytes[..bytes.len().min(96)]);
+        self.bytes(bytes);
     }
 
-    /// An event comes.
+    /// An event comes, of its kind.
     pub fn event(&mut self, event: &Event) {
         match event {
             Event::Connect { peer, info } => {
+                self.number(1);
                 self.peer(*peer);
                 self.number(u64::from(*info));
             }
             Event::Receive { peer, packet } => {
+                self.number(2);
                 self.peer(*peer);
                 self.number(u64::from(packet.channel));
                 self.number(u64::from(packet.flags));
                 self.bytes(packet.body.as_slice());
             }
             Event::Disconnect { peer, info } => {
+                self.number(3);
                 self.peer(*peer);
-                self.number(u64::from(*info) + 1);
+                self.number(u64::from(*info));
             }
-            Event::Refused { .. } => self.number(3),
+            Event::Refused { seat, number, why } => {
+                self.number(4);
+                self.number(u64::from(*seat));
+                self.number(u64::from(*number));
+                self.bytes(why.label().as_bytes());
+            }
         }
     }
 

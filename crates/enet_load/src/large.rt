@@ -23,7 +23,7 @@ const LINE: Line = Line {
 
 /// So many times each of six clients gets a reliable packet of 20,000 bytes to 4 MB, and one of them sends such a packet; beside it the
 /// server sends unreliable ones of 5,000 bytes.
-pub fn carry(alloc: Global, seed: u64, times: u32) -> Result<Digest> {
+pub fn carry(alloc: Global, seed: u64, times: u32, asks: bool) -> Result<Digest> {
     let mut world = World::open(
         alloc,
         Plan {
@@ -33,6 +33,7 @@ pub fn carry(alloc: Global, seed: u64, times: u32) -> Result<Digest> {
             rule: Rule::Keep,
             ms: 2,
             every: 1,
+            asks,
         },
         seed,
     )?;

@@ -3,6 +3,8 @@
 //!
 //! `talk`: clients talk through a server with four channels, COUNT frames; `channels`: the same with 255. `large`: large packets, COUNT
 //! times. `bad-line`: COUNT milliseconds of a bad line. `crowd`: a host of 4,095 slots, COUNT steps. `capture`: COUNT captures are told.
+//! The server of the first five is asked after each tick when something is due, but for a last word `unasked`.
+//! `worst ROW SEED COUNT SLOTS COMMANDS PACE`: an input that costs most, COUNT times; the rows stand in worst.rt.
 //! With no words, a little of each.
 //!
 //! Proved: safety alone.
@@ -10,15 +12,21 @@
 
 mod bad_line;
 mod capture;
+mod client;
 mod crowd;
 mod digest;
 mod draw;
+mod flying;
+mod guests;
 mod large;
 mod line;
+mod resting;
 mod talking;
 mod world;
+mod worst;
 
 use crate::digest::Digest;
+use crate::worst::{Size, run_row};
 use anyhow::{Context, Result, bail};
 use std::alloc::Global;
 use std::env;
@@ -30,9 +38,23 @@ fn main(rt: HostRuntime) -> Result<()> {
     let Some(word) = args.next() else {
         return run_all(&rt, alloc);
     };
+    if word.as_str() == "worst" {
+        let Some(row) = args.next() else {
+            bail!("a row is missing");
+        };
+        let seed = number(args.next())?;
+        let size = Size {
+            count: number(args.next())?,
+            slots: u16::try_from(number(args.next())?)?,
+            commands: number(args.next())?,
+            pace: number(args.next())?,
+        };
+        let digest = run_row(alloc, row.as_str(), u64::from(seed), size)?;
+        return print(&rt, row.as_str(), digest);
+    }
     let seed = number(args.next())?;
     let count = number(args.next())?;
-    let digest = run(alloc, word.as_str(), u64::from(seed), count)?;
+    let digest = run(alloc, word.as_str(), u64::from(seed), count, args.next())?;
     print(&rt, word.as_str(), digest)
 }
 
@@ -43,13 +65,22 @@ fn number(word: Option<String>) -> Result<u32> {
     word.as_str().parse::<u32>().context("not a number")
 }
 
-fn run(alloc: Global, word: &str, seed: u64, count: u32) -> Result<Digest> {
+// The job of this word, and of the one behind its numbers.
+fn run(alloc: Global, word: &str, seed: u64, count: u32, last: Option<String>) -> Result<Digest> {
+    match last {
+        None => run_job(alloc, word, seed, count, true),
+        Some(last) if last.as_str() == "unasked" => run_job(alloc, word, seed, count, false),
+        Some(_) => bail!("a word too many"),
+    }
+}
+
+fn run_job(alloc: Global, word: &str, seed: u64, count: u32, asks: bool) -> Result<Digest> {
     match word {
-        "talk" => talking::talk(alloc, seed, count, 4),
-        "channels" => talking::talk(alloc, seed, count, 255),
-        "large" => large::carry(alloc, seed, count),
-        "bad-line" => bad_line::struggle(alloc, seed, count),
-        "crowd" => crowd::gather(alloc, seed, count),
+        "talk" => talking::talk(alloc, seed, count, 4, asks),
+        "channels" => talking::talk(alloc, seed, count, 255, asks),
+        "large" => large::carry(alloc, seed, count, asks),
+        "bad-line" => bad_line::struggle(alloc, seed, count, asks),
+        "crowd" => crowd::gather(alloc, seed, count, asks),
         "capture" => capture::tell(alloc, seed, count),
         _ => bail!("no such word"),
     }
@@ -71,7 +102,32 @@ fn run_all<R: Print>(rt: &R, alloc: Global) -> Result<()> {
         ("crowd", 20),
         ("capture", 1),
     ] {
-        print(rt, word, run(alloc, word, 1, count)?)?;
+        print(rt, word, run_job(alloc, word, 1, count, true)?)?;
+    }
+    run_rows(rt, alloc)
+}
+
+fn run_rows<R: Print>(rt: &R, alloc: Global) -> Result<()> {
+    for row in [
+        "oldest",
+        "newest",
+        "blocked",
+        "woken-by-datagram",
+        "woken-by-packet",
+        "talkers-behind",
+        "due-in",
+        "seconds-free",
+        "seconds-used",
+        "seconds-settings",
+        "returning",
+    ] {
+        let size = Size {
+            count: 20,
+            slots: 9,
+            commands: 8,
+            pace: 4,
+        };
+        print(rt, row, run_row(alloc, row, 1, size)?)?;
     }
     Ok(())
 }

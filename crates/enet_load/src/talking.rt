@@ -26,7 +26,7 @@ const LINE: Line = Line {
 
 /// 32 clients of a server of 40 slots talk for so many frames of 16 ms, over so many open channels, of which four are used: each
 /// submits a packet 40 times a second, of 12 to 60 bytes, or of 1,000, and all others get it.
-pub fn talk(alloc: Global, seed: u64, frames: u32, channels: u8) -> Result<Digest> {
+pub fn talk(alloc: Global, seed: u64, frames: u32, channels: u8, asks: bool) -> Result<Digest> {
     let mut world = World::open(
         alloc,
         Plan {
@@ -36,6 +36,7 @@ pub fn talk(alloc: Global, seed: u64, frames: u32, channels: u8) -> Result<Diges
             rule: Rule::All,
             ms: 4,
             every: 1,
+            asks,
         },
         seed,
     )?;

@@ -1,19 +1,14 @@
 //! A server, its clients and the network between them.
 
+use crate::client::{CLIENTS, Client, MOST, address, note_answer, reliable};
 use crate::digest::Digest;
 use crate::draw::Draw;
 use crate::line::{Datagram, Line, Network, Way};
 use anyhow::{Result, bail};
 use bytes::Bytes;
-use enet_codec::{Addr, Config, Event, Packet, PeerRef, RELIABLE, Refusal};
+use enet_codec::{Addr, Config, Event, Packet, PeerRef};
 use enet_host::HostCore;
 use std::alloc::Global;
-
-/// The most datagrams or events that one host gives in a step.
-const MOST: u32 = 1_000_000;
-
-/// The name that the server has at each client's first connection.
-const SERVER: u16 = 0;
 
 /// What the server does with a packet that comes.
 #[derive(Clone, Copy, PartialEq, Eq)]
@@ -37,6 +32,8 @@ pub struct Plan {
     pub ms: u32,
     /// In how many steps each client is looked at once.
     pub every: u16,
+    /// Whether the server is asked after each tick when something is due.
+    pub asks: bool,
 }
 
 /// A server, its clients and the network between them.
@@ -55,15 +52,6 @@ pub struct World {
     taken: u64,
     pub draw: Draw,
     pub digest: Digest,
-}
-
-/// A client, and its name for the server.
-#[derive(Drop)]
-struct Client {
-    host: HostCore,
-    server: PeerRef,
-    channels: u8,
-    connected: bool,
 }
 
 impl World {
@@ -88,16 +76,9 @@ impl World {
 
     /// A client more, which asks for a connection with so many channels.
     pub fn join(&mut self, channels: u8) -> Result<()> {
-        let config = Config::standard(1, channels);
         let word = self.draw.word();
-        let mut host = HostCore::open(self.alloc, config)?;
-        let server = host.connect(address(SERVER), channels, 0, word)?;
-        self.clients.push(Client {
-            host,
-            server,
-            channels,
-            connected: false,
-        })?;
+        self.clients
+            .push(Client::join(self.alloc, channels, word)?)?;
         Ok(())
     }
 
@@ -108,14 +89,10 @@ impl World {
 
     /// The client of this number submits a packet, if it is connected.
     pub fn say(&mut self, client: usize, channel: u8, flags: u8, body: Bytes) -> Result<()> {
-        let Some(client) = self.clients.get_mut(client) else {
-            return Ok(());
-        };
-        if !client.connected {
-            return Ok(());
+        match self.clients.get_mut(client) {
+            Some(client) => client.say(&mut self.digest, channel, flags, body),
+            None => Ok(()),
         }
-        let answer = client.host.submit(client.server, channel, flags, body);
-        note_answer(&mut self.digest, answer)
     }
 
     /// The server submits a packet to the peer at this place, if there is one.
@@ -127,7 +104,7 @@ impl World {
         note_answer(&mut self.digest, answer)
     }
 
-    /// A datagram of a stranger comes to the server.
+    /// A datagram comes to the server.
     pub fn hear(&mut self, from: Addr, bytes: &[u8]) {
         let received = self.server.receive(from, bytes);
         self.digest.received(received);
@@ -144,18 +121,15 @@ impl World {
     }
 
     fn deliver(&mut self, datagram: &Datagram) {
-        let received = match datagram.way {
-            Way::Up(client) => self
-                .server
-                .receive(address(client.wrapping_add(1)), datagram.bytes.as_slice()),
-            Way::Down(client) => match self.clients.get_mut(usize::from(client)) {
-                Some(client) => client
-                    .host
-                    .receive(address(SERVER), datagram.bytes.as_slice()),
-                None => return,
-            },
-        };
-        self.digest.received(received);
+        let bytes = datagram.bytes.as_slice();
+        match datagram.way {
+            Way::Up(client) => self.hear(address(client.wrapping_add(1)), bytes),
+            Way::Down(client) => {
+                if let Some(client) = self.clients.get_mut(usize::from(client)) {
+                    client.hear(&mut self.digest, bytes);
+                }
+            }
+        }
     }
 
     // The server's turn.
@@ -169,7 +143,9 @@ impl World {
         }
         self.put_out()?;
         self.server.tick(self.plan.ms);
-        self.digest.number(u64::from(self.server.due_in()));
+        if self.plan.asks {
+            self.digest.number(u64::from(self.server.due_in()));
+        }
         Ok(())
     }
 
@@ -231,72 +207,15 @@ impl World {
             let Some(client) = self.clients.get_mut(usize::from(number)) else {
                 break;
             };
-            let taken = take_events(&mut self.digest, client)?;
+            let taken = client.play(
+                &mut self.digest,
+                &mut self.network,
+                number,
+                &mut self.buf,
+                ms,
+            )?;
             self.taken = self.taken.wrapping_add(taken);
-            let buf = &mut self.buf;
-            send_all(&mut self.digest, &mut self.network, number, client, buf)?;
-            client.host.tick(ms);
         }
         Ok(())
     }
-}
-
-/// The address that all clients have, each with a port of its own.
-const CLIENTS: u32 = 0x0a00_0001;
-
-/// The address of the server, 0, or of a client, from 1 on.
-pub fn address(port: u16) -> Addr {
-    Addr { ip: CLIENTS, port }
-}
-
-fn note_answer(digest: &mut Digest, answer: Result<(), (Refusal, Bytes)>) -> Result<()> {
-    match answer {
-        Ok(()) => digest.number(1),
-        Err((Refusal::Memory, _)) => bail!("no memory"),
-        Err((why, _)) => digest.bytes(why.label().as_bytes()),
-    }
-    Ok(())
-}
-
-// A reliable packet counts.
-fn reliable(packet: &Packet) -> u64 {
-    u64::from(packet.flags == RELIABLE)
-}
-
-// A client takes its events; where its connection ended it asks for another. How many reliable packets there were.
-fn take_events(digest: &mut Digest, client: &mut Client) -> Result<u64> {
-    let mut taken: u64 = 0;
-    for _ in 0..MOST {
-        let Some(event) = client.host.next_event() else {
-            break;
-        };
-        digest.event(&event);
-        match event {
-            Event::Connect { .. } => client.connected = true,
-            Event::Disconnect { .. } => {
-                client.connected = false;
-                client.server = client.host.connect(address(SERVER), client.channels, 0, 7)?;
-            }
-            Event::Receive { packet, .. } => taken = taken.wrapping_add(reliable(&packet)),
-            Event::Refused { .. } => {}
-        }
-    }
-    Ok(taken)
-}
-
-fn send_all(
-    digest: &mut Digest,
-    network: &mut Network,
-    number: u16,
-    client: &mut Client,
-    buf: &mut [u8; 4096],
-) -> Result<()> {
-    for _ in 0..MOST {
-        let Some((_, to, len)) = client.host.service(buf) else {
-            break;
-        };
-        digest.sent(to, &buf[..len]);
-        network.send(Way::Up(number), &buf[..len])?;
-    }
-    Ok(())
 }
