@@ -4,6 +4,7 @@
 //! `talk`: clients talk through a server with four channels, COUNT frames; `channels`: the same with 255. `large`: large packets, COUNT
 //! times. `bad-line`: COUNT milliseconds of a bad line. `crowd`: a host of 4,095 slots, COUNT steps. `capture`: COUNT captures are told.
 //! The server of the first five is asked after each tick when something is due, but for a last word `unasked`.
+//! `chat SEED COUNT CLIENTS`: so many clients chat through a server's whole turns, COUNT of them.
 //! `worst ROW SEED COUNT SLOTS COMMANDS PACE`: an input that costs most, COUNT times; the rows stand in worst.rt.
 //! With no words, a little of each.
 //!
@@ -12,6 +13,7 @@
 
 mod bad_line;
 mod capture;
+mod chat;
 mod client;
 mod crowd;
 mod digest;
@@ -30,7 +32,8 @@ use crate::worst::{Size, run_row};
 use anyhow::{Context, Result, bail};
 use std::alloc::Global;
 use std::env;
-use std::rt::Env;
+use std::rt::{Clock, Env};
+use std::sync::Wait;
 
 fn main(rt: HostRuntime) -> Result<()> {
     let alloc = rt.alloc();
@@ -54,7 +57,14 @@ fn main(rt: HostRuntime) -> Result<()> {
     }
     let seed = number(args.next())?;
     let count = number(args.next())?;
-    let digest = run(alloc, word.as_str(), u64::from(seed), count, args.next())?;
+    let digest = run(
+        &rt,
+        alloc,
+        word.as_str(),
+        u64::from(seed),
+        count,
+        args.next(),
+    )?;
     print(&rt, word.as_str(), digest)
 }
 
@@ -66,7 +76,18 @@ fn number(word: Option<String>) -> Result<u32> {
 }
 
 // The job of this word, and of the one behind its numbers.
-fn run(alloc: Global, word: &str, seed: u64, count: u32, last: Option<String>) -> Result<Digest> {
+fn run<R: Wait + Clock>(
+    rt: &R,
+    alloc: Global,
+    word: &str,
+    seed: u64,
+    count: u32,
+    last: Option<String>,
+) -> Result<Digest> {
+    if word == "chat" {
+        let clients = u16::try_from(number(last)?)?;
+        return chat::chat(rt, alloc, seed, count, clients);
+    }
     match last {
         None => run_job(alloc, word, seed, count, true),
         Some(last) if last.as_str() == "unasked" => run_job(alloc, word, seed, count, false),
@@ -93,7 +114,7 @@ fn print<R: Print>(rt: &R, word: &str, digest: Digest) -> Result<()> {
 }
 
 /// A little of each.
-fn run_all<R: Print>(rt: &R, alloc: Global) -> Result<()> {
+fn run_all<R: Print + Wait + Clock>(rt: &R, alloc: Global) -> Result<()> {
     for (word, count) in [
         ("talk", 20),
         ("channels", 4),
@@ -104,6 +125,7 @@ fn run_all<R: Print>(rt: &R, alloc: Global) -> Result<()> {
     ] {
         print(rt, word, run_job(alloc, word, 1, count, true)?)?;
     }
+    print(rt, "chat", chat::chat(rt, alloc, 1, 60, 8)?)?;
     run_rows(rt, alloc)
 }
 
