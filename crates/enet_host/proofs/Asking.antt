@@ -10,27 +10,17 @@ use Rattle.enet_host.specs.Turns.{turn_of, IsFirst, HoldsNowhere}
 use Rattle.enet_slot.specs.Serving.{Passes, Gives}
 use Rattle.enet_slot.specs.Calls.{tells}
 use Rattle.enet_slot.proofs.Waiting.{passes-waiting, mute-waiting}
-use Rattle.enet_host.specs.declared.skips.Skips.{Skips}
-use Rattle.enet_host.specs.Skips.{KeepsSkips}
-use Rattle.enet_host.specs.Private.Skips.{PassesTurns}
+use Rattle.enet_sleepers.specs.Sleeping.{Noted, KeepsSleepers}
+use Rattle.enet_sleepers.proofs.Keeping.{some-same, get-set-other, sleeps-waits}
+use Rattle.enet_host.specs.Private.Sleeping.{PassesTurns}
 use Rattle.enet_host.specs.Serving.{Served, InTurn, GivesInTurn, AllPass}
 use Rattle.enet_host.specs.Private.Shown.{SlotGives, SlotPasses}
 use Rattle.enet_host.proofs.Turning.{turn-below, same-turn}
-
-pub some-same : {X : Type 0} (o : Option X) (x y : X) → o ≡ Some x → o ≡ Some y → x ≡ y
-some-same o x y e f = let g : Some x ≡ Some y = sym e ∙ f in cc
 
 -- reading a list in which one element was replaced
 pub get-set-same : (xs : List SlotState) (i : ℕ) (y : SlotState) → i < length xs → slice_get (slice_set xs i y) i ≡ Some y
 get-set-same xs i y inside =
     slice_get_read (slice_set xs i y) (length xs) i y (sym (length-set xs i y)) inside (sym (get_or-set_same xs i y y inside))
-
-pub get-set-other : (xs : List SlotState) (i j : ℕ) (y t : SlotState) → j ≢ i → slice_get (slice_set xs i y) j ≡ Some t → slice_get xs j ≡ Some t
-get-set-other xs i j y t other h =
-    let within : j < length (slice_set xs i y) = slice_get_within (slice_set xs i y) j t h in
-    let read : get_or (slice_set xs i y) j t ≡ t = get_or_from_slice_get (slice_set xs i y) j t t h in
-    let len = length-set xs i y in
-    slice_get_read xs (length xs) j t refl (omega (arith, within, len)) (sym read ∙ get_or-set_other xs i j y t other)
 
 -- what became of a slot of this turn once so many were asked
 pub record Asked (now turn asked : ℕ) (s t : SlotState) : Type 0 where
@@ -82,14 +72,14 @@ all-asked-more now n from k number old new after f count inside place asked p = 
     (nat_eq i number) refl
 
 -- those that sleep are as good as asked
-pub all-passed : (now n from k m : ℕ) (skips : Skips) (old new : List SlotState) → length old ≡ n → KeepsSkips n skips old → PassesTurns skips.next.items n from k m → k ≤ m
+pub all-passed : (now n from k m : ℕ) (v : Noted) (old new : List SlotState) → length old ≡ n → KeepsSleepers now v old → PassesTurns v.awake n from k m → k ≤ m
     → AllAsked now n from k old new → AllAsked now n from m old new
-all-passed now n from k m skips old new count rests passes more asked = λ i s t a b.
+all-passed now n from k m v old new count kept passes more asked = λ i s t a b.
     let inside : i < n = subst (λ (c : ℕ). i < c) count (slice_get_within old i s a) in
     record {
       before = λ less. elim (cases_lt (turn_of n from i) k) [
         | inl earlier ↦ (asked i s t a b).before earlier
-        | inr later ↦ subst (λ (u : SlotState). Passes now s u) (sym ((asked i s t a b).after later)) (passes-waiting now s (rests.asleep i s a (passes i inside later less)).waits)
+        | inr later ↦ subst (λ (u : SlotState). Passes now s u) (sym ((asked i s t a b).after later)) (passes-waiting now s (sleeps-waits v i s (kept.asleep i s a (passes i inside later less))))
       ];
       after = λ past. (asked i s t a b).after (omega (arith, past, more));
     }
@@ -180,11 +170,11 @@ none-more holds slots n from k number slot f count inside place none there not =
     none-more-by holds slots n from k number j slot s f count inside place none there not a less (nat_eq j number) refl
 
 -- those that sleep have no event
-pub none-passed : (slots : List SlotState) (n from k m : ℕ) (skips : Skips) → length slots ≡ n → KeepsSkips n skips slots → PassesTurns skips.next.items n from k m
+pub none-passed : (slots : List SlotState) (clock n from k m : ℕ) (v : Noted) → length slots ≡ n → KeepsSleepers clock v slots → PassesTurns v.awake n from k m
     → NoneBefore tells slots n from k → NoneBefore tells slots n from m
-none-passed slots n from k m skips count rests passes none = λ j s a less.
+none-passed slots clock n from k m v count kept passes none = λ j s a less.
     let inside : j < n = subst (λ (c : ℕ). j < c) count (slice_get_within slots j s a) in
-    elim (cases_lt (turn_of n from j) k) [ inl earlier ↦ none j s a earlier | inr later ↦ mute-waiting s (rests.asleep j s a (passes j inside later less)).waits ]
+    elim (cases_lt (turn_of n from j) k) [ inl earlier ↦ none j s a earlier | inr later ↦ mute-waiting s (sleeps-waits v j s (kept.asleep j s a (passes j inside later less))) ]
 
 pub none-at-all : (holds : SlotState → Bool) (slots : List SlotState) (n from k : ℕ) → from < n → length slots ≡ n → n ≤ k → NoneBefore holds slots n from k
     → HoldsNowhere holds slots

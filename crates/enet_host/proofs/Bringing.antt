@@ -1,19 +1,27 @@
 -- A tick that brings a host nothing.
-use Rattle.std.proofs.Common.{◌≡◌, ◌≢◌, ℕ, suc, ◌^◌, ◌<◌, ◌≤◌, nat_le, Bool, true, false, ◌||◌, if◌then◌else◌, Option, Some, None, List, [], ◌∷◌, map, refl, sym, ap, ap₂, subst, ◌∙◌, arith}
+use Rattle.std.proofs.Common.{◌≡◌, ◌≢◌, ℕ, zero, suc, ◌+◌, ◌%◌, ◌^◌, ◌<◌, ◌≤◌, ◌⊎◌, inl, inr, nat_le, Bool, true, false, cond, ◌||◌, ◌&&◌, if◌then◌else◌, is_some, Option, Some, None, List, [], ◌∷◌, ◌++◌, length, map, take, drop, slice_get, refl, sym, ap, ap₂, subst, ◌∙◌, arith}
 use Rattle.std.specs.List.{count_by, list_any}
+use Rattle.std.proofs.lemmas.Bool.{le-leb}
+use Rattle.std.proofs.lemmas.Option.{slice_get_within}
+use Rattle.enet_sleepers.specs.Soon.{is_due_soon}
 use Rattle.enet_rtt.specs.Clock.{elapsed_time, HappensIn}
+use Rattle.enet_codec.specs.declared.packet.Packet.{Packet}
 use Rattle.enet_peer.specs.declared.parts.PeerState.{PeerState}
 use Rattle.enet_peer.specs.declared.parts.PeerState.TheVariants as state
 use Rattle.enet_peer.specs.Peering.{Peering}
 use Rattle.enet_peer.specs.Calls as peers
+use Rattle.enet_peer.specs.Calls.{is_connected, with_throttle_limit}
 use Rattle.enet_peer.proofs.Calm.{nothing-due}
 use Rattle.enet_slot.specs.Slot.{SlotState, changed, with_changed, with_peer, with_peer_in, is_due_in}
 use Rattle.enet_slot.specs.Slot as slot
-use Rattle.enet_slot.specs.Sharing.{is_standing, shared}
+use Rattle.enet_slot.specs.Giving.{is_vacant}
+use Rattle.enet_slot.specs.Sharing.{is_standing, limit_for, with_limit, shared}
 use Rattle.enet_peer.specs.Waiting as peered
 use Rattle.enet_slot.specs.Waiting.{waits_in, Waits}
-use Rattle.enet_host.specs.declared.calm.Calm.{Calm}
-use Rattle.enet_host.specs.Skips.{IsWithin, Rests}
+use Rattle.enet_sleepers.specs.Sleeping.{Noted, Sleeps, KeepsSleepers}
+use Rattle.enet_sleepers.proofs.Keeping.{keeps-mapped}
+use Rattle.enet_deadlines.specs.Sets.{IsIn, IsOut}
+use Rattle.enet_host.specs.Private.Ticking.{all_ticked}
 use Rattle.enet_host.specs.Host.{Host, HoldsNoFree}
 use Rattle.enet_host.specs.Ticking.{brings, clock_after, ticked, with_shares, IsDueIn}
 
@@ -50,20 +58,114 @@ busy-waits s waits p held free =
     let e : false ≡ true = ap peered.is_steady (sym free) ∙ waiting.steady in
     absurd (cc)
 
--- one that is free rests whatever time comes
-pub free-rests : (calm : Calm) (s : SlotState) → s.peer ≡ None → Rests calm s
-free-rests calm s free = record {
-  waits = subst waits_in (sym free) tt;
-  still = λ moment fits within. ap (λ (o : Option Peering). with_changed (λ (p : Peering). peers.ticked p moment) s o) free;
-}
+-- one that sleeps is left as it is by a tick
+pub ticked-still : (now i : ℕ) (v : Noted) (s : SlotState) → v.clock % 2 ^ 32 ≡ now → Sleeps v i s → changed (λ (p : Peering). peers.ticked p now) s ≡ s
+ticked-still now i v s shown (inl f) = ap (λ (o : Option Peering). with_changed (λ (p : Peering). peers.ticked p now) s o) f.empty
+ticked-still now i v s shown (inr h) =
+    calm-slot now s s.peer refl (subst (λ (n : ℕ). slot.is_due n s ≡ false) shown (h.due.before v.clock (omega arith) h.ahead)) (busy-waits s h.waits)
 
--- it rests for as long as it is not due
-pub rests-until-due : (calm : Calm) (now wait : ℕ) (s : SlotState) → Waits s → HappensIn (λ (later : ℕ). slot.is_due later s) now wait
-    → ((moment : ℕ) → moment < 2 ^ 32 → IsWithin calm moment → elapsed_time moment now < wait) → Rests calm s
-rests-until-due calm now wait s waits due early = record {
-  waits = waits;
-  still = λ moment fits within. calm-slot moment s s.peer refl (due.before moment fits (early moment fits within)) (busy-waits s waits);
-}
+pub keeps-ticked : (now : ℕ) (v : Noted) (old new : List SlotState) → KeepsSleepers now v old → new ≡ all_ticked now old → KeepsSleepers now v new
+keeps-ticked now v old new k same =
+    subst (KeepsSleepers now v) (sym same) (keeps-mapped now v (changed (λ (p : Peering). peers.ticked p now)) old
+    (λ i s there out sleeps. subst (Sleeps v i) (sym (ticked-still now i v s k.shown sleeps)) sleeps) k)
+
+-- a change that leaves the elements of these places as they are
+map-still : {X : Type 0} (f : X → X) (xs : List X) (k m : ℕ) → k ≤ m → ((i : ℕ) (x : X) → slice_get xs i ≡ Some x → k ≤ i → i < m → f x ≡ x)
+    → map f (take k xs) ++ drop k xs ≡ map f (take m xs) ++ drop m xs
+map-still f [] zero zero le still = refl
+map-still f [] zero (suc m) le still = refl
+map-still f [] (suc k) zero le still = refl
+map-still f [] (suc k) (suc m) le still = refl
+map-still f (x ∷ xs) zero zero le still = refl
+map-still f (x ∷ xs) zero (suc m) le still =
+    ap₂ (λ y ys. y ∷ ys) (sym (still 0 x refl (omega arith) (omega arith)))
+    (map-still f xs zero m (omega arith) (λ i y there past less. still (suc i) y there (omega arith) (omega (arith, less))))
+map-still f (x ∷ xs) (suc k) zero le still = absurd (omega (arith, le))
+map-still f (x ∷ xs) (suc k) (suc m) le still =
+    ap (λ ys. f x ∷ ys) (map-still f xs k m (omega (arith, le)) (λ i y there past less. still (suc i) y there (omega (arith, past)) (omega (arith, less))))
+
+-- a tick changes nothing of those that sleep between two slots
+pub ticked-past : (now k m : ℕ) (v : Noted) (slots : List SlotState) → KeepsSleepers now v slots → ((i : ℕ) → k ≤ i → i < m → IsOut v.awake i) → k ≤ m
+    → all_ticked now (take k slots) ++ drop k slots ≡ all_ticked now (take m slots) ++ drop m slots
+ticked-past now k m v slots kept out more =
+    map-still (changed (λ (p : Peering). peers.ticked p now)) slots k m more (λ i s there past less. ticked-still now i v s kept.shown (kept.asleep i s there (out i past less)))
+
+-- a throttle's limit leaves it open whether there is an event
+last-mute : (st : PeerState) (p q : Peering) → is_some (peers.last_event st q) ≡ is_some (peers.last_event st p)
+last-mute state.Free p q = refl
+last-mute state.Connecting p q = refl
+last-mute state.Answering p q = refl
+last-mute state.Connected p q = refl
+last-mute state.DisconnectLater p q = refl
+last-mute state.Disconnecting p q = refl
+last-mute state.AckDisconnect p q = refl
+last-mute state.Ended p q = refl
+last-mute state.Parting p q = refl
+
+packet-mute : (untaken : List Packet) (limit : ℕ) (p : Peering) → is_some (peers.packet_event (with_throttle_limit p limit) untaken) ≡ is_some (peers.packet_event p untaken)
+packet-mute [] limit p = last-mute p.state p (with_throttle_limit p limit)
+packet-mute (q ∷ rest) limit p = refl
+
+event-mute : (greeting : Option ℕ) (limit : ℕ) (p : Peering) → is_some (peers.event_after (with_throttle_limit p limit) greeting) ≡ is_some (peers.event_after p greeting)
+event-mute None limit p = packet-mute p.inbox.untaken limit p
+event-mute (Some info) limit p = refl
+
+-- bandwidth that is shared out leaves those that sleep asleep
+limited-waits : (outgoing standing emitted : ℕ) (b : Bool) (p : Peering) → peered.Waits p → waits_in (Some (cond b (with_throttle_limit p (limit_for outgoing standing emitted p)) p))
+limited-waits outgoing standing emitted true p w = record { steady = w.steady; mute = event-mute p.greeting (limit_for outgoing standing emitted p) p ∙ w.mute; rests = record { acknowledgements = w.rests.acknowledgements; control = w.rests.control; unsequenced = w.rests.unsequenced; still = w.rests.still } }
+limited-waits outgoing standing emitted false p w = w
+
+limited-due : (outgoing standing emitted now : ℕ) (b : Bool) (p : Peering) → is_due_in (Some (cond b (with_throttle_limit p (limit_for outgoing standing emitted p)) p)) now ≡ peers.is_due p now
+limited-due outgoing standing emitted now true p = refl
+limited-due outgoing standing emitted now false p = refl
+
+shared-waits : (outgoing standing emitted : ℕ) (o : Option Peering) → waits_in o → waits_in (with_limit outgoing standing emitted o)
+shared-waits outgoing standing emitted None w = w
+shared-waits outgoing standing emitted (Some p) w = limited-waits outgoing standing emitted (is_connected p.state) p w
+
+shared-due : (outgoing standing emitted now : ℕ) (o : Option Peering) → is_due_in (with_limit outgoing standing emitted o) now ≡ is_due_in o now
+shared-due outgoing standing emitted now None = refl
+shared-due outgoing standing emitted now (Some p) = limited-due outgoing standing emitted now (is_connected p.state) p
+
+shared-vacant : (outgoing standing emitted : ℕ) (o : Option Peering) → is_vacant (with_limit outgoing standing emitted o) ≡ is_vacant o
+shared-vacant outgoing standing emitted None = refl
+shared-vacant outgoing standing emitted (Some p) = refl
+
+shared-none : (outgoing standing emitted : ℕ) (o : Option Peering) → o ≡ None → with_limit outgoing standing emitted o ≡ None
+shared-none outgoing standing emitted None e = refl
+shared-none outgoing standing emitted (Some p) e = absurd (cc)
+
+shared-sleeps : (outgoing standing i : ℕ) (v : Noted) (s : SlotState) → Sleeps v i s → Sleeps v i (shared outgoing standing s)
+shared-sleeps outgoing standing i v s (inl f) = inl (record { empty = shared-none outgoing standing s.emitted s.peer f.empty; listed = f.listed; never = f.never })
+shared-sleeps outgoing standing i v s (inr h) =
+    inr (record {
+      waits = shared-waits outgoing standing s.emitted s.peer h.waits;
+      held = shared-vacant outgoing standing s.emitted s.peer ∙ h.held;
+      unlisted = h.unlisted;
+      marked = h.marked;
+      moment = h.moment;
+      at = h.at;
+      ahead = h.ahead;
+      near = h.near;
+      due = record {
+        before = λ t past less. shared-due outgoing standing s.emitted (t % 2 ^ 32) s.peer ∙ h.due.before t past less;
+        first = λ near. shared-due outgoing standing s.emitted (h.moment % 2 ^ 32) s.peer ∙ h.due.first near;
+      };
+    })
+
+pub keeps-shared : (now outgoing standing : ℕ) (v : Noted) (slots : List SlotState) → KeepsSleepers now v slots → KeepsSleepers now v (map (shared outgoing standing) slots)
+keeps-shared now outgoing standing v slots k = keeps-mapped now v (shared outgoing standing) slots (λ i s there out sleeps. shared-sleeps outgoing standing i v s sleeps) k
+
+-- and so do new bandwidths, where only free ones sleep
+changed-sleeps : (i : ℕ) (v : Noted) (change : Peering → Peering) (s : SlotState) → IsIn v.free i → Sleeps v i s → Sleeps v i (changed change s)
+changed-sleeps i v change s listed (inl f) = subst (λ (t : SlotState). Sleeps v i t) (sym (ap (λ (o : Option Peering). with_changed change s o) f.empty)) (inl f)
+changed-sleeps i v change s listed (inr h) = let x : false ≡ true = sym h.unlisted ∙ listed in absurd (cc)
+
+pub keeps-changed : (now : ℕ) (v : Noted) (change : Peering → Peering) (slots : List SlotState) → ((i : ℕ) → i < length v.awake → IsOut v.awake i → IsIn v.free i) → KeepsSleepers now v slots
+    → KeepsSleepers now v (map (changed change) slots)
+keeps-changed now v change slots free k =
+    keeps-mapped now v (changed change) slots
+    (λ i s there out sleeps. changed-sleeps i v change s (free i (omega (arith, slice_get_within slots i s there, k.count)) out) sleeps) k
 
 calm-slots : (now : ℕ) (slots : List SlotState) → list_any (slot.is_due now) slots ≡ false → HoldsNoFree slots → map (changed (λ (p : Peering). peers.ticked p now)) slots ≡ slots
 calm-slots now [] none held = refl
@@ -99,3 +201,14 @@ due-in h ms fits held happens within = record {
   due = happens.first (omega arith) (clock_after h.clock ms) (low-clock h.clock ms) (ticks h.clock ms fits (omega arith));
   within = within;
 }
+
+-- within a second it is all one
+pub soon-all : (slots : List SlotState) (also : ℕ → Bool) (now wait : ℕ) → wait ≤ 1000 → HappensIn (λ (later : ℕ). list_any (is_due_soon now later) slots || also later) now wait
+    → HappensIn (λ (later : ℕ). list_any (slot.is_due later) slots || also later) now wait
+soon-all slots also now wait near h = record {
+  before = λ later l less. sym (same later (omega (arith, less, near))) ∙ h.before later l less;
+  first = λ some later l is. sym (same later (omega (arith, is, near))) ∙ h.first some later l is;
+}
+  where
+    same : (later : ℕ) → elapsed_time later now ≤ 1000 → (list_any (is_due_soon now later) slots || also later) ≡ (list_any (slot.is_due later) slots || also later)
+    same later within = ap (λ (b : Bool). list_any (λ (s : SlotState). b && slot.is_due later s) slots || also later) (le-leb (elapsed_time later now) 1000 within)

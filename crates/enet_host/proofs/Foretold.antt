@@ -24,7 +24,7 @@ use Rattle.enet_host.specs.Calls.{on_slot, on_named, put_back}
 use Rattle.enet_host.specs.Opening.{available}
 use Rattle.enet_host.specs.Foretelling.{next_name, submission_refusal, refusal_of, teller_of, packet_of, Foretells, IsTeller}
 use Rattle.enet_host.specs.Private.Shown.{SlotIsNamed, SlotShows}
-use Rattle.enet_host.proofs.Asking.{some-same}
+use Rattle.enet_sleepers.proofs.Keeping.{some-same}
 use Rattle.enet_host.proofs.Holding.{turns-apart}
 
 -- there is one first slot in turn

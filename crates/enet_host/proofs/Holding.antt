@@ -23,10 +23,9 @@ use Rattle.enet_slot.specs.declared.slot.Slot.{Slot}
 use Rattle.enet_slot.specs.Slotted.{all_shown}
 use Rattle.enet_host.specs.Shown.{KeepsHost}
 use Rattle.enet_host.specs.Private.Shown.{SlotGivesEvent}
-use Rattle.enet_host.specs.declared.skips.Skips.{Skips}
-use Rattle.enet_host.specs.Skips.{entry, KeepsSkips}
-use Rattle.enet_host.specs.Private.Skips.{AllAwake}
-use Rattle.enet_host.proofs.Skipping.{skips-none, skips-set}
+use Rattle.enet_deadlines.specs.Sets.{IsIn}
+use Rattle.enet_sleepers.specs.Sleeping.{Noted, KeepsSleepers}
+use Rattle.enet_sleepers.proofs.Keeping.{keeps-set}
 use Rattle.enet_slot.proofs.Shown.{length-shown}
 use Rattle.enet_slot.specs.Giving.{limits_of, unused_slot, joined_terms, joined_slots, given, offer_from, server_from, Basis, asking, answering}
 use Rattle.enet_slot.specs.declared.giving.Question.{Question}
@@ -147,25 +146,25 @@ pub submits-held : {T : Type 0} (slots new : List SlotState) (name : PeerRef) (q
     → Submits r q (on_named slots name call) slots new → HoldsNoFree new
 submits-held slots new name q call r old d = submits-over HoldsNoFree slots new name q call r old (each-held slots name.slot old) d
 
--- What a host keeps of its slots: none holds a free peer, and those that are passed over rest. A call keeps that where the slot that
+-- What a host keeps of its slots: none holds a free peer, and those that sleep do so rightly. A call keeps that where the slot that
 -- it names is awake.
-abbrev pub IsKept : ℕ → Skips → List SlotState → Type 0
-IsKept n skips slots = HoldsNoFree slots × KeepsSkips n skips slots
+abbrev pub IsKept : ℕ → Noted → List SlotState → Type 0
+IsKept now v slots = HoldsNoFree slots × KeepsSleepers now v slots
 
-each-kept : (n : ℕ) (skips : Skips) (slots : List SlotState) (i : ℕ) → IsKept n skips slots → entry skips.next.items i ≤ i → (s : SlotState) (q : Peering) → IsKept n skips (slice_set slots i (with_peer s q))
-each-kept n skips slots i old awake s q = (each-held slots i old.0 s q, skips-set n skips slots i (with_peer s q) old.1 awake)
+each-kept : (now : ℕ) (v : Noted) (slots : List SlotState) (i : ℕ) → IsKept now v slots → (i < length slots → IsIn v.awake i) → (s : SlotState) (q : Peering) → IsKept now v (slice_set slots i (with_peer s q))
+each-kept now v slots i old awake s q = (each-held slots i old.0 s q, keeps-set now i v slots (with_peer s q) awake old.1)
 
-pub does-kept : {T : Type 0} (n : ℕ) (skips : Skips) (slots new : List SlotState) (name : PeerRef) (call : Peering → Result Peering Refusal) (r : Result T Refusal) → IsKept n skips slots
-    → entry skips.next.items name.slot ≤ name.slot → Does r (on_named slots name call) slots new → IsKept n skips new
-does-kept n skips slots new name call r old awake d = does-over (IsKept n skips) slots new name call r old (each-kept n skips slots name.slot old awake) d
+pub does-kept : {T : Type 0} (now : ℕ) (v : Noted) (slots new : List SlotState) (name : PeerRef) (call : Peering → Result Peering Refusal) (r : Result T Refusal) → IsKept now v slots
+    → (name.slot < length slots → IsIn v.awake name.slot) → Does r (on_named slots name call) slots new → IsKept now v new
+does-kept now v slots new name call r old awake d = does-over (IsKept now v) slots new name call r old (each-kept now v slots name.slot old awake) d
 
-pub does-with-memory-kept : {T : Type 0} (n : ℕ) (skips : Skips) (slots new : List SlotState) (name : PeerRef) (call : Peering → Result Peering Refusal) (r : Result T Refusal) → IsKept n skips slots
-    → entry skips.next.items name.slot ≤ name.slot → DoesWithMemory r (on_named slots name call) slots new → IsKept n skips new
-does-with-memory-kept n skips slots new name call r old awake d = does-with-memory-over (IsKept n skips) slots new name call r old (each-kept n skips slots name.slot old awake) d
+pub does-with-memory-kept : {T : Type 0} (now : ℕ) (v : Noted) (slots new : List SlotState) (name : PeerRef) (call : Peering → Result Peering Refusal) (r : Result T Refusal) → IsKept now v slots
+    → (name.slot < length slots → IsIn v.awake name.slot) → DoesWithMemory r (on_named slots name call) slots new → IsKept now v new
+does-with-memory-kept now v slots new name call r old awake d = does-with-memory-over (IsKept now v) slots new name call r old (each-kept now v slots name.slot old awake) d
 
-pub submits-kept : {T : Type 0} (n : ℕ) (skips : Skips) (slots new : List SlotState) (name : PeerRef) (q : Packet) (call : Peering → Result Peering Refusal) (r : Result T (Refusal × List ℕ))
-    → IsKept n skips slots → entry skips.next.items name.slot ≤ name.slot → Submits r q (on_named slots name call) slots new → IsKept n skips new
-submits-kept n skips slots new name q call r old awake d = submits-over (IsKept n skips) slots new name q call r old (each-kept n skips slots name.slot old awake) d
+pub submits-kept : {T : Type 0} (now : ℕ) (v : Noted) (slots new : List SlotState) (name : PeerRef) (q : Packet) (call : Peering → Result Peering Refusal) (r : Result T (Refusal × List ℕ))
+    → IsKept now v slots → (name.slot < length slots → IsIn v.awake name.slot) → Submits r q (on_named slots name call) slots new → IsKept now v new
+submits-kept now v slots new name q call r old awake d = submits-over (IsKept now v) slots new name q call r old (each-kept now v slots name.slot old awake) d
 
 -- a connection begins
 given-held : (s : SlotState) (address : Addr) (q : Peering) → q.state ≢ state.Free → IsHeld (given s address q)
@@ -272,23 +271,23 @@ shared-if-held due outgoing slots new e old =
     subst HoldsNoFree (sym e) (held-if due (map (shared outgoing (count_by is_standing slots)) slots) slots (shared-held outgoing (count_by is_standing slots) slots old) old)
 
 -- what a host keeps once its slots and turns have changed
-pub keeps-after : (peers generations from event first last : ℕ) (skips later : Skips) (xs ys : List Slot) → KeepsHost (record { peers = peers; generations = generations; service_from = from; event_from = event }) skips xs → length ys ≡ length xs
-    → first < peers → last < peers → IsKept peers later (all_shown ys) → KeepsHost (record { peers = peers; generations = generations; service_from = first; event_from = last }) later ys
-keeps-after peers generations from event first last skips later xs ys k e a b after =
-    record { count = e ∙ k.count; many = k.many; service = a; event = b; few = k.few; held = after.0; resting = after.1 }
+pub keeps-after : (peers was now generations from event first last : ℕ) (v w : Noted) (xs ys : List Slot) → KeepsHost (record { peers = peers; clock = was; generations = generations; service_from = from; event_from = event }) v xs → length ys ≡ length xs
+    → first < peers → last < peers → IsKept now w (all_shown ys) → KeepsHost (record { peers = peers; clock = now; generations = generations; service_from = first; event_from = last }) w ys
+keeps-after peers was now generations from event first last v w xs ys k e a b after =
+    record { count = e ∙ k.count; many = k.many; service = a; event = b; few = k.few; held = after.0; sleeping = after.1 }
 
 -- and once a slot was woken
-pub woken-kept : (peers generations from event : ℕ) (skips later : Skips) (xs : List Slot) → KeepsHost (record { peers = peers; generations = generations; service_from = from; event_from = event }) skips xs
-    → ((n : ℕ) (slots : List SlotState) → KeepsSkips n skips slots → KeepsSkips n later slots) → IsKept peers later (all_shown xs)
-woken-kept peers generations from event skips later xs k woken = (k.held, woken peers (all_shown xs) k.resting)
+pub woken-kept : (peers now generations from event : ℕ) (v w : Noted) (xs : List Slot) → KeepsHost (record { peers = peers; clock = now; generations = generations; service_from = from; event_from = event }) v xs
+    → ((n : ℕ) (slots : List SlotState) → KeepsSleepers n v slots → KeepsSleepers n w slots) → IsKept now w (all_shown xs)
+woken-kept peers now generations from event v w xs k woken = (k.held, woken now (all_shown xs) k.sleeping)
 
 -- what it keeps at first
 in-range : (c : Config) → is_in_range c ≡ true → (0 < c.peers) × (c.peers ≤ 4095) × (c.generations ≤ greatest)
 in-range c h = (grind (arith, nat_tests), grind (arith, nat_tests), grind (arith, nat_tests))
 
-keeps-fresh : (c : Config) (r : Bool) (skips : Skips) (xs : List Slot) (slots : List SlotState) → r ≡ is_in_range c → r ≡ true → AllAwake c.peers skips → all_shown xs ≡ slots
-    → length slots ≡ c.peers → HoldsNoFree slots → KeepsHost (record { peers = c.peers; generations = c.generations; service_from = 0; event_from = 0 }) skips xs
-keeps-fresh c r skips xs slots is go awake e count held =
+keeps-fresh : (c : Config) (r : Bool) (v : Noted) (xs : List Slot) (slots : List SlotState) → r ≡ is_in_range c → r ≡ true → ((slots : List SlotState) → length slots ≡ c.peers → KeepsSleepers c.clock v slots) → all_shown xs ≡ slots
+    → length slots ≡ c.peers → HoldsNoFree slots → KeepsHost (record { peers = c.peers; clock = c.clock; generations = c.generations; service_from = 0; event_from = 0 }) v xs
+keeps-fresh c r v xs slots is go fresh e count held =
     let h : (0 < c.peers) × (c.peers ≤ 4095) × (c.generations ≤ greatest) = in-range c (sym is ∙ go) in
     record {
       count = sym (length-shown xs) ∙ ap length e ∙ count;
@@ -297,16 +296,16 @@ keeps-fresh c r skips xs slots is go awake e count held =
       event = h.0;
       few = h.2;
       held = subst HoldsNoFree (sym e) held;
-      resting = skips-none c.peers skips (all_shown xs) (ap length e ∙ count) awake;
+      sleeping = fresh (all_shown xs) (ap length e ∙ count);
     }
 
-pub keeps-opened : (c : Config) (r : Bool) (skips : Skips) (xs : List Slot) → r ≡ is_in_range c → r ≡ true → AllAwake c.peers skips → all_shown xs ≡ replicate c.peers unused_slot
-    → KeepsHost (record { peers = c.peers; generations = c.generations; service_from = 0; event_from = 0 }) skips xs
-keeps-opened c r skips xs is go awake e = keeps-fresh c r skips xs (replicate c.peers unused_slot) is go awake e (length-replicate c.peers unused_slot) (unused-held c.peers)
+pub keeps-opened : (c : Config) (r : Bool) (v : Noted) (xs : List Slot) → r ≡ is_in_range c → r ≡ true → ((slots : List SlotState) → length slots ≡ c.peers → KeepsSleepers c.clock v slots) → all_shown xs ≡ replicate c.peers unused_slot
+    → KeepsHost (record { peers = c.peers; clock = c.clock; generations = c.generations; service_from = 0; event_from = 0 }) v xs
+keeps-opened c r v xs is go fresh e = keeps-fresh c r v xs (replicate c.peers unused_slot) is go fresh e (length-replicate c.peers unused_slot) (unused-held c.peers)
 
-pub keeps-joined : (c : Config) (address : Addr) (r : Bool) (skips : Skips) (xs : List Slot) → r ≡ is_in_range c → r ≡ true → AllAwake c.peers skips
-    → all_shown xs ≡ joined_slots c address → KeepsHost (record { peers = c.peers; generations = c.generations; service_from = 0; event_from = 0 }) skips xs
-keeps-joined c address r skips xs is go awake e =
-    keeps-fresh c r skips xs (joined_slots c address) is go awake e
+pub keeps-joined : (c : Config) (address : Addr) (r : Bool) (v : Noted) (xs : List Slot) → r ≡ is_in_range c → r ≡ true → ((slots : List SlotState) → length slots ≡ c.peers → KeepsSleepers c.clock v slots)
+    → all_shown xs ≡ joined_slots c address → KeepsHost (record { peers = c.peers; clock = c.clock; generations = c.generations; service_from = 0; event_from = 0 }) v xs
+keeps-joined c address r v xs is go fresh e =
+    keeps-fresh c r v xs (joined_slots c address) is go fresh e
     (length-set (replicate c.peers unused_slot) 0 (given unused_slot address (peers.joined c.clock (joined_terms c) (limits_of c))) ∙ length-replicate c.peers unused_slot)
     (joined-held c address)

@@ -3,13 +3,9 @@ pub mod Offering
 pub mod Hearing
 pub mod Turning
 pub mod Asking
-pub mod Skipping
+pub mod Sleeping
 pub mod Serving
 pub mod Telling
 pub mod Holding
 pub mod Foretold
 pub mod Bringing
-pub mod Resting
-pub mod Soon
-pub mod DueIn
-pub mod Seating

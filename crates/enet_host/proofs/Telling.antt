@@ -11,7 +11,7 @@ use Rattle.enet_host.specs.Calls.{TakesOne}
 use Rattle.enet_host.specs.declared.totals.Totals.{Totals}
 use Rattle.enet_host.specs.Serving.{served_of, GivesInTurn, Serves, with_datagram_out}
 use Rattle.enet_host.specs.Private.Shown.{SlotGivesEvent}
-use Rattle.enet_host.proofs.Asking.{some-same}
+use Rattle.enet_sleepers.proofs.Keeping.{some-same}
 
 -- `v` is what was seen of the host before
 pub takes-at : (v old : Host) (after : List SlotState) (i n : ℕ) (event : Event) → v ≡ old → IsFirst tells v.slots v.event_from i → SlotGivesEvent v.slots i event after

@@ -8,7 +8,7 @@ split-by : (n from i : ℕ) (b : Bool) → nat_lt i from ≡ b
 split-by n from i true e = let low : i < from = grind (arith, nat_tests, e) in inl (low, ap (λ (b : Bool). if b then n - from + i else i - from) e)
 split-by n from i false e = let high : from ≤ i = grind (arith, nat_tests, e) in inr (high, ap (λ (b : Bool). if b then n - from + i else i - from) e)
 
-turn-split : (n from i : ℕ) → ((i < from) × (turn_of n from i ≡ n - from + i)) ⊎ ((from ≤ i) × (turn_of n from i ≡ i - from))
+pub turn-split : (n from i : ℕ) → ((i < from) × (turn_of n from i ≡ n - from + i)) ⊎ ((from ≤ i) × (turn_of n from i ≡ i - from))
 turn-split n from i = split-by n from i (nat_lt i from) refl
 
 zero-by : (n i : ℕ) → ((i < 0) × (turn_of n 0 i ≡ n - 0 + i)) ⊎ ((0 ≤ i) × (turn_of n 0 i ≡ i - 0)) → turn_of n 0 i ≡ i
@@ -56,17 +56,3 @@ late-by n from i turn (inr h) f inside past e = absurd (omega (arith, h.0, f, in
 -- and one after it
 pub late-turn : (n from i turn : ℕ) → from < n → turn < n → n - from ≤ turn → i ≡ turn - (n - from) → turn_of n from i ≡ turn
 late-turn n from i turn f inside past e = late-by n from i turn (turn-split n from i) f inside past e
-
-passed-by : (n from number i turn end : ℕ) → ((number < from) × (turn_of n from number ≡ n - from + number)) ⊎ ((from ≤ number) × (turn_of n from number ≡ number - from))
-    → ((i < from) × (turn_of n from i ≡ n - from + i)) ⊎ ((from ≤ i) × (turn_of n from i ≡ i - from)) → from < n → number < n → i < n → end ≤ n
-    → turn_of n from number ≡ turn → turn ≤ turn_of n from i → turn_of n from i < turn + (end - number) → (number ≤ i) × (i < end)
-passed-by n from number i turn end (inl h) (inl k) f a b e place past less = (omega (arith, h.0, h.1, k.0, k.1, a, b, place, past, less), omega (arith, h.0, h.1, k.0, k.1, a, b, place, past, less))
-passed-by n from number i turn end (inl h) (inr k) f a b e place past less = absurd (omega (arith, f, h.0, h.1, k.0, k.1, a, b, place, past, less))
-passed-by n from number i turn end (inr h) (inl k) f a b e place past less = absurd (omega (arith, f, h.0, h.1, k.0, k.1, a, b, e, place, past, less))
-passed-by n from number i turn end (inr h) (inr k) f a b e place past less = (omega (arith, h.0, h.1, k.0, k.1, a, b, place, past, less), omega (arith, h.0, h.1, k.0, k.1, a, b, place, past, less))
-
--- what comes in turn after a slot, up to the slot `end`, stands between them
-pub passed-between : (n from number i turn end : ℕ) → from < n → number < n → i < n → end ≤ n → turn_of n from number ≡ turn → turn ≤ turn_of n from i
-    → turn_of n from i < turn + (end - number) → (number ≤ i) × (i < end)
-passed-between n from number i turn end f a b e place past less =
-    passed-by n from number i turn end (turn-split n from number) (turn-split n from i) f a b e place past less

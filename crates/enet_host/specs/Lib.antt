@@ -1,6 +1,5 @@
 pub mod Host
 pub mod Turns
-pub mod Skips
 pub mod Opening
 pub mod Receiving
 pub mod Serving

@@ -2,35 +2,35 @@
 
 ghost use Rattle.std.specs.Prelude.{◌≡◌, ◌≤◌, length};
 ghost use Rattle.enet_host.specs.Opening.{Connects};
-ghost use Rattle.enet_host.specs.Skips.{KeepsSkips};
+ghost use Rattle.enet_sleepers.specs.Sleeping.{KeepsSleepers};
 ghost use Rattle.enet_slot.specs.Giving.{basis_of};
 ghost use Rattle.enet_slot.specs.Slotted.{all_shown};
 
-use crate::skips::Skips;
 use enet_codec::{PeerRef, Refusal};
-use enet_slot::{Question, Slot, Start, first_available};
+use enet_sleepers::Sleepers;
+use enet_slot::{Question, Slot, Start};
 
 /// The lowest available slot asks for a connection. E8 for no channels, E7 where no slot is available, E1
 /// where memory is refused; after each of them nothing has changed.
 pub(crate) fn connect(
     slots: &mut Vec<Slot>,
-    skips: &mut Skips,
+    sleepers: &mut Sleepers,
     start: &Start,
     question: Question,
 ) -> Result<PeerRef, Refusal>
     requires many { length slots.old.items ≤ 4095 }
-    requires skips { KeepsSkips start.now.config.peers skips.old (all_shown slots.old.items) }
+    requires sleepers { KeepsSleepers start.now.clock sleepers.old (all_shown slots.old.items) }
     ensures count { length slots.new.items ≡ length slots.old.items }
-    ensures skips { KeepsSkips start.now.config.peers skips.new (all_shown slots.new.items) }
+    ensures sleepers { KeepsSleepers start.now.clock sleepers.new (all_shown slots.new.items) }
     ensures connects { Connects (basis_of start.now) (all_shown slots.old.items) question result (all_shown slots.new.items) }
 {
     if question.channels == 0 {
         return Err(Refusal::BadConfig);
     }
-    let Some(place) = first_available(slots, start.config.generations) else {
+    let Some(place) = sleepers.first_available(slots, start.config.generations) else {
         return Err(Refusal::NoSlot);
     };
-    skips.wake(place as u16);
+    sleepers.wake(place);
     let slot = &mut slots[place];
     slot.ask(start, place as u16, question)
 }

@@ -1,35 +1,39 @@
 //! What a host tells its user.
 
-ghost use Rattle.std.specs.Prelude.{◌≡◌, ◌<◌, ◌≤◌, length, IfSome, IfNone};
+ghost use Rattle.std.specs.Prelude.{◌≡◌, ℕ, ◌<◌, ◌≤◌, length, IfSome, IfNone};
 ghost use Rattle.std.specs.Option.{option_copied};
 ghost use Rattle.enet_slot.specs.Calls.{tells};
-ghost use Rattle.enet_host.specs.Skips.{entry, KeepsSkips};
+ghost use Rattle.enet_sleepers.specs.Sleeping.{KeepsSleepers};
 ghost use Rattle.enet_host.specs.Turns.{IsFirst, HoldsNowhere};
 ghost use Rattle.enet_slot.specs.Slotted.{all_shown};
 ghost use Rattle.enet_host.specs.Private.Shown.{SlotGivesEvent, SlotIsMute, SlotIsNamed, SlotShows};
 
-use crate::skips::Skips;
-use crate::turns::slot_of_turn;
+use crate::turns::{next_turn, slot_of_turn};
 use enet_codec::{Event, Packet, PeerRef};
+use enet_sleepers::Sleepers;
 use enet_slot::Slot;
 
 /// The first slot in turn that has an event. Those that sleep have none.
-pub(crate) fn first_telling(slots: &[Slot], skips: &Skips, peers: u16, from: u16) -> Option<u16>
+pub(crate) fn first_telling(
+    slots: &[Slot],
+    sleepers: &Sleepers,
+    peers: u16,
+    from: u16,
+) -> Option<u16>
     requires within { from < peers }
     requires all { peers ≡ length slots.now }
-    requires skips { KeepsSkips peers skips.now (all_shown slots.now) }
+    requires sleepers { (now : ℕ) × KeepsSleepers now sleepers.now (all_shown slots.now) }
     ensures first { IfSome result (λ i. IsFirst tells (all_shown slots.now) from i) }
     ensures none { IfNone result (HoldsNowhere tells (all_shown slots.now)) }
     ensures within { IfSome result (λ i. i < peers) }
-    ensures awake { IfSome result (λ i. entry skips.now.next.items i ≤ i) }
 {
-    let mut turn = skips.next_turn(peers, from, 0);
+    let mut turn = next_turn(sleepers, peers, from, 0);
     while turn < peers {
         let number = slot_of_turn(peers, from, turn);
         if slots[usize::from(number)].tells() {
             return Some(number);
         }
-        turn = skips.next_turn(peers, from, turn + 1);
+        turn = next_turn(sleepers, peers, from, turn + 1);
     }
     None
 }

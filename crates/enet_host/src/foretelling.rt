@@ -13,7 +13,6 @@ use crate::ticking::SHARING_INTERVAL;
 use bytes::Bytes;
 use enet_codec::{Packet, PeerRef};
 use enet_rtt::elapsed;
-use enet_slot::first_available;
 
 impl HostCore {
     /// The name that the next peer gets: that of the lowest slot that is free and has a generation left. None where there is
@@ -21,7 +20,9 @@ impl HostCore {
     pub fn next_peer(&self) -> Option<PeerRef>
         ensures { result ≡ next_name self.now.config self.now.slots }
     {
-        let place = first_available(&self.slots, self.start.config.generations)?;
+        let place = self
+            .sleepers
+            .first_available(&self.slots, self.start.config.generations)?;
         Some(name_at(&self.slots, place as u16))
     }
 
@@ -32,9 +33,7 @@ impl HostCore {
         ensures { IsDueIn self.now result }
     {
         let clock = self.start.clock;
-        let peers = self
-            .skips
-            .due_in(&self.slots, self.start.config.peers, clock);
+        let peers = self.sleepers.due_in(&self.slots, clock);
         peers.min(SHARING_INTERVAL.saturating_sub(elapsed(clock, self.shared_at)))
     }
 
@@ -46,7 +45,7 @@ impl HostCore {
     {
         first_telling(
             &self.slots,
-            &self.skips,
+            &self.sleepers,
             self.start.config.peers,
             self.event_from,
         )

@@ -16,11 +16,11 @@ use crate::connecting::connect;
 use crate::events::take_from;
 use crate::receiving::receive;
 use crate::service::serve;
-use crate::skips::Skips;
 use crate::ticking::pass_time;
 use crate::totals::Totals;
 use crate::turns::slot_after;
 use enet_codec::{Addr, Config, Event, PeerRef, Received, Refusal};
+use enet_sleepers::Sleepers;
 use enet_slot::{Question, Slot, Start, joined_slots, set_bandwidth, unused_slots};
 use std::alloc::Global;
 use std::marker::Model;
@@ -49,8 +49,8 @@ pub struct HostCore {
     pub(crate) event_from: u16,
     pub(crate) totals: Totals,
     pub(crate) slots: Vec<Slot>,
-    /// Which of the slots need not be asked for a datagram or an event, and for how long not ticked.
-    pub(crate) skips: Skips,
+    /// Which of the slots sleep.
+    pub(crate) sleepers: Sleepers,
 }
 
 impl Model for HostCore {
@@ -74,7 +74,7 @@ impl Model for HostCore {
       slots = all_shown h.slots.items;
     } };
 
-    ghost invariant = { λ h. KeepsHost (record { peers = h.start.config.peers; generations = h.start.config.generations; service_from = h.service_from; event_from = h.event_from }) h.skips h.slots.items };
+    ghost invariant = { λ h. KeepsHost (record { peers = h.start.config.peers; clock = h.start.clock; generations = h.start.config.generations; service_from = h.service_from; event_from = h.event_from }) h.sleepers h.slots.items };
 }
 
 impl HostCore {
@@ -87,8 +87,8 @@ impl HostCore {
             return Err(Refusal::BadConfig);
         }
         let slots = unused_slots(alloc, config.peers)?;
-        let skips = Skips::new(alloc, config.peers)?;
-        Ok(HostCore::with_slots(alloc, config, slots, skips))
+        let sleepers = Sleepers::new(alloc, config.peers, config.clock)?;
+        Ok(HostCore::with_slots(alloc, config, slots, sleepers))
     }
 
     /// A law: a slot has at most 4,294,967,295 generations, and none holds a peer that is free.
@@ -108,13 +108,13 @@ impl HostCore {
             return Err(Refusal::BadConfig);
         }
         let slots = joined_slots(alloc, &config, address)?;
-        let skips = Skips::new(alloc, config.peers)?;
-        Ok(HostCore::with_slots(alloc, config, slots, skips))
+        let sleepers = Sleepers::new(alloc, config.peers, config.clock)?;
+        Ok(HostCore::with_slots(alloc, config, slots, sleepers))
     }
 
     /// A host with these settings and slots, to which nothing has happened.
-    fn with_slots(alloc: Global, config: Config, slots: Vec<Slot>, skips: Skips) -> HostCore
-        requires { KeepsHost (record { peers = config.peers; generations = config.generations; service_from = 0; event_from = 0 }) skips slots.items }
+    fn with_slots(alloc: Global, config: Config, slots: Vec<Slot>, sleepers: Sleepers) -> HostCore
+        requires { KeepsHost (record { peers = config.peers; clock = config.clock; generations = config.generations; service_from = 0; event_from = 0 }) sleepers slots.items }
         ensures { result ≡ record (opened config) { slots = all_shown slots.items } }
     {
         HostCore {
@@ -128,7 +128,7 @@ impl HostCore {
             event_from: 0,
             totals: Totals::none(),
             slots,
-            skips,
+            sleepers,
         }
     }
 
@@ -151,7 +151,7 @@ impl HostCore {
             info,
             word,
         };
-        connect(&mut self.slots, &mut self.skips, &self.start, question)
+        connect(&mut self.slots, &mut self.sleepers, &self.start, question)
     }
 
     /// A datagram comes from an address. It goes to the peer of the slot that its header names, or is the offer of one who has
@@ -166,7 +166,13 @@ impl HostCore {
         ensures { Receives self.old from bytes.now result self.new }
     {
         self.totals = self.totals.with_datagram_in(bytes.len());
-        receive(&mut self.slots, &mut self.skips, &self.start, from, bytes)
+        receive(
+            &mut self.slots,
+            &mut self.sleepers,
+            &self.start,
+            from,
+            bytes,
+        )
     }
 
     /// One datagram of the next slot that has something to send: whose it is, where it goes, and how many bytes of the buffer
@@ -178,7 +184,7 @@ impl HostCore {
     {
         let Some(sent) = serve(
             &mut self.slots,
-            &self.skips,
+            &self.sleepers,
             self.start.config.peers,
             self.service_from,
             self.start.clock,
@@ -201,7 +207,7 @@ impl HostCore {
         self.start.clock = clock_after(self.start.clock, ms);
         self.shared_at = pass_time(
             &mut self.slots,
-            &mut self.skips,
+            &mut self.sleepers,
             &self.start,
             self.shared_at,
         );
@@ -219,8 +225,7 @@ impl HostCore {
         set_bandwidth(&mut self.slots, incoming, outgoing)?;
         self.start.config.incoming = incoming;
         self.start.config.outgoing = outgoing;
-        self.skips
-            .refresh(&self.slots, self.start.config.peers, self.start.clock);
+        self.sleepers.wake_held();
         Ok(())
     }
 

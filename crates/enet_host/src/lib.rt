@@ -9,8 +9,8 @@
 //! commands of a datagram at the one slot that its header names. `service` asks slot after slot, beginning after the one served last,
 //! up to the first that gives a datagram, and names its peer as it was before (`GivesInTurn`); `next_event` goes by the first slot in
 //! turn that has an event (`IsFirst`), and `next_event_of`, `next_packet` and `next_body` say of the event that it gives whose it is
-//! and what it hands out (`Foretells`). Inside, by the invariant of `HostCore`: a slot that a list calls asleep has nothing to put out or
-//! to tell, and for a time that stands beside the list a tick changes nothing of it (`KeepsSkips`, `Rests`). `next_peer` is the name
+//! and what it hands out (`Foretells`). Inside, by the invariant of `HostCore`: a slot that sleeps has nothing to put out or to tell, and
+//! it is noted when time brings it something (`KeepsSleepers` of `enet_sleepers`). `next_peer` is the name
 //! that an accepted connection gets, `submission_refusal` the refusal of `submit` but E1. `tick` and `set_bandwidth` are one change on each slot; once a second the
 //! outgoing bandwidth is shared out among the connected peers. `due_in` is in how many milliseconds time brings something: a tick of
 //! fewer changes the clock alone (`IsDueIn`).
@@ -18,24 +18,19 @@
 //! changes nothing.
 //! Only tested, by `check_hosts`: that calls succeed with ample memory, worked scripts, captured files, foreign bytes. Neither: that
 //! a slot which has nothing falls asleep, and that those asleep, free ones and those whose peer only waits, are looked at by no
-//! call of `service` or of those that tell events, by `due_in` only where what was noted of them doesn't tell, and by `tick` only where
-//! bandwidth is shared out or time brings that slot something; that slots past the last used one are looked at by `due_in` not at all,
-//! and by `tick` only where bandwidth is shared out; and that an offer looks at those asleep only where one of them may be at its
-//! address, and else at those between the first that may be free and the first that is.
+//! call of `service` or of those that tell events, by `due_in` not at all, and by `tick` only where bandwidth is shared out or time
+//! brings that slot something; and that an offer looks at one of them at most, unless two of them have one mark, and at the free ones up
+//! to the one that it gets.
 #![tactic(auto)]
 
 mod calls;
-mod calm;
 mod connecting;
-mod due;
 mod events;
 mod foretelling;
 mod host;
 mod peers;
 mod receiving;
-mod seats;
 mod service;
-mod skips;
 mod ticking;
 mod totals;
 mod turns;

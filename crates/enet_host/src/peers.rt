@@ -38,7 +38,7 @@ impl HostCore {
         ensures submits { Submits result (record { flags = flags; body = body }) (on_named self.old.slots peer (submission channel (record { flags = flags; body = body }))) self.old.slots self.new.slots }
         ensures rest { KeepsRest self.old self.new }
     {
-        self.skips.wake(peer.slot);
+        self.sleepers.wake(usize::from(peer.slot));
         if let Err(refused) = calls::submit(&mut self.slots, peer, channel, flags, body) {
             return Err(refused);
         }
@@ -64,7 +64,7 @@ impl HostCore {
         ensures disconnects { Does result (on_named self.old.slots peer (leaving Ask info)) self.old.slots self.new.slots }
         ensures rest { KeepsRest self.old self.new }
     {
-        self.skips.wake(peer.slot);
+        self.sleepers.wake(usize::from(peer.slot));
         calls::disconnect(&mut self.slots, peer, DisconnectMode::Ask, info)
     }
 
@@ -75,7 +75,7 @@ impl HostCore {
         ensures disconnects { Does result (on_named self.old.slots peer (leaving Now info)) self.old.slots self.new.slots }
         ensures rest { KeepsRest self.old self.new }
     {
-        self.skips.wake(peer.slot);
+        self.sleepers.wake(usize::from(peer.slot));
         calls::disconnect(&mut self.slots, peer, DisconnectMode::Now, info)
     }
 
@@ -86,7 +86,7 @@ impl HostCore {
         ensures disconnects { Does result (on_named self.old.slots peer (leaving Later info)) self.old.slots self.new.slots }
         ensures rest { KeepsRest self.old self.new }
     {
-        self.skips.wake(peer.slot);
+        self.sleepers.wake(usize::from(peer.slot));
         calls::disconnect(&mut self.slots, peer, DisconnectMode::Later, info)
     }
 
@@ -104,7 +104,7 @@ impl HostCore {
         ensures wanted { IfErr result (λ why. why ≡ Refusal.Memory → wants_room_in (named self.old.slots peer) ≡ true) }
         ensures rest { KeepsRest self.old self.new }
     {
-        self.skips.wake(peer.slot);
+        self.sleepers.wake(usize::from(peer.slot));
         calls::throttle_configure(&mut self.slots, peer, interval, acceleration, deceleration)
     }
 
@@ -113,7 +113,7 @@ impl HostCore {
         ensures sets { Does result (on_named self.old.slots peer (pinging ms)) self.old.slots self.new.slots }
         ensures rest { KeepsRest self.old self.new }
     {
-        self.skips.wake(peer.slot);
+        self.sleepers.wake(usize::from(peer.slot));
         calls::set(&mut self.slots, peer, Setting::PingInterval { ms })
     }
 
@@ -136,7 +136,7 @@ impl HostCore {
             minimum,
             maximum,
         };
-        self.skips.wake(peer.slot);
+        self.sleepers.wake(usize::from(peer.slot));
         calls::set(&mut self.slots, peer, setting)
     }
 

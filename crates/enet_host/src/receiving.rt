@@ -4,13 +4,13 @@ ghost use Rattle.std.specs.Prelude.{◌≡◌, ◌<◌, ◌≤◌, length, IfNon
 ghost use Rattle.enet_slot.specs.Giving.{basis_of};
 ghost use Rattle.enet_slot.specs.Hearing.{stopped};
 ghost use Rattle.enet_host.specs.Receiving.{refused_by, offer_refused, Offers, Arrives};
-ghost use Rattle.enet_host.specs.Skips.{KeepsSkips};
+ghost use Rattle.enet_sleepers.specs.Sleeping.{KeepsSleepers};
 ghost use Rattle.enet_slot.specs.Slotted.{all_shown};
 
-use crate::skips::Skips;
 use enet_codec::{Addr, Header, MAX_CHANNELS, NO_PEER, Received, Stop};
 use enet_connect::Offer;
 use enet_peer::{read_heading, read_offer};
+use enet_sleepers::Sleepers;
 use enet_slot::{Seat, Slot, Start};
 
 /// The answer to a datagram of which nothing was looked at.
@@ -57,35 +57,29 @@ fn offer_refused(offer: &Offer) -> Option<Stop>
 /// An offer comes.
 fn take_offer(
     slots: &mut Vec<Slot>,
-    skips: &mut Skips,
+    sleepers: &mut Sleepers,
     start: &Start,
     from: Addr,
     offer: Offer,
 ) -> Received
     requires many { length slots.old.items ≤ 4095 }
     requires all { length slots.old.items ≡ start.now.config.peers }
-    requires skips { KeepsSkips start.now.config.peers skips.old (all_shown slots.old.items) }
+    requires sleepers { KeepsSleepers start.now.clock sleepers.old (all_shown slots.old.items) }
     ensures count { length slots.new.items ≡ length slots.old.items }
-    ensures skips { KeepsSkips start.now.config.peers skips.new (all_shown slots.new.items) }
+    ensures sleepers { KeepsSleepers start.now.clock sleepers.new (all_shown slots.new.items) }
     ensures offers { Offers (record { basis = basis_of start.now; slots = all_shown slots.old.items }) from offer result (all_shown slots.new.items) }
 {
     if let Some(why) = offer_refused(&offer) {
         return stopped(why);
     }
-    let place = match skips.seat_for(
-        slots,
-        start.config.peers,
-        from,
-        offer.connect_id,
-        start.config.generations,
-    ) {
+    let place = match sleepers.seat_for(slots, from, offer.connect_id, start.config.generations) {
         Seat::Known => return HANDLED_ONE,
         Seat::At(place) => place,
         Seat::Full => {
             return stopped(Stop::NoSlot);
         }
     };
-    skips.wake(place as u16);
+    sleepers.wake(place);
     let slot = &mut slots[place];
     match slot.answer(start, place as u16, from, offer) {
         Ok(()) => HANDLED_ONE,
@@ -96,16 +90,16 @@ fn take_offer(
 /// A datagram comes to the slot that it names, or is one of a stranger, who may offer a connection.
 pub(crate) fn receive(
     slots: &mut Vec<Slot>,
-    skips: &mut Skips,
+    sleepers: &mut Sleepers,
     start: &Start,
     from: Addr,
     bytes: &[u8],
 ) -> Received
     requires many { length slots.old.items ≤ 4095 }
     requires all { length slots.old.items ≡ start.now.config.peers }
-    requires skips { KeepsSkips start.now.config.peers skips.old (all_shown slots.old.items) }
+    requires sleepers { KeepsSleepers start.now.clock sleepers.old (all_shown slots.old.items) }
     ensures count { length slots.new.items ≡ length slots.old.items }
-    ensures skips { KeepsSkips start.now.config.peers skips.new (all_shown slots.new.items) }
+    ensures sleepers { KeepsSleepers start.now.clock sleepers.new (all_shown slots.new.items) }
     ensures arrives { Arrives (record { basis = basis_of start.now; slots = all_shown slots.old.items }) from bytes.now result (all_shown slots.new.items) }
 {
     let (header, commands) = match read_heading(bytes) {
@@ -114,14 +108,14 @@ pub(crate) fn receive(
     };
     if header.peer == NO_PEER {
         return match read_offer(commands) {
-            Some(offer) => take_offer(slots, skips, start, from, offer),
+            Some(offer) => take_offer(slots, sleepers, start, from, offer),
             None => stopped(Stop::UnknownPeer),
         };
     }
     if let Some(why) = refused_by(slots, from, &header) {
         return stopped(why);
     }
-    skips.wake(header.peer);
+    sleepers.wake(usize::from(header.peer));
     let slot = &mut slots[usize::from(header.peer)];
     slot.hear(start.clock, header.sent, commands)
 }

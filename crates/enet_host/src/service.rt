@@ -2,13 +2,13 @@
 
 ghost use Rattle.std.specs.Prelude.{◌≡◌, ◌<◌, ◌≤◌, length, IfSome, IfNone};
 ghost use Rattle.enet_host.specs.Serving.{served_of, GivesInTurn, AllPass};
-ghost use Rattle.enet_host.specs.Skips.{KeepsSkips};
+ghost use Rattle.enet_sleepers.specs.Sleeping.{KeepsSleepers};
 ghost use Rattle.enet_slot.specs.Slotted.{all_shown};
 ghost use Rattle.enet_host.specs.Private.Shown.{SlotGives, SlotPasses};
 
-use crate::skips::Skips;
-use crate::turns::slot_of_turn;
+use crate::turns::{next_turn, slot_of_turn};
 use enet_codec::{Addr, PeerRef};
+use enet_sleepers::Sleepers;
 use enet_slot::Slot;
 
 /// Asks a slot for a datagram at the time `now`: the slot's peer as it was named before, where it goes, and its length.
@@ -39,7 +39,7 @@ fn serve_slot(
 /// Asks one slot after another for a datagram at the time `now`, up to the first that has one. Those that sleep have none.
 pub(crate) fn serve(
     slots: &mut Vec<Slot>,
-    skips: &Skips,
+    sleepers: &Sleepers,
     peers: u16,
     from: u16,
     now: u32,
@@ -47,21 +47,21 @@ pub(crate) fn serve(
 ) -> Option<(PeerRef, Addr, usize)>
     requires within { from < peers }
     requires all { length slots.old.items ≡ peers }
-    requires skips { KeepsSkips peers skips.now (all_shown slots.old.items) }
+    requires sleepers { KeepsSleepers now sleepers.now (all_shown slots.old.items) }
     ensures gives { IfSome result (λ gave. GivesInTurn now from (all_shown slots.old.items) (served_of gave buf.new) (all_shown slots.new.items)) }
     ensures passes { IfNone result (AllPass now (all_shown slots.old.items) (all_shown slots.new.items)) }
     ensures within { IfSome result (λ gave. gave.0.slot < peers) }
     ensures fits { IfSome result (λ gave. gave.2 ≤ 4096) }
     ensures count { length slots.new.items ≡ length slots.old.items }
-    ensures skips { KeepsSkips peers skips.now (all_shown slots.new.items) }
+    ensures sleepers { KeepsSleepers now sleepers.now (all_shown slots.new.items) }
 {
-    let mut turn = skips.next_turn(peers, from, 0);
+    let mut turn = next_turn(sleepers, peers, from, 0);
     while turn < peers {
         let number = slot_of_turn(peers, from, turn);
         if let Some(sent) = serve_slot(slots, number, now, buf) {
             return Some(sent);
         }
-        turn = skips.next_turn(peers, from, turn + 1);
+        turn = next_turn(sleepers, peers, from, turn + 1);
     }
     None
 }

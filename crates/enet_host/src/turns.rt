@@ -1,7 +1,10 @@
 //! Slots in turn.
 
-ghost use Rattle.std.specs.Prelude.{◌≡◌, ◌<◌};
+ghost use Rattle.std.specs.Prelude.{◌≡◌, ◌<◌, ◌≤◌, length};
 ghost use Rattle.enet_host.specs.Turns.{slot_after, turn_of};
+ghost use Rattle.enet_host.specs.Private.Sleeping.{PassesTurns, AwakeAt};
+
+use enet_sleepers::Sleepers;
 
 /// The slot after one of so many; after the last comes slot 0.
 pub(crate) fn slot_after(peers: u16, slot: u16) -> u16
@@ -23,5 +26,26 @@ pub(crate) fn slot_of_turn(peers: u16, from: u16, turn: u16) -> u16
         from + turn
     } else {
         turn - until_the_end
+    }
+}
+
+/// The first turn from this one on whose slot is awake, where slot `from` has the first turn, 0; the number of slots where there is none.
+pub(crate) fn next_turn(sleepers: &Sleepers, peers: u16, from: u16, turn: u16) -> u16
+    requires within { (from < peers) × (turn ≤ peers) }
+    requires count { length sleepers.now.awake ≡ peers }
+    ensures passed { PassesTurns sleepers.now.awake peers from turn result }
+    ensures awake { AwakeAt sleepers.now.awake peers from result }
+    ensures later { turn ≤ result }
+    ensures within { result ≤ peers }
+{
+    let until_the_end = peers - from;
+    if turn < until_the_end {
+        if let Some(place) = sleepers.next_awake(usize::from(from + turn)) {
+            return place as u16 - from;
+        }
+    }
+    match sleepers.next_awake(usize::from(turn.saturating_sub(until_the_end))) {
+        Some(place) if place < usize::from(from) => until_the_end + place as u16,
+        _ => peers,
     }
 }

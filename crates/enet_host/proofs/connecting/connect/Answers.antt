@@ -1,9 +1,11 @@
-use Rattle.std.proofs.Common.{arith}
+use Rattle.std.proofs.Common.{List, sym, subst, arith}
 use Rattle.enet_slot.specs.Giving.{basis_of}
 use Rattle.enet_slot.specs.Slotted.{all_shown}
 use Rattle.enet_host.specs.Opening.{no_channel, no_slot}
 use Rattle.enet_host.proofs.Offering.{found-in, connects-at}
-use Rattle.enet_host.proofs.Skipping.{skips-at}
+use Rattle.enet_sleepers.specs.Sleeping.{KeepsSleepers}
+use Rattle.enet_slot.specs.declared.slot.Slot.{Slot}
+use Rattle.enet_host.proofs.Sleeping.{keeps-woken-at}
 use Rattle.enet_host.proofs.connecting.connect.Goals as goal
 
 pub returns-then-question-eq0-clause-connects : goal.returns-then-question-eq0-clause-connects
@@ -20,7 +22,9 @@ returns-clause-connects c =
     (found-in c.args.start.now.config c.args.slots.now.items c.deref.result.now _ _ c.first_available.ensures.first c.deref.ensures.value c.in-Some.is)
     (let within = c.in-Some.ensures.within in let len = c.deref.ensures.len in grind (arith, within, len)) c.index_mut-slot.ensures.value c.ask.ensures.asks c.ask.ensures.named c.ask.ensures.unchanged c.ask.ensures.memory
 
-pub returns-clause-skips : goal.returns-clause-skips
-returns-clause-skips c =
-    skips-at c.args.start.now.config.peers c.wake.new.self c.args.slots.now.items c.in-Some.place c.ask.new.self
-    (c.wake.ensures.kept c.args.start.now.config.peers (all_shown c.args.slots.now.items) c.requires.skips) c.wake.ensures.awake
+pub returns-clause-sleepers : goal.returns-clause-sleepers
+returns-clause-sleepers c =
+    keeps-woken-at c.args.start.now.clock c.in-Some.place c.args.sleepers.now c.wake.new.self c.args.slots.now.items c.ask.new.self c.requires.sleepers c.wake.ensures.kept c.wake.ensures.awake
+
+pub first_available-requires : goal.first_available-requires
+first_available-requires c = (c.args.start.now.clock, subst (λ (xs : List Slot). KeepsSleepers c.args.start.now.clock c.args.sleepers.now (all_shown xs)) (sym c.deref.ensures.value) c.requires.sleepers)

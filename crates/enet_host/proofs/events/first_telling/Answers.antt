@@ -8,8 +8,8 @@ use Rattle.enet_host.proofs.events.first_telling.Goals as goal
 
 pub loop-turn-init : goal.loop-turn-init
 loop-turn-init c = record {
-  before = none-passed (all_shown c.args.slots.now) c.args.peers c.args.from 0 c.next_turn-turn.result c.args.skips.now (length-shown c.args.slots.now ∙ sym c.requires.all)
-      c.requires.skips c.next_turn-turn.ensures.passed (λ j s there less. absurd (omega (arith, less)));
+  before = none-passed (all_shown c.args.slots.now) c.requires.sleepers.0 c.args.peers c.args.from 0 c.next_turn-turn.result c.args.sleepers.now (length-shown c.args.slots.now ∙ sym c.requires.all)
+      c.requires.sleepers.1 c.next_turn-turn.ensures.passed (λ j s there less. absurd (omega (arith, less)));
   awake = c.next_turn-turn.ensures.awake;
 }
 
@@ -25,7 +25,7 @@ loop-turn-preserved c =
     count inside place c.loop-turn.invariant.before
     (at-number c.args.slots.now c.from.result c.slot_of_turn-number.result c.index-slots-from.result e within c.index-slots-from.is) (sym c.tells.ensures ∙ c.if-tells.false) in
     record {
-      before = none-passed (all_shown c.args.slots.now) c.args.peers c.args.from (c.loop-turn.turn + 1) c.next_turn-turn-in-loop-turn.result c.args.skips.now count c.requires.skips
+      before = none-passed (all_shown c.args.slots.now) c.requires.sleepers.0 c.args.peers c.args.from (c.loop-turn.turn + 1) c.next_turn-turn-in-loop-turn.result c.args.sleepers.now count c.requires.sleepers.1
           c.next_turn-turn-in-loop-turn.ensures.passed none;
       awake = c.next_turn-turn-in-loop-turn.ensures.awake;
     }
@@ -40,10 +40,6 @@ returns-then-tells-clause-first c =
     is-first tells (all_shown c.args.slots.now) c.args.peers c.args.from c.loop-turn.turn c.slot_of_turn-number.result (shown c.index-slots-from.result)
     (length-shown c.args.slots.now ∙ sym all) place c.loop-turn.invariant.before
     (at-number c.args.slots.now c.from.result c.slot_of_turn-number.result c.index-slots-from.result e within c.index-slots-from.is) (sym c.tells.ensures ∙ c.if-tells.true)
-
-pub returns-then-tells-clause-awake : goal.returns-then-tells-clause-awake
-returns-then-tells-clause-awake c =
-    c.loop-turn.invariant.awake c.slot_of_turn-number.result c.slot_of_turn-number.ensures.within c.slot_of_turn-number.ensures.place
 
 pub returns-clause-none : goal.returns-clause-none
 returns-clause-none c =

@@ -3,13 +3,12 @@ use Rattle.std.specs.List.{list_any}
 use Rattle.enet_rtt.specs.Clock.{elapsed_time, HappensIn}
 use Rattle.enet_rtt.proofs.Waits.{either-in, passes-in}
 use Rattle.enet_slot.specs.declared.slot.Slot.{Slot}
-use Rattle.enet_host.specs.Private.Foretelling.{is_due_soon}
-use Rattle.enet_host.proofs.Soon.{soon-all}
+use Rattle.enet_sleepers.specs.Soon.{is_due_soon}
 use Rattle.enet_slot.specs.Slotted.{all_shown}
 use Rattle.enet_host.specs.Host.{Host}
 use Rattle.enet_host.specs.Ticking.{brings, IsDueIn}
 use Rattle.enet_host.specs.contracts.host.HostCore.{the_view}
-use Rattle.enet_host.proofs.Bringing.{due-in}
+use Rattle.enet_host.proofs.Bringing.{due-in, soon-all}
 use Rattle.enet_host.proofs.host.HostCore.due_in.Goals as goal
 
 pub returns : goal.returns

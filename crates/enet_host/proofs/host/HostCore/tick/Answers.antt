@@ -9,6 +9,6 @@ invariant_of-self c =
     let old = all_shown c.self.inside.slots.items in
     let passed = c.pass_time-self-inside in
     let timed = all_ticked c.clock_after-self-inside.result old in
-    keeps-after c.self.inside.start.config.peers c.self.inside.start.config.generations c.self.inside.service_from c.self.inside.event_from c.self.inside.service_from c.self.inside.event_from
-    c.self.inside.skips passed.new.skips c.self.inside.slots.items passed.new.slots.items c.self.invariant passed.ensures.count c.self.invariant.service c.self.invariant.event
-    (shared-if-held _ c.self.inside.start.config.outgoing timed (all_shown passed.new.slots.items) passed.ensures.slots (changed-after _ old timed refl c.self.invariant.held), passed.ensures.skips)
+    keeps-after c.self.inside.start.config.peers c.self.inside.start.clock c.clock_after-self-inside.result c.self.inside.start.config.generations c.self.inside.service_from c.self.inside.event_from c.self.inside.service_from c.self.inside.event_from
+    c.self.inside.sleepers passed.new.sleepers c.self.inside.slots.items passed.new.slots.items c.self.invariant passed.ensures.count c.self.invariant.service c.self.invariant.event
+    (shared-if-held _ c.self.inside.start.config.outgoing timed (all_shown passed.new.slots.items) passed.ensures.slots (changed-after _ old timed refl c.self.invariant.held), passed.ensures.sleepers)

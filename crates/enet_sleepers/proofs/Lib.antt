@@ -1,0 +1,4 @@
+pub mod Keeping
+pub mod Dueness
+pub mod Marking
+pub mod Offered

@@ -1,0 +1,112 @@
+-- Where an offer is to go.
+use Rattle.std.proofs.Common.{◌≡◌, ◌≢◌, ℕ, ◌+◌, ◌<◌, ◌≤◌, ◌⊎◌, inl, inr, Bool, true, false, ◌&&◌, nat_lt, Option, Some, None, List, length, slice_get, get_or, refl, sym, ap, subst, ◌∙◌, arith}
+use Rattle.std.specs.List.{list_any, position}
+use Rattle.std.proofs.lemmas.Bool.{cases_lt, cases_eq}
+use Rattle.std.proofs.lemmas.List.{get_or-map, get_or_default}
+use Rattle.std.proofs.lemmas.List.Folds.{list_any_none, list_any_at}
+use Rattle.std.proofs.lemmas.Option.{slice_get-get_or}
+use Rattle.enet_codec.specs.declared.address.Addr.{Addr}
+use Rattle.enet_deadlines.specs.Sets.{IsIn, IsOut}
+use Rattle.enet_peer.specs.Peering.{Peering}
+use Rattle.enet_slot.specs.declared.slot.Slot.{Slot}
+use Rattle.enet_slot.specs.Slot.{SlotState}
+use Rattle.enet_slot.specs.Giving.{unused_slot, is_vacant, is_available}
+use Rattle.enet_slot.specs.Hearing.{is_connection, is_connection_in}
+use Rattle.enet_slot.specs.Slotted.{shown, all_shown}
+use Rattle.enet_slot.proofs.Seating.{first-at, first-none}
+use Rattle.enet_sleepers.specs.declared.marks.Mark.{Mark}
+use Rattle.enet_sleepers.specs.declared.marks.Mark.TheVariants as mark
+use Rattle.enet_sleepers.specs.Marks.{mark_of, Names}
+use Rattle.enet_sleepers.specs.Sleeping.{Noted, Sleeps, KeepsSleepers}
+use Rattle.enet_sleepers.specs.Private.Sleepers.{NoneOf, KnownNowhere}
+use Rattle.enet_sleepers.proofs.Dueness.{in-or-out}
+use Rattle.enet_sleepers.proofs.Marking.{unmarked-unknown}
+
+-- what a slot shows
+pub shown-at : (xs : List Slot) (i : ℕ) (x : Slot) → i < length xs → x ≡ get_or xs i x → get_or (all_shown xs) i unused_slot ≡ shown x
+shown-at xs i x inside read = get_or-map shown xs i x unused_slot inside ∙ sym (ap shown read)
+
+-- those of a set up to one more
+pub none-first : (generations : ℕ) (slots : List SlotState) (set : List Bool) → NoneOf generations slots set 0
+none-first generations slots set = λ i low is. absurd (omega (arith, low))
+
+pub none-passed : (generations from to : ℕ) (slots : List SlotState) (set : List Bool) → ((i : ℕ) → from ≤ i → i < to → IsOut set i) → NoneOf generations slots set from → NoneOf generations slots set to
+none-passed generations from to slots set out none = λ i low is. elim (cases_lt i from) [
+  | inl less ↦ none i less is
+  | inr past ↦ let x : false ≡ true = sym (out i past low) ∙ is in absurd (cc)
+]
+
+pub none-more : (generations place : ℕ) (slots : List SlotState) (set : List Bool) (s : SlotState) → get_or slots place unused_slot ≡ s → is_available generations s ≡ false
+    → NoneOf generations slots set place → NoneOf generations slots set (place + 1)
+none-more generations place slots set s is taken none = λ i low inside. elim (cases_lt i place) [
+  | inl less ↦ none i less inside
+  | inr past ↦
+      let same : i ≡ place = omega (arith, low, past) in
+      ap (λ (j : ℕ). is_available generations (get_or slots j unused_slot)) same ∙ ap (is_available generations) is ∙ taken
+]
+
+vacant-only : (generations : ℕ) (s : SlotState) → is_vacant s.peer ≡ false → is_available generations s ≡ false
+vacant-only generations s e = ap (λ (b : Bool). b && nat_lt s.generation generations) e
+
+-- of all slots none before this one can be given out
+pub none-at-all : (generations now first last : ℕ) (v : Noted) (slots : List SlotState) → KeepsSleepers now v slots → first ≤ last → last ≤ length slots → NoneOf generations slots v.free last
+    → NoneOf generations slots v.awake first → (i : ℕ) → i < first → is_available generations (get_or slots i unused_slot) ≡ false
+none-at-all generations now first last v slots k within inside free awake = λ i low. elim (in-or-out (get_or v.awake i false)) [
+  | inl is ↦ awake i low is
+  | inr out ↦ elim (k.asleep i (get_or slots i unused_slot) (slice_get-get_or slots i unused_slot (omega (arith, low, within, inside))) out) [
+    | inl f ↦ free i (omega (arith, low, within)) f.listed
+    | inr h ↦ vacant-only generations (get_or slots i unused_slot) h.held
+  ]
+]
+
+-- it was found
+pub found : (generations first last : ℕ) (slots : List SlotState) → first ≤ last → first < length slots
+    → (first < last → is_available generations (get_or slots first unused_slot) ≡ true) → (last < length slots → is_available generations (get_or slots last unused_slot) ≡ true)
+    → ((i : ℕ) → i < first → is_available generations (get_or slots i unused_slot) ≡ false) → position (is_available generations) slots ≡ Some first
+found generations first last slots within inside awake free none =
+    first-at generations slots first inside (elim (cases_lt first last) [
+      | inl less ↦ awake less
+      | inr past ↦
+          let same : first ≡ last = omega (arith, past, within) in
+          subst (λ (j : ℕ). is_available generations (get_or slots j unused_slot) ≡ true) (sym same) (free (omega (arith, inside, same)))
+    ]) none
+
+-- no slot holds the connection of an offer
+pub known-nowhere : (now : ℕ) (from : Addr) (word : ℕ) (m : Mark) (v : Noted) (slots : List SlotState) → KeepsSleepers now v slots → mark_of v.marks from ≡ m
+    → KnownNowhere from word slots v.awake → ((i : ℕ) → Names m i → is_connection from word (get_or slots i unused_slot) ≡ false) → list_any (is_connection from word) slots ≡ false
+known-nowhere now from word m v slots k is awake named =
+    list_any_none (is_connection from word) slots (λ i d inside.
+    ap (is_connection from word) (get_or_default slots i d unused_slot inside)
+    ∙ elim (in-or-out (get_or v.awake i false)) [
+      | inl at ↦ awake i at
+      | inr out ↦ elim (k.asleep i (get_or slots i unused_slot) (slice_get-get_or slots i unused_slot inside) out) [
+        | inl f ↦ ap (λ (o : Option Peering). is_connection_in (get_or slots i unused_slot) from word o) f.empty
+        | inr h ↦ by-mark i h.marked (in-or-out (is_connection from word (get_or slots i unused_slot)))
+      ]
+    ])
+  where
+    by-mark : (i : ℕ) → Names (mark_of v.marks (get_or slots i unused_slot).address) i
+        → (is_connection from word (get_or slots i unused_slot) ≡ true) ⊎ (is_connection from word (get_or slots i unused_slot) ≡ false) → is_connection from word (get_or slots i unused_slot) ≡ false
+    by-mark i marked (inl yes_it_is) =
+        unmarked-unknown v.marks (get_or slots i unused_slot) from word i (λ held. marked)
+        (λ names. let no_it_is = named i (subst (λ (x : Mark). Names x i) is names) in let x : true ≡ false = sym yes_it_is ∙ no_it_is in absurd (cc))
+    by-mark i marked (inr not_it) = not_it
+
+-- none of those that are awake is known
+pub nowhere-passed : (from : Addr) (word place to : ℕ) (slots : List SlotState) (set : List Bool) → ((i : ℕ) → place ≤ i → i < to → IsOut set i)
+    → ((i : ℕ) → i < place → IsIn set i → is_connection from word (get_or slots i unused_slot) ≡ false)
+    → (i : ℕ) → i < to → IsIn set i → is_connection from word (get_or slots i unused_slot) ≡ false
+nowhere-passed from word place to slots set out none = λ i low is. elim (cases_lt i place) [
+  | inl less ↦ none i less is
+  | inr past ↦ let x : false ≡ true = sym (out i past low) ∙ is in absurd (cc)
+]
+
+pub nowhere-more : (from : Addr) (word place : ℕ) (slots : List SlotState) (set : List Bool) (s : SlotState) → get_or slots place unused_slot ≡ s → is_connection from word s ≡ false
+    → ((i : ℕ) → i < place → IsIn set i → is_connection from word (get_or slots i unused_slot) ≡ false)
+    → (i : ℕ) → i < place + 1 → IsIn set i → is_connection from word (get_or slots i unused_slot) ≡ false
+nowhere-more from word place slots set s is other none = λ i low inside. elim (cases_lt i place) [
+  | inl less ↦ none i less inside
+  | inr past ↦
+      let same : i ≡ place = omega (arith, low, past) in
+      ap (λ (j : ℕ). is_connection from word (get_or slots j unused_slot)) same ∙ ap (is_connection from word) is ∙ other
+]

@@ -1,0 +1,4 @@
+pub mod Marks
+pub mod Sleeping
+pub mod Soon
+pub mod Private

@@ -1,0 +1,2 @@
+pub mod Sleepers
+pub mod Soon

@@ -1,0 +1,251 @@
+//! Which slots of a host sleep, and when time brings them something.
+
+ghost use Rattle.std.specs.Prelude.{◌≡◌, ℕ, ◌^◌, ◌<◌, ◌≤◌, List, length, slice_get, Some, IfOk, IfErr, false, ◌≢◌};
+ghost use Rattle.enet_deadlines.specs.Moments.{IsAt};
+ghost use Rattle.enet_deadlines.specs.Sets.{IsIn, IsOut, IsNextFrom};
+ghost use Rattle.enet_slot.specs.Slot.{SlotState};
+ghost use Rattle.enet_slot.specs.Slotted.{all_shown};
+ghost use Rattle.enet_sleepers.specs.Sleeping.{KeepsSleepers, woken, Wakes};
+ghost use Rattle.enet_sleepers.specs.Private.Sleepers.{AllIn};
+ghost use Rattle.enet_sleepers.specs.Marks.{place_of, mark_of, Names};
+
+use crate::marks::{MARKS_A_SLOT, Mark, place_of};
+use enet_codec::Refusal;
+use enet_deadlines::{Deadlines, Places, moment_at, moments_are_right};
+use enet_slot::Slot;
+use std::alloc::Global;
+use std::marker::Model;
+
+/// Where the clock stands from which on it begins anew, in milliseconds; it takes 146 million years to get there.
+const LAST_CLOCK: u64 = 1 << 62;
+
+/// Which slots of a host sleep. They are free, or their peer is connected, asks for a connection or for its end, or has answered, and
+/// has nothing to tell and nothing that goes, though what was sent may be unacknowledged; and time brings it something later. Where slots
+/// are asked in turn, and at a tick, these are passed over. A slot falls asleep where it is looked at (`settle`), and is woken before
+/// anything comes to it. Contracts see what is noted of the slots.
+#[derive(Drop)]
+pub struct Sleepers {
+    /// The slots that are awake.
+    pub(crate) awake: Places,
+    /// Those that sleep and are free.
+    pub(crate) free: Places,
+    /// When time brings the others something.
+    pub(crate) due: Deadlines,
+    /// Where these are.
+    pub(crate) marks: Vec<Mark>,
+    /// The host's clock as it was last told, on a clock that doesn't wrap.
+    pub(crate) clock: u64,
+}
+
+impl Model for Sleepers {
+    ghost use Rattle.enet_sleepers.specs.Sleeping.{Noted, IsWhole};
+
+    ghost Value = { Noted };
+
+    ghost view = { λ s. record { awake = s.awake; free = s.free; due = s.due; marks = s.marks.items; clock = s.clock } };
+
+    ghost invariant = { λ s. IsWhole (record { awake = s.awake; free = s.free; due = s.due; marks = s.marks.items; clock = s.clock }) };
+}
+
+/// From now on all places are in the set.
+fn insert_all(set: &mut Places)
+    ensures all { AllIn set.new }
+    ensures count { length set.new ≡ length set.old }
+{
+    for place in 0..set.len() {
+        set.insert(place);
+    }
+}
+
+impl Sleepers {
+    /// So many slots of a host whose clock shows `now`, in milliseconds; all of them are awake. E1 where memory is refused.
+    pub fn new(alloc: Global, peers: u16, now: u32) -> Result<Sleepers, Refusal>
+        ensures kept { IfOk result (λ sleepers. (slots : List SlotState) → length slots ≡ peers → KeepsSleepers now sleepers slots) }
+        ensures memory { IfErr result (λ why. why ≡ Refusal.Memory) }
+    {
+        let Ok(mut awake) = Places::new(alloc, u32::from(peers)) else {
+            return Err(Refusal::Memory);
+        };
+        let Ok(free) = Places::new(alloc, u32::from(peers)) else {
+            return Err(Refusal::Memory);
+        };
+        let Ok(due) = Deadlines::new(alloc, u32::from(peers)) else {
+            return Err(Refusal::Memory);
+        };
+        let Ok(marks) = vec![in alloc; Mark::Nobody; usize::from(peers) * MARKS_A_SLOT] else {
+            return Err(Refusal::Memory);
+        };
+        insert_all(&mut awake);
+        Ok(Sleepers {
+            awake,
+            free,
+            due,
+            marks,
+            clock: u64::from(now),
+        })
+    }
+
+    /// The first slot from this one on that is awake.
+    pub fn next_awake(&self, from: usize) -> Option<usize>
+        ensures { IsNextFrom from self.now.awake result }
+    {
+        self.awake.next_from(from)
+    }
+
+    /// Something comes to the slot of this number, if there is one: it is awake from now on.
+    pub fn wake(&mut self, number: usize)
+        ensures kept { (now : ℕ) (slots : List SlotState) → KeepsSleepers now self.old slots → KeepsSleepers now self.new slots }
+        ensures awake { number < length self.old.awake → IsIn self.new.awake number }
+        ensures wakes { Wakes self.old number self.new }
+    {
+        if number < self.awake.len() && !self.awake.contains(number) {
+            self.rise(number);
+        }
+    }
+
+    /// The slot of this number is awake from now on.
+    fn rise(&mut self, number: usize)
+        requires { number < length self.old.awake }
+        ensures { self.new ≡ woken self.old number }
+    {
+        self.awake.insert(number);
+        self.free.remove(number);
+        self.due.clear(number);
+    }
+
+    /// All slots are awake from now on.
+    fn wake_all(&mut self)
+        ensures kept { (now : ℕ) (slots : List SlotState) → KeepsSleepers now self.old slots → KeepsSleepers now self.new slots }
+        ensures awake { AllIn self.new.awake }
+    {
+        for number in 0..self.awake.len() {
+            self.wake(number);
+        }
+    }
+
+    /// Something comes to each slot that holds a peer: of those that sleep only the free ones do so from now on.
+    pub fn wake_held(&mut self)
+        ensures kept { (now : ℕ) (slots : List SlotState) → KeepsSleepers now self.old slots → KeepsSleepers now self.new slots }
+        ensures free { (i : ℕ) → i < length self.new.awake → IsOut self.new.awake i → IsIn self.new.free i }
+    {
+        for number in 0..self.awake.len() {
+            if !self.free.contains(number) {
+                self.wake(number);
+            }
+        }
+    }
+
+    /// The host's clock shows `now` from now on, in milliseconds: those to which that brings something are awake. It takes steps for each
+    /// of these alone.
+    pub fn advance(&mut self, now: u32)
+        ensures { (was : ℕ) (slots : List SlotState) → KeepsSleepers was self.old slots → KeepsSleepers now self.new slots }
+    {
+        if self.clock >= LAST_CLOCK {
+            self.wake_all();
+            self.clock = u64::from(now);
+            return;
+        }
+        let clock = moment_at(self.clock, now);
+        self.wake_due(clock);
+        self.clock = clock;
+    }
+
+    /// Those that are due at this moment are awake from now on.
+    fn wake_due(&mut self, moment: u64)
+        ensures kept { (now : ℕ) (slots : List SlotState) → KeepsSleepers now self.old slots → KeepsSleepers now self.new slots }
+        ensures ahead { (i due : ℕ) → IsAt self.new.due i due → moment < due }
+        ensures clock { self.new.clock ≡ self.old.clock }
+    {
+        let mut from = 0;
+        while from < self.due.len() {
+            let Some(place) = self.due.next_due(from, moment) else {
+                return;
+            };
+            self.rise(place);
+            from = place + 1;
+        }
+    }
+
+    /// Looks at each slot that is awake, at the moment `now` that the host's clock shows: those that have nothing to do fall asleep.
+    pub fn settle(&mut self, slots: &[Slot], now: u32)
+        requires { KeepsSleepers now self.old (all_shown slots.now) }
+        ensures { KeepsSleepers now self.new (all_shown slots.now) }
+    {
+        let mut from = 0;
+        while from < slots.len() {
+            let Some(number) = self.awake.next_from(from) else {
+                return;
+            };
+            self.look_at(slots, number, now);
+            from = number + 1;
+        }
+    }
+
+    /// The slot of this number, which is awake, falls asleep if it has nothing to do.
+    fn look_at(&mut self, slots: &[Slot], number: usize, now: u32)
+        requires kept { KeepsSleepers now self.old (all_shown slots.now) }
+        requires awake { IsIn self.old.awake number }
+        ensures { KeepsSleepers now self.new (all_shown slots.now) }
+    {
+        if slots[number].is_vacant() {
+            self.awake.remove(number);
+            self.free.insert(number);
+            return;
+        }
+        if !slots[number].only_waits() {
+            return;
+        }
+        moments_are_right();
+        let wait = slots[number].due_in(now);
+        if wait > 0 && wait < u32::MAX {
+            self.mark(slots, number);
+            self.due.set(number, self.clock + u64::from(wait));
+            self.awake.remove(number);
+        }
+    }
+
+    /// The slot of this number, which holds a peer, may be found by its peer's address from now on.
+    fn mark(&mut self, slots: &[Slot], number: usize)
+        requires number { number < length self.old.awake }
+        requires within { number < length slots.now }
+        ensures others { self.new ≡ record self.old { marks = self.new.marks } }
+        ensures named { (s : SlotState) → slice_get (all_shown slots.now) number ≡ Some s → Names (mark_of self.new.marks s.address) number }
+        ensures kept { (i : ℕ) (s : SlotState) → slice_get (all_shown slots.now) i ≡ Some s → IsOut self.old.awake i → IsOut self.old.free i
+            → Names (mark_of self.old.marks s.address) i → Names (mark_of self.new.marks s.address) i }
+    {
+        let place = place_of(self.marks.len(), slots[number].address());
+        if place < self.marks.len() {
+            let mark = self.mark_at(slots, place);
+            self.marks[place] = mark.with(number as u16);
+        }
+    }
+
+    /// The mark at this place. One that names a slot alone is gone over: it is that of nobody unless that slot still sleeps there.
+    fn mark_at(&self, slots: &[Slot], place: usize) -> Mark
+        requires { place < length self.now.marks }
+        ensures { (i : ℕ) (s : SlotState) → slice_get (all_shown slots.now) i ≡ Some s → IsOut self.now.awake i → IsOut self.now.free i
+            → place_of (length self.now.marks) s.address ≡ place → Names (mark_of self.now.marks s.address) i → Names result i }
+    {
+        let mark = self.marks[place];
+        if let Mark::One(number) = mark {
+            if !self.is_placed(slots, usize::from(number), place) {
+                return Mark::Nobody;
+            }
+        }
+        mark
+    }
+
+    /// Whether the slot of this number sleeps, holds a peer and has its mark at this place.
+    fn is_placed(&self, slots: &[Slot], number: usize, place: usize) -> bool
+        ensures { result ≡ false → (s : SlotState) → slice_get (all_shown slots.now) number ≡ Some s → IsOut self.now.awake number → IsOut self.now.free number
+            → place_of (length self.now.marks) s.address ≢ place }
+    {
+        if self.awake.contains(number) || self.free.contains(number) {
+            return false;
+        }
+        match slots.get(number) {
+            Some(slot) => place_of(self.marks.len(), slot.address()) == place,
+            None => false,
+        }
+    }
+}
