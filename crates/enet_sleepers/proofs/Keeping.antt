@@ -288,3 +288,16 @@ keeps-fresh now n v slots size free due shown all count = record {
 -- a slot that is awake is there
 pub in-inside : (set : List Bool) (i : ℕ) → IsIn set i → i < length set
 in-inside set i is = elim (cases_lt i (length set)) [ inl inside ↦ inside | inr past ↦ absurd (out-in set i (get_or_past set i false past) is) ]
+
+-- marks that still name those that sleep
+pub keeps-marked : (now : ℕ) (v w : Noted) (slots : List SlotState) → w ≡ record v { marks = w.marks }
+    → ((i : ℕ) (s : SlotState) → slice_get slots i ≡ Some s → IsOut v.awake i → IsOut v.free i → Names (mark_of v.marks s.address) i → Names (mark_of w.marks s.address) i)
+    → KeepsSleepers now v slots → KeepsSleepers now w slots
+keeps-marked now v w slots is kept k =
+    let u : Noted = record v { marks = w.marks } in
+    subst (λ (x : Noted). KeepsSleepers now x slots) (sym is) (record {
+      count = k.count;
+      shown = k.shown;
+      blank = k.blank;
+      asleep = λ i s there out. sleeps-still v u i s refl refl refl (kept i s there out) (k.asleep i s there out);
+    })

@@ -108,10 +108,18 @@ impl Sleepers {
     }
 
     /// Where an offer from this address with this connect id is to go, if so many generations are allowed.
-    pub fn seat_for(&self, slots: &[Slot], from: Addr, connect_id: u32, generations: u32) -> Seat
-        requires { (now : ℕ) × KeepsSleepers now self.now (all_shown slots.now) }
-        ensures { IsSeat from connect_id generations (all_shown slots.now) result }
+    pub fn seat_for(
+        &mut self,
+        slots: &[Slot],
+        from: Addr,
+        connect_id: u32,
+        generations: u32,
+    ) -> Seat
+        requires { (now : ℕ) × KeepsSleepers now self.old (all_shown slots.now) }
+        ensures seat { IsSeat from connect_id generations (all_shown slots.now) result }
+        ensures kept { (now : ℕ) → KeepsSleepers now self.old (all_shown slots.now) → KeepsSleepers now self.new (all_shown slots.now) }
     {
+        self.sift(slots, from);
         if self.is_known(slots, from, connect_id) {
             return Seat::Known;
         }

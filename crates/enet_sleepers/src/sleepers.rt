@@ -10,7 +10,7 @@ ghost use Rattle.enet_sleepers.specs.Private.Sleepers.{AllIn};
 ghost use Rattle.enet_sleepers.specs.Marks.{place_of, mark_of, Names};
 
 use crate::marks::{MARKS_A_SLOT, Mark, place_of};
-use enet_codec::Refusal;
+use enet_codec::{Addr, Refusal};
 use enet_deadlines::{Deadlines, Places, moment_at, moments_are_right};
 use enet_slot::Slot;
 use std::alloc::Global;
@@ -230,6 +230,46 @@ impl Sleepers {
         if let Mark::One(number) = mark {
             if !self.is_placed(slots, usize::from(number), place) {
                 return Mark::Nobody;
+            }
+        }
+        mark
+    }
+
+    /// The mark of this address is gone over if it stands for several: by the slots that sleep now.
+    pub(crate) fn sift(&mut self, slots: &[Slot], address: Addr)
+        requires { length slots.now ≡ length self.old.awake }
+        ensures { (now : ℕ) → KeepsSleepers now self.old (all_shown slots.now) → KeepsSleepers now self.new (all_shown slots.now) }
+    {
+        let place = place_of(self.marks.len(), address);
+        if place < self.marks.len() {
+            let mark = self.sifted(slots, place);
+            self.marks[place] = mark;
+        }
+    }
+
+    /// The mark at this place, gone over if it stands for several.
+    fn sifted(&self, slots: &[Slot], place: usize) -> Mark
+        requires slots { length slots.now ≡ length self.now.awake }
+        requires within { place < length self.now.marks }
+        ensures { (i : ℕ) (s : SlotState) → slice_get (all_shown slots.now) i ≡ Some s → IsOut self.now.awake i → IsOut self.now.free i
+            → place_of (length self.now.marks) s.address ≡ place → Names (mark_of self.now.marks s.address) i → Names result i }
+    {
+        match self.marks[place] {
+            Mark::Several => self.mark_by(slots, place),
+            mark => mark,
+        }
+    }
+
+    /// The mark of this place by the slots that sleep. Each slot is looked at.
+    fn mark_by(&self, slots: &[Slot], place: usize) -> Mark
+        requires { length slots.now ≤ 65535 }
+        ensures { (i : ℕ) (s : SlotState) → slice_get (all_shown slots.now) i ≡ Some s → IsOut self.now.awake i → IsOut self.now.free i
+            → place_of (length self.now.marks) s.address ≡ place → Names result i }
+    {
+        let mut mark = Mark::Nobody;
+        for number in 0..slots.len() {
+            if self.is_placed(slots, number, place) {
+                mark = mark.with(number as u16);
             }
         }
         mark

@@ -19,36 +19,52 @@ returns-in-Some-clause-offers c =
 pub returns-in-Known-clause-offers : goal.returns-in-Known-clause-offers
 returns-in-Known-clause-offers c =
     repeated (sym c.offer_refused.ensures ∙ c.in_default.is)
-    (seat-in c.args.slots.now.items c.deref.result.now c.args.from c.args.offer.connect_id c.args.start.now.config.generations c.seat_for.result Known c.seat_for.ensures c.deref.ensures.value c.in-Known.is)
+    (seat-in c.args.slots.now.items c.deref.result.now c.args.from c.args.offer.connect_id c.args.start.now.config.generations c.seat_for.result Known c.seat_for.ensures.seat c.deref.ensures.value c.in-Known.is)
 
 pub returns-in-Full-clause-offers : goal.returns-in-Full-clause-offers
 returns-in-Full-clause-offers c =
     let seat = seat-in c.args.slots.now.items c.deref.result.now c.args.from c.args.offer.connect_id c.args.start.now.config.generations c.seat_for.result Full
-    c.seat_for.ensures c.deref.ensures.value c.in-Full.is in
+    c.seat_for.ensures.seat c.deref.ensures.value c.in-Full.is in
     subst (λ (a : Received). Offers (record { basis = basis_of c.args.start.now; slots = all_shown c.args.slots.now.items }) c.args.from c.args.offer a (all_shown c.args.slots.now.items)) (sym c.stopped-in-Full.ensures)
     (no_slot (sym c.offer_refused.ensures ∙ c.in_default.is) seat.0 seat.1)
 
 pub returns-in-Ok-clause-offers : goal.returns-in-Ok-clause-offers
 returns-in-Ok-clause-offers c =
     let seat = seat-in c.args.slots.now.items c.deref.result.now c.args.from c.args.offer.connect_id c.args.start.now.config.generations c.seat_for.result (At c.in-At.place)
-    c.seat_for.ensures c.deref.ensures.value c.in-At.is in
+    c.seat_for.ensures.seat c.deref.ensures.value c.in-At.is in
     answers-at (basis_of c.args.start.now) c.args.slots.now.items c.args.from c.args.offer c.in-At.place c.index_mut-slot.result.now c.answer.new.self
     (sym c.offer_refused.ensures ∙ c.in_default.is) seat.0 seat.1 (omega (arith, seat.2, length-shown c.args.slots.now.items)) c.index_mut-slot.ensures.value c.in-Ok.ensures.answers
 
 pub returns-in-Err-clause-offers : goal.returns-in-Err-clause-offers
 returns-in-Err-clause-offers c =
     let seat = seat-in c.args.slots.now.items c.deref.result.now c.args.from c.args.offer.connect_id c.args.start.now.config.generations c.seat_for.result (At c.in-At.place)
-    c.seat_for.ensures c.deref.ensures.value c.in-At.is in
+    c.seat_for.ensures.seat c.deref.ensures.value c.in-At.is in
     no-memory-at (basis_of c.args.start.now) c.args.slots.now.items c.args.from c.args.offer c.in-At.place c.index_mut-slot.result.now c.answer.new.self
     c.stopped-in-Err.result (sym c.offer_refused.ensures ∙ c.in_default.is) seat.0 seat.1 c.index_mut-slot.ensures.value c.in-Err.ensures.unchanged c.stopped-in-Err.ensures
 
 pub returns-in-Ok-clause-sleepers : goal.returns-in-Ok-clause-sleepers
 returns-in-Ok-clause-sleepers c =
-    keeps-woken-at c.args.start.now.clock c.in-At.place c.args.sleepers.now c.wake.new.self c.args.slots.now.items c.answer.new.self c.requires.sleepers c.wake.ensures.kept c.wake.ensures.awake
+    let now = c.args.start.now.clock in
+    let slots = c.args.slots.now.items in
+    let kept = subst (λ (xs : List Slot). KeepsSleepers now c.args.sleepers.now (all_shown xs) → KeepsSleepers now c.seat_for.new.self (all_shown xs)) c.deref.ensures.value (c.seat_for.ensures.kept now) in
+    keeps-woken-at now c.in-At.place c.seat_for.new.self c.wake.new.self slots c.answer.new.self (kept c.requires.sleepers) c.wake.ensures.kept c.wake.ensures.awake
 
 pub returns-in-Err-clause-sleepers : goal.returns-in-Err-clause-sleepers
 returns-in-Err-clause-sleepers c =
-    keeps-woken-at c.args.start.now.clock c.in-At.place c.args.sleepers.now c.wake.new.self c.args.slots.now.items c.answer.new.self c.requires.sleepers c.wake.ensures.kept c.wake.ensures.awake
+    let now = c.args.start.now.clock in
+    let slots = c.args.slots.now.items in
+    let kept = subst (λ (xs : List Slot). KeepsSleepers now c.args.sleepers.now (all_shown xs) → KeepsSleepers now c.seat_for.new.self (all_shown xs)) c.deref.ensures.value (c.seat_for.ensures.kept now) in
+    keeps-woken-at now c.in-At.place c.seat_for.new.self c.wake.new.self slots c.answer.new.self (kept c.requires.sleepers) c.wake.ensures.kept c.wake.ensures.awake
 
 pub seat_for-requires : goal.seat_for-requires
 seat_for-requires c = (c.args.start.now.clock, subst (λ (xs : List Slot). KeepsSleepers c.args.start.now.clock c.args.sleepers.now (all_shown xs)) (sym c.deref.ensures.value) c.requires.sleepers)
+
+pub returns-in-Known-clause-sleepers : goal.returns-in-Known-clause-sleepers
+returns-in-Known-clause-sleepers c =
+    let now = c.args.start.now.clock in
+    subst (λ (xs : List Slot). KeepsSleepers now c.args.sleepers.now (all_shown xs) → KeepsSleepers now c.seat_for.new.self (all_shown xs)) c.deref.ensures.value (c.seat_for.ensures.kept now) c.requires.sleepers
+
+pub returns-in-Full-clause-sleepers : goal.returns-in-Full-clause-sleepers
+returns-in-Full-clause-sleepers c =
+    let now = c.args.start.now.clock in
+    subst (λ (xs : List Slot). KeepsSleepers now c.args.sleepers.now (all_shown xs) → KeepsSleepers now c.seat_for.new.self (all_shown xs)) c.deref.ensures.value (c.seat_for.ensures.kept now) c.requires.sleepers
