@@ -3,6 +3,7 @@ use Rattle.std.proofs.Common.{◌≡◌, ℕ, List, [], ◌∷◌, ◌++◌, len
 use Rattle.std.proofs.lemmas.List.Folds.{list_any_at}
 use Rattle.std.proofs.lemmas.Option.{get_or_from_slice_get, slice_get_within}
 use Rattle.std.specs.List.{position}
+use Rattle.std.specs.Option.{option_and_then}
 use Rattle.enet_codec.specs.declared.event.Event.{Event}
 use Rattle.enet_codec.specs.declared.event.Event.TheVariants as events
 use Rattle.enet_codec.specs.declared.event.PeerRef.{PeerRef}
@@ -10,8 +11,9 @@ use Rattle.enet_codec.specs.declared.packet.Packet.{Packet}
 use Rattle.enet_codec.specs.declared.refusal.Refusal.{Refusal}
 use Rattle.enet_codec.specs.declared.refusal.Refusal.TheVariants.{Memory}
 use Rattle.enet_slot.specs.Calls.{tells}
+use Rattle.enet_slot.specs.Slot.{SlotState}
 use Rattle.enet_host.specs.Host.{Host}
-use Rattle.enet_host.specs.Calls.{Takes}
+use Rattle.enet_host.specs.Calls.{Takes, address_named}
 use Rattle.enet_host.specs.Foretelling.{teller_of, packet_of, Foretells, IsTeller}
 use Rattle.law_network.specs.Calls as call
 use Rattle.law_network.specs.Log.{Logged}
@@ -77,3 +79,9 @@ refused-of (Err why) h name tells-first memory =
       list_any_at tells h.slots name.slot first.slot (slice_get_within h.slots name.slot first.slot first.there)
           (ap tells (get_or_from_slice_get h.slots name.slot first.slot first.slot first.there) ∙ first.here),
     )
+
+-- where the peer is that is foretold
+pub from-where : (slots : List SlotState) (h : Host) (found : Option PeerRef) → Foretells teller_of h found
+    → Foretells (λ event. option_and_then (address_named slots) (teller_of event)) h (option_and_then (address_named slots) found)
+from-where slots h found tells None after taken = ap (option_and_then (address_named slots)) (tells None after taken)
+from-where slots h found tells (Some event) after taken = ap (option_and_then (address_named slots)) (tells (Some event) after taken)

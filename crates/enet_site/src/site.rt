@@ -1,8 +1,10 @@
 //! A host in a network, at its address.
 
 ghost use Rattle.std.specs.Prelude.{◌≡◌, ◌<◌, ◌^◌, ℕ, [], length, ◌∷◌, true, false, Ok, Err, IfSome, IfNone, IfOk, IfErr, OnErr, slice_get};
-ghost use Rattle.std.specs.Option.{option_copied, option_map};
+ghost use Rattle.std.specs.Option.{option_and_then, option_copied, option_map};
 ghost use Rattle.enet_codec.specs.Config.{is_in_range};
+ghost use Rattle.enet_host.specs.Calls.{address_named};
+ghost use Rattle.enet_host.specs.Foretelling.{teller_of, Foretells};
 ghost use Rattle.enet_host.specs.Opening.{opened, joined};
 ghost use Rattle.law_network.specs.Headline.{AreEnds, submitted_at, taken_at, events_at};
 ghost use Rattle.law_network.specs.Network.{end_of, delivery_refusal};
@@ -18,7 +20,7 @@ use crate::delivery::refused_delivery;
 use crate::leaving::disconnect;
 use crate::put_out::Turned;
 use crate::submitting::submit;
-use crate::taking::take;
+use crate::taking::{next_event_from, take};
 use crate::turn::turn;
 use bytes::Bytes;
 use enet_codec::{Addr, Config, DisconnectMode, Event, Packet, PeerRef, Received, Refusal};
@@ -192,6 +194,13 @@ impl Site {
         ensures takes { IfOk result (λ event. CallsAt (call.NextEvent event) self.old self.new) }
     {
         take(&mut self.host, &mut self.records)
+    }
+
+    /// Where the host has the peer whose event `take` gives next; None where no event waits.
+    pub fn next_event_from(&self) -> Option<Addr>
+        ensures { Foretells (λ event. option_and_then (address_named self.now.host.slots) (teller_of event)) self.now.host result }
+    {
+        next_event_from(&self.host)
     }
 
     /// Its user ends the connection of a peer, with a word for the other user. E2, E3 as by the host, with nothing changed.

@@ -1,14 +1,15 @@
 //! A user takes the next event.
 
 ghost use Rattle.std.specs.Prelude.{◌≡◌, Some, None, IfSome, IfNone, IfOk, IfErr, OnErr};
-ghost use Rattle.enet_host.specs.Calls.{Takes};
+ghost use Rattle.std.specs.Option.{option_and_then};
+ghost use Rattle.enet_host.specs.Calls.{Takes, address_named};
 ghost use Rattle.enet_host.specs.Foretelling.{teller_of, packet_of, Foretells};
 ghost use Rattle.law_network.specs.Calls as call;
 ghost use Rattle.law_network.specs.World.{RefusesTake};
 ghost use Rattle.enet_site.specs.Sites.{IsWhole};
 ghost use Rattle.enet_site.specs.Private.Sites.{CallsOn, told};
 
-use enet_codec::{Event, Refusal};
+use enet_codec::{Addr, Event, Refusal};
 use enet_host::HostCore;
 use enet_records::{End, Records, position_of};
 
@@ -97,4 +98,14 @@ pub(crate) fn take(host: &mut HostCore, own: &mut Records) -> Result<Option<Even
     };
     let end = &mut own.ends[place];
     take_of(host, end)
+}
+
+/// Where the peer is whose event is taken next; None where none waits.
+pub(crate) fn next_event_from(host: &HostCore) -> Option<Addr>
+    ensures { Foretells (λ event. option_and_then (address_named host.now.slots) (teller_of event)) host.now result }
+{
+    let Some(teller) = host.next_event_of() else {
+        return None;
+    };
+    host.address(teller)
 }

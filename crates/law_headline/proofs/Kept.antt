@@ -74,7 +74,7 @@ back-in old new name c s t low left (goes_on p q ds has fell alone e) future = b
           | inr same ↦ absurd (let z : ◌≡◌ {A = Option Peering} None (Some q) = sym same.1 ∙ ap (λ (x : SlotState). x.peer) f in cc)
         ]
 
-unborn-back : (c : Call) (old new : Host) (name : PeerRef) → old.config.generations ≤ greatest → Acts c old new → IsUnborn new name → IsUnborn old name
+pub unborn-back : (c : Call) (old new : Host) (name : PeerRef) → old.config.generations ≤ greatest → Acts c old new → IsUnborn new name → IsUnborn old name
 unborn-back c old new name low acts u =
     let s = fares-back c old new acts name.slot u.slot u.there in
     let same : new.config.generations ≡ old.config.generations = same-generations c old new acts in

@@ -182,12 +182,13 @@ pub record IsBegun (client : ℕ → Option Site) (server : Site) (x i : ℕ) (n
   pub named : end.name ≡ name
   pub between : HasHeadlineBetween (Some end) (end_of x server.ends)
 
-pub page : (is_host : Addr → Bool) (server : Site) (su : User) (client : ℕ → Option Site) (cu : ℕ → User) (asked : List (ℕ × PeerRef)) → IsUsers is_host su server → ((i : ℕ) (s : Site) → client i ≡ Some s → IsUsers is_host (cu i) s)
+-- each connection has the name that the server's end gives it
+pub named-page : (is_host : Addr → Bool) (server : Site) (su : User) (client : ℕ → Option Site) (cu : ℕ → User) (asked : List (ℕ × PeerRef)) → IsUsers is_host su server → ((i : ℕ) (s : Site) → client i ≡ Some s → IsUsers is_host (cu i) s)
     → ((x i : ℕ) (name : PeerRef) → slice_get asked x ≡ Some (i, name) → IsBegun client server x i name)
     → ((e : HostEnd) → Has server.ends e → e.connection < length asked) → ((i : ℕ) (p : PeerRef) → client i ≡ None → (cu i).taken p ≡ [])
     → ((i : ℕ) (s : Site) → client i ≡ Some s → (e : HostEnd) → Has s.ends e → (name : PeerRef) × (slice_get asked e.connection ≡ Some (i, name)))
-    → IsHeadline su cu asked
-page is_host server su client cu asked ks kc begun below none own = record { here = here; each = each; apart = apart; apart_here = apart-here; all_here = all-here; all_there = all-there }
+    → (h : IsHeadline su cu asked) × ((x : ℕ) → h.here x ≡ called (end_of x server.ends))
+named-page is_host server su client cu asked ks kc begun below none own = (record { here = here; each = each; apart = apart; apart_here = apart-here; all_here = all-here; all_there = all-there }, λ x. refl)
   where
     here : ℕ → Option PeerRef
     here x = called (end_of x server.ends)
@@ -235,6 +236,13 @@ page is_host server su client cu asked ks kc begun below none own = record { her
         let h2 = has-end y server.ends two.0 two.1 in
         let is : one.0 ≡ two.0 = ks.headline.named one.0 two.0 h1.0 h2.0 (one.2 ∙ sym two.2) in
         sym h1.1 ∙ ap (λ (e : HostEnd). e.connection) is ∙ h2.1
+
+pub page : (is_host : Addr → Bool) (server : Site) (su : User) (client : ℕ → Option Site) (cu : ℕ → User) (asked : List (ℕ × PeerRef)) → IsUsers is_host su server → ((i : ℕ) (s : Site) → client i ≡ Some s → IsUsers is_host (cu i) s)
+    → ((x i : ℕ) (name : PeerRef) → slice_get asked x ≡ Some (i, name) → IsBegun client server x i name)
+    → ((e : HostEnd) → Has server.ends e → e.connection < length asked) → ((i : ℕ) (p : PeerRef) → client i ≡ None → (cu i).taken p ≡ [])
+    → ((i : ℕ) (s : Site) → client i ≡ Some s → (e : HostEnd) → Has s.ends e → (name : PeerRef) × (slice_get asked e.connection ≡ Some (i, name)))
+    → IsHeadline su cu asked
+page is_host server su client cu asked ks kc begun below none own = (named-page is_host server su client cu asked ks kc begun below none own).0
 
 -- ---- users of whom less is known
 
