@@ -121,7 +121,7 @@ impl Crowd {
     /// The user of a host takes an event. Whether there was one.
     fn take(&mut self, fleet: &mut Fleet, node: Node) -> Result<bool> {
         match stepped(fleet, FleetEvent::Take { node })? {
-            Answer::Taken(Some(Event::Receive { .. })) => {
+            Answer::Taken(Some((Event::Receive { .. }, _from))) => {
                 self.taken = self.taken.saturating_add(1);
                 Ok(true)
             }

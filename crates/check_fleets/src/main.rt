@@ -1,12 +1,12 @@
 //! `check_fleets` draws lists of 500 events on a server and four clients that know nothing of each other, with strangers around them,
 //! lets each list happen, and then tests the headline of every connection: what the users took follows what was submitted, and each
-//! user's events are one life. Strangers send random bytes, and bytes that were put out, with bits, lengths and headers turned; they
-//! connect, too. The seed of each list is drawn from seed 2. Where a list breaks the headline the run ends with status 1 and says
-//! which list, connection and end.
+//! user's events are one life. Then it plays the list by `Fleet::play`, and tests the page of the events and their answers. Strangers
+//! send random bytes, and bytes that were put out, with bits, lengths and headers turned; they connect, too. The seed of each list is
+//! drawn from seed 2. Where a list breaks the headline the run ends with status 1 and says which list, connection and end.
 //!
 //! It prints what was seen of 200 lists. The numbers in `stdout` are counts of such a run: they pin nothing but that each run is the
-//! same, and show what the lists try. The test is the headline. Lists of 500 events bring nothing too late, so before them one datagram
-//! comes again after 32,767 numbers, and is refused 32 later.
+//! same, and show what the lists try. The tests are the headline and the page. Lists of 500 events bring nothing too late, so before
+//! them one datagram comes again after 32,767 numbers, and is refused 32 later.
 //!
 //! `check_fleets time` prints instead how long steps take, in the mean, in fleets of 10, 50 and 200 clients, all of which are
 //! connected and talk.
@@ -18,12 +18,14 @@ mod drawing;
 mod late;
 mod list;
 mod pace;
+mod page;
 mod seen;
 mod stranger;
 
 use anyhow::{Result, bail};
 use check_outcome::{CHANNELS, Draw, Setting, is_end_sound, is_fleet_sound};
 use counting::Counts;
+use drawing::Hosts;
 use enet_fleet::{End, Fleet};
 use std::alloc::Global;
 use std::env;
@@ -63,7 +65,7 @@ fn one_list(alloc: Global, number: u32, seed: u64, counts: &mut Counts) -> Resul
     let mut draw = Draw::new(seed);
     let hosts = drawing::next_hosts(&mut draw);
     let mut fleet = list::open(alloc, hosts)?;
-    let outcome = list_in(alloc, number, &mut fleet, &mut draw, hosts.setting, counts);
+    let outcome = list_in(alloc, number, &mut fleet, &mut draw, hosts, counts);
     fleet.close();
     outcome
 }
@@ -74,11 +76,13 @@ fn list_in(
     number: u32,
     fleet: &mut Fleet,
     draw: &mut Draw,
-    setting: Setting,
+    hosts: Hosts,
     counts: &mut Counts,
 ) -> Result<()> {
-    let connections = list::happens(alloc, fleet, draw, setting, counts)?;
-    judge(fleet, number, setting, connections)?;
+    let mut events = Vec::new(alloc);
+    let connections = list::happens(alloc, fleet, draw, hosts.setting, counts, &mut events)?;
+    judge(fleet, number, hosts.setting, connections)?;
+    page::judge(alloc, number, hosts, fleet, &events)?;
     counts.add_list(fleet, connections);
     Ok(())
 }

@@ -2,12 +2,14 @@
 //! hosts with two channels.
 
 use crate::fault::Fault;
-use crate::row::{Outcome, is_for_want_of_memory};
 use crate::seen::Seen;
 use bytes::Bytes;
 use enet_codec::{Addr, Config, DisconnectMode, Event, PeerRef, Received, Refusal, Stop};
 use enet_fleet::{Answer, Fleet, FleetEvent, Node, node_of};
 use std::alloc::Global;
+
+/// What came of an event.
+type Outcome = Result<Answer, Refusal>;
 
 const C0: Node = Node::Client(0);
 
@@ -91,10 +93,10 @@ enum Wanted {
     Sent(u64, Addr, &'static [u8]),
     /// So many commands were handled, and then this stop.
     Handled(u32, Option<Stop>),
-    /// A Connect of the first peer of a slot, with this word.
-    Connect(u16, u32),
-    /// A packet of the first peer of a slot, on channel 1.
-    Receive(u16, &'static [u8]),
+    /// A Connect of the first peer of a slot, at this address, with this word.
+    Connect(u16, Addr, u32),
+    /// A packet of the first peer of a slot, at this address, on channel 1.
+    Receive(u16, Addr, &'static [u8]),
     Refused(Refusal),
 }
 
@@ -182,7 +184,7 @@ const ROW: [(Deed, Wanted); 21] = [
         },
         Wanted::Handled(1, None),
     ),
-    (Deed::Take(C0), Wanted::Connect(0, 0)),
+    (Deed::Take(C0), Wanted::Connect(0, AT_SERVER, 0)),
     (
         Deed::Connect {
             client: 2,
@@ -202,8 +204,8 @@ const ROW: [(Deed, Wanted); 21] = [
         },
         Wanted::Handled(2, None),
     ),
-    (Deed::Take(Node::Server), Wanted::Connect(1, 7)),
-    (Deed::Take(Node::Server), Wanted::Receive(1, b"hi")),
+    (Deed::Take(Node::Server), Wanted::Connect(1, AT_C0, 7)),
+    (Deed::Take(Node::Server), Wanted::Receive(1, AT_C0, b"hi")),
 ];
 
 /// Calls that take no memory.
@@ -275,19 +277,19 @@ fn is_answer(fleet: &Fleet, node: Node, answer: &Answer, wanted: Wanted) -> bool
         Answer::Received(told) => {
             matches!(wanted, Wanted::Handled(handled, stop) if *told == Received { handled, stop })
         }
-        Answer::Taken(Some(event)) => is_event(event, wanted),
+        Answer::Taken(Some((event, from))) => is_event(event, *from, wanted),
         Answer::Sent(None) | Answer::Taken(None) => false,
     }
 }
 
-/// Whether a user took this event.
-fn is_event(event: &Event, wanted: Wanted) -> bool {
+/// Whether a user took this event, of a peer there.
+fn is_event(event: &Event, from: Addr, wanted: Wanted) -> bool {
     match event {
         Event::Connect { peer, info } => {
-            matches!(wanted, Wanted::Connect(slot, word) if *peer == first(slot) && *info == word)
+            matches!(wanted, Wanted::Connect(slot, at, word) if *peer == first(slot) && from == at && *info == word)
         }
         Event::Receive { peer, packet } => {
-            matches!(wanted, Wanted::Receive(slot, body) if *peer == first(slot) && packet.channel == 1 && packet.body.as_slice() == body)
+            matches!(wanted, Wanted::Receive(slot, at, body) if *peer == first(slot) && from == at && packet.channel == 1 && packet.body.as_slice() == body)
         }
         Event::Disconnect { .. } | Event::Refused { .. } => false,
     }
@@ -298,6 +300,15 @@ fn is_wanted(fleet: &Fleet, node: Node, outcome: &Outcome, wanted: Wanted) -> bo
     match outcome {
         Ok(answer) => is_answer(fleet, node, answer, wanted),
         Err(why) => matches!(wanted, Wanted::Refused(reason) if *why == reason),
+    }
+}
+
+/// A growth was refused: E1, or a datagram was stopped by S11.
+fn is_for_want_of_memory(outcome: &Outcome) -> bool {
+    match outcome {
+        Err(why) => *why == Refusal::Memory,
+        Ok(Answer::Received(Received { stop, .. })) => *stop == Some(Stop::Memory),
+        Ok(_) => false,
     }
 }
 

@@ -8,10 +8,10 @@ use enet_world::{Answer, Side, World, WorldEvent, side_of};
 use std::alloc::Global;
 
 /// What came of an event.
-pub(crate) type Outcome = Result<Answer, Refusal>;
+type Outcome = Result<Answer, Refusal>;
 
 /// A growth was refused: E1, or a datagram was stopped by S11.
-pub(crate) fn is_for_want_of_memory(outcome: &Outcome) -> bool {
+fn is_for_want_of_memory(outcome: &Outcome) -> bool {
     match outcome {
         Err(why) => *why == Refusal::Memory,
         Ok(Answer::Received(Received { stop, .. })) => *stop == Some(Stop::Memory),

@@ -6,7 +6,7 @@ use Rattle.enet_host.specs.Host.{Host}
 use Rattle.law_network.specs.Calls.{Call}
 use Rattle.law_network.specs.Calls as call
 use Rattle.law_network.proofs.Lists.{same-or, get-set, get-set_other}
-use Rattle.law_network.specs.declared.event.Answer.{Answer}
+use Rattle.enet_fleet.specs.declared.answer.Answer.{Answer}
 use Rattle.law_network.specs.Alone.{call_by}
 use Rattle.law_network.specs.Steps.{Happening}
 use Rattle.law_network.proofs.Alone.{by-call, steps-append, alone}

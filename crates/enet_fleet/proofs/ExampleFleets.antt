@@ -9,7 +9,7 @@ use Rattle.enet_slot.specs.Hearing.{stopped}
 use Rattle.enet_host.specs.Receiving.{handled_one}
 use Rattle.law_connection.specs.Examples.{example_packet}
 use Rattle.law_connection.proofs.FirstPacket.{with_untaken, rest, first_message}
-use Rattle.law_network.specs.declared.event.Answer.TheVariants as answer
+use Rattle.enet_fleet.specs.declared.answer.Answer.TheVariants as answer
 use Rattle.law_network.specs.declared.event.Side.TheVariants.{A, B}
 use Rattle.law_network.specs.Examples.{example_config, first_name}
 use Rattle.law_network.specs.Log.{fresh_greatest, fresh_channels}
@@ -24,7 +24,7 @@ use Rattle.enet_fleet.specs.declared.event.FleetEvent.TheVariants as happen
 use Rattle.law_headline.specs.declared.node.Node.TheVariants.{Server, Client}
 use Rattle.enet_fleet.specs.Fleets.{Fleet, address_of, is_host, numbers_far, Steps}
 use Rattle.enet_fleet.specs.Examples as example
-use Rattle.enet_fleet.proofs.Stepping.{asks, submitted, turned, delivered, heard, taken}
+use Rattle.enet_fleet.proofs.Stepping.{asks, submitted, turned, delivered, heard, taken-one}
 
 -- a host that put out so many datagrams, all of them to hosts
 abbrev numbered : ℕ → List Sent
@@ -118,12 +118,12 @@ crosses = (
                     (record { let_in = refl; goes = refl; after = refl; live = λ e. absurd (cc) })),
                 (
                   pair (site B told_asker) 2 (site A standing) 1,
-                  taken (pair (site B confirmed) 2 (site A standing) 1) (Client 0) (place (site B confirmed) 2) (site B told_asker) (Some (events.Connect first_name 0)) refl
-                      (λ next far. takes next B far confirmed told_asker.peer (told.Connect 0) refl (λ e. absurd (cc))),
+                  taken-one (pair (site B confirmed) 2 (site A standing) 1) (Client 0) (place (site B confirmed) 2) (site B told_asker) (events.Connect first_name 0) (address_of Server) refl
+                      (λ next far. takes next B far confirmed told_asker.peer (told.Connect 0) refl (λ e. absurd (cc))) refl,
                   (
                     pair (site B told_asker) 2 (site A told_answerer) 1,
-                    taken (pair (site B told_asker) 2 (site A standing) 1) Server (place (site A standing) 1) (site A told_answerer) (Some (events.Connect first_name 3)) refl
-                        (λ next far. takes next A far standing told_answerer.peer (told.Connect 3) refl (λ e. absurd (cc))),
+                    taken-one (pair (site B told_asker) 2 (site A standing) 1) Server (place (site A standing) 1) (site A told_answerer) (events.Connect first_name 3) (address_of (Client 0)) refl
+                        (λ next far. takes next A far standing told_answerer.peer (told.Connect 3) refl (λ e. absurd (cc))) refl,
                     (
                       pair (site B (submitting told_asker)) 2 (site A told_answerer) 1,
                       submitted (pair (site B told_asker) 2 (site A told_answerer) 1) (Client 0) (place (site B told_asker) 2) (site B (submitting told_asker)) first_name 0 content.flags content.body refl
@@ -137,8 +137,8 @@ crosses = (
                               (λ next. hears next A client told_answerer 2 (header_of (submitting told_asker).peer first_message).session (Some 0) (sent told_asker told_answerer) first_message untaken crosses-told.brings crosses-told.obeys),
                           (
                             pair client 3 (site A server) 1,
-                            taken (pair client 3 (site A (hearing told_asker told_answerer untaken)) 1) Server (place (site A (hearing told_asker told_answerer untaken)) 1) (site A server) (Some (events.Receive first_name example_packet)) refl
-                                (λ next far. takes next A far (hearing told_asker told_answerer untaken) emptied (told.Receive example_packet) crosses-told.tells crosses-told.stays),
+                            taken-one (pair client 3 (site A (hearing told_asker told_answerer untaken)) 1) Server (place (site A (hearing told_asker told_answerer untaken)) 1) (site A server) (events.Receive first_name example_packet) (address_of (Client 0)) refl
+                                (λ next far. takes next A far (hearing told_asker told_answerer untaken) emptied (told.Receive example_packet) crosses-told.tells crosses-told.stays) refl,
                             (
                               pair client 3 (site A undisturbed) 1,
                               heard (pair client 3 (site A server) 1) Server (place (site A server) 1) (site A undisturbed) example.stranger [] (stopped Short) refl refl

@@ -1,14 +1,9 @@
 -- The headline on the transcript of a fleet.
 use Rattle.std.proofs.Common.{◌≡◌, ◌<◌, ℕ, zero, suc, arith, List, [], ◌∷◌, map, length, refl, sym, ap, subst, ◌∙◌, Bool, true, false, Option, Some, None, Result, Ok, Err, slice_get}
-use Rattle.std.specs.Prelude.{zip, IfOk}
 use Rattle.std.specs.Option.{option_map}
-use Rattle.enet_codec.specs.declared.config.Config.{Config}
 use Rattle.enet_codec.specs.declared.event.PeerRef.{PeerRef}
-use Rattle.enet_codec.specs.declared.refusal.Refusal.{Refusal}
-use Rattle.enet_codec.specs.declared.refusal.Refusal.TheVariants.{BadConfig}
 use Rattle.law_connection.specs.LinkSteps.{Has}
 use Rattle.std.proofs.lemmas.Option.{slice_get_within}
-use Rattle.law_network.specs.declared.event.Answer.{Answer}
 use Rattle.law_network.specs.Headline.{HasHeadlineBetween}
 use Rattle.law_network.specs.Network.{HostEnd, Site, end_of}
 use Rattle.law_network.proofs.Lists.{get-map}
@@ -17,16 +12,13 @@ use Rattle.enet_site.specs.Places.{Place}
 use Rattle.enet_fleet.specs.declared.event.End.TheVariants as end
 use Rattle.law_headline.specs.declared.node.Node.{Node}
 use Rattle.law_headline.specs.declared.node.Node.TheVariants.{Server, Client}
-use Rattle.enet_fleet.specs.declared.event.FleetEvent.{FleetEvent}
-use Rattle.enet_fleet.specs.Fleets.{Fleet, place_of, is_host, client_in, Runs, open_fleet}
+use Rattle.enet_fleet.specs.Fleets.{Fleet, place_of, is_host, client_in}
 use Rattle.enet_fleet.specs.Headline.{HasHeadline, end_in, end_at}
-use Rattle.enet_fleet.specs.Reached.{fit}
-use Rattle.enet_fleet.proofs.Reaching.{fit-server, fit-clients}
-use Rattle.law_headline.proofs.Page.{IsUsers, IsBegun, page}
+use Rattle.law_headline.specs.Page.{IsHeadline}
+use Rattle.law_headline.proofs.Page.{IsUsers, IsBegun, called, named-page}
 use Rattle.law_headline.proofs.Telling.{get-unmapped, length-mapped}
-use Rattle.enet_fleet.specs.Transcript.{Happened, asked, user, IsOnTranscript}
+use Rattle.enet_fleet.specs.Transcript.{Happened, asked, user}
 use Rattle.enet_fleet.specs.Told.{IsToldBy}
-use Rattle.enet_fleet.proofs.Told.{each-list}
 
 abbrev site-of : Option Place → Option Site
 site-of o = option_map (λ (p : Place). p.site) o
@@ -35,8 +27,10 @@ has-site : (o : Option Place) (s : Site) → site-of o ≡ Some s → (p : Place
 has-site None s h = absurd (let y : ◌≡◌ {A = Option Site} None (Some s) = h in cc)
 has-site (Some p) s h = (p, refl, same-some p.site s h)
 
-pub on-transcript : (f : Fleet) (hs : List Happened) → HasHeadline f → IsToldBy hs f → IsOnTranscript hs
-on-transcript f hs k told = page (is_host (length f.clients)) f.server.site (user Server hs) (λ i. site-of (slice_get f.clients i)) (λ i. user (Client i) hs) (asked hs)
+-- each connection with the name that the server's end gives it
+pub headline-on : (f : Fleet) (hs : List Happened) → HasHeadline f → IsToldBy hs f
+    → (h : IsHeadline (user Server hs) (λ i. user (Client i) hs) (asked hs)) × ((x : ℕ) → h.here x ≡ called (end_of x f.server.site.ends))
+headline-on f hs k told = named-page (is_host (length f.clients)) f.server.site (user Server hs) (λ i. site-of (slice_get f.clients i)) (λ i. user (Client i) hs) (asked hs)
     (record { recorded = told.each Server f.server refl; headline = k.hosts Server f.server refl; covered = told.covered Server f.server refl })
     (λ i s h. (let p = has-site (slice_get f.clients i) s h in
     subst (IsUsers (is_host (length f.clients)) (user (Client i) hs)) p.2 (record { recorded = told.each (Client i) p.0 p.1; headline = k.hosts (Client i) p.0 p.1; covered = told.covered (Client i) p.0 p.1 })))
@@ -79,28 +73,3 @@ on-transcript f hs k told = page (is_host (length f.clients)) f.server.site (use
           named = b.5;
           between = subst (λ (o : Option HostEnd). HasHeadlineBetween o (end_of x f.server.site.ends)) here (k.ends x);
         }
-
--- so it is of each list that was played
-pub played : (server : Config) (clients : List Config) → fit server clients ≡ true → (events : List FleetEvent) (answers : List (Result Answer Refusal)) (f : Fleet) → Runs (open_fleet server clients) events answers f → HasHeadline f
-    → IsOnTranscript (zip events answers)
-played server clients fits events answers f r k =
-    on-transcript f (zip events answers) k (each-list server clients (fit-server server clients fits) (fit-clients server clients fits) events answers f r)
-
-pub answered : {V : Type 0} (items : V → List (Result Answer Refusal)) (server : Config) (clients : List Config) (events : List FleetEvent) (r : Result V Refusal) (first f : Fleet) → fit server clients ≡ true → first ≡ open_fleet server clients
-    → IfOk r (λ a. Runs first events (items a) f) → HasHeadline f → IfOk r (λ a. IsOnTranscript (zip events (items a)))
-answered items server clients events (Ok a) first f fits fresh runs k =
-    played server clients fits events (items a) f (subst (λ (g : Fleet). Runs g events (items a) f) fresh runs) k
-answered items server clients events (Err why) first f fits fresh runs k = tt
-
--- settings by which something else than that refusal came
-pub fitted : {V : Type 0} (server : Config) (clients : List Config) (r : Result V Refusal) (v : V) → (fit server clients ≡ false → r ≡ Err BadConfig) → r ≡ Ok v → fit server clients ≡ true
-fitted server clients r v refused ok = by (fit server clients) refl
-  where
-    by : (b : Bool) → fit server clients ≡ b → fit server clients ≡ true
-    by true e = e
-    by false e = absurd (let z : ◌≡◌ {A = Result _ Refusal} (Ok v) (Err BadConfig) = sym ok ∙ refused e in cc)
-
-pub stepped : {V : Type 0} (items : V → List (Result Answer Refusal)) (server : Config) (clients : List Config) (events : List FleetEvent) (r : Result V Refusal) (first f : Fleet) → first ≡ open_fleet server clients
-    → IfOk r (λ a. Runs first events (items a) f) → IfOk r (λ a. (g : Fleet) × Runs (open_fleet server clients) events (items a) g)
-stepped items server clients events (Ok a) first f fresh runs = (f, subst (λ (g : Fleet). Runs g events (items a) f) fresh runs)
-stepped items server clients events (Err why) first f fresh runs = tt

@@ -11,7 +11,7 @@ use Rattle.enet_codec.specs.declared.refusal.Refusal.TheVariants.{NoSuchDatagram
 use Rattle.enet_codec.specs.Config.{is_in_range}
 use Rattle.law_connection.proofs.Lists.{Has-slice_get}
 use Rattle.enet_slot.specs.Hearing.{is_same_address}
-use Rattle.law_network.specs.declared.event.Answer.{Answer}
+use Rattle.enet_fleet.specs.declared.answer.Answer.{Answer}
 use Rattle.law_network.specs.Headline.{AreEnds}
 use Rattle.law_network.specs.Log.{Logged}
 use Rattle.law_network.specs.World.{IsRefusedFor}

@@ -8,8 +8,8 @@ use Rattle.law_connection.specs.LinkSteps.{Has}
 use Rattle.enet_slot.specs.Hearing.{is_same_address}
 use Rattle.law_network.specs.Calls.{Call}
 use Rattle.law_network.specs.Calls as call
-use Rattle.law_network.specs.declared.event.Answer.{Answer}
-use Rattle.law_network.specs.declared.event.Answer.TheVariants as answers
+use Rattle.enet_fleet.specs.declared.answer.Answer.{Answer}
+use Rattle.enet_fleet.specs.declared.answer.Answer.TheVariants as answers
 use Rattle.law_network.specs.Log.{Logged}
 use Rattle.law_network.specs.Steps.{Happening, Calls, Hears}
 use Rattle.law_network.proofs.Addresses.{equal-address}
@@ -80,7 +80,8 @@ allowed-of f (happen.Stranger to addr bytes) (answers.Received answer) e m = pla
 allowed-of f (happen.Turn node) (answers.Sent None) e m = plain-call f node (call.Service None m.0) e refl m.1
 allowed-of f (happen.Turn node) (answers.Sent (Some k)) e m = plain-call f node (call.Service (Some m.0) m.1) e refl m.2
 allowed-of f (happen.Tick node ms) answers.Done e m = plain-call f node (call.Tick ms) e refl m
-allowed-of f (happen.Take node) (answers.Taken event) e m = plain-call f node (call.NextEvent event) e refl m
+allowed-of f (happen.Take node) (answers.Taken None) e m = plain-call f node (call.NextEvent None) e refl m
+allowed-of f (happen.Take node) (answers.Taken (Some told)) e m = plain-call f node (call.NextEvent (Some told.0)) e refl m.0
 allowed-of f (happen.Disconnect node peer how info) answers.Done e m = plain-call f node (call.Disconnect how peer info (Ok tt)) e refl m
 allowed-of f event answer e m = absurd m
 

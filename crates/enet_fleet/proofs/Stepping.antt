@@ -3,6 +3,7 @@ use Rattle.std.proofs.Common.{◌≡◌, ℕ, ◌||◌, true, false, Bool, List,
 use Rattle.std.proofs.lemmas.List.{set-get_or}
 use Rattle.std.proofs.lemmas.Option.{get_or_from_slice_get}
 use Rattle.std.proofs.lemmas.Result.{IfOk-weaker}
+use Rattle.std.specs.Option.{option_and_then, option_zip}
 use Rattle.enet_codec.specs.declared.address.Addr.{Addr}
 use Rattle.enet_codec.specs.declared.event.DisconnectMode.{DisconnectMode}
 use Rattle.enet_codec.specs.declared.event.Event.{Event}
@@ -10,13 +11,22 @@ use Rattle.enet_codec.specs.declared.event.PeerRef.{PeerRef}
 use Rattle.enet_codec.specs.declared.event.Received.{Received}
 use Rattle.enet_codec.specs.declared.refusal.Refusal.{Refusal}
 use Rattle.enet_codec.specs.declared.refusal.Refusal.TheVariants.{Memory, NoSuchHost}
+use Rattle.enet_peer.specs.declared.parts.PeerEvent.{PeerEvent}
+use Rattle.enet_peer.specs.declared.parts.PeerEvent.TheVariants as told
+use Rattle.enet_slot.specs.Slot.{name_of}
+use Rattle.enet_slot.specs.Calls.{event_of}
+use Rattle.enet_host.specs.Host.{Host}
+use Rattle.enet_host.specs.Calls.{TakesOne, address_in, address_named}
+use Rattle.enet_host.specs.Calls as host_calls
+use Rattle.enet_host.specs.Foretelling.{teller_of, Foretells}
 use Rattle.law_network.specs.Calls.{Call}
 use Rattle.law_network.specs.Calls as call
-use Rattle.law_network.specs.declared.event.Answer.{Answer}
-use Rattle.law_network.specs.declared.event.Answer.TheVariants as answers
+use Rattle.enet_fleet.specs.declared.answer.Answer.{Answer}
+use Rattle.enet_fleet.specs.declared.answer.Answer.TheVariants as answers
 use Rattle.law_network.specs.Network.{Site}
 use Rattle.law_network.specs.Steps.{Happening, Calls, Hears, Happens, HappensAmong, Called}
 use Rattle.law_network.specs.World.{IsRefusedFor, RefusesCall, RefusesTake}
+use Rattle.law_network.proofs.Names.{there-slot}
 use Rattle.enet_site.specs.declared.put_out.Sent.TheVariants.{Of, Away}
 use Rattle.enet_site.specs.declared.put_out.Turned.{Turned}
 use Rattle.enet_site.specs.declared.put_out.Turned.TheVariants as turn
@@ -27,7 +37,7 @@ use Rattle.enet_fleet.specs.declared.event.FleetEvent.{FleetEvent}
 use Rattle.enet_fleet.specs.declared.event.FleetEvent.TheVariants as happen
 use Rattle.law_headline.specs.declared.node.Node.{Node}
 use Rattle.law_headline.specs.declared.node.Node.TheVariants.{Server, Client}
-use Rattle.enet_fleet.specs.Fleets.{Fleet, place_of, with_place, address_of, is_host, numbers_far, around, asked_after, sent_if, sent_after, HappensAt, logged_to, next_number, brings, lacks, RefusesAt, RefusesTakeAt, refused_there, refused_delivery, RefusesThere, RefusesIf, Refuses, Steps}
+use Rattle.enet_fleet.specs.Fleets.{Fleet, place_of, with_place, address_of, is_host, numbers_far, around, asked_after, sent_if, sent_after, HappensAt, logged_to, next_number, brings, lacks, RefusesAt, RefusesTakeAt, refused_there, refused_delivery, RefusesThere, RefusesIf, Refuses, IsFrom, Steps}
 use Rattle.enet_fleet.specs.Private.Turning.{PutsOutByTurn, sent_of}
 use Rattle.enet_fleet.proofs.Runs.{is_connect}
 
@@ -108,9 +118,40 @@ pub ticked : (f : Fleet) (n : Node) (was : Place) (new : Site) (ms : ℕ) → pl
     → Steps f (happen.Tick n ms) (Ok answers.Done) (with_place f n (record was { site = new }))
 ticked f n was new ms there h = (Calls (call.Tick ms), refl, called n (call.Tick ms) f was new refl there (h (length f.asked) f.server.site) refl)
 
-pub taken : (f : Fleet) (n : Node) (was : Place) (new : Site) (event : Option Event) → place_of f n ≡ Some was → CallsAt (call.NextEvent event) was.site new
-    → Steps f (happen.Take n) (Ok (answers.Taken event)) (with_place f n (record was { site = new }))
-taken f n was new event there h = (Calls (call.NextEvent event), refl, called n (call.NextEvent event) f was new refl there (h (length f.asked) f.server.site) refl)
+teller-is : (name : PeerRef) (e : PeerEvent) → teller_of (event_of name e) ≡ Some name
+teller-is name (told.Connect info) = refl
+teller-is name (told.Receive q) = refl
+teller-is name (told.Disconnect info) = refl
+
+-- the host has the peer of an event that it gives
+given-from : (h : Host) (event : Event) (after : Host) → TakesOne h event after → (a : Addr) × (option_and_then (address_named h.slots) (teller_of event) ≡ Some a)
+given-from h event after t = (
+  t.first.slot.address,
+  ap (λ (e : Event). option_and_then (address_named h.slots) (teller_of e)) t.gives.told ∙ ap (option_and_then (address_named h.slots)) (teller-is name t.gives.taken.event)
+      ∙ ap address_in (there-slot h.slots name t.gives.peer (record { slot = t.first.slot; there = t.first.there; same = refl; peer = t.gives.held })) ∙ ap (host_calls.address_of t.first.slot) t.gives.held,
+)
+  where
+    name : PeerRef
+    name = name_of t.from t.first.slot
+
+pub taken-one : (f : Fleet) (n : Node) (was : Place) (new : Site) (event : Event) (from : Addr) → place_of f n ≡ Some was → CallsAt (call.NextEvent (Some event)) was.site new
+    → option_and_then (address_named was.site.host.slots) (teller_of event) ≡ Some from
+    → Steps f (happen.Take n) (Ok (answers.Taken (Some (event, from)))) (with_place f n (record was { site = new }))
+taken-one f n was new event from there h at = (
+  Calls (call.NextEvent (Some event)),
+  (refl, subst (λ (o : Option Place). IsFrom o event from) (sym there) at),
+  called n (call.NextEvent (Some event)) f was new refl there (h (length f.asked) f.server.site) refl,
+)
+
+pub taken : (f : Fleet) (n : Node) (was : Place) (new : Site) (event : Option Event) (from : Option Addr) → place_of f n ≡ Some was → CallsAt (call.NextEvent event) was.site new
+    → Foretells (λ e. option_and_then (address_named was.site.host.slots) (teller_of e)) was.site.host from
+    → Steps f (happen.Take n) (Ok (answers.Taken (option_zip event from))) (with_place f n (record was { site = new }))
+taken f n was new None from there h tells = (Calls (call.NextEvent None), refl, called n (call.NextEvent None) f was new refl there (h (length f.asked) f.server.site) refl)
+taken f n was new (Some event) from there h tells =
+    let takes : TakesOne was.site.host event new.host = (h (length f.asked) f.server.site).0 in
+    let g = given-from was.site.host event new.host takes in
+    subst (λ (o : Option Addr). Steps f (happen.Take n) (Ok (answers.Taken (option_zip (Some event) o))) (with_place f n (record was { site = new }))) (sym (tells (Some event) new.host takes ∙ g.1))
+    (taken-one f n was new event g.0 there h g.1)
 
 pub left : (f : Fleet) (n : Node) (was : Place) (new : Site) (peer : PeerRef) (how : DisconnectMode) (info : ℕ) → place_of f n ≡ Some was
     → CallsAt (call.Disconnect how peer info (Ok tt)) was.site new

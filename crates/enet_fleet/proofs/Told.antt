@@ -15,8 +15,8 @@ use Rattle.enet_codec.specs.Config.{is_in_range}
 use Rattle.law_connection.specs.LinkSteps.{Has}
 use Rattle.law_connection.proofs.Lists.{Has-push}
 use Rattle.law_network.specs.Calls as call
-use Rattle.law_network.specs.declared.event.Answer.{Answer}
-use Rattle.law_network.specs.declared.event.Answer.TheVariants as answers
+use Rattle.enet_fleet.specs.declared.answer.Answer.{Answer}
+use Rattle.enet_fleet.specs.declared.answer.Answer.TheVariants as answers
 use Rattle.law_network.specs.Network.{HostEnd, Site, fresh_end, is_same_name}
 use Rattle.law_network.specs.Steps.{Around, Happening, Calls, Hears, HappensAmong}
 use Rattle.law_network.proofs.Growing.{Grows, grows, more_of, stays-there}
@@ -41,7 +41,7 @@ use Rattle.law_headline.proofs.Telling.{push, runs-on, get-either, length-mapped
 use Rattle.enet_fleet.specs.Transcript.{Happened, is_node, submits, takes, asks, submitted, taken, asked, brings_guest, guests}
 use Rattle.enet_fleet.specs.Told.{IsToldBy, EachListIsKept}
 
-abbrev HappensAt : Node → Node → Happening → Fleet → Fleet → Type 0
+abbrev pub HappensAt : Node → Node → Happening → Fleet → Fleet → Type 0
 HappensAt n from what old new = nets.HappensAt address_of n from what old new
 
 -- what one event adds
@@ -80,9 +80,9 @@ adds f (happen.Turn node) (answers.Sent None) what m n q here = adds-none n q _ 
 adds f (happen.Turn node) (answers.Sent (Some k)) what m n q here = adds-none n q _ _ what _ m.2 (λ channel. refl) refl (λ channel. refl) refl
 adds f (happen.Tick node ms) answers.Done what m n q here = adds-none n q _ _ what _ m (λ channel. refl) refl (λ channel. refl) refl
 adds f (happen.Take node) (answers.Taken None) what m n q here = adds-none n q _ _ what _ m (λ channel. refl) refl (λ channel. refl) refl
-adds f (happen.Take node) (answers.Taken (Some event)) what m n q here = subst (Adds n q (happen.Take node) (answers.Taken (Some event))) (sym m) (record {
+adds f (happen.Take node) (answers.Taken (Some told)) what m n q here = subst (Adds n q (happen.Take node) (answers.Taken (Some told))) (sym m.0) (record {
   packets = λ channel. refl;
-  events = ap (λ (b : Bool). cond (b && is_of q event) (event ∷ []) []) here;
+  events = ap (λ (b : Bool). cond (b && is_of q told.0) (told.0 ∷ []) []) here;
 })
 adds f (happen.Disconnect node peer how info) answers.Done what m n q here = adds-none n q _ _ what _ m (λ channel. refl) refl (λ channel. refl) refl
 adds f event answer what m n q here = absurd m
@@ -96,7 +96,8 @@ brings f (happen.Stranger to addr bytes) (answers.Received answer) what m n here
 brings f (happen.Turn node) (answers.Sent None) what m n here none = ap is_guest m.1
 brings f (happen.Turn node) (answers.Sent (Some k)) what m n here none = ap is_guest m.2
 brings f (happen.Tick node ms) answers.Done what m n here none = ap is_guest m
-brings f (happen.Take node) (answers.Taken event) what m n here none = ap is_guest m
+brings f (happen.Take node) (answers.Taken None) what m n here none = ap is_guest m
+brings f (happen.Take node) (answers.Taken (Some told)) what m n here none = ap is_guest m.0
 brings f (happen.Disconnect node peer how info) answers.Done what m n here none = ap is_guest m
 brings f event answer what m n here none = absurd m
 
@@ -119,7 +120,7 @@ elsewhere-submits n q channel (happen.Submit m p number flags body) (Ok answers.
 elsewhere-submits n q channel event answer away = refl
 
 elsewhere-takes : (n : Node) (q : PeerRef) (event : FleetEvent) (answer : Result Answer Refusal) → is_node (node_of event) n ≡ false → takes n q event answer ≡ []
-elsewhere-takes n q (happen.Take m) (Ok (answers.Taken (Some event))) away = ap (λ (b : Bool). cond (b && is_of q event) (event ∷ []) []) away
+elsewhere-takes n q (happen.Take m) (Ok (answers.Taken (Some told))) away = ap (λ (b : Bool). cond (b && is_of q told.0) (told.0 ∷ []) []) away
 elsewhere-takes n q event answer away = refl
 
 -- connections
@@ -147,7 +148,8 @@ asks-on f (happen.Stranger to addr bytes) (answers.Received answer) what m = ask
 asks-on f (happen.Turn node) (answers.Sent None) what m = asks-none f node what _ [] m.1 refl refl
 asks-on f (happen.Turn node) (answers.Sent (Some k)) what m = asks-none f node what _ [] m.2 refl refl
 asks-on f (happen.Tick node ms) answers.Done what m = asks-none f node what _ [] m refl refl
-asks-on f (happen.Take node) (answers.Taken event) what m = asks-none f node what _ [] m refl refl
+asks-on f (happen.Take node) (answers.Taken None) what m = asks-none f node what _ [] m refl refl
+asks-on f (happen.Take node) (answers.Taken (Some told)) what m = asks-none f node what _ [] m.0 refl refl
 asks-on f (happen.Disconnect node peer how info) answers.Done what m = asks-none f node what _ [] m refl refl
 asks-on f event answer what m = absurd m
 
@@ -170,7 +172,7 @@ begins-of f event answer what m i name k h = absurd (let e : ◌≡◌ {A = Opti
 -- hosts
 
 -- a host after something happened at the host m: it is the one where it happened, or as it was
-data Placed (m n : Node) (what : Happening) (f : Fleet) (was is p : Place) : Type 0 where
+pub data Placed (m n : Node) (what : Happening) (f : Fleet) (was is p : Place) : Type 0 where
   is_here : is_node m n ≡ true → place_of f n ≡ Some was → is ≡ p → Placed m n what f was is p
   is_away : is_node m n ≡ false → place_of f n ≡ Some p → Placed m n what f was is p
 
@@ -182,13 +184,13 @@ at-client k i from what f g h p there (inl e) =
 at-client k i from what f g h p there (inr n) =
     is_away (let t : (k == i) ≡ false = grind (arith, nat_tests) in t) (sym (get-set_other f.clients k i h.is n) ∙ sym (ap (λ (x : Fleet). slice_get x.clients i) h.rest) ∙ there)
 
-placed : (m n from : Node) (what : Happening) (f g : Fleet) (h : HappensAt m from what f g) (p : Place) → place_of g n ≡ Some p → Placed m n what f h.was h.is p
-placed Server Server from what f g h p there = is_here refl h.there (same-some h.is p (sym (ap (λ (x : Fleet). place_of x Server) h.rest) ∙ there))
-placed Server (Client i) from what f g h p there = is_away refl (sym (ap (λ (x : Fleet). place_of x (Client i)) h.rest) ∙ there)
-placed (Client k) Server from what f g h p there = is_away refl (sym (ap (λ (x : Fleet). place_of x Server) h.rest) ∙ there)
-placed (Client k) (Client i) from what f g h p there = at-client k i from what f g h p there (same-or k i)
+pub where-is : (m n from : Node) (what : Happening) (f g : Fleet) (h : HappensAt m from what f g) (p : Place) → place_of g n ≡ Some p → Placed m n what f h.was h.is p
+where-is Server Server from what f g h p there = is_here refl h.there (same-some h.is p (sym (ap (λ (x : Fleet). place_of x Server) h.rest) ∙ there))
+where-is Server (Client i) from what f g h p there = is_away refl (sym (ap (λ (x : Fleet). place_of x (Client i)) h.rest) ∙ there)
+where-is (Client k) Server from what f g h p there = is_away refl (sym (ap (λ (x : Fleet). place_of x Server) h.rest) ∙ there)
+where-is (Client k) (Client i) from what f g h p there = at-client k i from what f g h p there (same-or k i)
 
-same-node : (m n : Node) → is_node m n ≡ true → m ≡ n
+pub same-node : (m n : Node) → is_node m n ≡ true → m ≡ n
 same-node Server Server e = refl
 same-node (Client i) (Client k) e = ap (λ (j : ℕ). Client j) (let s : i ≡ k = grind (arith, nat_tests) in s)
 same-node Server (Client k) e = absurd (let z : false ≡ true = e in cc)
@@ -207,7 +209,7 @@ Recorded n hs s = IsRecorded (λ q channel. submitted n q channel hs) (λ q. tak
 
 each-goes : (f g : Fleet) (hs : List Happened) (event : FleetEvent) (answer : Answer) (what : Happening) (from : Node) → Makes f event answer what → (h : HappensAt (node_of event) from what f g) → IsToldBy hs f
     → (n : Node) (p : Place) → place_of g n ≡ Some p → Recorded n (hs ++ (event, Ok answer) ∷ []) p.site
-each-goes f g hs event answer what from m h k n p there = by (placed (node_of event) n from what f g h p there)
+each-goes f g hs event answer what from m h k n p there = by (where-is (node_of event) n from what f g h p there)
   where
     by : Placed (node_of event) n what f h.was h.is p → Recorded n (hs ++ (event, Ok answer) ∷ []) p.site
     by (is_here same was is) =
@@ -300,7 +302,7 @@ covered-goes f n from hs event answer what sender was is s m here sends there ha
     own : net.Holds address_of apart f.asked (length f.clients) n was.site
     own = net.each-holds address_of apart f s n was there
 
-length-with : (f : Fleet) (n : Node) (p : Place) → length (with_place f n p).clients ≡ length f.clients
+pub length-with : (f : Fleet) (n : Node) (p : Place) → length (with_place f n p).clients ≡ length f.clients
 length-with f Server p = refl
 length-with f (Client i) p = length-set f.clients i p
 
@@ -309,7 +311,7 @@ covered-each : (f g : Fleet) (hs : List Happened) (event : FleetEvent) (answer :
 covered-each f g hs event answer what from s m h k n p there quiet =
     subst (λ (c : ℕ). IsCovered (is_host c) (λ q channel. submitted n q channel (hs ++ (event, Ok answer) ∷ [])) (λ q. taken n q (hs ++ (event, Ok answer) ∷ [])) p.site)
     (sym (ap (λ (x : Fleet). length x.clients) h.rest ∙ length-with f (node_of event) h.is))
-    (by (placed (node_of event) n from what f g h p there))
+    (by (where-is (node_of event) n from what f g h p there))
   where
     calm : (guests n hs ≡ false) × (brings_guest n event (Ok answer) ≡ false)
     calm = any-push (λ (z : Happened). brings_guest n z.0 z.1) hs (event, Ok answer) quiet

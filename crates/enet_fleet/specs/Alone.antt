@@ -3,7 +3,7 @@ use Rattle.std.specs.Prelude.{◌≡◌, ◌==◌, if◌then◌else◌, List, []
 use Rattle.enet_codec.specs.declared.refusal.Refusal.{Refusal}
 use Rattle.law_network.specs.Calls.{Call}
 use Rattle.law_network.specs.Calls as call
-use Rattle.law_network.specs.declared.event.Answer.{Answer}
+use Rattle.enet_fleet.specs.declared.answer.Answer.{Answer}
 use Rattle.law_network.specs.Alone.{LiveAlone, call_by}
 use Rattle.enet_site.specs.Places.{Place}
 use Rattle.enet_fleet.specs.declared.event.FleetEvent.{FleetEvent}

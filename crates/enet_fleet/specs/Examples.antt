@@ -1,14 +1,16 @@
 -- A list of a fleet's events that does happen, so that the law speaks of something.
 use Rattle.std.specs.Prelude.{◌≡◌, List, [], ◌∷◌, ◌++◌, Some, Result, Ok, Err}
 use Rattle.enet_codec.specs.declared.address.Addr.{Addr}
+use Rattle.enet_codec.specs.declared.event.Event.TheVariants as events
 use Rattle.enet_codec.specs.declared.refusal.Refusal.{Refusal}
 use Rattle.enet_codec.specs.declared.refusal.Refusal.TheVariants.{NoSuchDatagram, NoSuchHost}
 use Rattle.enet_codec.specs.declared.stop.Stop.TheVariants.{Short}
 use Rattle.law_connection.specs.Examples.{example_packet}
 use Rattle.enet_slot.specs.Hearing.{stopped}
-use Rattle.law_network.specs.declared.event.Answer.{Answer}
-use Rattle.law_network.specs.declared.event.Answer.TheVariants as answers
-use Rattle.law_network.specs.Examples.{example_config, first_name, connected, crossed}
+use Rattle.enet_host.specs.Receiving.{handled_one}
+use Rattle.enet_fleet.specs.declared.answer.Answer.{Answer}
+use Rattle.enet_fleet.specs.declared.answer.Answer.TheVariants as answers
+use Rattle.law_network.specs.Examples.{example_config, first_name}
 use Rattle.law_network.specs.Headline.{submitted_at, taken_at}
 use Rattle.law_network.specs.Numbers.{Stands}
 use Rattle.enet_site.specs.Places.{Place}
@@ -24,9 +26,17 @@ abbrev pub connecting : List FleetEvent
 connecting = happen.Connect 0 1 3 9 ∷ happen.Turn (Client 0) ∷ happen.Deliver Server (Client 0) 0 ∷ happen.Turn Server ∷ happen.Deliver (Client 0) Server 0
     ∷ happen.Turn (Client 0) ∷ happen.Deliver Server (Client 0) 1 ∷ happen.Take (Client 0) ∷ happen.Take Server ∷ []
 
+abbrev pub connected : List (Result Answer Refusal)
+connected = Ok (answers.Peer first_name) ∷ Ok (answers.Sent (Some 0)) ∷ Ok (answers.Received handled_one) ∷ Ok (answers.Sent (Some 0)) ∷ Ok (answers.Received handled_one)
+    ∷ Ok (answers.Sent (Some 1)) ∷ Ok (answers.Received handled_one) ∷ Ok (answers.Taken (Some (events.Connect first_name 0, address_of Server)))
+    ∷ Ok (answers.Taken (Some (events.Connect first_name 3, address_of (Client 0)))) ∷ []
+
 -- a reliable packet is submitted there, goes by the client's datagram 2, comes to the server and is taken
 abbrev pub crossing : List FleetEvent
 crossing = happen.Submit (Client 0) first_name 0 example_packet.flags example_packet.body ∷ happen.Turn (Client 0) ∷ happen.Deliver Server (Client 0) 2 ∷ happen.Take Server ∷ []
+
+abbrev pub crossed : List (Result Answer Refusal)
+crossed = Ok answers.Done ∷ Ok (answers.Sent (Some 2)) ∷ Ok (answers.Received handled_one) ∷ Ok (answers.Taken (Some (events.Receive first_name example_packet, address_of (Client 0)))) ∷ []
 
 abbrev pub stranger : Addr
 stranger = record { ip = 0x0A000909; port = 5000 }
@@ -49,4 +59,4 @@ pub record HasCrossed (f : Fleet) : Type 0 where
 
 -- from a server and two clients whose slots are free, with these answers
 abbrev pub Crosses : Type 0
-Crosses = (f : Fleet) × Runs (open_fleet example_config (example_config ∷ example_config ∷ [])) (connecting ++ crossing ++ intruding) (connected ++ crossed 2 ++ turned_away) f × HasCrossed f
+Crosses = (f : Fleet) × Runs (open_fleet example_config (example_config ∷ example_config ∷ [])) (connecting ++ crossing ++ intruding) (connected ++ crossed ++ turned_away) f × HasCrossed f

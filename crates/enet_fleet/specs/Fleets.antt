@@ -1,16 +1,19 @@
 -- A server and its clients, with strangers around them, and the events of such a fleet one by one.
 use Rattle.std.specs.Prelude.{◌≡◌, ℕ, ◌+◌, ◌==◌, ◌&&◌, ◌||◌, nat_le, nat_lt, Bool, true, false, if◌then◌else◌, List, [], ◌∷◌, ◌++◌, length, take, Option, Some, None, is_none, Result, Ok, Err, slice_get, slice_set}
-use Rattle.std.specs.Option.{option_map, option_flatten}
+use Rattle.std.specs.Option.{option_map, option_and_then, option_flatten}
 use Rattle.enet_codec.specs.declared.address.Addr.{Addr}
 use Rattle.enet_codec.specs.declared.config.Config.{Config}
+use Rattle.enet_codec.specs.declared.event.Event.{Event}
 use Rattle.enet_codec.specs.declared.event.PeerRef.{PeerRef}
 use Rattle.enet_codec.specs.declared.refusal.Refusal.{Refusal}
 use Rattle.enet_codec.specs.declared.refusal.Refusal.TheVariants.{Memory, NoSuchDatagram, NoSuchHost}
 use Rattle.enet_slot.specs.Hearing.{is_same_address}
+use Rattle.enet_host.specs.Calls.{address_named}
+use Rattle.enet_host.specs.Foretelling.{teller_of}
 use Rattle.law_network.specs.Calls.{Call}
 use Rattle.law_network.specs.Calls as call
-use Rattle.law_network.specs.declared.event.Answer.{Answer}
-use Rattle.law_network.specs.declared.event.Answer.TheVariants as answers
+use Rattle.enet_fleet.specs.declared.answer.Answer.{Answer}
+use Rattle.enet_fleet.specs.declared.answer.Answer.TheVariants as answers
 use Rattle.law_network.specs.Log.{Logged}
 use Rattle.law_network.specs.Network.{Site, numbers_of, delivery_refusal}
 use Rattle.law_network.specs.Running.{RunsBy}
@@ -108,6 +111,11 @@ abbrev pub brings : Node → Option Place → ℕ → Option ℕ
 brings to None k = None
 brings to (Some p) k = logged_to (address_of to) p k
 
+-- where a host has the peer of an event that its user takes
+abbrev pub IsFrom : Option Place → Event → Addr → Type 0
+IsFrom None event from = ⊥
+IsFrom (Some p) event from = option_and_then (address_named p.site.host.slots) (teller_of event) ≡ Some from
+
 -- the one host call of an event that was not refused, by what was answered
 abbrev pub Makes : Fleet → FleetEvent → Answer → Happening → Type 0
 Makes f (happen.Connect client channels info word) (answers.Peer name) e = e ≡ Calls (call.Connect (address_of Server) channels info word (Ok name))
@@ -118,7 +126,8 @@ Makes f (happen.Turn node) (answers.Sent None) e = (buf : List ℕ) × (e ≡ Ca
 Makes f (happen.Turn node) (answers.Sent (Some k)) e =
     (gave : PeerRef × Addr × ℕ) × (buf : List ℕ) × (e ≡ Calls (call.Service (Some gave) buf)) × (k ≡ next_number (place_of f node))
 Makes f (happen.Tick node ms) answers.Done e = e ≡ Calls (call.Tick ms)
-Makes f (happen.Take node) (answers.Taken event) e = e ≡ Calls (call.NextEvent event)
+Makes f (happen.Take node) (answers.Taken None) e = e ≡ Calls (call.NextEvent None)
+Makes f (happen.Take node) (answers.Taken (Some told)) e = (e ≡ Calls (call.NextEvent (Some told.0))) × IsFrom (place_of f node) told.0 told.1
 Makes f (happen.Disconnect node peer how info) answers.Done e = e ≡ Calls (call.Disconnect how peer info (Ok tt))
 Makes f _ _ e = ⊥
 

@@ -4,7 +4,7 @@ use Rattle.std.specs.List.{list_all}
 use Rattle.enet_codec.specs.declared.config.Config.{Config}
 use Rattle.enet_codec.specs.declared.refusal.Refusal.{Refusal}
 use Rattle.enet_codec.specs.Config.{is_in_range}
-use Rattle.law_network.specs.declared.event.Answer.{Answer}
+use Rattle.enet_fleet.specs.declared.answer.Answer.{Answer}
 use Rattle.enet_fleet.specs.declared.event.FleetEvent.{FleetEvent}
 use Rattle.enet_fleet.specs.Fleets.{Fleet, Runs, open_fleet}
 

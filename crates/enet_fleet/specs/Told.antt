@@ -6,7 +6,7 @@ use Rattle.enet_codec.specs.declared.event.PeerRef.{PeerRef}
 use Rattle.enet_codec.specs.declared.refusal.Refusal.{Refusal}
 use Rattle.enet_codec.specs.Config.{is_in_range}
 use Rattle.law_connection.specs.LinkSteps.{Has}
-use Rattle.law_network.specs.declared.event.Answer.{Answer}
+use Rattle.enet_fleet.specs.declared.answer.Answer.{Answer}
 use Rattle.law_network.specs.Network.{HostEnd}
 use Rattle.enet_site.specs.Places.{Place}
 use Rattle.law_headline.specs.declared.node.Node.{Node}

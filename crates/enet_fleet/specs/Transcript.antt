@@ -1,16 +1,18 @@
 -- The headline of a fleet, said of its events and of the answers to them alone.
-use Rattle.std.specs.Prelude.{ℕ, ◌==◌, ◌&&◌, Bool, true, false, if◌then◌else◌, List, [], ◌∷◌, flat_map, Some, Result, Ok}
+use Rattle.std.specs.Prelude.{◌≡◌, ◌<◌, ℕ, ◌==◌, ◌&&◌, Bool, true, false, if◌then◌else◌, List, [], ◌∷◌, flat_map, Some, Result, Ok, slice_get}
 use Rattle.std.specs.List.{list_any}
+use Rattle.enet_codec.specs.declared.address.Addr.{Addr}
 use Rattle.enet_codec.specs.declared.event.Event.{Event}
 use Rattle.enet_codec.specs.declared.event.PeerRef.{PeerRef}
 use Rattle.enet_codec.specs.declared.packet.Packet.{Packet}
 use Rattle.enet_codec.specs.declared.refusal.Refusal.{Refusal}
-use Rattle.law_network.specs.declared.event.Answer.{Answer}
-use Rattle.law_network.specs.declared.event.Answer.TheVariants as answers
+use Rattle.enet_fleet.specs.declared.answer.Answer.{Answer}
+use Rattle.enet_fleet.specs.declared.answer.Answer.TheVariants as answers
 use Rattle.law_headline.specs.declared.node.Node.{Node}
 use Rattle.law_headline.specs.declared.node.Node.TheVariants.{Server, Client}
 use Rattle.enet_fleet.specs.declared.event.FleetEvent.{FleetEvent}
 use Rattle.enet_fleet.specs.declared.event.FleetEvent.TheVariants as happen
+use Rattle.enet_fleet.specs.Fleets.{address_of}
 use Rattle.law_headline.specs.Page.{User, IsHeadline, is_of}
 use Rattle.law_network.specs.Network.{is_same_name}
 
@@ -33,8 +35,13 @@ submits n p channel _ _ = []
 
 -- to the events that the user of host n took of its peer p
 abbrev pub takes : Node → PeerRef → FleetEvent → Result Answer Refusal → List Event
-takes n p (happen.Take m) (Ok (answers.Taken (Some event))) = if is_node m n && is_of p event then event ∷ [] else []
+takes n p (happen.Take m) (Ok (answers.Taken (Some told))) = if is_node m n && is_of p told.0 then told.0 ∷ [] else []
 takes n p _ _ = []
+
+-- to the addresses where host n was told to have its peer p
+abbrev pub places : Node → PeerRef → FleetEvent → Result Answer Refusal → List Addr
+places n p (happen.Take m) (Ok (answers.Taken (Some told))) = if is_node m n && is_of p told.0 then told.1 ∷ [] else []
+places n p _ _ = []
 
 -- to the connections: which client asked, and what it calls its peer
 abbrev pub asks : FleetEvent → Result Answer Refusal → List (ℕ × PeerRef)
@@ -47,6 +54,9 @@ submitted n p channel hs = flat_map (λ h. submits n p channel h.0 h.1) hs
 
 abbrev pub taken : Node → PeerRef → List Happened → List Event
 taken n p hs = flat_map (λ h. takes n p h.0 h.1) hs
+
+abbrev pub placed : Node → PeerRef → List Happened → List Addr
+placed n p hs = flat_map (λ h. places n p h.0 h.1) hs
 
 abbrev pub asked : List Happened → List (ℕ × PeerRef)
 asked hs = flat_map (λ h. asks h.0 h.1) hs
@@ -63,6 +73,15 @@ guests n hs = list_any (λ h. brings_guest n h.0 h.1) hs
 abbrev pub user : Node → List Happened → User
 user n hs = record { submitted = λ p channel. submitted n p channel hs; taken = λ p. taken n p hs; guests = guests n hs }
 
--- the headline
-abbrev pub IsOnTranscript : List Happened → Type 0
-IsOnTranscript hs = IsHeadline (user Server hs) (λ i. user (Client i) hs) (asked hs)
+-- the headline of so many clients, with names that are tied to addresses
+pub record IsOnTranscript (clients : ℕ) (hs : List Happened) : Type 0 where
+  pub headline : IsHeadline (user Server hs) (λ i. user (Client i) hs) (asked hs)
+  -- whoever is at a host's address is the peer of a connection with that host, also where strangers are
+  pub at_client : (p : PeerRef) (k i : ℕ) → slice_get (placed Server p hs) k ≡ Some (address_of (Client i)) → i < clients
+      → (x : ℕ) × (headline.here x ≡ Some p) × (there : PeerRef) × (slice_get (asked hs) x ≡ Some (i, there))
+  pub at_server : (p : PeerRef) (k i : ℕ) → slice_get (placed (Client i) p hs) k ≡ Some (address_of Server) → (x : ℕ) × (slice_get (asked hs) x ≡ Some (i, p))
+  -- and the peer of a connection is nowhere else
+  pub here_at : (x i k : ℕ) (there p : PeerRef) (a : Addr) → slice_get (asked hs) x ≡ Some (i, there) → headline.here x ≡ Some p
+      → slice_get (placed Server p hs) k ≡ Some a → a ≡ address_of (Client i)
+  pub there_at : (x i k : ℕ) (there : PeerRef) (a : Addr) → slice_get (asked hs) x ≡ Some (i, there) → slice_get (placed (Client i) there hs) k ≡ Some a
+      → a ≡ address_of Server

@@ -9,10 +9,10 @@ ghost use Rattle.enet_fleet.specs.declared.event.FleetEvent.TheVariants as happe
 ghost use Rattle.enet_fleet.specs.Fleets.{Steps};
 ghost use Rattle.enet_fleet.specs.Reached.{IsReached};
 
+use crate::answer::Answer;
 use crate::hosts::Hosts;
 use enet_codec::{PeerRef, Refusal};
 use enet_site::Site;
-use law_network::Answer;
 use std::alloc::Global;
 
 /// Why a client's question for so many channels is refused where there is no memory to note it.

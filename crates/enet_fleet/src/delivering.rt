@@ -8,11 +8,11 @@ ghost use Rattle.law_headline.specs.declared.node.Node.TheVariants as node;
 ghost use Rattle.enet_fleet.specs.Fleets.{Steps, Refuses, logged_to, refused_there};
 ghost use Rattle.enet_fleet.specs.Reached.{IsReached};
 
+use crate::answer::Answer;
 use crate::hosts::{Hosts, SERVER, client_address};
 use enet_codec::{Addr, Received, Refusal};
 use enet_site::{Place, Sent, Site};
 use law_headline::Node;
-use law_network::Answer;
 use std::alloc::Global;
 
 /// Which datagram of a host's log is its datagram `k`, where that went to this address.

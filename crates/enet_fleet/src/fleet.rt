@@ -10,13 +10,13 @@ ghost use Rattle.enet_fleet.specs.Fleets.{Fleet as AllHosts, Steps, Runs, open_f
 ghost use Rattle.enet_fleet.specs.Headline.{HasHeadline, end_at, far_end};
 ghost use Rattle.enet_fleet.specs.Reached.{fit};
 
+use crate::answer::Answer;
 use crate::each_connection_of_a_fleet;
 use crate::event::{End, FleetEvent};
 use crate::happening::happen;
 use crate::hosts::{Hosts, sent_by};
 use enet_codec::{Addr, Config, Event, Packet, Refusal};
 use law_headline::Node;
-use law_network::Answer;
 use std::alloc::Global;
 use std::marker::Model;
 
@@ -107,7 +107,9 @@ impl Fleet {
     /// (specs/Page of `law_headline`). What a client's user submitted on a channel, to the peer that an accepted Connect named, is
     /// followed by what the server's user took of its peer of that connection, and the other way round: a subsequence, each packet whole
     /// and once, that leaves out none flagged RELIABLE before its last. Each end's events are one life, and no two connections share a
-    /// name. At a host where no stranger's datagram was taken in, all that was taken is of these connections.
+    /// name. Each event that a user took is told with the address of its peer: at a client's address is the peer of a connection for which
+    /// that client asked, at the server's that of one for which this client asked, and no peer of a connection is told to be elsewhere, also
+    /// where strangers are. At a host where no stranger's datagram was taken in, all that was taken is of these connections.
     pub fn play(
         alloc: Global,
         server: Config,
@@ -117,7 +119,7 @@ impl Fleet {
         ensures out_of_range { fit server clients.now ≡ false → result ≡ Err Refusal.BadConfig }
         ensures in_range { fit server clients.now ≡ true → IfErr result (λ why. why ≡ Refusal.Memory) }
         ensures steps { IfOk result (λ answers. (f : AllHosts) × Runs (open_fleet server clients.now) events.now answers.items f) }
-        ensures headline { IfOk result (λ answers. IsOnTranscript (zip events.now answers.items)) }
+        ensures headline { IfOk result (λ answers. IsOnTranscript (length clients.now) (zip events.now answers.items)) }
     {
         let mut fleet = Fleet::open(alloc, server, clients)?;
         let answers = fleet.run(events);

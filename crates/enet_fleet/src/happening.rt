@@ -1,18 +1,20 @@
 //! What an event does in a fleet.
 
+ghost use Rattle.std.specs.Prelude.{◌≡◌};
+ghost use Rattle.std.specs.Option.{option_zip};
 ghost use Rattle.enet_fleet.specs.declared.event.FleetEvent.TheVariants as happen;
 ghost use Rattle.enet_fleet.specs.Fleets.{Steps};
 ghost use Rattle.enet_fleet.specs.Reached.{IsReached};
 
+use crate::answer::Answer;
 use crate::connecting::connect;
 use crate::delivering::deliver;
 use crate::event::FleetEvent;
 use crate::hosts::{Hosts, is_host};
 use crate::turning::turn;
 use bytes::Bytes;
-use enet_codec::{Addr, DisconnectMode, PeerRef, Refusal};
+use enet_codec::{Addr, DisconnectMode, Event, PeerRef, Refusal};
 use law_headline::Node;
-use law_network::Answer;
 use std::alloc::Global;
 
 /// The user of a host submits a packet.
@@ -58,15 +60,23 @@ fn tick(hosts: &mut Hosts, node: Node, ms: u32) -> Result<Answer, Refusal>
     Ok(Answer::Done)
 }
 
-/// The user of a host takes its next event.
+/// An event that was taken, and where its peer is.
+fn told(event: Option<Event>, from: Option<Addr>) -> Option<(Event, Addr)>
+    ensures { result ≡ option_zip event from }
+{
+    event.zip(from)
+}
+
+/// The user of a host takes its next event, and is told where its peer is.
 fn take(hosts: &mut Hosts, node: Node) -> Result<Answer, Refusal>
     ensures { Steps hosts.old (happen.Take node) result hosts.new }
 {
     let Some(here) = hosts.place_mut(node) else {
         return Err(Refusal::NoSuchHost);
     };
+    let from = here.site.next_event_from();
     let event = here.site.take()?;
-    Ok(Answer::Taken(event))
+    Ok(Answer::Taken(told(event, from)))
 }
 
 /// The user of a host ends a connection.

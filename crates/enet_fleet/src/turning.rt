@@ -8,13 +8,13 @@ ghost use Rattle.enet_fleet.specs.Fleets.{Steps};
 ghost use Rattle.enet_fleet.specs.Reached.{IsReached};
 ghost use Rattle.enet_fleet.specs.Private.Turning.{PutsOutByTurn, sent_of};
 
+use crate::answer::Answer;
 use crate::around::{AroundClient, AroundServer};
 use crate::hosts::Hosts;
 use enet_codec::Refusal;
 use enet_records::Around;
 use enet_site::{Place, Sent, Turned};
 use law_headline::Node;
-use law_network::Answer;
 use std::alloc::Global;
 
 /// What a turn put out, as it is kept.

@@ -14,6 +14,7 @@ use Rattle.law_network.specs.Log.{Logged}
 use Rattle.law_network.specs.World.{World, site_of, side_of}
 use Rattle.law_network.specs.World as world
 use Rattle.enet_world.specs.Worlds.{Begun, begun}
+use Rattle.enet_fleet.specs.declared.answer.Answer.{Answer as FleetAnswer}
 use Rattle.enet_fleet.specs.declared.event.FleetEvent.{FleetEvent}
 use Rattle.law_headline.specs.declared.node.Node.{Node}
 use Rattle.enet_fleet.specs.Fleets.{Fleet, place_of, node_of, sent_by, open_fleet}
@@ -22,7 +23,7 @@ use Rattle.enet_fleet.specs.Reached.{fit}
 use Rattle.enet_lab.specs.declared.host.Host.TheVariants.{OfWorld, OfFleet}
 use Rattle.enet_lab.specs.declared.line.Line.{Line}
 use Rattle.enet_lab.specs.declared.line.Line.TheVariants as spelled
-use Rattle.enet_lab.specs.Answers.{outcome_text}
+use Rattle.enet_lab.specs.Answers.{outcome_shown, outcome_text}
 use Rattle.enet_lab.specs.Hosts.{recipient_at}
 use Rattle.enet_lab.specs.EnetLines.{spells}
 use Rattle.enet_lab.specs.declared.fault.LabFault.{LabFault}
@@ -61,8 +62,9 @@ text_with clients node (Some sent) outcome = outcome_text (OfFleet node) (Some (
 abbrev pub fleet_text : FleetEvent → Result Answer Refusal → Fleet → List ℕ
 fleet_text event outcome new = text_with (length new.clients) (node_of event) (sent_shown new (node_of event) outcome) outcome
 
+-- A step of a fleet, of whose answer that is shown.
 abbrev pub FleetSteps : Fleet → FleetEvent → Result Answer Refusal → Fleet → Type 0
-FleetSteps = fleet.Steps
+FleetSteps old event outcome new = (told : Result FleetAnswer Refusal) × fleet.Steps old event told new × (outcome ≡ outcome_shown told)
 
 -- A network steps so, by an event of which that is told: the text of what is answered to it.
 pub record StepsTo {N : Type 0} (Steps : Result Answer Refusal → N → Type 0) (told : Result Answer Refusal → N → List ℕ) (text : List ℕ) (new : N) : Type 0 where

@@ -4,7 +4,7 @@ ghost use Rattle.std.specs.Prelude.{◌≡◌, ◌++◌, codes, IfOk};
 ghost use Rattle.std.specs.Fmt.{decimal};
 ghost use Rattle.std.specs.String.{string_bytes};
 ghost use Rattle.enet_text.specs.Texts.{bytes_text, peer_text};
-ghost use Rattle.enet_lab.specs.Answers.{to_text, text_of, outcome_text};
+ghost use Rattle.enet_lab.specs.Answers.{to_text, text_of, shown_of, outcome_shown, outcome_text};
 ghost use Rattle.enet_lab.specs.Hosts.{host_text};
 
 use crate::host::{Host, Recipient, host_text, recipient_text};
@@ -52,6 +52,30 @@ pub fn outcome_text(
     match outcome {
         Ok(answer) => answer_text(alloc, host, to, datagram, answer),
         Err(refusal) => refusal_text(alloc, *refusal),
+    }
+}
+
+/// What is shown of an answer in a fleet: all but where the peer is of which an event was taken.
+fn shown_of(answer: enet_fleet::Answer) -> Answer
+    ensures { result ≡ shown_of answer }
+{
+    match answer {
+        enet_fleet::Answer::Peer(peer) => Answer::Peer(peer),
+        enet_fleet::Answer::Done => Answer::Done,
+        enet_fleet::Answer::Received(received) => Answer::Received(received),
+        enet_fleet::Answer::Sent(number) => Answer::Sent(number),
+        enet_fleet::Answer::Taken(None) => Answer::Taken(None),
+        enet_fleet::Answer::Taken(Some((event, _from))) => Answer::Taken(Some(event)),
+    }
+}
+
+/// The same, or the refusal.
+pub(crate) fn outcome_shown(outcome: Result<enet_fleet::Answer, Refusal>) -> Result<Answer, Refusal>
+    ensures { result ≡ outcome_shown outcome }
+{
+    match outcome {
+        Ok(answer) => Ok(shown_of(answer)),
+        Err(refusal) => Err(refusal),
     }
 }
 

@@ -5,6 +5,7 @@ ghost use Rattle.std.specs.Option.{option_map};
 ghost use Rattle.std.specs.String.{string_bytes};
 ghost use Rattle.enet_lab.specs.Lines.{FleetSteps, StepsTo, WorldSteps, bytes_shown, fleet_text, sent_shown, world_text};
 
+use crate::answer::outcome_shown;
 use crate::{Host, Recipient, outcome_text};
 use enet_codec::{Addr, Refusal};
 use enet_fleet::{Fleet, FleetEvent, Node, node_of};
@@ -45,7 +46,7 @@ pub(crate) fn fleet_step(
     ensures { IfOk result (λ text. StepsTo (FleetSteps fleet.old event) (fleet_text event) (string_bytes text) fleet.new) }
 {
     let node = node_of(&event);
-    let outcome = fleet.step(event);
+    let outcome = outcome_shown(fleet.step(event));
     let host = Host::OfFleet(node);
     match sent_shown(fleet, node, &outcome) {
         Some((addr, bytes)) => {

@@ -1,7 +1,7 @@
 use Rattle.std.proofs.Common.{◌≡◌, ℕ, ◌++◌, ◌∷◌, [], length, Ok, Err, Some, refl, sym, ap, subst, ◌∙◌, slice_get, arith}
 use Rattle.std.proofs.lemmas.Option.{slice_get_read}
 use Rattle.std.proofs.lemmas.Result.{err_from_is_err_and}
-use Rattle.law_network.specs.declared.event.Answer.TheVariants as answers
+use Rattle.enet_fleet.specs.declared.answer.Answer.TheVariants as answers
 use Rattle.enet_site.specs.Places.{Place}
 use Rattle.enet_fleet.specs.contracts.hosts.Hosts.{the_view}
 use Rattle.enet_fleet.specs.declared.event.FleetEvent.TheVariants as happen

@@ -1,0 +1,17 @@
+use Rattle.enet_fleet.proofs.Refuting.{tied, alone, lied, swapped, lent}
+use Rattle.enet_fleet.proofs.false_lists_are_refuted.Goals as goal
+
+pub returns-clause-named : goal.returns-clause-named
+returns-clause-named c = tied
+
+pub returns-clause-own : goal.returns-clause-own
+returns-clause-own c = alone
+
+pub returns-clause-lie : goal.returns-clause-lie
+returns-clause-lie c = lied
+
+pub returns-clause-swap : goal.returns-clause-swap
+returns-clause-swap c = swapped
+
+pub returns-clause-loan : goal.returns-clause-loan
+returns-clause-loan c = lent

@@ -1,0 +1,83 @@
+-- What the page refuses, where strangers are.
+use Rattle.std.specs.Prelude.{◌≡◌, ◌≢◌, ◌<◌, ℕ, List, [], ◌∷◌, Some, None, Result, Ok, slice_get}
+use Rattle.enet_codec.specs.declared.address.Addr.{Addr}
+use Rattle.enet_codec.specs.declared.event.Event.{Event}
+use Rattle.enet_codec.specs.declared.event.Event.TheVariants as events
+use Rattle.enet_codec.specs.declared.event.PeerRef.{PeerRef}
+use Rattle.law_headline.specs.declared.node.Node.{Node}
+use Rattle.law_headline.specs.declared.node.Node.TheVariants.{Server, Client}
+use Rattle.enet_fleet.specs.declared.answer.Answer.TheVariants as answers
+use Rattle.enet_fleet.specs.declared.event.FleetEvent.TheVariants as happen
+use Rattle.enet_fleet.specs.Fleets.{address_of}
+use Rattle.enet_fleet.specs.Transcript.{Happened, IsOnTranscript, asked, placed}
+
+-- ---- of every list
+-- where the server's user took an event of a peer at a client's address, some connection has that peer's name
+abbrev pub NamesAreTied : Type 0
+NamesAreTied = (clients : ℕ) (hs : List Happened) (h : IsOnTranscript clients hs) (p : PeerRef) (k i : ℕ) → i < clients → slice_get (placed Server p hs) k ≡ Some (address_of (Client i))
+    → ((x : ℕ) → h.headline.here x ≡ None) → ⊥
+
+-- no connection has the name of a peer that is told to be elsewhere than the client that asked for it
+abbrev pub OwnNamesAlone : Type 0
+OwnNamesAlone = (clients : ℕ) (hs : List Happened) (h : IsOnTranscript clients hs) (x i k : ℕ) (there p : PeerRef) (a : Addr) → slice_get (asked hs) x ≡ Some (i, there)
+    → slice_get (placed Server p hs) k ≡ Some a → a ≢ address_of (Client i) → h.headline.here x ≢ Some p
+
+-- ---- false lists
+abbrev pub stranger : Addr
+stranger = record { ip = 0x0A000909; port = 5000 }
+
+abbrev pub first : PeerRef
+first = record { slot = 0; generation = 0 }
+
+abbrev pub second : PeerRef
+second = record { slot = 1; generation = 0 }
+
+-- a client asks, and calls its peer so
+abbrev pub asks : ℕ → PeerRef → Happened
+asks client p = (happen.Connect client 1 0 9, Ok (answers.Peer p))
+
+-- a byte is submitted, reliably
+abbrev pub submits : Node → PeerRef → ℕ → Happened
+submits n p byte = (happen.Submit n p 0 1 (byte ∷ []), Ok answers.Done)
+
+-- an event is taken of a peer at an address: that it is connected, that it is gone, or a byte
+abbrev pub takes : Node → Addr → Event → Happened
+takes n a event = (happen.Take n, Ok (answers.Taken (Some (event, a))))
+
+abbrev pub begins : Node → Addr → PeerRef → Happened
+begins n a p = takes n a (events.Connect p 0)
+
+abbrev pub ends : Node → Addr → PeerRef → Happened
+ends n a p = takes n a (events.Disconnect p 0)
+
+abbrev pub gets : Node → Addr → PeerRef → ℕ → Happened
+gets n a p byte = takes n a (events.Receive p (record { channel = 0; flags = 1; body = byte ∷ [] }))
+
+-- the server takes a stranger's datagram in
+abbrev pub intrudes : Happened
+intrudes = (happen.Stranger Server stranger [], Ok (answers.Received (record { handled = 1; stop = None })))
+
+-- client 0 submits 1; a stranger is taken in; of its peer at client 0's address the server's user takes 2, 2, 3, and the end twice
+abbrev pub lie : List Happened
+lie = asks 0 first ∷ submits (Client 0) first 1 ∷ intrudes ∷ begins Server (address_of (Client 0)) first ∷ gets Server (address_of (Client 0)) first 2
+    ∷ gets Server (address_of (Client 0)) first 2 ∷ gets Server (address_of (Client 0)) first 3 ∷ ends Server (address_of (Client 0)) first
+    ∷ ends Server (address_of (Client 0)) first ∷ []
+
+abbrev pub LieIsRefuted : Type 0
+LieIsRefuted = IsOnTranscript 1 lie → ⊥
+
+-- client 0 submits 1, client 1 submits 2; a stranger is taken in; of its peer at client 1's address the server's user takes 1
+abbrev pub swap : List Happened
+swap = asks 0 first ∷ asks 1 first ∷ submits (Client 0) first 1 ∷ submits (Client 1) first 2 ∷ intrudes ∷ begins Server (address_of (Client 1)) first
+    ∷ gets Server (address_of (Client 1)) first 1 ∷ []
+
+abbrev pub SwapIsRefuted : Type 0
+SwapIsRefuted = IsOnTranscript 2 swap → ⊥
+
+-- client 0 asks twice; the server's user submits 7 to a stranger's peer; of its second peer the client's user takes 7
+abbrev pub loan : List Happened
+loan = asks 0 first ∷ asks 0 second ∷ intrudes ∷ begins Server stranger first ∷ submits Server first 7 ∷ begins (Client 0) (address_of Server) second
+    ∷ gets (Client 0) (address_of Server) second 7 ∷ []
+
+abbrev pub LoanIsRefuted : Type 0
+LoanIsRefuted = IsOnTranscript 1 loan → ⊥
