@@ -1,5 +1,5 @@
 -- Each peer of which it was told that it is at a host's address is that of a connection with this host.
-use Rattle.std.proofs.Common.{◌≡◌, ◌≢◌, ℕ, zero, suc, ◌+◌, ◌<◌, ◌⊎◌, inl, inr, Bool, true, false, cond, List, [], ◌∷◌, ◌++◌, length, refl, sym, ap, subst, ◌∙◌, append-nil, Option, Some, None, Result, Ok, Err, slice_get}
+use Rattle.std.proofs.Common.{◌≡◌, ◌≢◌, ℕ, zero, suc, ◌+◌, ◌<◌, ◌⊎◌, inl, inr, ◌&&◌, Bool, true, false, cond, List, [], ◌∷◌, ◌++◌, length, refl, sym, ap, subst, ◌∙◌, append-nil, Option, Some, None, Result, Ok, Err, slice_get}
 use Rattle.std.specs.Prelude.{zip}
 use Rattle.std.specs.Option.{option_map, option_and_then}
 use Rattle.std.specs.List.{list_all}
@@ -112,7 +112,7 @@ IsTold f (happen.Take n) (answers.Taken (Some told)) = (p : Place) → place_of 
 IsTold f event answer = Unit {0}
 
 pub is-told : (f : Fleet) (event : FleetEvent) (answer : Answer) (what : Happening) → Makes f event answer what → IsTold f event answer
-is-told f (happen.Take n) (answers.Taken (Some told)) what m p there name is =
+is-told f (happen.Take n) (answers.Taken (Some told)) what m = λ p there name is.
     ap (option_and_then (address_named p.site.host.slots)) (of-teller name told.0 is) ∙ subst (λ (o : Option Place). IsFrom o told.0 told.1) there m.1
 is-told f event answer what m = tt
 
