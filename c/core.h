@@ -31,4 +31,12 @@ uint32_t gofnjerta_core_peer(gofnjerta_host *host, const gofnjerta_peer *peer, g
 uint32_t gofnjerta_core_totals_of(gofnjerta_host *host, gofnjerta_totals *totals);
 uint32_t gofnjerta_core_due_in(gofnjerta_host *host, uint32_t *ms);
 
+/* A range coder's memory, of as many bytes as crates/enet_c says; only the proved code reads it. What is in it before a call doesn't matter. */
+typedef struct {
+    uint16_t words[41734 / 2];
+} gofnjerta_coder;
+
+size_t gofnjerta_core_compress(gofnjerta_coder *coder, const void *body, size_t length, void *out, size_t room);
+size_t gofnjerta_core_decompress(gofnjerta_coder *coder, const void *code, size_t length, void *out, size_t room);
+
 #endif

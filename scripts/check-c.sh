@@ -7,16 +7,17 @@
 # - the layer: its structures lie as the reference library's header says (layout), what isn't offered is refused, and packets that are sent
 #   while others are let go come as they are (refusals); the reference library and ours do the same with packets of any length and their
 #   bytes (packets), with ten thousand calls drawn from a seed, of which all ways to end (calls), where packets are taken peer by peer
-#   (waiting), and with what programs read and write beside their calls (alike, also as it is built for the reference library); a handle and a
-#   host go from thread to thread (threads, also with ThreadSanitizer); a million datagrams of strangers disturb nobody at a host with callbacks
-#   around each datagram (storm); the fields that programs read are the reference library's but for those that c/tests/fields.differ names
-#   (fields);
+#   (waiting), and with what programs read and write beside their calls (alike, also as it is built for the reference library); the range
+#   coder's codes are the reference library's, and no others are opened (coder); a handle and a host go from thread to thread (threads, also
+#   with ThreadSanitizer); a million datagrams of strangers disturb nobody at a host with callbacks around each datagram, or the range coder
+#   (storm); the fields that programs read are the reference library's but for those that c/tests/fields.differ names (fields);
 # - conversations of the programs in clients/ that use no more than what is offered, compiled unchanged against c/enet/enet.h, with the
 #   reference library at the other end, both ways round, straight and through clients/proxy.c; one runs a program that was built for
 #   libenet on our shared library;
 # - programs that weren't written for it: libenet's tutorial (c/tests/tutorial.c) on the layer, and Debian's python3-enet, which was built
 #   for libenet, on our shared library (c/tests/binding.py), each with the reference library at the other end, both ways round;
-# - sockets by TCP, duplicatePeers, intercept, compressor and checksum (c/tests/offered.c), with each of the libraries at either end;
+# - sockets by TCP, duplicatePeers, intercept, compressor, checksum and range coder (c/tests/offered.c), with each of the libraries at either
+#   end;
 # - what waits at a receiver never keeps the next packet out for good: the reference library sends, the layer receives (progress);
 # - installed below a prefix, it is found by pkg-config under libenet's name, and each header stands alone; and it is taken away.
 # Prints what failed, and as last line 'N passed, M failed'; the status is 1 where one failed or nothing was tried. It ends within 4
@@ -174,7 +175,7 @@ meetings() {
     meet tutorial-on-shared "$on_ours $room/tutorial" "$room/tutorial"
     meet binding-at-reference "$binding" "$on_ours $binding"
     meet binding-at-ours "$on_ours $binding" "$binding"
-    for case in sockets duplicates intercept compress checksum both; do
+    for case in sockets duplicates intercept compress checksum both coder all; do
         meet "$case-ours" "$room/our-offered $case" "$room/our-offered $case"
         meet "$case-at-ours" "$room/our-offered $case" "$room/offered $case"
         meet "$case-at-reference" "$room/offered $case" "$room/our-offered $case"
@@ -237,8 +238,8 @@ install_tools() {
     [ ${#missing[@]} -eq 0 ] || apt-get install -y "${missing[@]}" || { apt-get update && apt-get install -y "${missing[@]}"; }
 }
 
-layer_tests=(refusals packets calls waiting alike)
-compared=(packets calls waiting fields alike)
+layer_tests=(refusals packets calls waiting alike coder)
+compared=(packets calls waiting coder fields alike)
 room=$(mktemp -d) || exit 1
 trap 'kill $(jobs -p) 2> /dev/null; wait; rm -rf "$room"' EXIT
 names=()
@@ -263,6 +264,7 @@ else
     done
     try storm "$room/storm"
     try storm-checked "$room/storm-checked"
+    try storm-coder "$room/storm-checked" 200000 coder
     try fields "$room/fields"
     for name in "${compared[@]}"; do
         try "$name-theirs" "$room/$name-theirs"

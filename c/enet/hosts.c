@@ -136,8 +136,3 @@ enet_uint32 enet_host_random_seed(void) {
     enet_uint32 seed;
     return getrandom(&seed, sizeof seed, 0) == sizeof seed ? seed : (enet_uint32)layer_now();
 }
-
-int enet_host_compress_with_range_coder(ENetHost *host) {
-    (void)host;
-    return -1;
-}

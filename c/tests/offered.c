@@ -3,6 +3,7 @@
  *   duplicates  a server that takes two peers of an address
  *   intercept   datagrams that the program answers, makes an event of, or fails on
  *   compress, checksum, both    callbacks of the program's own around each datagram
+ *   coder, all  the library's range coder, alone and with a checksum of the program's own
  * Status 0 where all came as it should. Compiled against either library's header. */
 #include <enet/enet.h>
 #include <stdbool.h>
@@ -236,22 +237,41 @@ static enet_uint32 ENET_CALLBACK sum(const ENetBuffer *buffers, size_t count) {
     return enet_crc32(buffers, count);
 }
 
-static void set_callbacks(ENetHost *host, const char *which) {
+static int coded;
+
+/* Counts the datagrams that came compressed. */
+static int ENET_CALLBACK count_coded(ENetHost *host, ENetEvent *event) {
+    (void)event;
+    coded += host->receivedDataLength > 0 && host->receivedData[0] & 0x40;
+    return 0;
+}
+
+static bool packs(const char *which) { return !strcmp(which, "compress") || !strcmp(which, "both"); }
+
+static bool codes(const char *which) { return !strcmp(which, "coder") || !strcmp(which, "all"); }
+
+static bool checks(const char *which) { return strcmp(which, "compress") && strcmp(which, "coder"); }
+
+static bool set_callbacks(ENetHost *host, const char *which) {
     ENetCompressor compressor = {&packed, pack, unpack, NULL};
-    if (strcmp(which, "checksum")) enet_host_compress(host, &compressor);
-    if (strcmp(which, "compress")) host->checksum = sum;
+    if (packs(which)) enet_host_compress(host, &compressor);
+    if (checks(which)) host->checksum = sum;
+    host->intercept = count_coded;
+    return !codes(which) || enet_host_compress_with_range_coder(host) == 0;
 }
 
 static bool were_called(const char *which) {
-    return (!strcmp(which, "checksum") || (packed > 5 && unpacked > 5)) && (!strcmp(which, "compress") || sums > 20);
+    return (!packs(which) || (packed > 5 && unpacked > 5)) && (!codes(which) || coded > 5) && (!checks(which) || sums > 20);
 }
 
+/* With its range coder libenet ends at a packet of no bytes: there the first has one, too. */
 static const size_t lengths[] = {0, 1, 3, 40, 1363, 1364, 1385, 1386, 1387, 1388, 1400, 2728, 20000};
 
 enum { LENGTHS = sizeof lengths / sizeof *lengths };
 
 /* A body of long runs, or of none. */
-static ENetPacket *body(size_t number, bool is_random) {
+static ENetPacket *body(size_t number, bool is_random, const char *which) {
+    if (number == 0 && codes(which)) number = 1;
     ENetPacket *packet = enet_packet_create(NULL, lengths[number], ENET_PACKET_FLAG_RELIABLE);
     for (size_t i = 0; packet && i < lengths[number]; i++)
         packet->data[i] = is_random ? (enet_uint8)(number * 31 + i * 7 + i / 251) : (enet_uint8)(i / 100);
@@ -262,8 +282,7 @@ static int serve_callbacks(ENetAddress address, const char *which) {
     ENetEvent event;
     ENetHost *host = enet_host_create(&address, 2, 2, 0, 0);
     bool is_over = false;
-    NEED(host != NULL);
-    set_callbacks(host, which);
+    NEED(host != NULL && set_callbacks(host, which));
     while (!is_over && lasts()) {
         if (enet_host_service(host, &event, 50) <= 0) continue;
         is_over = event.type == ENET_EVENT_TYPE_DISCONNECT;
@@ -280,15 +299,14 @@ static int serve_callbacks(ENetAddress address, const char *which) {
 static int visit_callbacks(ENetAddress address, const char *which) {
     ENetEvent event;
     ENetHost *client = enet_host_create(NULL, 1, 2, 0, 0);
-    NEED(client != NULL);
-    set_callbacks(client, which);
+    NEED(client != NULL && set_callbacks(client, which));
     NEED(enet_host_connect(client, &address, 2, 0) && until(&client, 1, ENET_EVENT_TYPE_CONNECT, LIMIT_MS) == 0);
     for (size_t i = 0; i < LENGTHS; i++)
-        for (int channel = 0; channel < 2; channel++) NEED(enet_peer_send(&client->peers[0], (enet_uint8)channel, body(i, channel)) == 0);
+        for (int channel = 0; channel < 2; channel++) NEED(enet_peer_send(&client->peers[0], (enet_uint8)channel, body(i, channel, which)) == 0);
     size_t came[2] = {0, 0};
     while (came[0] + came[1] < 2 * LENGTHS && lasts()) {
         if (enet_host_service(client, &event, 50) <= 0 || event.type != ENET_EVENT_TYPE_RECEIVE) continue;
-        ENetPacket *wanted = body(came[event.channelID]++, event.channelID);
+        ENetPacket *wanted = body(came[event.channelID]++, event.channelID, which);
         NEED(event.packet->dataLength == wanted->dataLength);
         NEED(wanted->dataLength == 0 || !memcmp(event.packet->data, wanted->data, wanted->dataLength));
         enet_packet_destroy(wanted);

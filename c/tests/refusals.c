@@ -64,7 +64,7 @@ static void settings(void) {
     SERVED(0, enet_host_compress(host, &compressor));
     CHECK(destroyed);
     SERVED(0, (enet_host_compress(host, &compressor), enet_host_compress(host, NULL)));
-    SERVED(0, CHECK(enet_host_compress_with_range_coder(host) == -1));
+    SERVED(0, CHECK(enet_host_compress_with_range_coder(host) == 0));
     CHECK(enet_host_create(&any, 4096, 2, 0, 0) == NULL);
 }
 

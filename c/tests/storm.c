@@ -1,7 +1,7 @@
 /* Datagrams of strangers, drawn from a fixed seed, at a host with a compressor, a checksum and an interceptor of the program's: random
  * bytes, datagrams of a good client with some bytes changed, cut or grown, with sums that fit and that don't, from elsewhere and, where the
  * sum doesn't fit, in the client's own name. Meanwhile the client has each of its packets answered, once and in order. `storm [COUNT]`, by
- * default 1,000,000 datagrams. */
+ * default 1,000,000 datagrams; `storm COUNT coder` with the library's range coder in the compressor's place. */
 #include <enet/enet.h>
 #include <stdbool.h>
 #include <stdio.h>
@@ -69,10 +69,11 @@ static size_t ENET_CALLBACK unpack(void *context, const enet_uint8 *in, size_t l
     return length + 3;
 }
 
-static void set_callbacks(ENetHost *host) {
+static void set_callbacks(ENetHost *host, bool codes) {
     static char context;
     ENetCompressor compressor = {&context, pack, unpack, NULL};
-    enet_host_compress(host, &compressor);
+    if (codes) CHECK(enet_host_compress_with_range_coder(host) == 0);
+    else enet_host_compress(host, &compressor);
     host->checksum = enet_crc32;
 }
 
@@ -162,8 +163,8 @@ int main(int argc, char **argv) {
     client = enet_host_create(&home, 1, 2, 0, 0);
     ENetSocket stranger = enet_socket_create(ENET_SOCKET_TYPE_DATAGRAM);
     if (!server || !client || stranger == ENET_SOCKET_NULL) return 2;
-    set_callbacks(server);
-    set_callbacks(client);
+    set_callbacks(server, argc > 2);
+    set_callbacks(client, argc > 2);
     server->intercept = intercept;
     to = server->address;
     if (!enet_host_connect(client, &to, 2, 0)) return 2;

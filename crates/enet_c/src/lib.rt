@@ -13,6 +13,7 @@
 //! only where the host may want memory to tell the peer (`wants_room_in`); `peer` and `totals_of` show what the host holds, and `due_in`
 //! when time brings it something (`IsDueIn`); `open` is `Begins` (`Opens`), and `close` leaves the handle closed. A name that `error_name`
 //! or `stop_name` gives is that of the refusal or stop with this number.
+//! `compress` and `decompress` are the range coder's (`code_of`, `body_of`), and know no handle.
 //! Only tested, by `c/tests`: that C's structures lie as these do, and that calls succeed with ample memory. Neither: what C
 //! does with its memory between calls.
 #![tactic(auto)]
@@ -24,6 +25,7 @@ mod names;
 mod numbers;
 mod opening;
 mod own;
+mod packing;
 mod readings;
 mod settings;
 mod shapes;
@@ -34,6 +36,7 @@ pub use held::Held;
 pub use names::{gofnjerta_core_error_name, gofnjerta_core_stop_name};
 pub use opening::{gofnjerta_core_close, gofnjerta_core_open, gofnjerta_core_standard};
 pub use own::{Handle, Own};
+pub use packing::{gofnjerta_core_compress, gofnjerta_core_decompress};
 pub use readings::{gofnjerta_core_due_in, gofnjerta_core_peer, gofnjerta_core_totals_of};
 pub use settings::{
     gofnjerta_core_disconnect, gofnjerta_core_disconnect_later, gofnjerta_core_disconnect_now,
