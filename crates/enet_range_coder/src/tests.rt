@@ -51,7 +51,10 @@ fn runs_are_coded_as_by_libenet(rt: HostRuntime) {
         panic!(&rt; "refused");
     };
     assert!(rt; length <= 64);
-    assert_eq!(rt; &out[..length], b"\x62\x02\x6b\x94\xfd\xfe\xf9\xa2".as_slice());
+    assert_eq!(rt;
+        &out[..length],
+        b"\x62\x02\x6b\x94\xfd\xfe\xf9\xa2".as_slice()
+    );
 }
 
 /// Some 4,000 cells are used before the body's end, and weights of the empty context are halved.
