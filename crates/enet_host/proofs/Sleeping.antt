@@ -1,15 +1,14 @@
 -- Slots that sleep are passed over, and one that is awake may change.
-use Rattle.std.proofs.Common.{◌≡◌, ℕ, ◌+◌, ◌-◌, ◌<◌, ◌≤◌, ◌⊎◌, inl, inr, Bool, true, false, Some, None, List, length, slice_get, slice_set, get_or, refl, sym, ap, subst, ◌∙◌, arith}
+use Rattle.std.proofs.Common.{◌≡◌, ℕ, ◌+◌, ◌-◌, ◌<◌, ◌≤◌, ◌⊎◌, inl, inr, Bool, true, false, List, length, slice_set, get_or, refl, sym, subst, ◌∙◌, arith}
 use Rattle.std.proofs.lemmas.Bool.{cases_lt}
 use Rattle.std.proofs.lemmas.List.{get_or_past}
-use Rattle.std.proofs.lemmas.Option.{slice_get_within}
 use Rattle.enet_codec.specs.declared.event.Event.{Event}
 use Rattle.enet_deadlines.specs.Sets.{IsIn, IsOut}
 use Rattle.enet_slot.specs.declared.slot.Slot.{Slot}
 use Rattle.enet_slot.specs.Slot.{SlotState}
 use Rattle.enet_slot.specs.Calls.{tells}
 use Rattle.enet_slot.specs.Slotted.{shown, all_shown}
-use Rattle.enet_slot.proofs.Shown.{set-shown, length-shown}
+use Rattle.enet_slot.proofs.Shown.{set-shown}
 use Rattle.enet_slot.proofs.Waiting.{mute-waiting}
 use Rattle.enet_sleepers.specs.Sleeping.{Noted, KeepsSleepers}
 use Rattle.enet_sleepers.proofs.Keeping.{keeps-set, sleeps-waits}

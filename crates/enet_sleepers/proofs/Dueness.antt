@@ -7,11 +7,11 @@ use Rattle.std.proofs.lemmas.List.Folds.{list_any_none, list_any_at}
 use Rattle.std.proofs.lemmas.Option.{slice_get_within, slice_get-get_or}
 use Rattle.enet_deadlines.specs.Clock.{TellsMoments}
 use Rattle.enet_deadlines.specs.Moments.{IsAt}
-use Rattle.enet_deadlines.specs.Sets.{IsIn, IsOut}
+use Rattle.enet_deadlines.specs.Sets.{IsOut}
 use Rattle.enet_rtt.specs.Clock.{elapsed_time, HappensIn}
 use Rattle.enet_slot.specs.Giving.{unused_slot}
 use Rattle.enet_slot.specs.Slot.{SlotState, is_due, is_due_in}
-use Rattle.enet_sleepers.specs.Sleeping.{Noted, SleepsFree, SleepsHeld, Sleeps, KeepsSleepers}
+use Rattle.enet_sleepers.specs.Sleeping.{Noted, Sleeps, KeepsSleepers}
 use Rattle.enet_sleepers.specs.Soon.{is_soon, is_due_soon}
 use Rattle.enet_sleepers.specs.Private.Soon.{HappensSoon, KnowsDue}
 use Rattle.enet_sleepers.proofs.Keeping.{some-same}

@@ -1,5 +1,5 @@
 -- What is noted of the slots stays true.
-use Rattle.std.proofs.Common.{◌≡◌, ◌≢◌, ℕ, ◌+◌, ◌%◌, ◌^◌, ◌<◌, ◌≤◌, ◌⊎◌, inl, inr, Bool, true, false, Option, Some, None, List, length, map, replicate, slice_get, slice_set, get_or, refl, sym, ap, subst, ◌∙◌, arith}
+use Rattle.std.proofs.Common.{◌≡◌, ◌≢◌, ℕ, ◌+◌, ◌%◌, ◌^◌, ◌<◌, ◌≤◌, inl, inr, Bool, true, false, Option, Some, None, List, length, map, replicate, slice_get, slice_set, get_or, refl, sym, ap, subst, ◌∙◌, arith}
 use Rattle.std.specs.Option.{option_map}
 use Rattle.std.proofs.lemmas.Bool.{cases_eq, cases_lt}
 use Rattle.std.proofs.lemmas.List.{get_or-set_other, get_or-set_same, get_or_past, get_or-replicate, length-set, length-map, length-replicate}
@@ -12,7 +12,7 @@ use Rattle.enet_slot.specs.Slot.{SlotState, is_due}
 use Rattle.enet_slot.specs.Giving.{is_vacant}
 use Rattle.enet_slot.specs.Waiting.{waits_in, Waits}
 use Rattle.enet_sleepers.specs.Marks.{mark_of, Names}
-use Rattle.enet_sleepers.specs.Sleeping.{Noted, SleepsFree, SleepsHeld, Sleeps, KeepsSleepers, woken, Wakes}
+use Rattle.enet_sleepers.specs.Sleeping.{Noted, Sleeps, KeepsSleepers, woken, Wakes}
 use Rattle.enet_sleepers.specs.Private.Sleepers.{AllIn}
 
 pub some-same : {X : Type 0} (o : Option X) (x y : X) → o ≡ Some x → o ≡ Some y → x ≡ y

@@ -1,9 +1,9 @@
 -- Where an offer is to go.
-use Rattle.std.proofs.Common.{◌≡◌, ◌≢◌, ℕ, ◌+◌, ◌<◌, ◌≤◌, ◌⊎◌, inl, inr, Bool, true, false, ◌&&◌, nat_lt, Option, Some, None, List, length, slice_get, get_or, refl, sym, ap, subst, ◌∙◌, arith}
+use Rattle.std.proofs.Common.{◌≡◌, ℕ, ◌+◌, ◌<◌, ◌≤◌, ◌⊎◌, inl, inr, Bool, true, false, ◌&&◌, nat_lt, Option, Some, List, length, get_or, sym, ap, subst, ◌∙◌, arith}
 use Rattle.std.specs.List.{list_any, position}
-use Rattle.std.proofs.lemmas.Bool.{cases_lt, cases_eq}
+use Rattle.std.proofs.lemmas.Bool.{cases_lt}
 use Rattle.std.proofs.lemmas.List.{get_or-map, get_or_default}
-use Rattle.std.proofs.lemmas.List.Folds.{list_any_none, list_any_at}
+use Rattle.std.proofs.lemmas.List.Folds.{list_any_none}
 use Rattle.std.proofs.lemmas.Option.{slice_get-get_or}
 use Rattle.enet_codec.specs.declared.address.Addr.{Addr}
 use Rattle.enet_deadlines.specs.Sets.{IsIn, IsOut}
@@ -13,11 +13,10 @@ use Rattle.enet_slot.specs.Slot.{SlotState}
 use Rattle.enet_slot.specs.Giving.{unused_slot, is_vacant, is_available}
 use Rattle.enet_slot.specs.Hearing.{is_connection, is_connection_in}
 use Rattle.enet_slot.specs.Slotted.{shown, all_shown}
-use Rattle.enet_slot.proofs.Seating.{first-at, first-none}
+use Rattle.enet_slot.proofs.Seating.{first-at}
 use Rattle.enet_sleepers.specs.declared.marks.Mark.{Mark}
-use Rattle.enet_sleepers.specs.declared.marks.Mark.TheVariants as mark
 use Rattle.enet_sleepers.specs.Marks.{mark_of, Names}
-use Rattle.enet_sleepers.specs.Sleeping.{Noted, Sleeps, KeepsSleepers}
+use Rattle.enet_sleepers.specs.Sleeping.{Noted, KeepsSleepers}
 use Rattle.enet_sleepers.specs.Private.Sleepers.{NoneOf, KnownNowhere}
 use Rattle.enet_sleepers.proofs.Dueness.{in-or-out}
 use Rattle.enet_sleepers.proofs.Marking.{unmarked-unknown}

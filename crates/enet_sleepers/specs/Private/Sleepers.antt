@@ -1,11 +1,10 @@
 -- Sets of slots.
-use Rattle.std.specs.Prelude.{◌≡◌, ◌≢◌, ℕ, ◌+◌, ◌^◌, ◌<◌, ◌≤◌, Bool, true, false, Option, Some, None, List, length, slice_get, slice_set, get_or}
-use Rattle.enet_deadlines.specs.Sets.{IsIn, IsOut}
+use Rattle.std.specs.Prelude.{◌≡◌, ℕ, ◌<◌, Bool, false, List, length, get_or}
+use Rattle.enet_deadlines.specs.Sets.{IsIn}
 use Rattle.enet_slot.specs.Slot.{SlotState}
 use Rattle.enet_codec.specs.declared.address.Addr.{Addr}
 use Rattle.enet_slot.specs.Giving.{unused_slot, is_available}
 use Rattle.enet_slot.specs.Hearing.{is_connection}
-use Rattle.enet_sleepers.specs.Sleeping.{Noted}
 
 -- all slots are awake
 abbrev pub AllIn : List Bool → Type 0

@@ -1,4 +1,4 @@
-use Rattle.std.proofs.Common.{◌≡◌, ◌+◌, ◌<◌, ◌≤◌, ℕ, ◌++◌, drop, take, length, slice_set, ◌∙◌, arith}
+use Rattle.std.proofs.Common.{◌<◌, ◌≤◌, length, ◌∙◌, arith}
 use Rattle.std.proofs.lemmas.List.{length-set}
 use Rattle.enet_peer.specs.Peering.{Peering}
 use Rattle.enet_peer.specs.Calls as peers
@@ -6,7 +6,6 @@ use Rattle.enet_slot.specs.Slot.{changed}
 use Rattle.enet_slot.specs.Slotted.{all_shown}
 use Rattle.enet_slot.proofs.Shown.{length-shown}
 use Rattle.enet_slot.proofs.OverAll.{map-more, map-done}
-use Rattle.enet_host.specs.Private.Ticking.{all_ticked}
 use Rattle.enet_host.proofs.Bringing.{ticked-past, keeps-ticked}
 use Rattle.enet_host.proofs.Sleeping.{awake-inside}
 use Rattle.enet_host.proofs.ticking.tick_awake.Goals as goal

@@ -1,4 +1,4 @@
-use Rattle.std.proofs.Common.{◌≡◌, ◌-◌, ◌≤◌, ◌++◌, take, drop, length}
+use Rattle.std.proofs.Common.{◌≡◌, ◌-◌, ◌++◌, take, drop, length}
 use Rattle.enet_slot.specs.Slotted.{all_shown}
 use Rattle.enet_host.specs.Private.Ticking.{all_ticked}
 use Rattle.enet_host.proofs.ticking.tick_awake.Given as goal

@@ -1,4 +1,4 @@
-use Rattle.std.proofs.Common.{◌<◌, ◌≤◌, ℕ, length, sym, arith}
+use Rattle.std.proofs.Common.{◌≤◌, length, sym, arith}
 use Rattle.enet_slot.specs.Slotted.{all_shown}
 use Rattle.enet_slot.proofs.Shown.{length-shown}
 use Rattle.enet_slot.proofs.Seating.{first-none}

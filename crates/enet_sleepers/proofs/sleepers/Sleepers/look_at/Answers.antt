@@ -1,4 +1,4 @@
-use Rattle.std.proofs.Common.{◌≡◌, ◌+◌, ◌%◌, ◌^◌, ◌<◌, ℕ, Bool, true, false, None, Some, Option, List, length, slice_get, slice_set, ap, sym, subst, ◌∙◌, arith}
+use Rattle.std.proofs.Common.{◌≡◌, ◌+◌, ◌%◌, ◌^◌, ◌<◌, ℕ, Bool, false, Some, Option, List, length, slice_get, slice_set, ap, sym, subst, ◌∙◌, arith}
 use Rattle.enet_deadlines.specs.Clock.{HappensAt}
 use Rattle.enet_deadlines.specs.Sets.{IsIn}
 use Rattle.enet_rtt.specs.Clock.{HappensIn}

@@ -1,7 +1,7 @@
 use Rattle.std.proofs.Common.{◌≡◌, ◌-◌, ◌<◌, ◌≤◌, ℕ, None, length, ap, subst, arith}
 use Rattle.enet_deadlines.specs.Moments.{IsAt}
 use Rattle.enet_deadlines.specs.Sets.{IsOut}
-use Rattle.std.proofs.Common.{get_or, sym}
+use Rattle.std.proofs.Common.{get_or}
 use Rattle.enet_sleepers.specs.Sleeping.{Noted}
 use Rattle.enet_sleepers.specs.Private.Soon.{KnowsDue}
 use Rattle.enet_sleepers.proofs.Dueness.{knows-none, knows-late, knows-least}

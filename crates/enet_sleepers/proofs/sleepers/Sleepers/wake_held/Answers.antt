@@ -1,4 +1,4 @@
-use Rattle.std.proofs.Common.{◌≡◌, ◌+◌, ◌<◌, ℕ, length, ap, sym, subst, ◌∙◌, arith}
+use Rattle.std.proofs.Common.{◌+◌, ◌<◌, ℕ, length, ap, sym, subst, ◌∙◌, arith}
 use Rattle.enet_deadlines.specs.Sets.{IsIn, IsOut}
 use Rattle.enet_sleepers.specs.Sleeping.{Noted, KeepsSleepers}
 use Rattle.enet_sleepers.proofs.Keeping.{held-here, held-more, wakes-count}
