@@ -8,7 +8,7 @@
 //! The definitions: `specs/Span` (intervals, and the bytes put out), `Context` (lists of bytes and weights, and how they share out an
 //! interval) and `Body` know nothing of the memory; `Memory` says which contexts a memory holds, and `Learning` what it learns, cell by cell.
 //! The law is proved of every such memory.
-//! Only tested: that these are libenet's codes, by bodies whose codes libenet made, here and in `c/tests/coder.c`; and that three bytes a part
+//! Only tested: that these are libenet's codes, by bodies whose codes libenet made, in the trials and in `c/tests/coder.c`; and that three bytes a part
 //! are always enough, so that every body has a code. Not promised: libenet's answers to what no coder made.
 #![tactic(auto)]
 
@@ -27,6 +27,3 @@ mod unpacking;
 pub use cell::Cell;
 pub use coder::Coder;
 pub use laws::codes_open;
-
-#[cfg(test)]
-mod tests;
