@@ -186,7 +186,7 @@ ending-more clock now from key patience heard at moments shown h before ahead he
 -- what isn't late stays as it is where it is marked
 marked-by : (bound now : ℕ) (p : Sent) → is_late now p ≡ false → marked bound now p ≡ p
 marked-by bound now p e =
-    let late : Transmission = record p.transmission { timeout = transmission.doubled_time p.transmission.timeout; due = true } in
+    let late : Transmission = record p.transmission { timeout = transmission.grown_time bound p.transmission.timeout; due = true } in
     ap (λ b. record p { transmission = cond b late p.transmission }) e
 
 pub unmarked : (bound now : ℕ) (o : Option Sent) → ((p : Sent) → o ≡ Some p → is_late now p ≡ false) → option_map (marked bound now) o ≡ o
@@ -201,7 +201,7 @@ untested bound now (Some p) e = ap (λ (q : Sent). Some q) (marked-by bound now 
 pub marked-due : (bound now : ℕ) (o : Option Sent) (q : Sent) → test_at (is_late now) o ≡ true → option_map (marked bound now) o ≡ Some q → q.transmission.due ≡ true
 marked-due bound now None q late e = cc
 marked-due bound now (Some p) q late e =
-    let made : Transmission = record p.transmission { timeout = transmission.doubled_time p.transmission.timeout; due = true } in
+    let made : Transmission = record p.transmission { timeout = transmission.grown_time bound p.transmission.timeout; due = true } in
     let is : marked bound now p ≡ q = cc in
     sym (ap (λ (z : Sent). z.transmission.due) is) ∙ ap (λ b. (cond b made p.transmission).due) late
 
