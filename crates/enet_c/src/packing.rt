@@ -2,7 +2,7 @@
 
 ghost use Rattle.std.specs.Prelude.{◌≡◌, ◌<◌, ◌≤◌, length, take, Some};
 ghost use Rattle.enet_range_coder.specs.Code.{code_of};
-ghost use Rattle.enet_c.specs.Packing.{Opened};
+ghost use Rattle.enet_c.specs.Packing.{HasNoRoom, Opened};
 
 use enet_range_coder::Coder;
 use std::mem;
@@ -16,6 +16,7 @@ const _: () = prove!(mem::size_of::<Coder>() == 41_734);
 pub extern "C" fn gofnjerta_core_compress(coder: &mut Coder, body: &[u8], out: &mut [u8]) -> usize
     ensures within { result ≤ length out.old }
     ensures codes { 0 < result → code_of body.now ≡ Some (take result out.new) }
+    ensures refuses { result ≡ 0 → HasNoRoom (length out.old) body.now }
 {
     coder.compress(body, out).unwrap_or(0)
 }
