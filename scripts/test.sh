@@ -1,9 +1,9 @@
 #!/usr/bin/env bash
 # All tests: the gate (every proof from nothing, the must-fail edits, the programs), then whether the edits that the gate leaves alone still
-# fit the text, the definitions that documents quote, the trials of the crates, the worked scripts and captured datagrams through the built
-# program, each growth of memory of worked rows refused in turn, the instructions of the benchmark's jobs, clients of the reference library
-# that talk through the program, and the library for C. Each of the nine last ends with a line 'N passed, M failed'; the status is other than
-# 0 where anything failed.
+# fit the text, the definitions that documents quote, the names, files and commits that they cite, the trials of the crates, the worked
+# scripts and captured datagrams through the built program, each growth of memory of worked rows refused in turn, the instructions of the
+# benchmark's jobs, clients of the reference library that talk through the program, and the library for C. Each of the ten last ends with a
+# line 'N passed, M failed'; the status is other than 0 where anything failed.
 set -u
 cd "$(dirname "$0")/.." || exit 1
 begun=$SECONDS
@@ -18,6 +18,8 @@ bash scripts/check-edits.sh --read
 edits=$?
 python3 scripts/quotes.py
 quotes=$?
+python3 scripts/check-documents.py
+documents=$?
 bash scripts/check-trials.sh
 trials=$?
 bash scripts/check-rows.sh
@@ -32,4 +34,4 @@ bash scripts/check-clients.sh
 clients=$?
 if bash scripts/archive-c.sh > /dev/null; then bash scripts/check-c.sh; else echo '0 passed, 1 failed'; false; fi
 library=$?
-[ "$edits $quotes $trials $rows $inspected $memory $speed $clients $library" = '0 0 0 0 0 0 0 0 0' ]
+[ "$edits $quotes $documents $trials $rows $inspected $memory $speed $clients $library" = '0 0 0 0 0 0 0 0 0 0' ]

@@ -1,0 +1,165 @@
+#!/usr/bin/env python3
+"""Whether documents tell the truth where a script can see it:
+
+- each definition behind *Stated by* in docs/PROTOCOL.md stands in the file that is named there;
+- each name in back-quotes of the documents stands somewhere in the repository or is a file of it;
+- each file that a document links to is there;
+- each commit of measure/results is one of this history (told as passed over where the history isn't there);
+- README's commands name files that are there, and its command for all tests is the one that .ci/run runs;
+- the plots are what measure/draw.py makes of measure/results.
+
+The last line is 'N passed, M failed'; the status is 1 where one fails.
+"""
+import csv
+import glob
+import os
+import re
+import subprocess
+import sys
+
+DOCUMENTS = ["README.md", "CONTRIBUTING.md", *sorted(glob.glob("docs/*.md"))]
+# Names that stand nowhere in the repository by their nature: the kit's, the system's, the reference library's own, and those of definitions that
+# are gone, which docs/PERF.md names to say what replaced them.
+ELSEWHERE = re.compile(
+    r"rt( .*)?|rattle.*|ss( .*)?|perf.*|valgrind.*|nft.*|ulimit.*|net\..*|[A-Z]\w+=.*|-l\w+|SHORTER_PROOFS\.md|docs/NOT_COVERED\.md|itoa|"
+    r"ENetChannel|enet_channel|initialize_with_callbacks|peer_throttle|reset_queues|setup_outgoing_command|protocol_command_size|recvmmsg|"
+    r"KeepsSkips|Witness"
+)
+# Parts of a name that stand for any: `crate/specs/File`, `on_*`, `Sound-EVENT`, `example_..`.
+STANDS_FOR = re.compile(r"\*|\.\.|\b(crate|CRATE|NAME|FILE|File|EVENT|FOLDER|COMMIT)\b")
+WORD = re.compile(r"[A-Za-z_][A-Za-z0-9_'-]*")
+
+
+class Counts:
+    def __init__(self):
+        self.passed = self.failed = 0
+
+    def check(self, holds, what):
+        if holds:
+            self.passed += 1
+        else:
+            self.failed += 1
+            print(f"FAILED {what}")
+
+
+def read(path):
+    with open(path, encoding="utf-8", errors="replace") as file:
+        return file.read()
+
+
+def paragraphs_with(text, mark):
+    """The paragraphs of a text that hold the mark, from it on, each in one line."""
+    for part in re.split(r"\n\s*\n|\n(?=[|#-])", text):
+        if mark in part:
+            yield " ".join(part[part.index(mark) :].split())
+
+
+def stated(counts):
+    """Names behind *Stated by*: a file `crate/specs/File`, a colon, and the names that it has."""
+    for told in paragraphs_with(read("docs/PROTOCOL.md"), "*Stated by*"):
+        path = None
+        for name in re.findall(r"`([^`]+)`", told):
+            if name == "crate/specs/File":
+                break
+            if "/specs/" in name:
+                path = f"crates/{name}.antt"
+                counts.check(os.path.isfile(path), f"docs/PROTOCOL.md: {path} isn't there")
+            elif path and os.path.isfile(path) and re.fullmatch(r"[\w'-]+", name):
+                begins = rf"^\s*((pub|unfoldable|abbrev|record|data|ghost) )*{re.escape(name)}(?![\w'])"
+                counts.check(re.search(begins, read(path), re.M), f"docs/PROTOCOL.md: {path} has no {name}")
+
+
+def text_of_repository():
+    """The words of all that is tracked but the documents, and the names of its files and folders."""
+    words = set()
+    listed = subprocess.run(["git", "ls-files", "-co", "--exclude-standard"], capture_output=True, text=True, check=True).stdout.split("\n")
+    for path in filter(os.path.isfile, listed):
+        words.update(WORD.findall(path))
+        words.update([path, os.path.basename(path), os.path.splitext(os.path.basename(path))[0], *path.split("/")])
+        if not path.endswith((".md", ".svg", ".csv")):
+            words.update(WORD.findall(read(path)))
+    return words
+
+
+def is_known(name, words, parts):
+    """Whether each word of a back-quoted name stands in the repository, as it is or as a part of a longer one between underscores or dashes."""
+    if ELSEWHERE.fullmatch(name):
+        return True
+    told = WORD.findall(STANDS_FOR.sub(" ", name))
+    return all(len(word) <= 2 or word in words or word.strip("_'-") in parts for word in told)
+
+
+def parts_of(words):
+    """The words, and each front and back of one that ends at an underscore or a dash."""
+    parts = set(words)
+    for word in words:
+        for at in (found.start() for found in re.finditer(r"[_-]", word)):
+            parts.update((word[:at], word[at + 1 :]))
+    return parts
+
+
+def names(counts):
+    words = text_of_repository()
+    parts = parts_of(words)
+    for document in DOCUMENTS:
+        text = re.sub(r"```.*?```", "", read(document), flags=re.S)
+        unknown = sorted({name for name in re.findall(r"`([^`\n]+)`", text) if not is_known(name, words, parts)})
+        counts.check(not unknown, f"{document}: nothing of the repository has {', '.join(unknown)}")
+
+
+def links(counts):
+    for document in DOCUMENTS:
+        text = read(document)
+        told = set(re.findall(r"\]\(([^)#:]+)\)", text))
+        files = {os.path.join(os.path.dirname(document), path) for path in told}
+        files |= set(re.findall(r"(?<![\w/.-])(?:docs|scripts|crates|measure|bench|clients|trials)/[\w/.-]*\w\.\w+", text))
+        passed_over = re.compile(r"/out/|docs/NOT_COVERED|\b(CRATE|NAME|FILE)\b")
+        missing = sorted(path for path in files if not os.path.exists(path) and not passed_over.search(path))
+        counts.check(not missing, f"{document}: {', '.join(missing)} isn't there")
+
+
+def commits(counts):
+    whole = subprocess.run(["git", "rev-parse", "--is-shallow-repository"], capture_output=True, text=True, check=False).stdout.strip()
+    if whole != "false":
+        print("the history isn't there: the commits of measure/results are passed over")
+        return
+    told = set()
+    for path in glob.glob("measure/results/*.csv"):
+        with open(path, newline="", encoding="utf-8") as file:
+            rows = list(csv.DictReader(file))
+        counts.check(rows and all(row["date"] and row["machine"] for row in rows), f"{path}: a row has no date or machine")
+        told.update(word for row in rows for word in re.findall(r"\b[0-9a-f]{7,40}\b", row["commit"]))
+    for commit in sorted(told):
+        seen = subprocess.run(["git", "cat-file", "-e", commit + "^{commit}"], capture_output=True, check=False)
+        counts.check(seen.returncode == 0, f"measure/results: there is no commit {commit}")
+
+
+def commands(counts):
+    """README's lines of commands: each names files that are there, and the tests' is the one of .ci/run."""
+    lines = [line.strip() for line in read("README.md").split("\n") if re.match(r"    (\(cd |bash |scripts/)", line)]
+    counts.check(lines, "README.md has no commands")
+    for line in lines:
+        folder = (re.search(r"cd (\S+)", line) or [None, "."])[1]
+        paths = [os.path.normpath(os.path.join(folder, path)) for path in re.findall(r"(?<=[ <])[\w./-]+/[\w./-]+\.\w+", line)]
+        counts.check(os.path.isdir(folder) and all(map(os.path.exists, paths)), f"README.md: {line} names what isn't there")
+    if os.path.exists(".ci/run"):
+        run = re.search(r"exec (.+)", read(".ci/run"))
+        counts.check(run and run[1] in lines, "README.md hasn't the command that .ci/run runs")
+
+
+def plots(counts):
+    drawn = subprocess.run([sys.executable, "measure/draw.py", "--check"], capture_output=True, text=True, check=False)
+    counts.check(drawn.returncode == 0, drawn.stdout.strip())
+
+
+def main():
+    os.chdir(os.path.join(os.path.dirname(os.path.abspath(__file__)), ".."))
+    counts = Counts()
+    for check in (stated, names, links, commits, commands, plots):
+        check(counts)
+    print(f"{counts.passed} passed, {counts.failed} failed")
+    return 1 if counts.failed else 0
+
+
+if __name__ == "__main__":
+    sys.exit(main())
