@@ -1,7 +1,7 @@
 #!/usr/bin/env python3
 """Whether documents tell the truth where a script can see it:
 
-- each definition behind *Stated by* in docs/PROTOCOL.md stands in the file that is named there;
+- each definition behind *Stated by* in docs/PROTOCOL.md and docs/LAB.md stands in the file that is named there;
 - each name in back-quotes of the documents stands somewhere in the repository or is a file of it;
 - each file that a document links to is there;
 - each commit of measure/results is one of this history (told as passed over where the history isn't there);
@@ -56,17 +56,23 @@ def paragraphs_with(text, mark):
 
 def stated(counts):
     """Names behind *Stated by*: a file `crate/specs/File`, a colon, and the names that it has."""
-    for told in paragraphs_with(read("docs/PROTOCOL.md"), "*Stated by*"):
-        path = None
-        for name in re.findall(r"`([^`]+)`", told):
-            if name == "crate/specs/File":
-                break
-            if "/specs/" in name:
-                path = f"crates/{name}.antt"
-                counts.check(os.path.isfile(path), f"docs/PROTOCOL.md: {path} isn't there")
-            elif path and os.path.isfile(path) and re.fullmatch(r"[\w'-]+", name):
-                begins = rf"^\s*((pub|unfoldable|abbrev|record|data|ghost) )*{re.escape(name)}(?![\w'])"
-                counts.check(re.search(begins, read(path), re.M), f"docs/PROTOCOL.md: {path} has no {name}")
+    for document in ("docs/PROTOCOL.md", "docs/LAB.md"):
+        for told in paragraphs_with(read(document), "*Stated by*"):
+            stated_in(counts, document, told)
+
+
+def stated_in(counts, document, told):
+    """The names of one such paragraph."""
+    path = None
+    for name in re.findall(r"`([^`]+)`", told):
+        if name == "crate/specs/File":
+            break
+        if "/specs/" in name:
+            path = f"crates/{name}.antt"
+            counts.check(os.path.isfile(path), f"{document}: {path} isn't there")
+        elif path and os.path.isfile(path) and re.fullmatch(r"[\w'-]+", name):
+            begins = rf"^\s*((pub|unfoldable|abbrev|record|data|ghost) )*{re.escape(name)}(?![\w'])"
+            counts.check(re.search(begins, read(path), re.M), f"{document}: {path} has no {name}")
 
 
 def text_of_repository():
