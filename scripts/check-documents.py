@@ -18,10 +18,11 @@ import subprocess
 import sys
 
 DOCUMENTS = ["README.md", "CONTRIBUTING.md", *sorted(glob.glob("docs/*.md"))]
-# Names that stand nowhere in the repository by their nature: the kit's, the system's, the reference library's own, and those of definitions that
-# are gone, which docs/PERF.md names to say what replaced them.
+# Names that stand nowhere in the repository by their nature: the kit's, the system's, the reference library's own, and those of definitions
+# that are gone, which docs/PERF.md names to say what replaced them.
 ELSEWHERE = re.compile(
-    r"rt( .*)?|rattle.*|ss( .*)?|perf.*|valgrind.*|nft.*|ulimit.*|net\..*|[A-Z]\w+=.*|-l\w+|SHORTER_PROOFS\.md|docs/NOT_COVERED\.md|itoa|"
+    r"rt( .*)?|rattle.*|logic [0-9a-f]+|SHORTER_PROOFS\.md|docs/NOT_COVERED\.md|itoa|"
+    r"ss( .*)?|perf.*|valgrind.*|nft.*|ulimit.*|net\..*|[A-Z]\w+=.*|-l\w+|"
     r"ENetChannel|enet_channel|initialize_with_callbacks|peer_throttle|reset_queues|setup_outgoing_command|protocol_command_size|recvmmsg|"
     r"KeepsSkips|Witness"
 )
@@ -88,7 +89,7 @@ def text_of_repository():
 
 
 def is_known(name, words, parts):
-    """Whether each word of a back-quoted name stands in the repository, as it is or as a part of a longer one between underscores or dashes."""
+    """Whether each word of a back-quoted name stands in the repository, or is a part of one up to or from an underscore or a dash."""
     if ELSEWHERE.fullmatch(name):
         return True
     told = WORD.findall(STANDS_FOR.sub(" ", name))
