@@ -30,6 +30,7 @@ pub(crate) fn slot_of_turn(peers: u16, from: u16, turn: u16) -> u16
 }
 
 /// The first turn from this one on whose slot is awake, where slot `from` has the first turn, 0; the number of slots where there is none.
+#[inline(always)]
 pub(crate) fn next_turn(sleepers: &Sleepers, peers: u16, from: u16, turn: u16) -> u16
     requires within { (from < peers) × (turn ≤ peers) }
     requires count { length sleepers.now.awake ≡ peers }
@@ -44,7 +45,11 @@ pub(crate) fn next_turn(sleepers: &Sleepers, peers: u16, from: u16, turn: u16) -
             return place as u16 - from;
         }
     }
-    match sleepers.next_awake(usize::from(turn.saturating_sub(until_the_end))) {
+    let first = turn.saturating_sub(until_the_end);
+    if first >= from {
+        return peers;
+    }
+    match sleepers.next_awake(usize::from(first)) {
         Some(place) if place < usize::from(from) => until_the_end + place as u16,
         _ => peers,
     }
