@@ -24,7 +24,7 @@ use Rattle.law_connection.proofs.Makings.{count_of-with, piece_at-nothing, piece
 use Rattle.enet_receiver.proofs.Maps.{get-insert_other, get-insert_same, get_inserted, two_numbers}
 use Rattle.law_connection.proofs.CarriageLemmas.{IsCut, AllCut, Stands, Stands-has, Stands-passed}
 use Rattle.law_connection.proofs.ContentLemmas.{Matches, OfReliable, OfUnreliable, Ready, Ready-dispatched, Ready-flush, waiting-replaced_same, waiting-replaced_other}
-use Rattle.law_connection.proofs.PieceLemmas.{IsPieceOf, says, same_reliable, same_unreliable, Matches-more}
+use Rattle.law_connection.proofs.PieceLemmas.{IsPieceOf, says, tells, same_reliable, same_unreliable, Matches-more}
 use Rattle.law_connection.proofs.ReceiverLemmas.{IsReceived, Within, Grows, Grows-same, Grows-trans, Lacks, Lacks-from_gap, released-keeps, released-gap, Within-dispatched, Grows-dispatched}
 use Rattle.law_connection.specs.Meant.{has_piece}
 
@@ -168,7 +168,7 @@ added_reliable mtu cs sent r d p k s rel high above =
     let e : IncomingPacket = with_more (earlier_or_new (came_at r (wired d) start) (wired d)) (wired d) in
     let cut : IsCut mtu c = k.cut c (Stands-has cs p.number p.count c p.stands) in
     let came' : came_at r (wired d) start ≡ get r.held start = ap (λ b. cond b (get r.held start) (get (line_at r.waiting start) d.unreliable)) rel in
-    let matches : Matches mtu e.making c = Matches-more mtu (came_at r (wired d) start) d c p.number p.count p.index p.inside sd (λ x t.
+    let matches : Matches mtu e.making c = Matches-more mtu (came_at r (wired d) start) d c p.number p.count p.index p.inside sd (tells mtu cs d p cut) (λ x t.
     let q = k.held start x (sym came' ∙ t) in
     let qp = q.place in
     let n : q.number ≡ p.number = omega arith in
@@ -373,7 +373,7 @@ added_unreliable mtu cs sent r d p k s rel =
     let count : d.unreliable ≡ p.count + 1 = sd.unreliable ∙ ap (λ b. cond b 0 (p.count + 1)) cr in
     let e : IncomingPacket = with_more (earlier_or_new (came_at r (wired d) n) (wired d)) (wired d) in
     let came' : came_at r (wired d) n ≡ get (line_at r.waiting n) d.unreliable = ap (λ b. cond b (get r.held n) (get (line_at r.waiting n) d.unreliable)) rel in
-    let matches : Matches mtu e.making c = Matches-more mtu (came_at r (wired d) n) d c p.number p.count p.index p.inside sd (λ x t.
+    let matches : Matches mtu e.making c = Matches-more mtu (came_at r (wired d) n) d c p.number p.count p.index p.inside sd (tells mtu cs d p (k.cut c (Stands-has cs p.number p.count c p.stands))) (λ x t.
     let q = k.waiting n d.unreliable x (sym came' ∙ t) in
     let qp = q.place in
     let z : q.count ≡ p.count = omega arith in

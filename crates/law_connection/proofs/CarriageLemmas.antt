@@ -1,5 +1,5 @@
 -- Packets and their commands in the list of what was submitted.
-use Rattle.std.proofs.Common.{◌≡◌, ℕ, ◌+◌, ◌*◌, ◌<◌, ◌≤◌, true, false, cond, List, [], ◌∷◌, ◌++◌, length, refl, sym, ap, subst, ◌∙◌, inl, inr, ◌⊎◌, arith, append_assoc}
+use Rattle.std.proofs.Common.{◌≡◌, ℕ, ◌+◌, ◌-◌, ◌*◌, ◌<◌, ◌≤◌, true, false, cond, List, [], ◌∷◌, ◌++◌, length, refl, sym, ap, subst, ◌∙◌, inl, inr, ◌⊎◌, arith, append_assoc}
 use Rattle.std.proofs.lemmas.List.{append-nil}
 use Rattle.enet_fragment.specs.Cutting.{piece_length}
 use Rattle.enet_sender.specs.CommandChoice.{ChosenPacket}
@@ -7,11 +7,12 @@ pub use Rattle.law_connection.specs.Meant.{Stands}
 use Rattle.law_connection.proofs.Lists.{Has, Cuts, two_cuts}
 use Rattle.law_connection.specs.Follows.{command_count, FollowsCarried, count_after}
 
--- a packet is cut into 1 to 16,384 pieces that cover it
+-- a packet is cut into 1 to 16,384 pieces that cover it, and no fewer cover it
 pub record IsCut (mtu : ℕ) (c : ChosenPacket) : Type 0 where
   pub some' : 0 < c.pieces
   pub few : c.pieces ≤ 16384
   pub covered : length c.packet.body ≤ c.pieces * piece_length mtu
+  pub tight : (c.pieces - 1) * piece_length mtu ≤ length c.packet.body
 
 abbrev pub AllCut : ℕ → List ChosenPacket → Type 0
 AllCut mtu cs = (c : ChosenPacket) → Has cs c → IsCut mtu c

@@ -6,7 +6,7 @@ use Rattle.std.specs.FinMap.{empty, get, get-empty}
 use Rattle.enet_seq.specs.Numbering.{wire, unbounded}
 use Rattle.enet_fragment.specs.declared.data.DataCommand.{DataCommand}
 use Rattle.enet_packets.specs.declared.incoming_packet.IncomingPacket.{IncomingPacket}
-use Rattle.enet_receiver.specs.Receiver.{nothing_received}
+use Rattle.enet_receiver.specs.Receiver.{nothing_received, next_whole}
 use Rattle.enet_receiver.specs.DataOutcome.{outcome, is_handled, place_read, came_at, came_before}
 use Rattle.enet_sender.specs.CommandChoice.{ChosenPacket}
 use Rattle.enet_sender.specs.declared.sent.Sent.{Sent}
@@ -38,7 +38,7 @@ Sound-fresh mtu = record {
     removed = λ m low high. absurd (omega arith);
     span = λ o. omega arith;
     within = λ o. record { front = omega arith; held = λ n e h. absurd (let f = nothing_at n in cc) };
-    gap = λ o. (1, omega arith, omega arith, elim [ inl low ↦ omega arith | inr w ↦ (let f = nothing_at w.0 in let g = w.2 in cc) ]);
+    gap = λ o. (1, omega arith, omega arith, elim [ inl low ↦ omega arith | inr w ↦ (let f = nothing_at w.0 in let g = w.2 in cc) ], ap next_whole (nothing_at 1));
     commands = λ e h. absurd h;
     answers = λ a h. absurd h;
     rises = tt;

@@ -31,9 +31,9 @@ Grows-same r = record { front = omega arith; received = λ m h. h }
 pub Grows-trans : (a b c : Receiver) → Grows a b → Grows b c → Grows a c
 Grows-trans a b c g h = record { front = let x = g.front in let y = h.front in omega arith; received = λ m k. h.received m (g.received m k) }
 
--- a number at most 16,384 above the front is not received
+-- a number at most 16,384 above the front is not received, and nothing whole stands just past the front
 abbrev pub Lacks : Receiver → Type 0
-Lacks r = (g : ℕ) × (r.front < g) × (g ≤ r.front + 16384) × (IsReceived r g → ⊥)
+Lacks r = (g : ℕ) × (r.front < g) × (g ≤ r.front + 16384) × (IsReceived r g → ⊥) × (next_whole (get r.held (r.front + 1)) ≡ None)
 
 -- what a dispatch of one packet keeps, the whole release keeps
 pub released-keeps : (P : Receiver → Type 0) → ((r : Receiver) (c : IncomingPacket) → get r.held (r.front + 1) ≡ Some c → is_whole c.making ≡ true → P r → P (with_dispatched unbounded r c)) → (most : ℕ) (r : Receiver) → P r → P (released unbounded most r)
@@ -156,6 +156,7 @@ Lacks-from_gap mtu cs sent r k s gap = go (get r.held (r.front + 1)) refl gap
             let is : w.0 ≡ r.front + 1 = omega arith in
             (let f : Some w.1 ≡ None = sym w.2 ∙ ap (get r.held) is ∙ e in cc)
       ],
+      gap,
     )
     go (Some c) e n =
         let m = missing c.making (not_whole (is_whole c.making) n) in
@@ -186,6 +187,7 @@ Lacks-from_gap mtu cs sent r k s gap = go (get r.held (r.front + 1)) refl gap
                 let index : r.front + 1 + i - w.0 ≡ i = omega arith in
                 (let f : true ≡ false = sym w.4 ∙ ap (λ (y : IncomingPacket). has_piece y.making (r.front + 1 + i - w.0)) it ∙ ap (has_piece c.making) index ∙ m.2 in cc)
           ],
+          gap,
         )
       where
         not_whole : (b : Bool) → cond b (Some c) None ≡ None → b ≡ false

@@ -1,5 +1,5 @@
 -- What the sending end of a link does keeps what holds of it.
-use Rattle.std.proofs.Common.{◌≡◌, ℕ, ◌+◌, ◌-◌, ◌/◌, ◌%◌, ◌<◌, ◌≤◌, Bool, true, false, not, cond, ◌==◌, ◌||◌, if◌then◌else◌, List, [], ◌∷◌, ◌++◌, length, map, refl, sym, ap, subst, ◌∙◌, inl, inr, ◌⊎◌, arith, Option, Some, None, zero, suc, append_assoc}
+use Rattle.std.proofs.Common.{◌≡◌, ℕ, ◌+◌, ◌-◌, ◌*◌, ◌/◌, ◌%◌, ◌<◌, ◌≤◌, Bool, true, false, not, cond, ◌==◌, ◌||◌, if◌then◌else◌, List, [], ◌∷◌, ◌++◌, length, map, refl, sym, ap, subst, ◌∙◌, inl, inr, ◌⊎◌, arith, Option, Some, None, zero, suc, append_assoc, div-mul-le_self}
 use Rattle.std.proofs.lemmas.Bool.Decides.{nat_tests}
 use Rattle.std.proofs.lemmas.List.{append-nil, map-append}
 use Rattle.std.proofs.lemmas.Nat.{div_below}
@@ -55,8 +55,20 @@ one_piece len mtu short =
         below : (m n : ℕ) → nat_lt m n ≡ false → n ≤ m
         below m n t = grind (arith, nat_tests)
 
+-- fewer pieces of this length don't cover so many bytes
+no_fewer : (len mtu : ℕ) → (piece_count len mtu - 1) * piece_length mtu ≤ len
+unfolding piece_count
+no_fewer len mtu =
+    elim (len == 0) as (λ b. (cond b 1 ((len - 1) / piece_length mtu + 1) - 1) * piece_length mtu ≤ len) [
+      | true ↦ omega arith
+      | false ↦ (let down : (len - 1) / piece_length mtu * piece_length mtu ≤ len - 1 = div-mul-le_self (len - 1) (piece_length mtu) in
+          let same : (len - 1) / piece_length mtu + 1 - 1 ≡ (len - 1) / piece_length mtu = omega arith in
+          let e : ((len - 1) / piece_length mtu + 1 - 1) * piece_length mtu ≡ (len - 1) / piece_length mtu * piece_length mtu = ap (λ n. n * piece_length mtu) same in
+          omega arith)
+    ]
+
 IsCut-carried : (mtu count : ℕ) (p : Packet) → 28 < mtu → (carried_as mtu count p).pieces ≤ 16384 → IsCut mtu (carried_as mtu count p)
-IsCut-carried mtu count p big few = record { some' = some_piece (length p.body) mtu; few = few; covered = piece_count-enough (length p.body) mtu big }
+IsCut-carried mtu count p big few = record { some' = some_piece (length p.body) mtu; few = few; covered = piece_count-enough (length p.body) mtu big; tight = no_fewer (length p.body) mtu }
 
 IsPlain-carried : (mtu count : ℕ) (p : Packet) → IsPlain mtu (carried_as mtu count p)
 IsPlain-carried mtu count p short = one_piece (length p.body) mtu short

@@ -1,5 +1,5 @@
 -- What was meant: the packets and commands of a list of what was submitted.
-use Rattle.std.specs.Prelude.{◌≡◌, ℕ, Bool, true, false, ◌+◌, ◌<◌, ◌⊎◌, List, ◌∷◌, ◌++◌, Some, None, is_some, if◌then◌else◌}
+use Rattle.std.specs.Prelude.{◌≡◌, ℕ, Bool, true, false, ◌+◌, ◌<◌, ◌⊎◌, List, ◌∷◌, ◌++◌, length, Some, None, is_some, if◌then◌else◌}
 use Rattle.enet_seq.specs.Numbering.{unbounded}
 use Rattle.enet_fragment.specs.Cutting.{piece_length}
 use Rattle.enet_fragment.specs.PartialPacket.{PartialPacket, count_of, piece_at}
@@ -28,6 +28,9 @@ has_piece m i = is_some (piece_at m i)
 pub record Matches (mtu : ℕ) (m : PartialPacket) (c : ChosenPacket) : Type 0 where
   pub count : count_of m ≡ c.pieces
   pub pieces : (i : ℕ) (bytes : List ℕ) → piece_at m i ≡ Some bytes → (i < c.pieces) × (bytes ≡ piece_of_body (piece_length mtu) c.packet.body i)
+  -- they told its length, and where it is cut how long each piece is
+  pub total : m.total ≡ length c.packet.body
+  pub cut : is_long mtu c.packet ≡ true → (size : ℕ) → m.cut ≡ Some size → size ≡ piece_length mtu
 
 -- a packet on its way is a reliable one of the list, of which this is the number of the first piece
 pub record OfReliable (mtu : ℕ) (cs : List ChosenPacket) (start : ℕ) (m : PartialPacket) : Type 0 where
