@@ -1,0 +1,656 @@
+-- An attempt to connect or to disconnect is about one command of channel 0xFF, which goes again and again until patience is over.
+use Rattle.std.proofs.Common.{◌≡◌, ℕ, zero, suc, ◌+◌, ◌-◌, ◌*◌, ◌%◌, ◌^◌, ◌<◌, ◌≤◌, ◌&&◌, ◌||◌, ◌==◌, not, eqb, leb, ltb, max, min, Bool, true, false, cond, List, [], ◌∷◌, ◌++◌, map, refl, sym, ap, subst, ◌∙◌, inl, inr, ◌⊎◌, arith, Option, Some, None, is_some}
+use Rattle.std.proofs.lemmas.Bool.Decides.{nat_tests}
+use Rattle.std.specs.List.{position, slice_get, slice_set, list_any, range_with_len}
+use Rattle.enet_codec.specs.declared.packet.Packet.{Packet}
+use Rattle.enet_codec.specs.declared.command.Verify.{Verify}
+use Rattle.enet_codec.specs.declared.command.Offer.{Offer}
+use Rattle.enet_codec.specs.declared.stop.Stop.TheVariants as stop
+use Rattle.enet_codec.specs.Message.{Message, Body, acknowledge, connect, verify_connect, disconnect, ping, send_reliable, send_unreliable, send_fragment, send_unsequenced, send_unreliable_fragment, bandwidth_limit, throttle_configure}
+use Rattle.enet_rtt.specs.Clock.{elapsed_time}
+use Rattle.enet_rtt.specs.Timing.{timeout}
+use Rattle.enet_rtt.specs.Transmission as transmission
+use Rattle.enet_rtt.specs.Expiry.{gives_up}
+use Rattle.enet_rtt.specs.declared.expiry.Patience.{Patience}
+use Rattle.enet_rtt.specs.declared.expiry.Expiry.TheVariants.{No, Resend, End}
+use Rattle.enet_connect.specs.declared.terms.Terms.{Terms}
+use Rattle.enet_connect.specs.declared.server.Server.{Server}
+use Rattle.enet_connect.specs.Verification.{confirmed}
+use Rattle.enet_senders.specs.Controlling as controlling
+use Rattle.enet_senders.specs.Controlling.{Commands}
+use Rattle.enet_senders.specs.declared.control.Control.{Control}
+use Rattle.enet_senders.specs.declared.control.Control.TheVariants as control
+use Rattle.enet_senders.specs.declared.control.Numbered.{Numbered}
+use Rattle.enet_senders.specs.declared.control.SentControl.{SentControl}
+use Rattle.enet_sender.specs.declared.sent.Sent.{Sent}
+use Rattle.enet_sender.specs.Sender as sender
+use Rattle.enet_sender.specs.Due.{SendingEnd, new_end}
+use Rattle.enet_outbox.specs.declared.parts.Matched.TheVariants as matched
+use Rattle.enet_outbox.specs.declared.parts.Pace.{Pace}
+use Rattle.enet_outbox.specs.Outbox.{Outbox, matched_by, matched_on, as_data, has_ended, has_late, marked_sender, cleared_sender}
+use Rattle.enet_outbox.specs.Outbox as outbox
+use Rattle.enet_outbox.specs.Emission.{Filling, filled}
+use Rattle.enet_outbox.proofs.Filled.{by-filling}
+use Rattle.enet_peer.specs.declared.parts.PeerState.{PeerState}
+use Rattle.enet_peer.specs.declared.parts.PeerState.TheVariants as state
+use Rattle.enet_peer.specs.declared.parts.Limits.{Limits}
+use Rattle.enet_peer.specs.Peering.{Peering, connecting, answering}
+use Rattle.enet_peer.specs.Endings.{settled, disconnecting, cut_off_in, is_later}
+use Rattle.enet_peer.specs.CommandEffect.{obeyed, stopped, is_allowed, is_of_handshake, is_connect, by_body, answered, answered_at, is_answered_in, on_acknowledge, on_match, acknowledged, with_answer, on_verify_in, welcomed, on_disconnect_in}
+use Rattle.enet_peer.specs.Calls.{pace_of, gone_on, gone_on_in, ticked, pinged, after_timeouts_by, growth_bound, is_connected, next_event, event_after, packet_event, last_event}
+use Rattle.law_progress.specs.Attempts.{Step, Hears, PutsOut, Takes, after_step, after_take, Stays, Turn, Turns, last_of, LastsAtMost}
+use Rattle.law_progress.proofs.NothingLeft.{nothing-left}
+use Rattle.law_progress.proofs.SomethingGoes.{none-due}
+
+-- a client asks, a host answers, or an end disconnects
+pub data Kind : Type 0 where
+  Asks : Kind
+  Answers : Kind
+  Leaves : Kind
+
+abbrev pub state_of : Kind → PeerState
+state_of Asks = state.Connecting
+state_of Answers = state.Answering
+state_of Leaves = state.Disconnecting
+
+-- the command that such an attempt is about
+abbrev pub is_about : Kind → Control → Bool
+is_about Asks (control.Connect offer) = true
+is_about Answers (control.VerifyConnect verify) = true
+is_about Leaves (control.Disconnect info) = true
+is_about _ _ = false
+
+reliable-about : (k : Kind) (x : Control) → is_about k x ≡ true → controlling.is_reliable x ≡ true
+reliable-about k (control.Connect offer) e = refl
+reliable-about k (control.VerifyConnect verify) e = refl
+reliable-about k (control.Disconnect info) e = refl
+reliable-about k control.Ping e = refl
+reliable-about k (control.BandwidthLimit incoming outgoing) e = refl
+reliable-about k (control.ThrottleConfigure interval acceleration deceleration) e = refl
+reliable-about Asks (control.DisconnectNow info) e = absurd (cc)
+reliable-about Answers (control.DisconnectNow info) e = absurd (cc)
+reliable-about Leaves (control.DisconnectNow info) e = absurd (cc)
+
+-- no channel has anything queued or sent
+abbrev pub AreEmpty : List SendingEnd → Type 0
+AreEmpty [] = Unit {0}
+AreEmpty (s ∷ rest) = (s.sender.queued ≡ []) × (s.sender.sent ≡ []) × AreEmpty rest
+
+empty-at : (xs : List SendingEnd) (i : ℕ) (s : SendingEnd) → AreEmpty xs → slice_get xs i ≡ Some s → (s.sender.queued ≡ []) × (s.sender.sent ≡ [])
+empty-at [] i s h e = absurd (cc)
+empty-at (x ∷ xs) zero s h e = let it : x ≡ s = cc in subst (λ (y : SendingEnd). (y.sender.queued ≡ []) × (y.sender.sent ≡ [])) it (h.0, h.1)
+empty-at (x ∷ xs) (suc i) s h e = empty-at xs i s h.2 e
+
+empty-marked : (bound now : ℕ) (xs : List SendingEnd) → AreEmpty xs → AreEmpty (map (marked_sender bound now) xs)
+empty-marked bound now [] h = h
+empty-marked bound now (x ∷ xs) h = (h.0, ap (map (sender.marked bound now)) h.1, empty-marked bound now xs h.2)
+
+empty-cleared : (xs : List SendingEnd) → AreEmpty (map cleared_sender xs)
+empty-cleared [] = tt
+empty-cleared (x ∷ xs) = (refl, refl, empty-cleared xs)
+
+empty-new : (from n : ℕ) → AreEmpty (map new_end (range_with_len from n))
+empty-new from zero = tt
+empty-new from (suc n) = (refl, refl, empty-new (from + 1) n)
+
+-- what an attempt is about, when it first went and with which timeout, and the peer's greatest patience
+record Attempt : Type 0 where
+  kind : Kind
+  command : Numbered
+  first : ℕ
+  timeout : ℕ
+  most : ℕ
+  about : is_about kind command.control ≡ true
+
+-- by now the command went first and last at these moments
+record Went (a : Attempt) (now : ℕ) (t : SentControl) : Type 0 where
+  command : t.command ≡ a.command
+  last : ℕ
+  first_is : t.transmission.first ≡ a.first % 2 ^ 32
+  last_is : t.transmission.last ≡ last % 2 ^ 32
+  after : a.first ≤ last
+  by : last ≤ now
+  brief : last ≤ a.first + a.most
+  in_time : now ≤ a.first + a.timeout + 2 * a.most
+  grown : ((t.transmission.due ≡ false) × (t.transmission.timeout + a.first ≤ a.timeout + last)) ⊎ ((t.transmission.due ≡ true) × (t.transmission.timeout + a.first ≤ a.timeout + now) × (now ≤ a.first + a.most))
+
+-- channel 0xFF has it queued, at the first moment, or sent
+abbrev Shape : Attempt → ℕ → Commands → Type 0
+Shape a now c = ((c.queued ≡ a.command ∷ []) × (c.sent ≡ []) × (now ≡ a.first)) ⊎ ((t : SentControl) × (c.queued ≡ []) × (c.sent ≡ t ∷ []) × Went a now t)
+
+-- where it is sent and waits
+record Rests (a : Attempt) (now : ℕ) (c : Commands) : Type 0 where
+  sent : SentControl
+  queued : c.queued ≡ []
+  alone : c.sent ≡ sent ∷ []
+  went : Went a now sent
+  waits : sent.transmission.due ≡ false
+
+-- what is due first of one sent command
+place : (t : SentControl) (b : Bool) → t.transmission.due ≡ b → position (λ (p : SentControl). p.transmission.due) (t ∷ []) ≡ cond b (Some 0) None
+place t true e = (λ i. let k : ℕ = cond (not (e i)) (1 + 0) 0 in cond (ltb k 1) (Some k) None)
+place t false e = (λ i. let k : ℕ = cond (not (e i)) (1 + 0) 0 in cond (ltb k 1) (Some k) None)
+
+next-waits : (now wait : ℕ) (c : Commands) (t : SentControl) → c.queued ≡ [] → c.sent ≡ t ∷ [] → t.transmission.due ≡ false → controlling.next now wait c ≡ None
+next-waits now wait c t none sent waits =
+    ap (λ (l : List SentControl). controlling.next_of now wait c (position (λ (p : SentControl). p.transmission.due) l)) sent
+    ∙ ap (controlling.next_of now wait c) (place t false waits) ∙ ap (controlling.next_queued now wait c) none
+
+next-again : (now wait : ℕ) (c : Commands) (t : SentControl) → c.sent ≡ t ∷ [] → t.transmission.due ≡ true
+    → controlling.next now wait c ≡ Some (record { command = t.command; commands = record c { sent = slice_set c.sent 0 (controlling.again now t) } })
+next-again now wait c t sent due =
+    ap (λ (l : List SentControl). controlling.next_of now wait c (position (λ (p : SentControl). p.transmission.due) l)) sent
+    ∙ ap (controlling.next_of now wait c) (place t true due) ∙ ap (λ (l : List SentControl). controlling.next_resent now c 0 (slice_get l 0)) sent
+
+next-first : (now wait : ℕ) (c : Commands) (x : Numbered) → c.queued ≡ x ∷ [] → c.sent ≡ [] → controlling.is_reliable x.control ≡ true
+    → controlling.next now wait c ≡ Some (record { command = x; commands = record c { queued = []; sent = cond (controlling.is_reliable x.control) (c.sent ++ controlling.begun now wait x ∷ []) c.sent } })
+next-first now wait c x queued none reliable =
+    ap (λ (l : List SentControl). controlling.next_of now wait c (position (λ (p : SentControl). p.transmission.due) l)) none
+    ∙ ap (controlling.next_queued now wait c) queued
+    ∙ ap (λ (l : List SentControl). cond (controlling.is_in_span l x.number) (Some (record { command = x; commands = record c { queued = []; sent = cond (controlling.is_reliable x.control) (c.sent ++ controlling.begun now wait x ∷ []) c.sent } })) None) none
+
+-- what goes of channel 0xFF keeps this
+shape-next : (a : Attempt) (now : ℕ) (c : Commands) (n : controlling.Next) → controlling.next (now % 2 ^ 32) a.timeout c ≡ Some n → Shape a now c → Shape a now n.commands
+shape-next a now c n e (inl q) =
+    let reliable = reliable-about a.kind a.command.control a.about in
+    let x = a.command in
+    let mine = next-first (now % 2 ^ 32) a.timeout c x q.0 q.1 reliable in
+    let same : ◌≡◌ {A = controlling.Next} (record { command = x; commands = record c { queued = []; sent = cond (controlling.is_reliable x.control) (c.sent ++ controlling.begun (now % 2 ^ 32) a.timeout x ∷ []) c.sent } }) n = some-is (sym mine ∙ e) in
+    let first = q.2 in
+    subst (λ (k : controlling.Next). Shape a now k.commands) same (inr (
+      controlling.begun (now % 2 ^ 32) a.timeout x,
+      refl,
+      ap (λ b. cond b (c.sent ++ controlling.begun (now % 2 ^ 32) a.timeout x ∷ []) c.sent) reliable ∙ ap (λ (l : List SentControl). l ++ controlling.begun (now % 2 ^ 32) a.timeout x ∷ []) q.1,
+      record {
+        command = refl;
+        last = now;
+        first_is = ap (λ k. k % 2 ^ 32) q.2;
+        last_is = refl;
+        after = omega arith;
+        by = omega arith;
+        brief = omega arith;
+        in_time = omega arith;
+        grown = inl (refl, omega arith);
+      },
+    ))
+  where
+    some-is : {X : Type 0} {u v : X} → Some u ≡ Some v → u ≡ v
+    some-is {X} {u} {v} e = cc
+shape-next a now c n e (inr (t, none, sent, w)) = by w.grown
+  where
+    some-is : {X : Type 0} {u v : X} → Some u ≡ Some v → u ≡ v
+    some-is {X} {u} {v} e = cc
+
+    by : ((t.transmission.due ≡ false) × (t.transmission.timeout + a.first ≤ a.timeout + w.last)) ⊎ ((t.transmission.due ≡ true) × (t.transmission.timeout + a.first ≤ a.timeout + now) × (now ≤ a.first + a.most)) → Shape a now n.commands
+    by (inl k) = absurd (let f : Some n ≡ None = sym e ∙ next-waits (now % 2 ^ 32) a.timeout c t none sent k.0 in cc)
+    by (inr k) =
+        let same : ◌≡◌ {A = controlling.Next} (record { command = t.command; commands = record c { sent = slice_set c.sent 0 (controlling.again (now % 2 ^ 32) t) } }) n = some-is (sym (next-again (now % 2 ^ 32) a.timeout c t sent k.0) ∙ e) in
+        let after = w.after in
+        let low = w.by in
+        let soon = k.2 in
+        subst (λ (x : controlling.Next). Shape a now x.commands) same (inr (
+          controlling.again (now % 2 ^ 32) t,
+          none,
+          ap (λ (l : List SentControl). slice_set l 0 (controlling.again (now % 2 ^ 32) t)) sent,
+          record { command = w.command; last = now; first_is = w.first_is; last_is = refl; after = omega arith; by = omega arith; brief = soon; in_time = w.in_time; grown = inl (refl, k.1) },
+        ))
+
+-- a datagram that is filled keeps what each command of channel 0xFF that goes keeps, where the channels are empty
+abbrev Kept : (Commands → Type 0) → Filling → Type 0
+Kept R f = AreEmpty f.outbox.senders × R f.outbox.control
+
+kept-filled : (pace : Pace) (o : Outbox) (R : Commands → Type 0) → ((c : Commands) (n : controlling.Next) → controlling.next pace.now pace.timeout c ≡ Some n → R c → R n.commands) → AreEmpty o.senders → R o.control → Kept R (filled pace o)
+kept-filled pace o R goes empty r = by-filling pace o (Kept R) (record {
+  closes = λ f g. g;
+  acknowledges = λ f a rest e g. g;
+  controls = λ f n e g. (g.0, goes f.outbox.control n e g.1);
+  puts_unsequenced = λ f u rest t e g. g;
+  drops_unsequenced = λ f u rest t e g. g;
+  puts_data = λ f k s n t there due g. absurd (let h = empty-at f.outbox.senders k s g.0 there in let x = none-due _ s.sender h.1 h.0 in let y : Some n ≡ None = sym due ∙ x in cc);
+  drops_data = λ f k s n t there due kind g. absurd (let h = empty-at f.outbox.senders k s g.0 there in let x = none-due _ s.sender h.1 h.0 in let y : Some n ≡ None = sym due ∙ x in cc);
+}) (empty, r)
+
+-- what a peer keeps at a moment while the attempt lasts
+record Lasts (a : Attempt) (now : ℕ) (p : Peering) : Type 0 where
+  state : p.state ≡ state_of a.kind
+  empty : AreEmpty p.outbox.senders
+  most : p.patience.maximum ≡ a.most
+  wait : timeout p.estimate ≡ a.timeout
+  shape : Shape a now p.outbox.control
+
+-- as much of it as a command that comes may change
+record Same (p q : Peering) : Type 0 where
+  control : q.outbox.control ≡ p.outbox.control
+  senders : q.outbox.senders ≡ p.outbox.senders
+  patience : q.patience ≡ p.patience
+  estimate : q.estimate ≡ p.estimate
+
+same-lasts : (a : Attempt) (now : ℕ) (p q : Peering) → Same p q → q.state ≡ state_of a.kind → Lasts a now p → Lasts a now q
+same-lasts a now p q s e l = record {
+  state = e;
+  empty = subst (λ xs. AreEmpty xs) (sym s.senders) l.empty;
+  most = ap (λ (x : Patience). x.maximum) s.patience ∙ l.most;
+  wait = ap timeout s.estimate ∙ l.wait;
+  shape = subst (λ (c : Commands). Shape a now c) (sym s.control) l.shape;
+}
+
+same-self : (p : Peering) → Same p p
+same-self p = record { control = refl; senders = refl; patience = refl; estimate = refl }
+
+-- an acknowledgement that waits changes nothing of it
+answered-same : (p e : Peering) (m : Message) (sent : Option ℕ) → Same p e → Same p (answered e m sent true).after
+answered-same p e m sent k = go (m.head.acknowledge && true && is_answered_in e.state m.body) sent
+  where
+    go : (b : Bool) (o : Option ℕ) → Same p (cond b (answered_at e m.head o) (record { stop = None; after = e })).after
+    go false o = k
+    go true None = k
+    go true (Some time) = record { control = k.control; senders = k.senders; patience = k.patience; estimate = k.estimate }
+
+answered-state : (e : Peering) (m : Message) (sent : Option ℕ) (s : PeerState) → (answered e m sent true).after.state ≡ s → e.state ≡ s
+answered-state e m sent s = go (m.head.acknowledge && true && is_answered_in e.state m.body) sent
+  where
+    go : (b : Bool) (o : Option ℕ) → (cond b (answered_at e m.head o) (record { stop = None; after = e })).after.state ≡ s → e.state ≡ s
+    go false o h = h
+    go true None h = h
+    go true (Some time) h = h
+
+-- what an acknowledgement can match
+matches : (a : Attempt) (now : ℕ) (o : Outbox) (channel number : ℕ) → AreEmpty o.senders → Shape a now o.control → (matched_by o channel number ≡ matched.Nothing) ⊎ (matched_by o channel number ≡ matched.Control a.command.control)
+matches a now o channel number empty shape = by (channel == 0xFF)
+  where
+    on : (x : Option SendingEnd) → slice_get o.senders channel ≡ x → matched_on x number ≡ matched.Nothing
+    on None e = refl
+    on (Some s) e = ap (λ (l : List Sent). as_data (sender.size_at l (sender.position_of number l))) (empty-at o.senders channel s empty e).1
+
+    at : Shape a now o.control → (outbox.as_control (controlling.acknowledged_control o.control number) ≡ matched.Nothing) ⊎ (outbox.as_control (controlling.acknowledged_control o.control number) ≡ matched.Control a.command.control)
+    at (inl q) = inl (ap (λ (l : List SentControl). outbox.as_control (controlling.control_at l (controlling.position_of number l))) q.1)
+    at (inr (t, none, sent, w)) = found (eqb t.command.number number) refl
+      where
+        is : outbox.as_control (controlling.acknowledged_control o.control number) ≡ outbox.as_control (controlling.control_at (t ∷ []) (controlling.position_of number (t ∷ [])))
+        is = ap (λ (l : List SentControl). outbox.as_control (controlling.control_at l (controlling.position_of number l))) sent
+
+        found : (b : Bool) → eqb t.command.number number ≡ b → (outbox.as_control (controlling.acknowledged_control o.control number) ≡ matched.Nothing) ⊎ (outbox.as_control (controlling.acknowledged_control o.control number) ≡ matched.Control a.command.control)
+        found true e = inr (is ∙ (λ i. outbox.as_control (controlling.control_at (t ∷ []) (let k : ℕ = cond (not (e i)) (1 + 0) 0 in cond (ltb k 1) (Some k) None))) ∙ ap (λ (x : Numbered). matched.Control x.control) w.command)
+        found false e = inl (is ∙ (λ i. outbox.as_control (controlling.control_at (t ∷ []) (let k : ℕ = cond (not (e i)) (1 + 0) 0 in cond (ltb k 1) (Some k) None))))
+
+    by : (b : Bool) → (cond b (outbox.as_control (controlling.acknowledged_control o.control number)) (matched_on (slice_get o.senders channel) number) ≡ matched.Nothing)
+        ⊎ (cond b (outbox.as_control (controlling.acknowledged_control o.control number)) (matched_on (slice_get o.senders channel) number) ≡ matched.Control a.command.control)
+    by true = at shape
+    by false = inl (on (slice_get o.senders channel) refl)
+
+-- the acknowledgement of the command itself ends the attempt
+ends-answering : (x : Control) (gone : Peering) → is_about Answers x ≡ true → (settled (with_answer state.Answering x gone)).state ≡ state.Answering → ⊥
+ends-answering (control.VerifyConnect verify) gone e h = cc
+ends-answering (control.Connect offer) gone e h = cc
+ends-answering (control.Disconnect info) gone e h = cc
+ends-answering (control.DisconnectNow info) gone e h = cc
+ends-answering control.Ping gone e h = cc
+ends-answering (control.BandwidthLimit incoming outgoing) gone e h = cc
+ends-answering (control.ThrottleConfigure interval acceleration deceleration) gone e h = cc
+
+ends-leaving : (x : Control) (gone : Peering) → is_about Leaves x ≡ true → (settled (with_answer state.Disconnecting x gone)).state ≡ state.Disconnecting → ⊥
+ends-leaving (control.Disconnect info) gone e h = cc
+ends-leaving (control.Connect offer) gone e h = cc
+ends-leaving (control.VerifyConnect verify) gone e h = cc
+ends-leaving (control.DisconnectNow info) gone e h = cc
+ends-leaving control.Ping gone e h = cc
+ends-leaving (control.BandwidthLimit incoming outgoing) gone e h = cc
+ends-leaving (control.ThrottleConfigure interval acceleration deceleration) gone e h = cc
+
+-- what a command that comes leaves as it was, where the peer stays in its state
+abbrev Stands : Kind → Peering → Peering → Type 0
+Stands k p e = e.state ≡ state_of k → Same p e
+
+abbrev pub in_state : Kind → Peering → Peering
+in_state k p = record p { state = state_of k }
+
+same-in : (k : Kind) (p : Peering) → Same p (in_state k p)
+same-in k p = record { control = refl; senders = refl; patience = refl; estimate = refl }
+
+-- an acknowledgement
+acknowledgement-stands : (a : Attempt) (now moment channel number time : ℕ) (p : Peering) → AreEmpty p.outbox.senders → Shape a now p.outbox.control → (k : Kind) → is_about k a.command.control ≡ true
+    → Stands k p (on_acknowledge (in_state k p) moment channel number time)
+acknowledgement-stands a now moment channel number time p empty shape Asks about = λ h. same-in Asks p
+acknowledgement-stands a now moment channel number time p empty shape Answers about =
+    let old : Peering = in_state Answers p in
+    let gone : Peering = acknowledged old moment channel number time in
+    elim (matches a now p.outbox channel number empty shape) [
+      | inl none ↦ subst (λ m. Stands Answers p (on_match m old gone)) (sym none) (λ h. same-in Answers p)
+      | inr own ↦ subst (λ m. Stands Answers p (on_match m old gone)) (sym own) (λ h. absurd (ends-answering a.command.control gone about h))
+    ]
+acknowledgement-stands a now moment channel number time p empty shape Leaves about =
+    let old : Peering = in_state Leaves p in
+    let gone : Peering = acknowledged old moment channel number time in
+    elim (matches a now p.outbox channel number empty shape) [
+      | inl none ↦ subst (λ m. Stands Leaves p (on_match m old gone)) (sym none) (λ h. same-in Leaves p)
+      | inr own ↦ subst (λ m. Stands Leaves p (on_match m old gone)) (sym own) (λ h. absurd (ends-leaving a.command.control gone about h))
+    ]
+
+-- a server's answer, and a DISCONNECT
+verify-stands : (k : Kind) (p : Peering) (v : Verify) → Stands k p (on_verify_in (state_of k) (in_state k p) v)
+verify-stands Asks p v = by (confirmed p.offer v)
+  where
+    by : (o : Option Terms) → Stands Asks p (welcomed (in_state Asks p) v o)
+    by None = λ h. absurd (cc)
+    by (Some terms) = λ h. absurd (cc)
+verify-stands Answers p v = λ h. same-in Answers p
+verify-stands Leaves p v = λ h. same-in Leaves p
+
+disconnect-stands : (k : Kind) (p : Peering) (answerable : Bool) (info : ℕ) → Stands k p (on_disconnect_in (state_of k) (in_state k p) answerable info)
+disconnect-stands Asks p answerable info = λ h. absurd (cc)
+disconnect-stands Answers p answerable info = λ h. absurd (cc)
+disconnect-stands Leaves p answerable info = λ h. absurd (cc)
+
+-- only the commands of a handshake are allowed
+pub handshake-alone : (k : Kind) (b : Body) → is_allowed (state_of k) b ≡ is_of_handshake b
+handshake-alone Asks b = refl
+handshake-alone Answers b = refl
+handshake-alone Leaves b = refl
+
+-- any command
+hears-stands : (a : Attempt) (now moment : ℕ) (sent : Option ℕ) (m : Message) (p : Peering) → AreEmpty p.outbox.senders → Shape a now p.outbox.control → (k : Kind) → is_about k a.command.control ≡ true
+    → Stands k p (obeyed (in_state k p) moment sent m).after
+hears-stands a now moment sent m p empty shape k about = by m.body
+  where
+    old : Peering
+    old = in_state k p
+
+    answers : (e : Peering) → Stands k p e → Stands k p (answered e m sent true).after
+    answers e h = λ t. answered-same p e m sent (h (answered-state e m sent (state_of k) t))
+
+    allowed : (b : Body) → Stands k p (cond (is_of_handshake b) (by_body old moment sent m b) (stopped old stop.NotConnected)).after → Stands k p (cond (is_allowed (state_of k) b) (by_body old moment sent m b) (stopped old stop.NotConnected)).after
+    allowed b h = subst (λ x. Stands k p (cond x (by_body old moment sent m b) (stopped old stop.NotConnected)).after) (sym (handshake-alone k b)) h
+
+    by : (b : Body) → Stands k p (cond (is_connect b) (stopped old stop.BadCommand) (cond (is_allowed (state_of k) b) (by_body old moment sent m b) (stopped old stop.NotConnected))).after
+    by (acknowledge number time) = allowed (acknowledge number time) (answers (on_acknowledge old moment m.head.channel number time) (acknowledgement-stands a now moment m.head.channel number time p empty shape k about))
+    by (connect offer) = λ h. same-in k p
+    by (verify_connect v) = allowed (verify_connect v) (answers (on_verify_in (state_of k) old v) (verify-stands k p v))
+    by (disconnect info) = allowed (disconnect info) (answers (on_disconnect_in (state_of k) old (m.head.acknowledge && is_some sent) info) (disconnect-stands k p (m.head.acknowledge && is_some sent) info))
+    by ping = allowed ping (λ h. same-in k p)
+    by (send_reliable payload) = allowed (send_reliable payload) (λ h. same-in k p)
+    by (send_unreliable number payload) = allowed (send_unreliable number payload) (λ h. same-in k p)
+    by (send_fragment fragment payload) = allowed (send_fragment fragment payload) (λ h. same-in k p)
+    by (send_unsequenced group payload) = allowed (send_unsequenced group payload) (λ h. same-in k p)
+    by (send_unreliable_fragment fragment payload) = allowed (send_unreliable_fragment fragment payload) (λ h. same-in k p)
+    by (bandwidth_limit incoming outgoing) = allowed (bandwidth_limit incoming outgoing) (λ h. same-in k p)
+    by (throttle_configure interval acceleration deceleration) = allowed (throttle_configure interval acceleration deceleration) (λ h. same-in k p)
+
+-- the user takes an event
+takes-same : (k : Kind) (p : Peering) → Same p (after_take (in_state k p) (next_event (in_state k p)))
+takes-same k p = by p.greeting
+  where
+    old : Peering
+    old = in_state k p
+
+    last : (j : Kind) → Same p (after_take old (last_event (state_of j) old))
+    last Asks = same-in k p
+    last Answers = same-in k p
+    last Leaves = same-in k p
+
+    packets : (untaken : List Packet) → Same p (after_take old (packet_event old untaken))
+    packets [] = last k
+    packets (q ∷ rest) = record { control = refl; senders = refl; patience = refl; estimate = refl }
+
+    by : (greeting : Option ℕ) → Same p (after_take old (event_after old greeting))
+    by (Some info) = record { control = refl; senders = refl; patience = refl; estimate = refl }
+    by None = packets p.inbox.untaken
+
+-- a datagram is put out, which ends nothing here
+pub waits-on : (k : Kind) (q : Peering) → q.state ≡ state_of k → gone_on q ≡ q
+waits-on k q e = ap (λ s. gone_on_in s q) e ∙ by k e
+  where
+    by : (k : Kind) → q.state ≡ state_of k → gone_on_in (state_of k) q ≡ q
+    by Asks h = ap (λ s. cond (is_later s && outbox.is_done q.outbox) (disconnecting q q.info) q) h
+    by Answers h = ap (λ s. cond (is_later s && outbox.is_done q.outbox) (disconnecting q q.info) q) h
+    by Leaves h = ap (λ s. cond (is_later s && outbox.is_done q.outbox) (disconnecting q q.info) q) h
+
+puts-kept : (a : Attempt) (now : ℕ) (R : Commands → Type 0) (p : Peering) → ((c : Commands) (n : controlling.Next) → controlling.next (now % 2 ^ 32) a.timeout c ≡ Some n → R c → R n.commands) → Lasts a now p → R p.outbox.control
+    → Kept R (filled (pace_of p (now % 2 ^ 32)) p.outbox)
+puts-kept a now R p goes l r =
+    kept-filled (pace_of p (now % 2 ^ 32)) p.outbox R (λ c n e h. goes c n (ap (λ w. controlling.next (now % 2 ^ 32) w c) (sym l.wait) ∙ e) h) l.empty r
+
+puts-lasts : (a : Attempt) (now : ℕ) (p : Peering) → Lasts a now p → Lasts a now (after_step (now % 2 ^ 32) p PutsOut)
+puts-lasts a now p l =
+    let f = filled (pace_of p (now % 2 ^ 32)) p.outbox in
+    let q : Peering = record p { outbox = f.outbox } in
+    let k = puts-kept a now (λ c. Shape a now c) p (λ c n e h. shape-next a now c n e h) l l.shape in
+    subst (λ (x : Peering). Lasts a now x) (sym (waits-on a.kind q l.state)) (record { state = l.state; empty = k.0; most = l.most; wait = l.wait; shape = k.1 })
+
+-- a step keeps what holds while the attempt lasts
+step-lasts : (a : Attempt) (now : ℕ) (p : Peering) (step : Step) → Lasts a now p → (after_step (now % 2 ^ 32) p step).state ≡ state_of a.kind → Lasts a now (after_step (now % 2 ^ 32) p step)
+step-lasts a now p step l e = by step e
+  where
+    at : in_state a.kind p ≡ p
+    at = ap (λ s. record p { state = s }) (sym l.state)
+
+    by : (step : Step) → (after_step (now % 2 ^ 32) p step).state ≡ state_of a.kind → Lasts a now (after_step (now % 2 ^ 32) p step)
+    by (Hears sent m) h =
+        let stands : Stands a.kind p (obeyed p (now % 2 ^ 32) sent m).after = subst (λ (x : Peering). Stands a.kind p (obeyed x (now % 2 ^ 32) sent m).after) at (hears-stands a now (now % 2 ^ 32) sent m p l.empty l.shape a.kind a.about) in
+        same-lasts a now p (obeyed p (now % 2 ^ 32) sent m).after (stands h) h l
+    by PutsOut h = puts-lasts a now p l
+    by Takes h = same-lasts a now p (after_take p (next_event p)) (subst (λ (x : Peering). Same p (after_take x (next_event x))) at (takes-same a.kind p)) h l
+
+stays-state : (s : PeerState) (moment : ℕ) (steps : List Step) (p q : Peering) → Stays s moment steps p q → p.state ≡ s
+stays-state s moment [] p q h = h.0
+stays-state s moment (step ∷ steps) p q h = h.0
+
+stays-lasts : (a : Attempt) (now : ℕ) (steps : List Step) (p q : Peering) → Lasts a now p → Stays (state_of a.kind) (now % 2 ^ 32) steps p q → Lasts a now q
+stays-lasts a now [] p q l h = subst (λ (x : Peering). Lasts a now x) h.1 l
+stays-lasts a now (step ∷ steps) p q l h =
+    let r = after_step (now % 2 ^ 32) p step in
+    stays-lasts a now steps r q (step-lasts a now p step l (stays-state (state_of a.kind) (now % 2 ^ 32) steps r q h.1)) h.1
+
+-- a moment comes
+or-left : (x y : Bool) → (x || y) ≡ false → x ≡ false
+or-left true y e = e
+or-left false y e = refl
+
+cut-ends : (k : Kind) (p : Peering) (n : ℕ) → (pinged (cut_off_in (state_of k) p) n).state ≡ state_of k → ⊥
+cut-ends Asks p n e = cc
+cut-ends Answers p n e = cc
+cut-ends Leaves p n e = cc
+
+pub unpinged : (k : Kind) (q : Peering) (n : ℕ) → q.state ≡ state_of k → pinged q n ≡ q
+unpinged k q n e = by k e
+  where
+    by : (k : Kind) → q.state ≡ state_of k → pinged q n ≡ q
+    by Asks h = ap (λ s. cond (is_connected s && outbox.is_quiet q.outbox && leb q.ping_interval (elapsed_time n q.heard)) (record q { outbox = outbox.with_control q.outbox control.Ping }) q) h
+    by Answers h = ap (λ s. cond (is_connected s && outbox.is_quiet q.outbox && leb q.ping_interval (elapsed_time n q.heard)) (record q { outbox = outbox.with_control q.outbox control.Ping }) q) h
+    by Leaves h = ap (λ s. cond (is_connected s && outbox.is_quiet q.outbox && leb q.ping_interval (elapsed_time n q.heard)) (record q { outbox = outbox.with_control q.outbox control.Ping }) q) h
+
+-- what is to be shown of channel 0xFF for it
+record Marked (a : Attempt) (now : ℕ) (p : Peering) : Type 0 where
+  resent : (bound : ℕ) → has_ended p.outbox (now % 2 ^ 32) p.patience p.heard ≡ false → Shape a now (controlling.with_marked bound (now % 2 ^ 32) p.outbox.control)
+  rests : has_ended p.outbox (now % 2 ^ 32) p.patience p.heard ≡ false → has_late p.outbox (now % 2 ^ 32) ≡ false → Shape a now p.outbox.control
+
+tick-lasts : (a : Attempt) (now : ℕ) (p : Peering) → p.state ≡ state_of a.kind → AreEmpty p.outbox.senders → p.patience.maximum ≡ a.most → timeout p.estimate ≡ a.timeout → Marked a now p
+    → (ticked p (now % 2 ^ 32)).state ≡ state_of a.kind → Lasts a now (ticked p (now % 2 ^ 32))
+tick-lasts a now p at empty most wait k = go (has_ended p.outbox n p.patience p.heard) refl (has_late p.outbox n) refl
+  where
+    n : ℕ
+    n = now % 2 ^ 32
+
+    go : (e : Bool) → has_ended p.outbox n p.patience p.heard ≡ e → (late : Bool) → has_late p.outbox n ≡ late → (pinged (after_timeouts_by (cond e End (cond late Resend No)) p n) n).state ≡ state_of a.kind
+        → Lasts a now (pinged (after_timeouts_by (cond e End (cond late Resend No)) p n) n)
+    go true e late f h = absurd (cut-ends a.kind p n (subst (λ s. (pinged (cut_off_in s p) n).state ≡ state_of a.kind) at h))
+    go false e true f h =
+        let q : Peering = record p { outbox = outbox.marked p.outbox (growth_bound p) n } in
+        subst (λ (x : Peering). Lasts a now x) (sym (unpinged a.kind q n at))
+        (record { state = at; empty = empty-marked (growth_bound p) n p.outbox.senders empty; most = most; wait = wait; shape = k.resent (growth_bound p) e })
+    go false e false f h = subst (λ (x : Peering). Lasts a now x) (sym (unpinged a.kind p n at)) (record { state = at; empty = empty; most = most; wait = wait; shape = k.rests e f })
+
+-- before the first turn it is queued
+first-marked : (a : Attempt) (p : Peering) → p.outbox.control.queued ≡ a.command ∷ [] → p.outbox.control.sent ≡ [] → Marked a a.first p
+first-marked a p queued none = record {
+  resent = λ bound e. inl (queued, ap (map (controlling.marked bound (a.first % 2 ^ 32))) none, refl);
+  rests = λ e f. inl (queued, none, refl);
+}
+
+-- later it waits, and where it waited out its timeout it is due to go again, or patience is over
+elapsed-is : (since now : ℕ) → since ≤ now → now < since + 2 ^ 32 → elapsed_time (now % 2 ^ 32) (since % 2 ^ 32) ≡ now - since
+elapsed-is since now low high = omega arith
+
+le-of : (m n : ℕ) → leb m n ≡ true → m ≤ n
+le-of m n e = grind (arith, nat_tests)
+
+lt-of : (m n : ℕ) → leb m n ≡ false → n < m
+lt-of m n e = grind (arith, nat_tests)
+
+at-most-twice : (bound t : ℕ) → transmission.grown_time bound t ≤ 2 * t
+at-most-twice bound t = grind arith
+
+went-waits : (a : Attempt) (before now : ℕ) (t : SentControl) → Went a before t → t.transmission.due ≡ false → before ≤ now → now < a.first + 2 ^ 32 → leb t.transmission.timeout (elapsed_time (now % 2 ^ 32) t.transmission.last) ≡ false → Went a now t
+went-waits a before now t w waits up near early = by w.grown
+  where
+    low : w.last ≤ now
+    low = let b = w.by in omega arith
+
+    gone : elapsed_time (now % 2 ^ 32) t.transmission.last ≡ now - w.last
+    gone = ap (elapsed_time (now % 2 ^ 32)) w.last_is ∙ elapsed-is w.last now low (let x = w.after in omega arith)
+
+    soon : now - w.last < t.transmission.timeout
+    soon = let x = lt-of t.transmission.timeout (elapsed_time (now % 2 ^ 32) t.transmission.last) early in let y = gone in omega arith
+
+    by : ((t.transmission.due ≡ false) × (t.transmission.timeout + a.first ≤ a.timeout + w.last)) ⊎ ((t.transmission.due ≡ true) × (t.transmission.timeout + a.first ≤ a.timeout + before) × (before ≤ a.first + a.most)) → Went a now t
+    by (inr d) = absurd (let f : true ≡ false = sym d.0 ∙ waits in cc)
+    by (inl k) = (let x = k.1 in let y = soon in let z = w.brief in let v = w.after in let l = low in
+        record { command = w.command; last = w.last; first_is = w.first_is; last_is = w.last_is; after = w.after; by = low; brief = w.brief; in_time = omega arith; grown = inl (waits, k.1) })
+
+went-again : (a : Attempt) (before now bound most : ℕ) (t : SentControl) → Went a before t → t.transmission.due ≡ false → before ≤ now → now < a.first + 2 ^ 32 → leb t.transmission.timeout (elapsed_time (now % 2 ^ 32) t.transmission.last) ≡ true
+    → most ≡ a.most → leb most (elapsed_time (now % 2 ^ 32) t.transmission.first) ≡ false → Went a now (record t { transmission = record t.transmission { timeout = transmission.grown_time bound t.transmission.timeout; due = true } })
+went-again a before now bound most t w waits up near late same patient = by w.grown
+  where
+    low : w.last ≤ now
+    low = let b = w.by in omega arith
+
+    gone : elapsed_time (now % 2 ^ 32) t.transmission.last ≡ now - w.last
+    gone = ap (elapsed_time (now % 2 ^ 32)) w.last_is ∙ elapsed-is w.last now low (let x = w.after in omega arith)
+
+    over : t.transmission.timeout ≤ now - w.last
+    over = let x = le-of t.transmission.timeout (elapsed_time (now % 2 ^ 32) t.transmission.last) late in let y = gone in omega arith
+
+    since : elapsed_time (now % 2 ^ 32) t.transmission.first ≡ now - a.first
+    since = ap (elapsed_time (now % 2 ^ 32)) w.first_is ∙ elapsed-is a.first now (let x = w.after in let y = low in omega arith) near
+
+    brief : now ≤ a.first + a.most
+    brief = let x = lt-of most (elapsed_time (now % 2 ^ 32) t.transmission.first) patient in let y = since in omega arith
+
+    by : ((t.transmission.due ≡ false) × (t.transmission.timeout + a.first ≤ a.timeout + w.last)) ⊎ ((t.transmission.due ≡ true) × (t.transmission.timeout + a.first ≤ a.timeout + before) × (before ≤ a.first + a.most))
+        → Went a now (record t { transmission = record t.transmission { timeout = transmission.grown_time bound t.transmission.timeout; due = true } })
+    by (inr d) = absurd (let f : true ≡ false = sym d.0 ∙ waits in cc)
+    by (inl k) = (let x = k.1 in let y = over in let z = brief in let v = w.after in let l = low in let g = at-most-twice bound t.transmission.timeout in
+        record { command = w.command; last = w.last; first_is = w.first_is; last_is = w.last_is; after = w.after; by = low; brief = w.brief; in_time = omega arith; grown = inr (refl, omega arith, brief) })
+
+later-marked : (a : Attempt) (before now gap : ℕ) (p : Peering) → Rests a before p.outbox.control → p.patience.maximum ≡ a.most → before ≤ now → now ≤ before + gap → a.timeout + 2 * a.most + gap < 2 ^ 32 → Marked a now p
+later-marked a before now gap p r most up down near = record {
+  resent = λ bound e. inr (controlling.marked bound n t, r.queued, ap (map (controlling.marked bound n)) r.alone, by bound e (leb t.transmission.timeout (elapsed_time n t.transmission.last)) refl);
+  rests = λ e f. inr (t, r.queued, r.alone, went-waits a before now t w r.waits up close (early f));
+}
+  where
+    n : ℕ
+    n = now % 2 ^ 32
+
+    t : SentControl
+    t = r.sent
+
+    w : Went a before t
+    w = r.went
+
+    close : now < a.first + 2 ^ 32
+    close = let x = w.in_time in omega arith
+
+    early : has_late p.outbox n ≡ false → leb t.transmission.timeout (elapsed_time n t.transmission.last) ≡ false
+    early f =
+        let first : (transmission.is_late n t.transmission || false) ≡ false = ap (list_any (controlling.is_late n)) (sym r.alone) ∙ or-left (list_any (controlling.is_late n) p.outbox.control.sent) _ f in
+        let late : transmission.is_late n t.transmission ≡ false = or-left (transmission.is_late n t.transmission) false first in
+        ap (λ b. not b && leb t.transmission.timeout (elapsed_time n t.transmission.last)) (sym r.waits) ∙ late
+
+    patient : has_ended p.outbox n p.patience p.heard ≡ false → leb t.transmission.timeout (elapsed_time n t.transmission.last) ≡ true → leb p.patience.maximum (elapsed_time n t.transmission.first) ≡ false
+    patient e late =
+        let first : (transmission.ends n p.patience p.heard t.transmission || false) ≡ false = ap (list_any (controlling.ends n p.patience p.heard)) (sym r.alone) ∙ or-left (list_any (controlling.ends n p.patience p.heard) p.outbox.control.sent) _ e in
+        let not_ended : transmission.ends n p.patience p.heard t.transmission ≡ false = or-left (transmission.ends n p.patience p.heard t.transmission) false first in
+        let is_late : transmission.is_late n t.transmission ≡ true = (λ i. not (r.waits i) && late i) in
+        or-left (leb p.patience.maximum (elapsed_time n t.transmission.first)) _ (ap (λ b. b && gives_up p.patience n p.heard t.transmission) (sym is_late) ∙ not_ended)
+
+    by : (bound : ℕ) → has_ended p.outbox n p.patience p.heard ≡ false → (b : Bool) → leb t.transmission.timeout (elapsed_time n t.transmission.last) ≡ b → Went a now (controlling.marked bound n t)
+    by bound e true late =
+        let is_late : transmission.is_late n t.transmission ≡ true = (λ i. not (r.waits i) && late i) in
+        subst (λ b. Went a now (record t { transmission = cond b (record t.transmission { timeout = transmission.grown_time bound t.transmission.timeout; due = true }) t.transmission })) (sym is_late)
+        (went-again a before now bound p.patience.maximum t w r.waits up close late most (patient e late))
+    by bound e false early' =
+        let is_early : transmission.is_late n t.transmission ≡ false = (λ i. not (r.waits i) && early' i) in
+        subst (λ b. Went a now (record t { transmission = cond b (record t.transmission { timeout = transmission.grown_time bound t.transmission.timeout; due = true }) t.transmission })) (sym is_early)
+        (went-waits a before now t w r.waits up close early')
+
+-- at the end of a turn nothing is left to be put out, so the command waits
+record Rested (a : Attempt) (now : ℕ) (p : Peering) : Type 0 where
+  lasts : Lasts a now p
+  rests : Rests a now p.outbox.control
+
+rests-left : (a : Attempt) (now : ℕ) (c : Commands) → controlling.next (now % 2 ^ 32) a.timeout c ≡ None → Shape a now c → Rests a now c
+rests-left a now c none (inl q) =
+    absurd (let f : None ≡ Some _ = sym none ∙ next-first (now % 2 ^ 32) a.timeout c a.command q.0 q.1 (reliable-about a.kind a.command.control a.about) in cc)
+rests-left a now c none (inr (t, queued, sent, w)) = by w.grown
+  where
+    by : ((t.transmission.due ≡ false) × (t.transmission.timeout + a.first ≤ a.timeout + w.last)) ⊎ ((t.transmission.due ≡ true) × (t.transmission.timeout + a.first ≤ a.timeout + now) × (now ≤ a.first + a.most)) → Rests a now c
+    by (inl k) = record { sent = t; queued = queued; alone = sent; went = w; waits = k.0 }
+    by (inr k) = absurd (let f : None ≡ Some _ = sym none ∙ next-again (now % 2 ^ 32) a.timeout c t sent k.0 in cc)
+
+turn-rests : (a : Attempt) (now : ℕ) (p q : Peering) → ((ticked p (now % 2 ^ 32)).state ≡ state_of a.kind → Lasts a now (ticked p (now % 2 ^ 32))) → Turn (state_of a.kind) now p q → Rested a now q
+turn-rests a now p q first turn = subst (λ (x : Peering). Rested a now x) (sym turn.after) (subst (λ (x : Peering). Rested a now x) (sym (waits-on a.kind r l.state)) (record {
+  lasts = record { state = l.state; empty = kept.0; most = l.most; wait = l.wait; shape = (let k = kept.1 in inr (k.sent, k.queued, k.alone, k.went)) };
+  rests = kept.1;
+}))
+  where
+    n : ℕ
+    n = now % 2 ^ 32
+
+    l : Lasts a now turn.last
+    l = stays-lasts a now turn.steps (ticked p n) turn.last (first (stays-state (state_of a.kind) n turn.steps (ticked p n) turn.last turn.stays)) turn.stays
+
+    r : Peering
+    r = record turn.last { outbox = (filled (pace_of turn.last n) turn.last.outbox).outbox }
+
+    none : controlling.next n a.timeout turn.last.outbox.control ≡ None
+    none = ap (λ w. controlling.next n w turn.last.outbox.control) (sym l.wait) ∙ nothing-left (pace_of turn.last n) turn.last.outbox (wide (min turn.last.terms.mtu 4096)) turn.spent
+      where
+        wide : (m : ℕ) → 576 ≤ max 576 m
+        wide m = grind arith
+
+    kept : Kept (λ c. Rests a now c) (filled (pace_of turn.last n) turn.last.outbox)
+    kept = puts-kept a now (λ c. Rests a now c) turn.last (λ c x e k. absurd (let f : Some x ≡ None = sym e ∙ next-waits n a.timeout c k.sent k.queued k.alone k.waits in cc)) l (rests-left a now turn.last.outbox.control none l.shape)
+
+-- turn after turn
+turns-last : (a : Attempt) (gap : ℕ) (moments : List ℕ) (now : ℕ) (p q : Peering) → a.timeout + 2 * a.most + gap < 2 ^ 32 → ((r : Peering) → Turn (state_of a.kind) now p r → Rested a now r) → Turns (state_of a.kind) gap now p moments q
+    → last_of now moments ≤ a.first + a.timeout + 2 * a.most
+turns-last a gap [] now p q near first turn = (first q turn).rests.went.in_time
+turns-last a gap (next ∷ later) now p q near first (r, turn, up, down, rest) =
+    let k = first r turn in
+    turns-last a gap later next r q near
+    (λ x t. turn-rests a next r x (λ e. tick-lasts a next r k.lasts.state k.lasts.empty k.lasts.most k.lasts.wait (later-marked a now next gap r k.rests k.lasts.most up down near) e) t)
+    rest
+
+-- a peer of which channel 0xFF has its command queued, alone, and no channel anything
+record Begins (k : Kind) (p : Peering) : Type 0 where
+  state : p.state ≡ state_of k
+  empty : AreEmpty p.outbox.senders
+  command : Numbered
+  queued : p.outbox.control.queued ≡ command ∷ []
+  none : p.outbox.control.sent ≡ []
+  about : is_about k command.control ≡ true
+
+begun-lasts : (k : Kind) (p : Peering) → Begins k p → LastsAtMost (state_of k) p (timeout p.estimate + 2 * p.patience.maximum)
+begun-lasts k p b gap now moments q near turns =
+    let last = turns-last a gap moments now p q near (λ r t. turn-rests a now p r (λ e. tick-lasts a now p b.state b.empty refl refl (first-marked a p b.queued b.none) e) t) turns in omega arith
+  where
+    a : Attempt
+    a = record { kind = k; command = b.command; first = now; timeout = timeout p.estimate; most = p.patience.maximum; about = b.about }
+
+pub asking-ends : (start : ℕ) (offer : Offer) (limits : Limits) → LastsAtMost state.Connecting (connecting start offer limits) 60500
+asking-ends start offer limits = begun-lasts Asks (connecting start offer limits) (record { state = refl; empty = empty-new 0 _; command = _; queued = refl; none = refl; about = refl })
+
+pub answering-ends : (start : ℕ) (offer : Offer) (server : Server) (limits : Limits) → LastsAtMost state.Answering (answering start offer server limits) 60500
+answering-ends start offer server limits = begun-lasts Answers (answering start offer server limits) (record { state = refl; empty = empty-new 0 _; command = _; queued = refl; none = refl; about = refl })
+
+pub leaving-ends : (p : Peering) (info : ℕ) → LastsAtMost state.Disconnecting (disconnecting p info) (timeout p.estimate + 2 * p.patience.maximum)
+leaving-ends p info = begun-lasts Leaves (disconnecting p info) (record { state = refl; empty = empty-cleared p.outbox.senders; command = _; queued = refl; none = refl; about = refl })

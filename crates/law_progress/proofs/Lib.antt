@@ -1,0 +1,17 @@
+-- one channel
+pub mod Answered
+pub mod Complete
+pub mod Delivered
+pub mod Trips
+pub mod NoDeadEnd
+-- an outbox
+pub mod Filling
+pub mod SomethingGoes
+pub mod AcknowledgementsGo
+pub mod PutsOut
+pub mod NothingLeft
+-- a peer
+pub mod PeerAnswers
+pub mod Removed
+pub mod Attempts
+pub mod Told

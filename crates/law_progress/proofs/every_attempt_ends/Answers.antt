@@ -1,0 +1,15 @@
+use Rattle.law_progress.proofs.Attempts.{Asks, Answers, Leaves, asking-ends, answering-ends, leaving-ends}
+use Rattle.law_progress.proofs.Told.{told}
+use Rattle.law_progress.proofs.every_attempt_ends.Goals as goal
+
+pub returns-clause-connecting : goal.returns-clause-connecting
+returns-clause-connecting c = asking-ends
+
+pub returns-clause-answering : goal.returns-clause-answering
+returns-clause-answering c = answering-ends
+
+pub returns-clause-disconnecting : goal.returns-clause-disconnecting
+returns-clause-disconnecting c = leaving-ends
+
+pub returns-clause-told : goal.returns-clause-told
+returns-clause-told c = (told Asks, told Answers, told Leaves)

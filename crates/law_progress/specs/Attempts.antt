@@ -1,0 +1,62 @@
+-- How long an attempt to connect or to disconnect lasts, whatever comes. Times are in milliseconds, on a clock that doesn't wrap; the
+-- peer's own shows its remainder modulo 2^32.
+use Rattle.std.specs.Prelude.{◌≡◌, ℕ, ◌+◌, ◌%◌, ◌^◌, ◌<◌, ◌≤◌, List, [], ◌∷◌, Option, Some, None, ◌⊎◌}
+use Rattle.enet_codec.specs.Message.{Message}
+use Rattle.enet_outbox.specs.Emission.{filled}
+use Rattle.enet_peer.specs.declared.parts.PeerState.{PeerState}
+use Rattle.enet_peer.specs.declared.parts.PeerState.TheVariants as state
+use Rattle.enet_peer.specs.Peering.{Peering}
+use Rattle.enet_peer.specs.CommandEffect.{obeyed}
+use Rattle.enet_peer.specs.Calls.{Taken, pace_of, gone_on, ticked, next_event}
+
+-- what can happen at a peer between two moments of its clock
+pub data Step : Type 0 where
+  Hears : (sent : Option ℕ) (message : Message) → Step  -- a command comes, whatever it says
+  PutsOut : Step  -- a datagram is put out, if there is one to go
+  Takes : Step  -- the user takes an event, if there is one
+
+abbrev pub after_take : Peering → Option Taken → Peering
+after_take p None = p
+after_take p (Some taken) = taken.after
+
+abbrev pub after_step : ℕ → Peering → Step → Peering
+after_step now p (Hears sent message) = (obeyed p now sent message).after
+after_step now p PutsOut = gone_on (record p { outbox = (filled (pace_of p now) p.outbox).outbox })
+after_step now p Takes = after_take p (next_event p)
+
+-- steps, one after another, all of which leave a peer in this state
+abbrev pub Stays : PeerState → ℕ → List Step → Peering → Peering → Type 0
+Stays s now [] p q = (p.state ≡ s) × (p ≡ q)
+Stays s now (step ∷ steps) p q = (p.state ≡ s) × Stays s now steps (after_step now p step) q
+
+-- a turn of a peer that stays in a state: its clock comes to a moment, then anything happens, until a datagram would have nothing in it
+pub record Turn (s : PeerState) (now : ℕ) (p q : Peering) : Type 0 where
+  pub steps : List Step
+  pub last : Peering
+  pub stays : Stays s (now % 2 ^ 32) steps (ticked p (now % 2 ^ 32)) last
+  pub spent : (filled (pace_of last (now % 2 ^ 32)) last.outbox).messages ≡ []
+  pub after : q ≡ after_step (now % 2 ^ 32) last PutsOut
+
+-- a turn at this moment, and further ones at later moments, each at most `gap` after the one before
+abbrev pub Turns : PeerState → ℕ → ℕ → Peering → List ℕ → Peering → Type 0
+Turns s gap now p [] q = Turn s now p q
+Turns s gap now p (next ∷ later) q = (r : Peering) × Turn s now p r × (now ≤ next) × (next ≤ now + gap) × Turns s gap next r later q
+
+-- the moment of the last of them
+abbrev pub last_of : ℕ → List ℕ → ℕ
+last_of now [] = now
+last_of now (next ∷ later) = last_of next later
+
+-- a peer can't stay in this state for longer than so many milliseconds from its first turn on, where its clock never stands still for
+-- so long that it wraps
+abbrev pub LastsAtMost : PeerState → Peering → ℕ → Type 0
+LastsAtMost s p most = (gap now : ℕ) (moments : List ℕ) (q : Peering) → most + gap < 2 ^ 32 → Turns s gap now p moments q → last_of now moments ≤ now + most
+
+-- its user has an event to take, or the connection's place is free
+abbrev pub IsTold : Peering → Type 0
+IsTold p = ((t : Taken) × (next_event p ≡ Some t)) ⊎ (p.state ≡ state.Free)
+
+-- a peer in this state leaves it, by a step or by a moment that comes, only so that its user is told
+pub record TellsWhenLeft (s : PeerState) : Type 0 where
+  pub step : (p : Peering) (now : ℕ) (step : Step) → p.state ≡ s → ((after_step now p step).state ≡ s) ⊎ IsTold (after_step now p step)
+  pub tick : (p : Peering) (now : ℕ) → p.state ≡ s → ((ticked p now).state ≡ s) ⊎ IsTold (ticked p now)

@@ -1,0 +1,5 @@
+pub mod Links
+pub mod Delivered
+pub mod Outboxes
+pub mod Peers
+pub mod Attempts

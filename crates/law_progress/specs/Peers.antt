@@ -1,0 +1,51 @@
+-- What a connected peer makes of a command that its sender waits for.
+use Rattle.std.specs.Prelude.{◌≡◌, ℕ, ◌+◌, ◌≤◌, true, false, length, map, Some, None, slice_get}
+use Rattle.enet_codec.specs.declared.packet.Packet.{Packet}
+use Rattle.enet_fragment.specs.declared.data.DataCommand.{DataCommand}
+use Rattle.enet_fragment.specs.DataCommand.{data_of, message_of}
+use Rattle.enet_receiver.specs.Foresight.{ReceivingEnd}
+use Rattle.enet_sender.specs.declared.sent.Sent.{Sent}
+use Rattle.enet_sender.specs.Sender.{after_acknowledgement}
+use Rattle.enet_sender.specs.Due.{SendingEnd}
+use Rattle.enet_inbox.specs.Inbox.{is_full_for, given_way_receiver, given_way}
+use Rattle.enet_outbox.specs.Outbox.{with_acknowledgement}
+use Rattle.enet_peer.specs.declared.parts.PeerState.TheVariants as state
+use Rattle.enet_peer.specs.Peering.{Peering}
+use Rattle.enet_peer.specs.CommandEffect.{Outcome}
+use Rattle.law_connection.specs.Link.{is_late}
+use Rattle.law_connection.specs.LinkSteps.{Has}
+use Rattle.law_connection.specs.Connection.{Put, End, sent_on}
+use Rattle.law_connection.specs.Linked.{sends_in, sender_in}
+
+-- a reliable data command that one end put out, with the peer p, waits there for its acknowledgement, and isn't late; the other end's
+-- peer q is connected, takes in packets of each length that was submitted, and has room for the command, if need be once the unreliable
+-- packets that wait give way. For the next packet in order that is so while what the user hasn't taken leaves room, whatever else waits
+pub record Awaits (from to : End) (p q : Peering) (put : Put) (channel : ℕ) (c : DataCommand) : Type 0 where
+  pub from_is : from.peer ≡ Some p
+  pub to_is : to.peer ≡ Some q
+  pub sends : sends_in p.state ≡ true
+  pub connected : q.state ≡ state.Connected
+  pub logged : Has from.log put
+  pub message : put.message ≡ message_of channel c
+  pub reads : data_of (message_of channel c) ≡ Some c
+  pub reliable : c.reliable ≡ true
+  pub waits : Has (map (λ (s : Sent). s.command.number) (sender_in (slice_get p.outbox.senders channel)).sent) c.number
+  pub in_time : is_late (sent_on channel from) put.sent_then c.number ≡ false
+  pub end : ReceivingEnd
+  pub there : slice_get q.inbox.receivers channel ≡ Some end
+  pub room : is_full_for (given_way q.inbox) (given_way_receiver end) c ≡ false
+  pub short : (x : Packet) → Has from.submitted x → length x.body ≤ end.max_packet
+
+-- it is taken in without a stop, and its acknowledgement waits to go
+pub record IsAnswered (q : Peering) (channel time : ℕ) (c : DataCommand) (o : Outcome) : Type 0 where
+  pub stop : o.stop ≡ None
+  pub waits : o.after.outbox ≡ with_acknowledgement q.outbox (record { channel = channel; number = c.number; time = time })
+
+-- the command of this number is gone from its channel's sender, which is else as it was; the peer is connected as before
+pub record IsRemoved (p : Peering) (channel number : ℕ) (s : SendingEnd) (o : Outcome) : Type 0 where
+  pub stop : o.stop ≡ None
+  pub connected : o.after.state ≡ state.Connected
+  pub after : SendingEnd
+  pub there : slice_get o.after.outbox.senders channel ≡ Some after
+  pub is : after.sender ≡ after_acknowledgement s.sender number
+  pub less : length after.sender.sent + 1 ≡ length s.sender.sent

@@ -1,0 +1,112 @@
+//! Laws of progress: where the network stops losing, what is reliable arrives; and no attempt to connect or to disconnect lasts for ever,
+//! whatever the network does. No code but the laws.
+//!
+//! They speak of the links of `law_connection`, which are one channel from a sender to a receiver and the acknowledgements back, and of the
+//! definitions that the contracts of `enet_outbox::Outbox` and `enet_peer::Peer` name. Proved, each by itself: a command that waits for its
+//! acknowledgement is acknowledged wherever it comes while there is room, and from each reached link an exchange without losses leads to
+//! where all reliable packets were dispatched (`everything_can_arrive`); nothing holds back for good what an outbox has to send
+//! (`nothing_is_held_back`); a peer answers what its sender waits for, and the answer takes it away (`what_waits_is_answered`); what was
+//! acknowledged was delivered (`acknowledged_was_delivered`); an attempt ends within a stated time (`every_attempt_ends`). Not proved:
+//! that rounds without losses bring all channels of a connection to where nothing is outstanding, with the transit limit, the throttle and
+//! the timers of real peers, nor how many rounds that takes; that a peer which is to disconnect later comes to do so.
+#![tactic(auto)]
+
+ghost use Rattle.std.specs.Prelude.{◌≡◌, ℕ, ◌+◌, ◌*◌, ◌<◌, ◌≤◌, Bool, Option, Some, map, slice_get, true, false, List, ◌∷◌, length};
+ghost use Rattle.enet_codec.specs.declared.command.Offer.{Offer};
+ghost use Rattle.enet_codec.specs.Message.{Message, acknowledge};
+ghost use Rattle.enet_seq.specs.Numbering.{wire};
+ghost use Rattle.enet_rtt.specs.Timing.{timeout};
+ghost use Rattle.enet_fragment.specs.declared.data.DataCommand.{DataCommand};
+ghost use Rattle.enet_connect.specs.declared.server.Server.{Server};
+ghost use Rattle.enet_receiver.specs.DataOutcome.{acknowledged};
+ghost use Rattle.enet_receiver.specs.Members.{Has};
+ghost use Rattle.enet_sender.specs.CommandChoice.{carried};
+ghost use Rattle.enet_sender.specs.Sender.{left};
+ghost use Rattle.enet_sender.specs.Due.{SendingEnd};
+ghost use Rattle.enet_sender.specs.declared.sent.Sent.{Sent};
+ghost use Rattle.enet_outbox.specs.declared.parts.Pace.{Pace};
+ghost use Rattle.enet_outbox.specs.declared.parts.Acknowledgement.{Acknowledgement};
+ghost use Rattle.enet_outbox.specs.Outbox.{Outbox};
+ghost use Rattle.enet_outbox.specs.Emission.{filled, acknowledgement_of};
+ghost use Rattle.enet_peer.specs.declared.parts.Limits.{Limits};
+ghost use Rattle.enet_peer.specs.declared.parts.PeerState.TheVariants as state;
+ghost use Rattle.enet_peer.specs.Peering.{Peering, connecting, answering};
+ghost use Rattle.enet_peer.specs.Endings.{disconnecting};
+ghost use Rattle.enet_peer.specs.CommandEffect.{obeyed};
+ghost use Rattle.law_connection.specs.Link.{PutOut};
+ghost use Rattle.law_connection.specs.LinkSteps.{Event, Runs, fresh_link, bodies_of};
+ghost use Rattle.law_connection.specs.WireLink.{WireLink};
+ghost use Rattle.law_connection.specs.Connection.{Put, Connection};
+ghost use Rattle.law_connection.specs.Invariant.{Invariant};
+ghost use Rattle.law_progress.specs.Links.{Waits, AreShort, AllDispatched, IsUp, AreTimed, GetsThrough};
+ghost use Rattle.law_progress.specs.Outboxes.{AreFit, AreQuiet, HasNew, AreSome, ready};
+ghost use Rattle.law_progress.specs.Peers.{Awaits, IsAnswered, IsRemoved};
+ghost use Rattle.law_progress.specs.Delivered.{IsDelivered};
+ghost use Rattle.law_progress.specs.Attempts.{LastsAtMost, TellsWhenLeft};
+
+/// One channel of one connection, after any list of events, whatever was lost, repeated, reordered or late by then, while both ends go on.
+///
+/// `answered`: a reliable command that waits for its acknowledgement is acknowledged wherever it comes, not over 32,768 numbers late, by a
+/// receiver that has room and takes in packets of the lengths that were submitted: it is never refused as a bad piece, and never outside
+/// the windows that are acknowledged. `complete`: where no reliable command is queued or unacknowledged, each reliable packet that was
+/// submitted was dispatched. `no_dead_end`: a list of events in which nothing is lost leads there, if timeouts are within the
+/// clock's 32 bits.
+pub fn everything_can_arrive()
+    ensures answered { (mtu most : ℕ) (events : List Event) (v : WireLink) → 28 < mtu → Runs mtu events fresh_link v → v.is_sending ≡ true → v.is_open ≡ true
+        → AreShort most v.submitted → (e : PutOut) → Waits v e → acknowledged wire most v.incoming e.command false ≡ true }
+    ensures complete { (mtu : ℕ) (events : List Event) (v : WireLink) → 28 < mtu → Runs mtu events fresh_link v → v.is_sending ≡ true → v.is_open ≡ true
+        → (left v.outgoing).reliable ≡ false → AllDispatched (carried mtu v.submitted) (bodies_of v.incoming.dispatched) }
+    ensures no_dead_end { (mtu most : ℕ) (events : List Event) (v : WireLink) → 28 < mtu → Runs mtu events fresh_link v → IsUp v
+        → AreShort most v.submitted → AreTimed v.outgoing.sent → GetsThrough mtu most v }
+{}
+
+/// All that a peer sends, whatever its throttle, windows and transit limit are.
+///
+/// `data`: where a reliable command is queued on some channel and nothing waits for its acknowledgement on any, the next datagram has a
+/// command, if each that is queued fits a datagram. `acknowledgements`: the one that has waited longest goes with the next datagram, and no
+/// new one comes to wait. `ends`: a datagram with a command leaves less that is ready to go, so putting out all at one moment comes to an
+/// end.
+pub fn nothing_is_held_back()
+    ensures data { (pace : Pace) (o : Outbox) (channel : ℕ) → AreFit pace o → AreQuiet o.senders → HasNew o.senders channel → AreSome (filled pace o).messages }
+    ensures acknowledgements { (pace : Pace) (o : Outbox) (a : Acknowledgement) (rest : List Acknowledgement) → 576 ≤ pace.mtu → o.acknowledgements ≡ a ∷ rest
+        → Has (filled pace o).messages (acknowledgement_of a) × (length (filled pace o).outbox.acknowledgements ≤ length rest) }
+    ensures ends { (pace : Pace) (o : Outbox) → AreSome (filled pace o).messages → ready (filled pace o).outbox < ready o }
+{}
+
+/// A connected peer, in every reached connection, on a channel below 255.
+///
+/// `forth`, `back`: a reliable data command that the other end waits for, and that comes in time while there is room, is taken in without a
+/// stop, and its acknowledgement waits to go: from the first end to the second and back. There is room where the reliable packets that are
+/// held and the packets that the user hasn't taken are below the limits; for the next packet in order where the latter are. `removed`: an
+/// acknowledgement that comes takes the sent command of its number away, and no other.
+pub fn what_waits_is_answered()
+    ensures forth { (joined : Bool) (d : Connection) (p q : Peering) (put : Put) (channel : ℕ) (c : DataCommand) (now time : ℕ) → Invariant joined d → channel < 255
+        → Awaits d.one d.two p q put channel c → IsAnswered q channel time c (obeyed q now (Some time) put.message) }
+    ensures back { (joined : Bool) (d : Connection) (p q : Peering) (put : Put) (channel : ℕ) (c : DataCommand) (now time : ℕ) → Invariant joined d → channel < 255
+        → Awaits d.two d.one p q put channel c → IsAnswered q channel time c (obeyed q now (Some time) put.message) }
+    ensures removed { (p : Peering) (now : ℕ) (sent : Option ℕ) (m : Message) (number time : ℕ) (s : SendingEnd) → p.state ≡ state.Connected → m.head.acknowledge ≡ false
+        → m.body ≡ acknowledge number time → m.head.channel < 255 → slice_get p.outbox.senders m.head.channel ≡ Some s → Has (map (λ (x : Sent). x.command.number) s.sender.sent) number
+        → IsRemoved p m.head.channel number s (obeyed p now sent m) }
+{}
+
+/// Acknowledged means delivered, in every reached connection, on a channel below 255, from the first end to the second (`forth`) and back
+/// (`back`): where an end has no reliable command of the channel queued or unacknowledged, each reliable packet that its user submitted on
+/// it was dispatched at the other end, taken or not, if that still dispatches.
+pub fn acknowledged_was_delivered()
+    ensures forth { (joined : Bool) (d : Connection) (channel : ℕ) → Invariant joined d → channel < 255 → IsDelivered d.one d.two channel }
+    ensures back { (joined : Bool) (d : Connection) (channel : ℕ) → Invariant joined d → channel < 255 → IsDelivered d.two d.one channel }
+{}
+
+/// One peer, whatever comes to it: commands of any kind, at any time, from anyone, or none. Its clock goes on by any steps of less than some
+/// 49 days, and at each moment all is put out that may go. Times are in milliseconds.
+///
+/// `connecting`, `answering`: a client that asks and a server that has answered stay so for 60,500 at most, from the first moment at which
+/// they put something out, with ENet's default patience. `disconnecting`: so does a peer that has asked for the end, for at most its first
+/// timeout and twice the greatest patience that was set. `told`: such a state is left only so that the user has an event to take, or the
+/// peer is free.
+pub fn every_attempt_ends()
+    ensures connecting { (start : ℕ) (offer : Offer) (limits : Limits) → LastsAtMost state.Connecting (connecting start offer limits) 60500 }
+    ensures answering { (start : ℕ) (offer : Offer) (server : Server) (limits : Limits) → LastsAtMost state.Answering (answering start offer server limits) 60500 }
+    ensures disconnecting { (p : Peering) (info : ℕ) → LastsAtMost state.Disconnecting (disconnecting p info) (timeout p.estimate + 2 * p.patience.maximum) }
+    ensures told { TellsWhenLeft state.Connecting × TellsWhenLeft state.Answering × TellsWhenLeft state.Disconnecting }
+{}
