@@ -1,7 +1,7 @@
 #!/usr/bin/env python3
 """Counts the definitions of specs/ that a reader of a clause must read: those that it names, those that these name, and so on.
 
-    scripts/trusted.py NAME..   with NAME as crate.file.definition: enet_fleet.Transcript.IsOnTranscript
+    scripts/trusted.py NAME..   with NAME as crate.file.definition: enet_fleet.Transcript.IsOnEachFront
     scripts/trusted.py          the clauses that docs/PROOFS.md and docs/HEADLINE.md speak of
 
 For each it prints how many definitions of the repository there are, their lines without comments, and in how many files and crates. Types
@@ -14,7 +14,7 @@ import re
 import sys
 
 CLAUSES = [
-    ("Fleet::play, headline: the page", ["enet_fleet.Transcript.IsOnTranscript"]),
+    ("Fleet::play, headline: the page", ["enet_fleet.Transcript.IsOnEachFront"]),
     ("of it, what isn't of fleets", ["law_headline.Page.IsHeadline"]),
     ("Fleet::run, headline", ["enet_fleet.Headline.HasHeadline"]),
     ("Fleet::run, headline and steps", ["enet_fleet.Headline.HasHeadline", "enet_fleet.Fleets.Runs"]),

@@ -28,7 +28,7 @@ use Rattle.law_headline.specs.Kept.{IsUnborn}
 use Rattle.law_headline.specs.Page.{is_of}
 use Rattle.law_headline.proofs.Kept.{unborn-back}
 use Rattle.law_headline.proofs.Net as net
-use Rattle.law_headline.proofs.Page.{called-some, has-end}
+use Rattle.law_headline.proofs.Page.{called, called-some, has-end}
 use Rattle.law_headline.proofs.Telling.{push, runs-on, get-either}
 use Rattle.enet_fleet.specs.declared.answer.Answer.{Answer}
 use Rattle.enet_fleet.specs.declared.answer.Answer.TheVariants as answers
@@ -160,11 +160,24 @@ are-facts server clients one all events answers f r = runs-on Steps AreFacts fac
   facts = λ n p k a at. absurd (let z : ◌≡◌ {A = Option Addr} None (Some a) = at in cc);
 })
 
--- so the page holds of each run
+-- so the page holds of each run, with the names that the server's ends have in the end
+abbrev pub IsOn : ℕ → Fleet → List Happened → Type 0
+IsOn clients f hs = (t : IsOnTranscript clients hs) × ((x : ℕ) → t.headline.here x ≡ called (end_of x f.server.site.ends))
+
 pub on-transcript : (server : Config) (clients : List Config) → is_in_range server ≡ true → list_all is_in_range clients ≡ true
-    → (events : List FleetEvent) (answers : List (Result Answer Refusal)) (f : Fleet) → Runs (open_fleet server clients) events answers f → IsOnTranscript (length clients) (zip events answers)
-on-transcript server clients one all events answers f r =
-    record { headline = page.headline; at_client = page.at_client; at_server = page.at_server; here_at = here-at; there_at = there-at }
+    → (events : List FleetEvent) (answers : List (Result Answer Refusal)) (f : Fleet) → Runs (open_fleet server clients) events answers f → IsOn (length clients) f (zip events answers)
+on-transcript server clients one all events answers f r = (
+  record {
+    headline = page.headline;
+    at_client = page.at_client;
+    at_server = page.at_server;
+    here_at = here-at;
+    there_at = there-at;
+    no_server = page.no_server;
+    no_client = page.no_client;
+  },
+  page.names,
+)
   where
     page : IsNamed (length clients) (zip events answers) f
     page = is-named server clients one all events answers f r

@@ -8,16 +8,16 @@ use Rattle.enet_fleet.specs.declared.answer.Answer.{Answer}
 use Rattle.enet_fleet.specs.declared.event.FleetEvent.{FleetEvent}
 use Rattle.enet_fleet.specs.Fleets.{Fleet, Runs, open_fleet}
 use Rattle.enet_fleet.specs.Reached.{fit}
-use Rattle.enet_fleet.specs.Transcript.{IsOnTranscript}
-use Rattle.enet_fleet.proofs.Elsewhere.{on-transcript}
+use Rattle.enet_fleet.specs.Transcript.{IsOnEachFront}
+use Rattle.enet_fleet.proofs.Fronts.{on-each-front}
 use Rattle.enet_fleet.proofs.Reaching.{fit-server, fit-clients}
 
 played : (server : Config) (clients : List Config) → fit server clients ≡ true → (events : List FleetEvent) (answers : List (Result Answer Refusal)) (f : Fleet) → Runs (open_fleet server clients) events answers f
-    → IsOnTranscript (length clients) (zip events answers)
-played server clients fits events answers f r = on-transcript server clients (fit-server server clients fits) (fit-clients server clients fits) events answers f r
+    → IsOnEachFront (length clients) (zip events answers)
+played server clients fits events answers f r = on-each-front server clients (fit-server server clients fits) (fit-clients server clients fits) events answers f r
 
 pub answered : {V : Type 0} (items : V → List (Result Answer Refusal)) (server : Config) (clients : List Config) (events : List FleetEvent) (r : Result V Refusal) (first f : Fleet) → fit server clients ≡ true → first ≡ open_fleet server clients
-    → IfOk r (λ a. Runs first events (items a) f) → IfOk r (λ a. IsOnTranscript (length clients) (zip events (items a)))
+    → IfOk r (λ a. Runs first events (items a) f) → IfOk r (λ a. IsOnEachFront (length clients) (zip events (items a)))
 answered items server clients events (Ok a) first f fits fresh runs = played server clients fits events (items a) f (subst (λ (g : Fleet). Runs g events (items a) f) fresh runs)
 answered items server clients events (Err why) first f fits fresh runs = tt
 

@@ -1,5 +1,5 @@
 -- The false lists are refuted.
-use Rattle.std.proofs.Common.{◌≡◌, ◌⊎◌, inl, inr, ℕ, zero, suc, ◌<◌, ◌%◌, ◌==◌, ◌&&◌, arith, Bool, true, false, cond, refl, sym, ap, subst, ◌∙◌, Option, Some, None, List, [], ◌∷◌, ◌++◌, slice_get}
+use Rattle.std.proofs.Common.{◌≡◌, ◌⊎◌, inl, inr, ℕ, zero, suc, ◌<◌, ◌≤◌, ◌%◌, ◌==◌, ◌&&◌, arith, Bool, true, false, cond, refl, sym, ap, subst, ◌∙◌, Option, Some, None, List, [], ◌∷◌, ◌++◌, take, slice_get}
 use Rattle.enet_codec.specs.declared.address.Addr.{Addr}
 use Rattle.enet_codec.specs.declared.event.PeerRef.{PeerRef}
 use Rattle.enet_codec.specs.declared.packet.Packet.{Packet}
@@ -9,8 +9,8 @@ use Rattle.law_headline.specs.declared.node.Node.TheVariants.{Server, Client}
 use Rattle.law_headline.specs.Page.{Follows, IsInOrder, submitted_if}
 use Rattle.law_headline.proofs.Kept.{name-slot, name-generation}
 use Rattle.enet_fleet.specs.Fleets.{address_of}
-use Rattle.enet_fleet.specs.Transcript.{IsOnTranscript, user, asked, placed}
-use Rattle.enet_fleet.specs.Refuted.{first, second, stranger, lie, swap, loan, NamesAreTied, OwnNamesAlone, LieIsRefuted, SwapIsRefuted, LoanIsRefuted}
+use Rattle.enet_fleet.specs.Transcript.{Happened, IsOnTranscript, user, asked, placed}
+use Rattle.enet_fleet.specs.Refuted.{first, second, stranger, lie, swap, loan, early, slip, cross, NamesAreTied, OwnNamesAlone, LieIsRefuted, SwapIsRefuted, LoanIsRefuted, EarlyIsRefuted, AstrayIsRefuted, MirrorIsRefuted, SlipIsRefuted, CrossIsRefuted}
 
 pub tied : NamesAreTied
 tied clients hs h p k i low told all =
@@ -75,3 +75,58 @@ lent h = by (h.headline.here 1) refl
     by : (o : Option PeerRef) → h.headline.here 1 ≡ o → ⊥
     by None here = absurd (comes None here)
     by (Some p) here = at p here (is_same_name p first) refl (comes (Some p) here)
+
+-- the one connection so far, of the server's first peer
+only-one : (hs : List Happened) (h : IsOnTranscript 1 hs) → slice_get (placed Server first hs) 0 ≡ Some (address_of (Client 0)) → asked hs ≡ (0, first) ∷ [] → h.headline.here 0 ≡ Some first
+only-one hs h told is =
+    let r = h.at_client first 0 0 told (let l : 0 < 1 = omega arith in l) in
+    by r.0 r.2 r.1 (ap (λ (l : List (ℕ × PeerRef)). slice_get l r.0) (sym is) ∙ r.3)
+  where
+    by : (x : ℕ) (there : PeerRef) → h.headline.here x ≡ Some first → slice_get {X = ℕ × PeerRef} ((0, first) ∷ []) x ≡ Some (0, there) → h.headline.here 0 ≡ Some first
+    by zero there here at = here
+    by (suc x) there here at = absurd (let z : ◌≡◌ {A = Option (ℕ × PeerRef)} None (Some (0, there)) = at in cc)
+
+-- client 0 calls its peer of the first connection so, and the server its own
+in-order : (hs : List Happened) (h : IsOnTranscript 1 hs) → slice_get (asked hs) 0 ≡ Some (0, first) → h.headline.here 0 ≡ Some first → IsInOrder (user (Client 0) hs) (user Server hs) first (Some first)
+in-order hs h is here = subst (λ (z : Option PeerRef). IsInOrder (user (Client 0) hs) (user Server hs) first z) here (h.headline.each 0 0 first is)
+
+pub too-early : EarlyIsRefuted
+too-early h =
+    let t : IsOnTranscript 1 (take 4 early) = h.front 4 in
+    let o = in-order (take 4 early) t refl (only-one (take 4 early) t refl refl) in
+    let f : Follows [] ((1 ∷ []) ∷ []) = o.forth 0 (let l : 0 < 256 = omega arith in l) in
+    absurd f
+
+pub led-astray : AstrayIsRefuted
+led-astray h = h.no_client first 0 0 1 (let l : 1 < 2 = omega arith in l) refl
+
+pub mirrored : MirrorIsRefuted
+mirrored h = h.no_server first 0 refl
+
+pub slipped : SlipIsRefuted
+slipped h = by w.0 w.1 w.2 w.3
+  where
+    o : IsInOrder (user (Client 0) slip) (user Server slip) first (Some first)
+    o = in-order slip h refl (only-one slip h refl refl)
+
+    w : (j : ℕ) × (s : Packet) × (slice_get (packet 1 ∷ []) j ≡ Some s) × (s.body ≡ 2 ∷ []) × (s.flags % 4 ≡ 2)
+    w = o.unsequenced_forth 0 (let l : 0 < 256 = omega arith in l) 1 first (record { channel = 0; flags = 2; body = 2 ∷ [] }) refl refl refl
+
+    by : (j : ℕ) (s : Packet) → slice_get (packet 1 ∷ []) j ≡ Some s → s.body ≡ 2 ∷ [] → ⊥
+    by zero s at body =
+        let e : ◌≡◌ {A = List ℕ} (1 ∷ []) (2 ∷ []) = ap (λ (z : Packet). z.body) (same-some (packet 1) s at) ∙ body in
+        let n : ◌≡◌ {A = ℕ} 1 2 = cc in omega arith
+    by (suc j) s at body = absurd (let z : ◌≡◌ {A = Option Packet} None (Some s) = at in cc)
+
+pub crossed : CrossIsRefuted
+crossed h = by (o.forth 0 (let l : 0 < 256 = omega arith in l))
+  where
+    here : (h.front 13).headline.here 0 ≡ Some first
+    here = h.stays 5 13 0 first (let l : 5 ≤ 13 = omega arith in l) (only-one (take 5 cross) (h.front 5) refl refl)
+
+    o : IsInOrder (user (Client 0) (take 13 cross)) (user Server (take 13 cross)) first (Some first)
+    o = in-order (take 13 cross) (h.front 13) refl here
+
+    by : Follows (packet 1 ∷ packet 3 ∷ []) ((1 ∷ []) ∷ (2 ∷ []) ∷ []) → ⊥
+    by (inl same) = not-first 3 2 [] (λ (e : 3 ≡ 2). (omega arith)) same.1
+    by (inr skip) = absurd (let z : 1 % 2 ≡ 0 = skip.0 in omega arith)

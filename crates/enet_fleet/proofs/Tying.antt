@@ -36,7 +36,7 @@ use Rattle.enet_fleet.specs.Fleets.{Fleet, place_of, is_host, address_of, far_ad
 use Rattle.enet_fleet.specs.Headline.{HasHeadline}
 use Rattle.enet_fleet.specs.Told.{IsToldBy}
 use Rattle.enet_fleet.specs.Transcript.{Happened, is_node, places, placed, asked, user}
-use Rattle.enet_fleet.proofs.Places.{apart, Sound}
+use Rattle.enet_fleet.proofs.Places.{server-apart, apart, Sound}
 use Rattle.enet_fleet.proofs.Runs.{sound-step, sound-run}
 use Rattle.enet_fleet.proofs.Headlines.{has-headline, headline-run}
 use Rattle.enet_fleet.proofs.Told.{HappensAt, same-node, length-with, each-list}
@@ -44,13 +44,13 @@ use Rattle.enet_fleet.proofs.Page.{headline-on}
 
 -- ---- an end stays, with its name and connection, whatever happens
 
-record Stays (g : Fleet) (n : Node) (e : HostEnd) : Type 0 where
-  place : Place
-  there : place_of g n ≡ Some place
-  end : HostEnd
-  has : Has place.site.ends end
-  name : end.name ≡ e.name
-  connection : end.connection ≡ e.connection
+pub record Stays (g : Fleet) (n : Node) (e : HostEnd) : Type 0 where
+  pub place : Place
+  pub there : place_of g n ≡ Some place
+  pub end : HostEnd
+  pub has : Has place.site.ends end
+  pub name : end.name ≡ e.name
+  pub connection : end.connection ≡ e.connection
 
 grown : (m from : Node) (what : Happening) (f g : Fleet) (h : HappensAt m from what f g) (e : HostEnd) → Has h.was.site.ends e → place_of g m ≡ Some h.is → Stays g m e
 grown m from what f g h e has there = record {
@@ -68,7 +68,7 @@ grown m from what f g h e has there = record {
 as-it-was : (g : Fleet) (n : Node) (q : Place) (e : HostEnd) → place_of g n ≡ Some q → Has q.site.ends e → Stays g n e
 as-it-was g n q e there has = record { place = q; there = there; end = e; has = has; name = refl; connection = refl }
 
-stays : (m n from : Node) (what : Happening) (f g : Fleet) (h : HappensAt m from what f g) (q : Place) → place_of f n ≡ Some q → (e : HostEnd) → Has q.site.ends e → Stays g n e
+pub stays : (m n from : Node) (what : Happening) (f g : Fleet) (h : HappensAt m from what f g) (q : Place) → place_of f n ≡ Some q → (e : HostEnd) → Has q.site.ends e → Stays g n e
 stays Server Server from what f g h q there e has =
     grown Server from what f g h e (subst (λ (z : Place). Has z.site.ends e) (same-some q h.was (sym there ∙ h.there)) has) (ap (λ (x : Fleet). place_of x Server) h.rest)
 stays Server (Client i) from what f g h q there e has = as-it-was g (Client i) q e (ap (λ (x : Fleet). place_of x (Client i)) h.rest ∙ there) has
@@ -223,10 +223,18 @@ pub record IsNamed (clients : ℕ) (hs : List Happened) (f : Fleet) : Type 0 whe
   pub at_client : (p : PeerRef) (k i : ℕ) → slice_get (placed Server p hs) k ≡ Some (address_of (Client i)) → i < clients
       → (x : ℕ) × (headline.here x ≡ Some p) × (there : PeerRef) × (slice_get (asked hs) x ≡ Some (i, there))
   pub at_server : (p : PeerRef) (k i : ℕ) → slice_get (placed (Client i) p hs) k ≡ Some (address_of Server) → (x : ℕ) × (slice_get (asked hs) x ≡ Some (i, p))
+  pub no_server : (p : PeerRef) (k : ℕ) → slice_get (placed Server p hs) k ≢ Some (address_of Server)
+  pub no_client : (p : PeerRef) (k i j : ℕ) → j < clients → slice_get (placed (Client i) p hs) k ≢ Some (address_of (Client j))
+
+-- the other host of a connection of the server is no server
+not-server : (o : Option ℕ) → option_map (λ (i : ℕ). address_of (Client i)) o ≡ Some (address_of Server) → ⊥
+not-server None e = absurd (let z : ◌≡◌ {A = Option Addr} None (Some (address_of Server)) = e in cc)
+not-server (Some i) e = server-apart i (sym (same-some (address_of (Client i)) (address_of Server) e))
 
 pub is-named : (server : Config) (clients : List Config) → is_in_range server ≡ true → list_all is_in_range clients ≡ true
     → (events : List FleetEvent) (answers : List (Result Answer Refusal)) (f : Fleet) → Runs (open_fleet server clients) events answers f → IsNamed (length clients) (zip events answers) f
-is-named server clients one all events answers f r = record { headline = head.0; names = head.1; at_client = at-client; at_server = at-server }
+is-named server clients one all events answers f r =
+    record { headline = head.0; names = head.1; at_client = at-client; at_server = at-server; no_server = no-server; no_client = no-client }
   where
     k : HasHeadline f
     k = headline-run server clients one all events answers f r
@@ -270,6 +278,14 @@ is-named server clients one all events answers f r = record { headline = head.0;
         let end : b.2 ≡ t.end = same-some b.2 t.end (sym two ∙ (k.hosts (Client i) t.place t.there).only t.end t.has) in
         let name : g.0.1 ≡ p = sym b.5 ∙ ap (λ (e : HostEnd). e.name) end ∙ t.name in
         (t.end.connection, is ∙ ap (λ (q : PeerRef). Some (i, q)) name)
+
+    no-server : (p : PeerRef) (j : ℕ) → slice_get (placed Server p (zip events answers)) j ≢ Some (address_of Server)
+    no-server p j = λ at. (let t : Tied f Server p (address_of Server) = ties.tied Server p j (address_of Server) at (net.server-host address_of apart (length clients)) in
+        not-server (slice_get f.asked t.end.connection) t.far)
+
+    no-client : (p : PeerRef) (j i c : ℕ) → c < length clients → slice_get (placed (Client i) p (zip events answers)) j ≢ Some (address_of (Client c))
+    no-client p j i c low = λ at. (let t : Tied f (Client i) p (address_of (Client c)) = ties.tied (Client i) p j (address_of (Client c)) at (net.client-host address_of apart (length clients) c low) in
+        server-apart c (same-some (address_of Server) (address_of (Client c)) t.far))
 
 -- a connection that was asked for is its client's, with an end there
 pub client-of : (server : Config) (clients : List Config) → is_in_range server ≡ true → list_all is_in_range clients ≡ true

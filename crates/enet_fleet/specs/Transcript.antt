@@ -1,5 +1,5 @@
 -- The headline of a fleet, said of its events and of the answers to them alone.
-use Rattle.std.specs.Prelude.{◌≡◌, ◌<◌, ℕ, ◌==◌, ◌&&◌, Bool, true, false, if◌then◌else◌, List, [], ◌∷◌, flat_map, Some, Result, Ok, slice_get}
+use Rattle.std.specs.Prelude.{◌≡◌, ◌≢◌, ◌<◌, ◌≤◌, ℕ, ◌==◌, ◌&&◌, Bool, true, false, if◌then◌else◌, List, [], ◌∷◌, take, flat_map, Some, Result, Ok, slice_get}
 use Rattle.std.specs.List.{list_any}
 use Rattle.enet_codec.specs.declared.address.Addr.{Addr}
 use Rattle.enet_codec.specs.declared.event.Event.{Event}
@@ -76,12 +76,20 @@ user n hs = record { submitted = λ p channel. submitted n p channel hs; taken =
 -- the headline of so many clients, with names that are tied to addresses
 pub record IsOnTranscript (clients : ℕ) (hs : List Happened) : Type 0 where
   pub headline : IsHeadline (user Server hs) (λ i. user (Client i) hs) (asked hs)
-  -- whoever is at a host's address is the peer of a connection with that host, also where strangers are
+  -- whoever the server's user is told to have at a client's address, and a client's at the server's, is the peer of a connection between them
   pub at_client : (p : PeerRef) (k i : ℕ) → slice_get (placed Server p hs) k ≡ Some (address_of (Client i)) → i < clients
       → (x : ℕ) × (headline.here x ≡ Some p) × (there : PeerRef) × (slice_get (asked hs) x ≡ Some (i, there))
   pub at_server : (p : PeerRef) (k i : ℕ) → slice_get (placed (Client i) p hs) k ≡ Some (address_of Server) → (x : ℕ) × (slice_get (asked hs) x ≡ Some (i, p))
-  -- and the peer of a connection is nowhere else
+  -- the peer of a connection is told to be nowhere else
   pub here_at : (x i k : ℕ) (there p : PeerRef) (a : Addr) → slice_get (asked hs) x ≡ Some (i, there) → headline.here x ≡ Some p
       → slice_get (placed Server p hs) k ≡ Some a → a ≡ address_of (Client i)
   pub there_at : (x i k : ℕ) (there : PeerRef) (a : Addr) → slice_get (asked hs) x ≡ Some (i, there) → slice_get (placed (Client i) there hs) k ≡ Some a
       → a ≡ address_of Server
+  -- and nobody is told to be at the address of the server, to its own user, or of a client, to a client's
+  pub no_server : (p : PeerRef) (k : ℕ) → slice_get (placed Server p hs) k ≢ Some (address_of Server)
+  pub no_client : (p : PeerRef) (k i j : ℕ) → j < clients → slice_get (placed (Client i) p hs) k ≢ Some (address_of (Client j))
+
+-- the same of each front of a list: so at each moment; and a connection keeps the name that the server has for its peer
+pub record IsOnEachFront (clients : ℕ) (hs : List Happened) : Type 0 where
+  pub front : (n : ℕ) → IsOnTranscript clients (take n hs)
+  pub stays : (n m x : ℕ) (p : PeerRef) → n ≤ m → (front n).headline.here x ≡ Some p → (front m).headline.here x ≡ Some p

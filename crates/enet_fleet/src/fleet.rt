@@ -5,7 +5,7 @@ ghost use Rattle.std.specs.List.{list_all};
 ghost use Rattle.std.specs.Option.{option_map};
 ghost use Rattle.enet_codec.specs.Config.{is_in_range};
 ghost use Rattle.law_network.specs.Headline.{submitted_at, taken_at, events_at};
-ghost use Rattle.enet_fleet.specs.Transcript.{IsOnTranscript};
+ghost use Rattle.enet_fleet.specs.Transcript.{IsOnEachFront};
 ghost use Rattle.enet_fleet.specs.Fleets.{Fleet as AllHosts, Steps, Runs, open_fleet, place_of, sent_by};
 ghost use Rattle.enet_fleet.specs.Headline.{HasHeadline, end_at, far_end};
 ghost use Rattle.enet_fleet.specs.Reached.{fit};
@@ -104,12 +104,14 @@ impl Fleet {
     /// there is no memory for the answers, before anything happens.
     ///
     /// `steps`: the answers are those of a fleet's run. `headline`: the headline on one page, of the events and their answers alone
-    /// (specs/Page of `law_headline`). What a client's user submitted on a channel, to the peer that an accepted Connect named, is
-    /// followed by what the server's user took of its peer of that connection, and the other way round: a subsequence, each packet whole
-    /// and once, that leaves out none flagged RELIABLE before its last. Each end's events are one life, and no two connections share a
-    /// name. Each event that a user took is told with the address of its peer: at a client's address is the peer of a connection for which
-    /// that client asked, at the server's that of one for which this client asked, and no peer of a connection is told to be elsewhere, also
-    /// where strangers are. At a host where no stranger's datagram was taken in, all that was taken is of these connections.
+    /// (specs/Transcript), after each event. What a client's user has submitted on a channel, to the peer that an accepted Connect named,
+    /// is followed by what the server's user has taken of its peer of that connection, and the other way round: a subsequence, each
+    /// packet whole and once, that leaves out none flagged RELIABLE before its last. What came unsequenced apart: each such packet was
+    /// submitted to go so, with its bytes. Each end's events are one life, no two connections share a name, and a connection keeps its
+    /// name. Each event that a user takes is told with the address of its peer, also where strangers are: at a client's address the
+    /// server's user has the peer of a connection for which that client asked, at the server's a client's user that of one for which it
+    /// asked, and neither has anybody else at a host's address, nor the peer of a connection elsewhere. At a host where no stranger's
+    /// datagram was taken in, all that was taken is of these connections.
     pub fn play(
         alloc: Global,
         server: Config,
@@ -119,7 +121,7 @@ impl Fleet {
         ensures out_of_range { fit server clients.now ≡ false → result ≡ Err Refusal.BadConfig }
         ensures in_range { fit server clients.now ≡ true → IfErr result (λ why. why ≡ Refusal.Memory) }
         ensures steps { IfOk result (λ answers. (f : AllHosts) × Runs (open_fleet server clients.now) events.now answers.items f) }
-        ensures headline { IfOk result (λ answers. IsOnTranscript (length clients.now) (zip events.now answers.items)) }
+        ensures headline { IfOk result (λ answers. IsOnEachFront (length clients.now) (zip events.now answers.items)) }
     {
         let mut fleet = Fleet::open(alloc, server, clients)?;
         let answers = fleet.run(events);

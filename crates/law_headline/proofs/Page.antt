@@ -1,5 +1,5 @@
 -- The page follows from the headline of the lists that are kept, and from their being those of the users.
-use Rattle.std.proofs.Common.{◌≡◌, ◌≢◌, ℕ, zero, suc, ◌+◌, ◌%◌, ◌<◌, ◌⊎◌, inl, inr, ◌==◌, ◌&&◌, ◌||◌, not, Bool, true, false, cond, List, [], ◌∷◌, ◌++◌, map, length, refl, sym, ap, subst, ◌∙◌, arith, Option, Some, None, Result, slice_get}
+use Rattle.std.proofs.Common.{◌≡◌, ◌≢◌, ℕ, zero, suc, ◌+◌, ◌/◌, ◌%◌, ◌<◌, ◌⊎◌, inl, inr, ◌==◌, ◌&&◌, ◌||◌, not, Bool, true, false, cond, List, [], ◌∷◌, ◌++◌, map, length, refl, sym, ap, subst, ◌∙◌, arith, Option, Some, None, Result, slice_get}
 use Rattle.std.proofs.lemmas.Bool.Decides.{nat_tests}
 use Rattle.enet_codec.specs.declared.event.Event.{Event}
 use Rattle.enet_codec.specs.declared.event.Event.TheVariants as events
@@ -16,6 +16,7 @@ use Rattle.law_connection.specs.Follows.{FollowsCarried}
 use Rattle.law_connection.specs.LinkSteps.{Has, bodies_of}
 use Rattle.law_connection.specs.Connection.{of_channel, in_sequence}
 use Rattle.law_connection.specs.Law as law
+use Rattle.law_connection.proofs.Lists.{Has-filter}
 use Rattle.enet_codec.specs.declared.address.Addr.{Addr}
 use Rattle.law_network.specs.Headline as kept
 use Rattle.law_network.specs.Headline.{submitted_at, taken_at, mtu_at, received, AreOn, HasHeadlineAt, HasHeadlineBetween}
@@ -25,7 +26,8 @@ use Rattle.law_network.specs.Shown.{on_channel}
 use Rattle.law_network.proofs.Channels.{same-come}
 use Rattle.law_network.proofs.Submitting.{same-some}
 use Rattle.law_headline.specs.Kept.{Tells, IsRecorded, IsCovered}
-use Rattle.law_headline.specs.Page.{Follows, came, AreLast, IsOneLife, User, submitted_if, taken_if, IsInOrder, IsHeadline, IsBehind, HoldsBehind}
+use Rattle.law_headline.proofs.Telling.{get-front}
+use Rattle.law_headline.specs.Page.{Follows, came, WereSubmitted, AreLast, IsOneLife, User, submitted_if, taken_if, IsInOrder, IsHeadline, IsBehind, HoldsBehind}
 
 -- ---- order
 
@@ -101,6 +103,48 @@ order channel from to sent es a b k =
     let f : Follows (submitted_at channel from) (bodies_of (in_sequence channel (taken_at channel to))) = follows (mtu_at from) 0 channel (submitted_at channel from) (bodies_of (in_sequence channel (taken_at channel to))) k.submitted k.follows in
     subst (λ (l : List (List ℕ)). Follows sent l) got (subst (λ (l : List Packet). Follows l (bodies_of (in_sequence channel (taken_at channel to)))) a f)
 
+-- ---- packets without order
+
+-- one that goes unsequenced is flagged so, and not reliable
+flagged : (mtu : ℕ) (p : command_choice.Packet) → is_unsequenced mtu p ≡ true → p.flags % 4 ≡ 2
+flagged mtu p h = by (both-of (is_flagged_unsequenced p) (p.flags % 2 == 1) (is_long mtu p) h)
+  where
+    both-of : (a b c : Bool) → (a && not b && not c) ≡ true → (a ≡ true) × (b ≡ false)
+    both-of true true c h = absurd (let y : false ≡ true = h in cc)
+    both-of true false c h = (refl, refl)
+    both-of false b c h = absurd (let y : false ≡ true = h in cc)
+
+    by : (is_flagged_unsequenced p ≡ true) × ((p.flags % 2 == 1) ≡ false) → p.flags % 4 ≡ 2
+    by k =
+        let a : (p.flags / 2 % 2 == 1) ≡ true = k.0 in
+        let b : (p.flags % 2 == 1) ≡ false = k.1 in
+        let one : p.flags / 2 % 2 ≡ 1 = grind (arith, nat_tests) in
+        let none : p.flags % 2 ≡ 0 = grind (arith, nat_tests) in
+        omega arith
+
+get-of : {X : Type 0} (xs : List X) (x : X) → Has xs x → (k : ℕ) × (slice_get xs k ≡ Some x)
+get-of [] x h = absurd h
+get-of (y ∷ ys) x (inl e) = (zero, ap (λ (z : _). Some z) e)
+get-of (y ∷ ys) x (inr h) = (let k = get-of ys x h in (suc k.0, k.1))
+
+received-has : (es : List Event) (k : ℕ) (p : PeerRef) (q : Packet) → slice_get es k ≡ Some (events.Receive p q) → Has (received es) q
+received-has [] k p q h = absurd (let e : ◌≡◌ {A = Option Event} None (Some (events.Receive p q)) = h in cc)
+received-has (e ∷ es) zero p q h = subst (λ (z : Event). Has (received (z ∷ es)) q) (sym (same-some e (events.Receive p q) h)) (inl refl)
+received-has (events.Connect a info ∷ es) (suc k) p q h = received-has es k p q h
+received-has (events.Receive a b ∷ es) (suc k) p q h = inr (received-has es k p q h)
+received-has (events.Disconnect a info ∷ es) (suc k) p q h = received-has es k p q h
+received-has (events.Refused seat number why ∷ es) (suc k) p q h = received-has es k p q h
+
+-- what was submitted, of the lists that are the transcript's
+were-submitted : (channel : ℕ) (from to : Option HostEnd) (sent : List Packet) (es : List Event) → submitted_at channel from ≡ sent → taken_at channel to ≡ on_channel channel (received es)
+    → kept.WereSubmitted from to channel → WereSubmitted sent channel es
+were-submitted channel from to sent es a b w k p q at on flags =
+    let test : (q.channel == channel) ≡ true = grind (arith, nat_tests) in
+    let has : Has (taken_at channel to) q = subst (λ (l : List Packet). Has l q) (sym b) (Has-filter (λ (z : Packet). z.channel == channel) (received es) q (received-has es k p q at) test) in
+    let s = w q has flags in
+    let g = get-of sent s.0 (subst (λ (l : List Packet). Has l s.0) a s.1) in
+    (g.0, s.0, g.1, s.2.body, flagged (mtu_at from) (record { flags = s.0.flags; body = s.0.body }) s.2.unsequenced)
+
 -- ---- life
 
 last : (name : PeerRef) (es : List PeerEvent) → law.AreLast es → AreLast (map (event_of name) es)
@@ -156,6 +200,8 @@ pub kept-by : (client server : User) (e : HostEnd) (o : Option HostEnd) → IsEn
 kept-by client server e None one two k = record {
   forth = λ channel low. tt;
   back = λ channel low. order channel None (Some e) [] (client.taken e.name) refl (one.taken_is channel low) (k.back channel);
+  unsequenced_forth = λ channel low n p q at on flags. absurd (let y : ◌≡◌ {A = Option Event} None (Some (events.Receive p q)) = at in cc);
+  unsequenced_back = λ channel low. were-submitted channel None (Some e) [] (client.taken e.name) refl (one.taken_is channel low) (k.unsequenced_back channel);
   client_life = one.life;
   server_life = tt;
 }
@@ -164,6 +210,8 @@ kept-by client server e (Some t) one two k =
     record {
       forth = λ channel low. order channel (Some e) (Some t) (client.submitted e.name channel) (server.taken t.name) (one.submitted_is channel low) (far.taken_is channel low) (k.forth channel);
       back = λ channel low. order channel (Some t) (Some e) (server.submitted t.name channel) (client.taken e.name) (far.submitted_is channel low) (one.taken_is channel low) (k.back channel);
+      unsequenced_forth = λ channel low. were-submitted channel (Some e) (Some t) (client.submitted e.name channel) (server.taken t.name) (one.submitted_is channel low) (far.taken_is channel low) (k.unsequenced_forth channel);
+      unsequenced_back = λ channel low. were-submitted channel (Some t) (Some e) (server.submitted t.name channel) (client.taken e.name) (far.submitted_is channel low) (one.taken_is channel low) (k.unsequenced_back channel);
       client_life = one.life;
       server_life = far.life;
     }
@@ -294,6 +342,11 @@ order-behind channel ps qs rest es fs more a b h =
     subst (λ (l : List Packet). Follows l (came channel fs)) (sym a)
     (longer ps rest (came channel fs) (shorter ps (came channel fs) (came channel more) (subst (λ (l : List (List ℕ)). Follows ps l) (ap (came channel) b ∙ came-append channel fs more) h)))
 
+submitted-behind : (channel : ℕ) (ps qs rest : List Packet) (es fs more : List Event) → qs ≡ ps ++ rest → es ≡ fs ++ more → WereSubmitted ps channel es → WereSubmitted qs channel fs
+submitted-behind channel ps qs rest es fs more a b w k p q at on flags =
+    let s = w k p q (ap (λ (l : List Event). slice_get l k) b ∙ get-front fs more k (events.Receive p q) at) on flags in
+    (s.0, s.1, ap (λ (l : List Packet). slice_get l s.0) a ∙ get-front ps rest s.0 s.1 s.2, s.3, s.4)
+
 life-behind : (es fs more : List Event) → es ≡ fs ++ more → IsOneLife es → IsOneLife fs
 life-behind es fs more b h = life-first fs more (subst IsOneLife b h)
 
@@ -311,6 +364,10 @@ in-order-behind client server c s there here kc ks h = record {
       order-behind channel (client.submitted there channel) (c.submitted there channel) a.0 (taken_if server here) (taken_if s here) b.0 a.1 b.1 (h.forth channel low));
   back = λ channel low. (let a = more-if server s here channel ks in let b = kc.fewer there in
       order-behind channel (submitted_if server here channel) (submitted_if s here channel) a.0 (client.taken there) (c.taken there) b.0 a.1 b.1 (h.back channel low));
+  unsequenced_forth = λ channel low. (let a = kc.more there channel in let b = fewer-if server s here ks in
+      submitted-behind channel (client.submitted there channel) (c.submitted there channel) a.0 (taken_if server here) (taken_if s here) b.0 a.1 b.1 (h.unsequenced_forth channel low));
+  unsequenced_back = λ channel low. (let a = more-if server s here channel ks in let b = kc.fewer there in
+      submitted-behind channel (submitted_if server here channel) (submitted_if s here channel) a.0 (client.taken there) (c.taken there) b.0 a.1 b.1 (h.unsequenced_back channel low));
   client_life = (let b = kc.fewer there in life-behind (client.taken there) (c.taken there) b.0 b.1 h.client_life);
   server_life = (let b = fewer-if server s here ks in life-behind (taken_if server here) (taken_if s here) b.0 b.1 h.server_life);
 }

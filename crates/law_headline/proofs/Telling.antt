@@ -1,5 +1,5 @@
 -- Lists of events with their answers, which go on one by one: what they tell of a host is what is kept of it.
-use Rattle.std.proofs.Common.{◌≡◌, ℕ, zero, suc, ◌+◌, ◌⊎◌, inl, inr, Bool, true, false, List, [], ◌∷◌, ◌++◌, map, length, refl, sym, ap, subst, ◌∙◌, append-nil, append_assoc, arith, Option, Some, None, slice_get}
+use Rattle.std.proofs.Common.{◌≡◌, ℕ, zero, suc, ◌+◌, ◌≤◌, ◌⊎◌, inl, inr, Bool, true, false, List, [], ◌∷◌, ◌++◌, map, length, take, refl, sym, ap, subst, ◌∙◌, append-nil, append_assoc, arith, Option, Some, None, slice_get}
 use Rattle.std.specs.Prelude.{zip, flat_map}
 use Rattle.std.proofs.lemmas.Grind.{flat_map-append}
 use Rattle.enet_codec.specs.declared.address.Addr.{Addr}
@@ -10,6 +10,7 @@ use Rattle.law_network.specs.Headline as owned
 use Rattle.law_network.specs.Network.{Site}
 use Rattle.law_network.specs.Running.{RunsBy}
 use Rattle.law_network.specs.Steps.{Around, Happening, HappensAmong}
+use Rattle.law_network.proofs.Running.{runs-keep}
 use Rattle.law_network.proofs.Submitting.{same-some}
 use Rattle.law_headline.specs.Kept.{submitted_by, taken_by, is_guest, IsRecorded, IsCovered, and_submitted, and_taken}
 use Rattle.law_headline.proofs.Kept.{stays-recorded}
@@ -32,6 +33,18 @@ get-either [] ys k x h = inr (k, h, (let e : k ≡ 0 + k = omega arith in e))
 get-either (z ∷ xs) ys zero x h = inl h
 get-either (z ∷ xs) ys (suc k) x h = elim (get-either xs ys k x h) [ inl e ↦ inl e | inr e ↦ inr (e.0, e.1, (let s : k ≡ length xs + e.0 = e.2 in omega arith)) ]
 
+-- what the first of two lists has, both have
+pub get-front : {X : Type 0} (xs ys : List X) (k : ℕ) (x : X) → slice_get xs k ≡ Some x → slice_get (xs ++ ys) k ≡ Some x
+get-front [] ys k x h = absurd (let e : ◌≡◌ {A = Option _} None (Some x) = h in cc)
+get-front (z ∷ xs) ys zero x h = h
+get-front (z ∷ xs) ys (suc k) x h = get-front xs ys k x h
+
+pub zip-take : {E A : Type 0} (n : ℕ) (es : List E) (xs : List A) → zip (take n es) (take n xs) ≡ take n (zip es xs)
+zip-take zero es xs = refl
+zip-take (suc n) [] xs = refl
+zip-take (suc n) (e ∷ es) [] = refl
+zip-take (suc n) (e ∷ es) (x ∷ xs) = ap (λ (l : List (_ × _)). (e, x) ∷ l) (zip-take n es xs)
+
 -- what one more adds
 pub push : {X Y : Type 0} (g : X → List Y) (hs : List X) (h : X) → flat_map g (hs ++ h ∷ []) ≡ flat_map g hs ++ g h
 push g hs h = flat_map-append g hs (h ∷ []) ∙ ap (λ (l : List _). flat_map g hs ++ l) (append-nil (g h))
@@ -44,6 +57,25 @@ runs-on S P step [] (x ∷ xs) hs w v r k = absurd r
 runs-on S P step (e ∷ es) [] hs w v r k = absurd r
 runs-on S P step (e ∷ es) (x ∷ xs) hs w v r k =
     subst (λ (l : List (_ × _)). P l v) (append_assoc hs ((e, x) ∷ []) (zip es xs)) (runs-on S P step es xs (hs ++ (e, x) ∷ []) r.0 v r.2 (step hs w r.0 e x r.1 k))
+
+-- a front of a run is a run
+pub front-run : {W E A : Type 0} (S : W → E → A → W → Type 0) (n : ℕ) (es : List E) (xs : List A) (w v : W) → RunsBy S w es xs v → (u : W) × RunsBy S w (take n es) (take n xs) u
+front-run S zero es xs w v r = (w, refl)
+front-run S (suc n) [] [] w v r = (w, refl)
+front-run S (suc n) [] (x ∷ xs) w v r = absurd r
+front-run S (suc n) (e ∷ es) [] w v r = absurd r
+front-run S (suc n) (e ∷ es) (x ∷ xs) w v r = (let k = front-run S n es xs r.0 v r.2 in (k.0, (r.0, r.1, k.1)))
+
+-- and what each step keeps, and holds after one front, holds after each longer one
+pub front-keeps : {W E A : Type 0} (S : W → E → A → W → Type 0) (P : W → Type 0) → ((w v : W) (e : E) (a : A) → S w e a v → P w → P v)
+    → (n m : ℕ) → n ≤ m → (es : List E) (xs : List A) (w v : W) (r : RunsBy S w es xs v) → P (front-run S n es xs w v r).0 → P (front-run S m es xs w v r).0
+unfolding front-run
+front-keeps S P step zero m le es xs w v r k = (let f = front-run S m es xs w v r in runs-keep S P step (take m es) (take m xs) w f.0 f.1 k)
+front-keeps S P step (suc n) zero le es xs w v r k = absurd (let l : suc n ≤ 0 = le in omega arith)
+front-keeps S P step (suc n) (suc m) le [] [] w v r k = k
+front-keeps S P step (suc n) (suc m) le [] (x ∷ xs) w v r k = absurd r
+front-keeps S P step (suc n) (suc m) le (e ∷ es) [] w v r k = absurd r
+front-keeps S P step (suc n) (suc m) le (e ∷ es) (x ∷ xs) w v r k = front-keeps S P step n m (let l : suc n ≤ suc m = le in omega arith) es xs r.0 v r.2 k
 
 -- what is told of a host, by what each thing adds to the submissions and the events of a name
 

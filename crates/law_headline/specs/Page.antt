@@ -25,6 +25,11 @@ came channel [] = []
 came channel (events.Receive p q ∷ es) = if q.channel == channel && not (q.flags == 2) then q.body ∷ came channel es else came channel es
 came channel (_ ∷ es) = came channel es
 
+-- each packet of a channel among events that came unsequenced (flags 2) was submitted to go so (UNSEQUENCED, 2, without RELIABLE, 1), with its bytes
+abbrev pub WereSubmitted : List Packet → ℕ → List Event → Type 0
+WereSubmitted ps channel es = (k : ℕ) (p : PeerRef) (q : Packet) → slice_get es k ≡ Some (events.Receive p q) → q.channel ≡ channel → q.flags ≡ 2
+    → (j : ℕ) × (s : Packet) × (slice_get ps j ≡ Some s) × (s.body ≡ q.body) × (s.flags % 4 ≡ 2)
+
 -- packets, then at most one Disconnect
 abbrev pub AreLast : List Event → Type 0
 AreLast [] = Unit {0}
@@ -58,6 +63,8 @@ taken_if u (Some p) = u.taken p
 pub record IsInOrder (client server : User) (there : PeerRef) (here : Option PeerRef) : Type 0 where
   pub forth : (channel : ℕ) → channel < 256 → Follows (client.submitted there channel) (came channel (taken_if server here))
   pub back : (channel : ℕ) → channel < 256 → Follows (submitted_if server here channel) (came channel (client.taken there))
+  pub unsequenced_forth : (channel : ℕ) → channel < 256 → WereSubmitted (client.submitted there channel) channel (taken_if server here)
+  pub unsequenced_back : (channel : ℕ) → channel < 256 → WereSubmitted (submitted_if server here channel) channel (client.taken there)
   pub client_life : IsOneLife (client.taken there)
   pub server_life : IsOneLife (taken_if server here)
 

@@ -1,4 +1,4 @@
-use Rattle.enet_fleet.proofs.Refuting.{tied, alone, lied, swapped, lent}
+use Rattle.enet_fleet.proofs.Refuting.{tied, alone, lied, swapped, lent, too-early, led-astray, mirrored, slipped, crossed}
 use Rattle.enet_fleet.proofs.false_lists_are_refuted.Goals as goal
 
 pub returns-clause-named : goal.returns-clause-named
@@ -15,3 +15,18 @@ returns-clause-swap c = swapped
 
 pub returns-clause-loan : goal.returns-clause-loan
 returns-clause-loan c = lent
+
+pub returns-clause-early : goal.returns-clause-early
+returns-clause-early c = too-early
+
+pub returns-clause-astray : goal.returns-clause-astray
+returns-clause-astray c = led-astray
+
+pub returns-clause-mirror : goal.returns-clause-mirror
+returns-clause-mirror c = mirrored
+
+pub returns-clause-slip : goal.returns-clause-slip
+returns-clause-slip c = slipped
+
+pub returns-clause-cross : goal.returns-clause-cross
+returns-clause-cross c = crossed
