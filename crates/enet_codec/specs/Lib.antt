@@ -5,6 +5,7 @@ pub mod Header
 pub mod Datagram
 pub mod Config
 pub mod Packet
+pub mod Outward
 pub mod Refusal
 pub mod Stop
 pub mod Private

@@ -1,6 +1,10 @@
 //! Peers as a caller names them, what a host tells of them, and what it answers to a datagram.
 
+ghost use Rattle.std.specs.Prelude.{◌≡◌};
+ghost use Rattle.enet_codec.specs.Outward.{goes_to};
+
 use crate::{Packet, Refusal, Stop};
+use bytes::Bytes;
 
 /// A peer of a host: its slot and the slot's generation. Each time that a slot is freed and taken again it gets the next
 /// generation, so a name of an earlier peer never means a later one (our profile: ENet names a peer by its slot alone).
@@ -48,4 +52,29 @@ pub struct Received {
     /// Why the rest of the datagram was not looked at, or None where all of it was. The stopped command has no effect,
     /// that of S12 excepted.
     pub stop: Option<Stop>,
+}
+
+/// A packet that goes to several peers, which share its bytes.
+#[derive(Debug, Drop)]
+pub struct Outward {
+    /// The peer that doesn't get it, as one that it came from; None where all do.
+    pub except: Option<PeerRef>,
+    /// Its channel: 0 to 254.
+    pub channel: u8,
+    /// How it is to be carried, as of a [`Packet`].
+    pub flags: u8,
+    /// Its bytes.
+    pub body: Bytes,
+}
+
+impl Outward {
+    /// Whether this peer gets it.
+    pub fn goes_to(&self, peer: PeerRef) -> bool
+        ensures { result ≡ goes_to self.now peer }
+    {
+        match self.except {
+            Some(except) => except != peer,
+            None => true,
+        }
+    }
 }

@@ -10,7 +10,7 @@
 //! `write_header`, `one_header`), of lists of commands and of whole datagrams (`what_is_written_is_spelled`, `one_datagram`).
 //! What 'spells' means is specs/Message and specs/Header, a line a command. Numbers and names of refusals and stops (`label`,
 //! `number`); `Config::standard` gives exactly the stated numbers, and `Config::is_in_range` is exactly the test that opening
-//! answers E8 by; `Packet::is_same` compares channel and bytes.
+//! answers E8 by; `Packet::is_same` compares channel and bytes; `Outward::goes_to` says who gets a packet that goes to several peers.
 //! Only tested, by `check_peer`: that these definitions are ENet 1.3's, on 446 captured datagrams of the reference
 //! library; in `check_numbers`: worked settings, packets and names. Neither: the text of the derived `Display`.
 #![tactic(auto)]
@@ -34,7 +34,7 @@ mod write;
 pub use address::Addr;
 pub use command::{Command, Fragment, Head, Offer, Verify};
 pub use config::Config;
-pub use event::{DisconnectMode, Event, PeerRef, Received};
+pub use event::{DisconnectMode, Event, Outward, PeerRef, Received};
 pub use header::Header;
 pub use header_read::{one_header, read_header};
 pub use header_write::write_header;
