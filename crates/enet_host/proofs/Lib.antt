@@ -3,6 +3,7 @@ pub mod Offering
 pub mod Hearing
 pub mod Turning
 pub mod Asking
+pub mod Broadcasting
 pub mod Sleeping
 pub mod Serving
 pub mod Telling

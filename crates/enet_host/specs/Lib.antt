@@ -5,6 +5,7 @@ pub mod Receiving
 pub mod Serving
 pub mod Ticking
 pub mod Calls
+pub mod Broadcast
 pub mod Foretelling
 pub mod Shown
 pub mod Private

@@ -11,7 +11,8 @@
 //! turn that has an event (`IsFirst`), and `next_event_of`, `next_packet` and `next_body` say of the event that it gives whose it is
 //! and what it hands out (`Foretells`). Inside, by the invariant of `HostCore`: a slot that sleeps has nothing to put out or to tell, and
 //! it is noted when time brings it something (`KeepsSleepers` of `enet_sleepers`). `next_peer` is the name
-//! that an accepted connection gets, `submission_refusal` the refusal of `submit` but E1. `tick` and `set_bandwidth` are one change on each slot; once a second the
+//! that an accepted connection gets, `submission_refusal` the refusal of `submit` but E1. `submit_each` is the submissions of its errands,
+//! peer by peer and one after another, and answers the first refusal but E2 and E3 (`SubmitsEach`). `tick` and `set_bandwidth` are one change on each slot; once a second the
 //! outgoing bandwidth is shared out among the connected peers. `due_in` is in how many milliseconds time brings something: a tick of
 //! fewer changes the clock alone (`IsDueIn`).
 //! No slot of any host holds a peer that is free (`HostCore::keeps`). Want of memory, of which no clause can say when it comes,
@@ -23,6 +24,7 @@
 //! to the one that it gets.
 #![tactic(auto)]
 
+mod broadcast;
 mod calls;
 mod connecting;
 mod events;
@@ -36,7 +38,7 @@ mod totals;
 mod turns;
 
 pub use enet_codec::{
-    Addr, Config, DisconnectMode, Event, Packet, PeerRef, Received, Refusal, Stop,
+    Addr, Config, DisconnectMode, Event, Outward, Packet, PeerRef, Received, Refusal, Stop,
 };
 pub use enet_connect::Terms;
 pub use enet_peer::{PeerState, RoundTrip};
