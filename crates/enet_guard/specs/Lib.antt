@@ -1,0 +1,4 @@
+pub mod Asking
+pub mod Guarding
+pub mod Passing
+pub mod Private

@@ -1,0 +1,296 @@
+//! The guard: whom it lets pass.
+ghost use Rattle.std.specs.Prelude.{◌≡◌, ◌<◌, length, IfSome, slice_get};
+ghost use Rattle.std.specs.List.{filter, position};
+ghost use Rattle.enet_guard.specs.Guarding.{is_below, is_seated_at, is_kept, is_known, is_of, is_same, without_first};
+
+use enet_codec::{Addr, Refusal};
+use std::alloc::Global;
+use std::marker::Model;
+
+/// A CONNECT that passed counts for its address so many milliseconds, where its peer isn't connected before: for so long, at most, a
+/// host keeps a slot for a peer that doesn't answer.
+const HALF_OPEN: u64 = 8_000;
+
+/// And against the limits of a second so many.
+const SECOND: u64 = 1_000;
+
+/// So many CONNECTs that passed and whose peers aren't connected are kept at most.
+const MOST_HALF_OPEN: usize = 16_384;
+
+/// What is allowed. Where None stands there is no limit.
+#[derive(Clone, Copy)]
+pub struct Rules {
+    /// How many peers of an address (whatever their ports) there may be at once.
+    pub peers_of_address: Option<u32>,
+    /// How many CONNECTs of an address may pass in a second.
+    pub connects_of_address: Option<u32>,
+    /// How many CONNECTs may pass in a second in all.
+    pub connects: Option<u32>,
+}
+
+/// A CONNECT that passed.
+#[derive(Clone, Copy)]
+pub struct Asked {
+    pub address: Addr,
+    pub connect_id: u32,
+    /// It counts before this moment.
+    pub until: u64,
+}
+
+/// Who is connected in a slot.
+#[derive(Clone, Copy)]
+pub struct Seated {
+    pub address: Addr,
+    /// The generation of the slot.
+    pub generation: u32,
+}
+
+/// Decides which CONNECTs pass. A contract sees what it goes by.
+#[derive(Drop)]
+pub struct Guard {
+    rules: Rules,
+    banned: Vec<u32>,
+    seats: Vec<Option<Seated>>,
+    half_open: Vec<Asked>,
+    recent: Vec<Asked>,
+    clock: u64,
+}
+
+impl Model for Guard {
+    ghost use Rattle.enet_guard.specs.Guarding.{Guarding};
+
+    ghost Value = { Guarding };
+
+    ghost view = { λ g. record { rules = g.rules; banned = g.banned.items; seats = g.seats.items; half_open = g.half_open.items; recent = g.recent.items; clock = g.clock } };
+}
+
+impl Guard {
+    ghost use Rattle.std.specs.Prelude.{◌≡◌, ◌++◌, ◌∷◌, [], OnOk, OnErr, IfOk, IfErr, count_by};
+    ghost use Rattle.std.specs.List.{list_any};
+    ghost use Rattle.std.specs.Prelude.{eqb};
+    ghost use Rattle.enet_guard.specs.Guarding.{new_guard, has_no_rule, forgotten, Judges, noted, is_again, has_room, peers_at, later, seated};
+
+    /// A guard with these rules for a host of so many slots, to which nothing came. E1 for want of memory.
+    pub fn new(alloc: Global, rules: Rules, slots: u16) -> Result<Guard, Refusal>
+        ensures new { IfOk result (λ guard. guard ≡ new_guard rules slots) }
+        ensures memory { IfErr result (λ why. why ≡ Refusal.Memory) }
+    {
+        let mut seats = Vec::new(alloc);
+        if seats.resize(usize::from(slots), None).is_err() {
+            return Err(Refusal::Memory);
+        }
+        Ok(Guard {
+            rules,
+            banned: Vec::new(alloc),
+            seats,
+            half_open: Vec::new(alloc),
+            recent: Vec::new(alloc),
+            clock: 0,
+        })
+    }
+
+    /// Lets no CONNECT of this address pass from now on. E1 for want of memory, and then nothing has changed.
+    pub fn ban(&mut self, ip: u32) -> Result<(), Refusal>
+        ensures banned { OnOk result (self.new ≡ record self.old { banned = self.old.banned ++ ip ∷ [] }) }
+        ensures memory { IfErr result (λ why. why ≡ Refusal.Memory) }
+        ensures same { OnErr result (self.new ≡ self.old) }
+    {
+        match self.banned.push(ip) {
+            Ok(()) => Ok(()),
+            Err(_) => Err(Refusal::Memory),
+        }
+    }
+
+    /// Whether it has no rule and nobody is banned.
+    pub fn has_no_rule(&self) -> bool
+        ensures { result ≡ has_no_rule self.now }
+    {
+        self.rules.peers_of_address.is_none()
+            && self.rules.connects_of_address.is_none()
+            && self.rules.connects.is_none()
+            && self.banned.is_empty()
+    }
+
+    // Drops what is too old to count.
+    fn forget(&mut self)
+        ensures { self.new ≡ forgotten self.old }
+    {
+        keep_young(&mut self.half_open, self.clock);
+        keep_young(&mut self.recent, self.clock);
+    }
+
+    fn is_banned(&self, ip: u32) -> bool
+        ensures { result ≡ list_any (λ b. eqb b ip) self.now.banned }
+    {
+        self.banned.iter().any(|banned| *banned == ip)
+    }
+
+    fn is_again(&self, from: Addr, connect_id: u32) -> bool
+        ensures { result ≡ is_again self.now from connect_id }
+    {
+        self.half_open.iter().any(|asked| {
+            asked.address.ip == from.ip
+                && asked.address.port == from.port
+                && asked.connect_id == connect_id
+        })
+    }
+
+    /// Whether a CONNECT from there, with this connect id, passes; then it counts. One that comes again counts once.
+    ///
+    /// E1 for want of memory: then it is to be passed over, and doesn't count.
+    pub fn lets_pass(&mut self, from: Addr, connect_id: u32) -> Result<bool, Refusal>
+        ensures judged { IfOk result (λ passes. Judges self.old from connect_id passes self.new) }
+        ensures memory { IfErr result (λ why. why ≡ Refusal.Memory) }
+        ensures same { OnErr result (self.new ≡ forgotten self.old) }
+    {
+        self.forget();
+        if self.is_banned(from.ip) {
+            return Ok(false);
+        }
+        if self.is_again(from, connect_id) {
+            return Ok(true);
+        }
+        if !self.has_room(from.ip) {
+            return Ok(false);
+        }
+        self.note(from, connect_id)?;
+        Ok(true)
+    }
+
+    // Whether the rules leave room for another CONNECT of this address.
+    fn has_room(&self, ip: u32) -> bool
+        ensures { result ≡ has_room self.now ip }
+    {
+        is_below(self.peers_at(ip), self.rules.peers_of_address)
+            && is_below(self.recent_of(ip), self.rules.connects_of_address)
+            && is_below(self.recent.len(), self.rules.connects)
+            && self.half_open.len() < MOST_HALF_OPEN
+    }
+
+    // How many CONNECTs of this address passed in the last second.
+    fn recent_of(&self, ip: u32) -> usize
+        ensures { result ≡ count_by (λ a. eqb a.address.ip ip) self.now.recent }
+    {
+        self.recent
+            .iter()
+            .filter(|asked| asked.address.ip == ip)
+            .count()
+    }
+
+    // How many peers there are, or may be soon, at this address.
+    fn peers_at(&self, ip: u32) -> usize
+        ensures { result ≡ peers_at ip self.now }
+    {
+        let seated = self.seats.iter().filter(|seat| is_seated_at(ip, seat));
+        let asked = self.half_open.iter().filter(|asked| asked.address.ip == ip);
+        seated.count() + asked.count()
+    }
+
+    // Counts a CONNECT that passes.
+    fn note(&mut self, from: Addr, connect_id: u32) -> Result<(), Refusal>
+        ensures noted { OnOk result (self.new ≡ noted self.old from connect_id) }
+        ensures memory { IfErr result (λ why. why ≡ Refusal.Memory) }
+        ensures same { OnErr result (self.new ≡ self.old) }
+    {
+        if self.half_open.reserve(1).is_err() || self.recent.reserve(1).is_err() {
+            return Err(Refusal::Memory);
+        }
+        let clock = self.clock;
+        self.half_open.push_reserved(Asked {
+            address: from,
+            connect_id,
+            until: clock.saturating_add(HALF_OPEN),
+        });
+        self.recent.push_reserved(Asked {
+            address: from,
+            connect_id,
+            until: clock.saturating_add(SECOND),
+        });
+        Ok(())
+    }
+
+    /// So many milliseconds have passed.
+    pub fn tick(&mut self, ms: u32)
+        ensures { self.new ≡ record self.old { clock = later self.old.clock ms } }
+    {
+        self.clock = self.clock.saturating_add(u64::from(ms));
+    }
+
+    /// Tells who is connected in a slot. Where that is somebody new, the first CONNECT from there that is still counted as one that may be
+    /// about to connect counts so no more. A slot that the host doesn't have is passed over.
+    pub fn seat(&mut self, slot: usize, there: Option<Seated>)
+        ensures { self.new ≡ seated self.old slot there }
+    {
+        if is_known(self.seats.as_slice(), slot, there) {
+            return;
+        }
+        if let Some(place) = self.seats.get_mut(slot) {
+            *place = there;
+        }
+        if let Some(seated) = there {
+            drop_first(&mut self.half_open, seated.address);
+        }
+    }
+}
+
+// Keeps those that still count.
+fn keep_young(asked: &mut Vec<Asked>, clock: u64)
+    ensures { asked.new.items ≡ filter (is_kept clock) asked.old.items }
+{
+    asked.retain(|asked| clock < asked.until);
+}
+
+// Drops the first one from there.
+fn drop_first(asked: &mut Vec<Asked>, address: Addr)
+    ensures { asked.new.items ≡ without_first address asked.old.items }
+{
+    if let Some(place) = place_of(asked.as_slice(), address) {
+        asked.remove(place);
+    }
+}
+
+fn place_of(asked: &[Asked], address: Addr) -> Option<usize>
+    ensures first { result ≡ position (is_of address) asked.now }
+    ensures within { IfSome result (λ place. place < length asked.now) }
+{
+    asked.iter().position(|asked| asked.address.ip == address.ip
+        && asked.address.port == address.port)
+}
+
+// Whether that was told already of a slot, or there is no such slot.
+fn is_known(seats: &[Option<Seated>], slot: usize, there: Option<Seated>) -> bool
+    ensures { result ≡ is_known (slice_get seats.now slot) there }
+{
+    match (seats.get(slot), there) {
+        (None, _) => true,
+        (Some(None), None) => true,
+        (Some(Some(known)), Some(there)) => is_same(known, there),
+        _ => false,
+    }
+}
+
+fn is_same(known: &Seated, there: Seated) -> bool
+    ensures { result ≡ is_same known.now there }
+{
+    known.address.ip == there.address.ip
+        && known.address.port == there.address.port
+        && known.generation == there.generation
+}
+
+fn is_below(count: usize, most: Option<u32>) -> bool
+    ensures { result ≡ is_below count most }
+{
+    match most {
+        Some(most) => count < most as usize,
+        None => true,
+    }
+}
+
+fn is_seated_at(ip: u32, seat: &Option<Seated>) -> bool
+    ensures { result ≡ is_seated_at ip seat.now }
+{
+    match seat {
+        Some(seated) => seated.address.ip == ip,
+        None => false,
+    }
+}

@@ -1,0 +1,22 @@
+//! Who may ask for a connection: a wire that passes over CONNECTs beyond some limits before the host sees them ([`Guarded`]). The limits are
+//! how many peers of an address there are at once, how many CONNECTs pass in a second, of an address and in all ([`Rules`]), and addresses
+//! that are banned ([`Guard::ban`]).
+//!
+//! Proved: which datagrams ask for a connection, by the spellings of `enet_codec` ([`asks`]); which CONNECTs pass, by the rules, the time and
+//! what was told of the host's slots (`Judges`), and that a CONNECT which comes again counts once; that all else passes untouched, and that a
+//! guard with no rule and nobody banned lets all pass and notes nothing (`Lets`, `has_no_rule`). A reception takes from the wire inside what
+//! it passes over, and then gives just what that gave; it passes over CONNECTs alone, each refused by the guard or for want of memory, and 64
+//! at most (`Receives`). Faults are those of the wire inside.
+//! Neither: that the guard is told who is connected ([`Register`]), and when; how many were passed over; that want of memory is the reason
+//! where the rules are none; that a host keeps a slot for a peer that doesn't answer for 8 seconds at most.
+#![tactic(auto)]
+
+mod asking;
+mod guard;
+mod guarded;
+mod register;
+
+pub use asking::asks;
+pub use guard::{Asked, Guard, Rules, Seated};
+pub use guarded::Guarded;
+pub use register::Register;
