@@ -1,12 +1,14 @@
 #!/usr/bin/env bash
 # Measures `enet_relay serve` side by side with a relay of the same rule over the reference library (clients/server.c), with the clients
-# of clients/load.c: `bench.sh [PROGRAM] [SECONDS] [slots]`. Where PROGRAM is `layer`, clients/server.c over our layer (c/enet) stands in
+# of clients/load.c: `bench.sh [PROGRAM] [SECONDS] [slots | broadcast]`. Where PROGRAM is `layer`, clients/server.c over our layer (c/enet) stands in
 # the place of `serve`, in one thread as over the reference library; it needs crates/enet_c/out/libenet_c.a, which `rt lib` makes there, and
 # tells first what an idle call of the C library takes. For each number of clients, size and kind of packet, both relays are measured one
 # after the other, SECONDS each for the trip at light load and for the most that goes through (2 where it isn't given). Prints a table;
 # in each cell ours stands first. With `slots` the table is one of 8 clients that talk, reliably and 32 bytes a packet, among 40, 400 and
-# 4,000 slots, and among 400 clients that only listen. Where PROCESSOR is set, each relay runs on that processor alone; where THREADS is
-# set, `serve` serves in so many threads (1 or 2). Proves nothing, and takes some minutes.
+# 4,000 slots, and among 400 clients that only listen. With `layer` and `broadcast` it is one of a server that tells 64 or 200 clients of the
+# reference library 100 bytes 60 times a second (clients/tell.c): what each broadcast takes with all that comes of it, in processor time and,
+# in a second run, which takes valgrind, in instructions outside the system. Where PROCESSOR is set, each relay runs on that processor alone;
+# where THREADS is set, `serve` serves in so many threads (1 or 2). Proves nothing, and takes some minutes.
 cd "$(dirname "$0")/.." || exit 1
 . scripts/clients.sh
 program=${1:-crates/enet_relay/out/enet_relay}
@@ -18,6 +20,7 @@ build_clients "$room" || exit 1
 if [ "$program" = layer ]; then
     bash scripts/build-c.sh "$room/made" crates/enet_c/out/libenet_c.a > "$room/build" 2>&1 &&
         cc -std=gnu11 -O2 -Ic -o "$room/our-server" clients/server.c "$room/made/lib/libgofnjerta_enet.a" &&
+        cc -std=gnu11 -O2 -Ic -o "$room/our-tell" clients/tell.c "$room/made/lib/libgofnjerta_enet.a" &&
         cc -std=gnu11 -O2 -Ic -o "$room/idle" c/tests/idle.c "$room/made/lib/libgofnjerta.a" && "$room/idle" || { cat "$room/build" >&2; exit 1; }
 elif [ ! -x "$program" ]; then
     echo "$program isn't there: run 'rt ci', or 'rt run' in crates/enet_relay" >&2
@@ -50,6 +53,50 @@ row() {
                 of_time[1], of_time[2], ratio, median[1], tail[1], median[2], tail[2]
         }' "$room/ours" "$room/theirs"
 }
+
+# Prints how many broadcasts the program $1 made to $2 clients, reliable ones where $3 is 1, and how many microseconds of processor time each
+# took; run by the words from $4 on. 0 0 where a reliable one didn't come to all.
+tell() {
+    local program=$room/$1 peers=$2 kind=$3 came count took
+    shift 3
+    free_port
+    "$@" "$program" serve "$port" "$peers" "$kind" "$seconds" > "$room/told" 2> "$room/relay" &
+    relay=$!
+    came=$(timeout $((seconds + 90)) "$room/tell" listen "$port" "$peers")
+    kill "$relay" 2> /dev/null
+    wait "$relay"
+    relay=
+    read -r count took < "$room/told" || { cat "$room/relay" >&2; count=0; }
+    [ "$kind" = 0 ] || [ "${came:-0}" = $((count * peers)) ] || { echo "$came of $((count * peers)) came" >&2; count=0; }
+    [ "$count" -gt 0 ] && echo "$count $took" || echo '0 0'
+}
+
+# The same, with the instructions of a broadcast in the processor time's place.
+count_instructions() {
+    local all
+    all=$(tell "$@" valgrind --tool=callgrind --toggle-collect=tell_all --callgrind-out-file=/dev/null)
+    echo "${all% *} $(awk -v count="${all% *}" '/Collected/ { print count > 0 ? int($NF / count) : 0 }' "$room/relay")"
+}
+
+tell_row() {
+    tell our-tell "$1" "$2" > "$room/ours"
+    tell tell "$1" "$2" > "$room/theirs"
+    count_instructions our-tell "$1" "$2" >> "$room/ours"
+    count_instructions tell "$1" "$2" >> "$room/theirs"
+    paste "$room/ours" "$room/theirs" | awk -v begins="$1 | $([ "$2" = 1 ] || echo un)reliable" '
+        { ours[NR] = $2; theirs[NR] = $4; ratio[NR] = $4 > 0 && $2 > 0 ? sprintf("%.2f", $2 / $4) : "none" }
+        END { printf "| %s | %s, %s | %s | %s, %s | %s |\n", begins, ours[1], theirs[1], ratio[1], ours[2], theirs[2], ratio[2] }'
+}
+
+if [ "${3:-}" = broadcast ]; then
+    [ "$program" = layer ] && command -v valgrind > /dev/null || { echo "it takes 'layer' and valgrind" >&2; exit 1; }
+    printf '| clients | kind | µs of processor time a broadcast | ratio | instructions a broadcast | ratio |\n|---|---|---|---|---|---|\n'
+    for clients in 64 200; do
+        tell_row "$clients" 1
+        tell_row "$clients" 0
+    done
+    exit
+fi
 
 figures='packets delivered a second | packets a second of processor time | ratio | trip: median, 99th percentile (µs) |'
 if [ "${3:-}" = slots ]; then

@@ -18,12 +18,17 @@
 #   for libenet, on our shared library (c/tests/binding.py), each with the reference library at the other end, both ways round;
 # - sockets by TCP, duplicatePeers, intercept, compressor, checksum and range coder (c/tests/offered.c), with each of the libraries at either
 #   end;
-# - what waits at a receiver never keeps the next packet out for good: the reference library sends, the layer receives (progress);
+# - what waits at a receiver never keeps the next packet out for good: the reference library or the layer sends, the layer receives
+#   (progress);
+# - over a network and a clock in memory (c/tests/memory_net.h): the fuzzer's inputs, those of c/tests/fuzz.corpus and drawn ones, with
+#   sanitizers (fuzz); how long a dead peer takes to be noticed, by settings, beside the reference library (patience); and bad lines with
+#   both ends ours, on which no connection is lost (lines);
 # - installed below a prefix, it is found by pkg-config under libenet's name, and each header stands alone; and it is taken away.
 # Prints what failed, and as last line 'N passed, M failed'; the status is 1 where one failed or nothing was tried. It ends within 4
 # minutes. As root it installs what is missing of gcc, libenet-dev, valgrind, python3-enet and pkg-config.
 cd "$(dirname "$0")/.." || exit 1
 . scripts/clients.sh
+. scripts/in-memory.sh
 archive=${1:-crates/enet_c/out/libenet_c.a}
 passed=0
 failed=0
@@ -87,6 +92,14 @@ build_layer_tests() {
         compile threads threads-raced -pthread "${raced[@]}" "${pooled[@]}"
 }
 
+# Those over a network and a clock in memory.
+build_memory_tests() {
+    local made=$room/made checked=(-fsanitize=address,undefined -fno-sanitize-recover=all)
+    build_in_memory "$room/fuzz" fuzz cc "$made" "${checked[@]}" && build_in_memory "$room/patience-checked" patience cc "$made" "${checked[@]}" &&
+        build_in_memory "$room/patience" patience cc "$made" && build_in_memory "$room/lines" lines cc "$made" &&
+        cc -std=gnu11 -O1 -Wall -Wextra -DREFERENCE c/tests/patience.c c/tests/memory_net.c -rdynamic -o "$room/patience-theirs" -lenet
+}
+
 # The programs of clients/ on the layer: `server`, `client` and `crowd` as they are, and with sanitizers.
 build_ours() {
     local program
@@ -101,7 +114,8 @@ build_ours() {
 build_all() {
     build_clients "$room" && bash scripts/build-c.sh "$room/made" "$archive" && cp "$room/made/lib/libgofnjerta.a" "$room/checked.a" &&
         ar d "$room/checked.a" gofnjerta.o && cp "$room/made/lib/libgofnjerta_enet.a" "$room/parts.a" &&
-        ar d "$room/parts.a" enet.o gofnjerta.o pool.o && build_tests && build_ours
+        ar d "$room/parts.a" enet.o gofnjerta.o pool.o && build_tests && build_memory_tests &&
+        build_ours
 }
 
 # A conversation: the program $3 serves $5 slots, on port $6, and the clients $4.. talk, by way of the proxy on port $7 where $2 is lossy.
@@ -182,9 +196,10 @@ meetings() {
         meet "$case-reference" "$room/offered $case" "$room/offered $case"
         meet "$case-checked" "$room/offered-checked $case" "$room/offered-checked $case"
     done
-    for case in 1 2 3; do
+    for case in 1 2 3 4; do
         meet "progress-$case" "$room/our-progress $case" "$room/progress $case"
     done
+    meet progress-4-ours "$room/our-progress 4" "$room/our-progress 4"
 }
 
 # Who serves, and who talks: ours and the reference library's, both ways round.
@@ -265,6 +280,12 @@ else
     try storm "$room/storm"
     try storm-checked "$room/storm-checked"
     try storm-coder "$room/storm-checked" 200000 coder
+    "$room/fuzz" draw 1 300 > "$room/drawn"
+    try fuzz "$room/fuzz" play c/tests/fuzz.corpus
+    try fuzz-drawn "$room/fuzz" play "$room/drawn"
+    for name in patience patience-checked patience-theirs lines; do
+        try "$name" "$room/$name"
+    done
     try fields "$room/fields"
     for name in "${compared[@]}"; do
         try "$name-theirs" "$room/$name-theirs"

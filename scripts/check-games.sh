@@ -4,8 +4,8 @@
 # installing them, and runs each, in a network namespace of its own, with libenet at both ends (the control), with our libenet.so.7 at either
 # end, and at both:
 # - cube2: its server registers with a master server by TCP, takes two players of an address and no third (maxdupclients);
-# - godot3: a server and a client over its multiplayer, in the compression modes 0, 2, 3 and 4 (1 is the range coder);
-# - python3-enet: plain, with a checksum, with an interceptor.
+# - godot3: a server and a client over its multiplayer, in the compression modes 0 to 4 (1 is the range coder);
+# - python3-enet: plain, with a checksum, with an interceptor, with the range coder, and with all three.
 # Prints a line for each, 'passed' or 'failed', and as last line 'N passed, M failed'; the status is 1 where one failed. It takes root, for
 # the namespace, a network to Debian's packages, and some five minutes.
 cd "$(dirname "$0")/.." || exit 1
@@ -83,10 +83,10 @@ run_all() {
     for pair in "libenet libenet" "ours libenet" "libenet ours" "ours ours"; do
         read -ra ends <<< "$pair"
         cube "${ends[@]}"
-        for mode in 0 2 3 4; do
+        for mode in 0 1 2 3 4; do
             both_ends "godot3, mode $mode" "${ends[@]}" "$room/root/usr/bin/godot3-server" --path "$room/godot" -s visit.gd "$mode"
         done
-        for way in plain checksum intercept; do
+        for way in plain checksum intercept coder all; do
             both_ends "python3-enet, $way" "${ends[@]}" /usr/bin/python3 "$room/visit.py" "$way"
         done
     done

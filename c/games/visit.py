@@ -1,13 +1,15 @@
-"""Debian's python3-enet: `visit.py serve|visit PORT plain|checksum|intercept`. The client has packets sent back, and leaves; with `intercept` the
-server also answers a datagram of its own kind that is no ENet. Status 0 where all came as it should."""
+"""Debian's python3-enet: `visit.py serve|visit PORT plain|checksum|intercept|coder|all`. The client has packets sent back, and leaves; with
+`intercept` the server also answers a datagram of its own kind that is no ENet; with `coder` both have the range coder, and `all` is all three.
+With the coder no packet is empty, of which libenet's dies. Status 0 where all came as it should."""
 import socket
 import sys
 import time
 
 import enet
 
-LENGTHS = (0, 1, 1363, 1364, 1365, 2728, 20000)
 role, port, way = sys.argv[1], int(sys.argv[2]), sys.argv[3]
+sums, intercepts, codes = (way in (each, "all") for each in ("checksum", "intercept", "coder"))
+LENGTHS = (2 if codes else 0, 1, 1363, 1364, 1365, 2728, 20000)
 asked = []
 
 
@@ -24,14 +26,16 @@ def body(number, length):
 
 def host_at(address, peers):
     host = enet.Host(address, peers, 2, 0, 0)
-    if way == "checksum":
+    if sums:
         host.checksum = enet.ENET_CRC32
+    if codes:
+        host.compress_with_range_coder()
     return host
 
 
 def serve(address):
     host = host_at(address, 4)
-    if way == "intercept":
+    if intercepts:
         host.intercept = answer
     end = time.time() + 20
     while time.time() < end:
@@ -40,7 +44,7 @@ def serve(address):
             event.peer.send(event.channelID, enet.Packet(event.packet.data, enet.PACKET_FLAG_RELIABLE))
         elif event.type == enet.EVENT_TYPE_DISCONNECT:
             host.service(100)
-            return event.data == 7 and len(asked) == (way == "intercept")
+            return event.data == 7 and len(asked) == intercepts
     return False
 
 

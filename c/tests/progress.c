@@ -3,7 +3,9 @@
  *   1  two reliable packets of 22,000,000 bytes, and 200 of 1,300 on a third channel, by the standard limits
  *   2  two of 600,000 bytes and the 200, where 1,000,000 bytes may wait
  *   3  40 of 1,000 bytes, the first of which is lost once, where 24,000 bytes may wait
- * Status 0 where all came, each once and whole. Compiled against either library's header: the reference library sends, the layer receives. */
+ *   4  three of 100 bytes, which are lost once, and on the same channel two of 22,347,776 bytes, of 16,384 pieces each, by the standard limits
+ * Status 0 where all came, each once and whole. Compiled against either library's header: the reference library or the layer sends, the layer
+ * receives. */
 #define _GNU_SOURCE
 #include <enet/enet.h>
 #include <arpa/inet.h>
@@ -13,17 +15,19 @@
 #include <string.h>
 #include <sys/socket.h>
 
-enum { LIMIT_MS = 100000, CASES = 3 };
+enum { LIMIT_MS = 100000, CASES = 4, MTU = 1392 };
 
-/* A case: how many large packets of how many bytes on a channel each, how many small ones on the next, and how many bytes may wait. */
+/* A case: how many large packets of how many bytes on a channel each, how many small ones on the next, or all on the first, small ones ahead;
+ * how many bytes may wait; and whether the datagram with the first small one is lost once. */
 static const struct {
     size_t large, large_length, small, small_length, waiting;
-    bool loses;
-} cases[CASES] = {{2, 22000000, 200, 1300, 0, false}, {2, 600000, 200, 1300, 1000000, false}, {0, 0, 40, 1000, 24000, true}};
+    bool loses, shares;
+} cases[CASES] = {{2, 22000000, 200, 1300, 0, false, false}, {2, 600000, 200, 1300, 1000000, false, false}, {0, 0, 40, 1000, 24000, true, false},
+                  {2, 1364 * 16384, 3, 100, 0, true, true}};
 
 static enet_uint8 byte_of(size_t number, size_t i) { return (enet_uint8)(number * 31 + i * 7 + i / 1000); }
 
-/* Whether a packet is the one of this number; large ones have their channel's. */
+/* Whether a packet is the one of this number; large ones have those below 100. */
 static bool is_whole(const ENetPacket *packet, size_t number, size_t length) {
     if (packet->dataLength != length) return false;
     for (size_t i = 0; i < length; i++)
@@ -37,15 +41,16 @@ static int serve(ENetAddress address, int which) {
     ENetEvent event;
     enet_uint32 begun = enet_time_get();
     if (!host) return 2;
+    host->mtu = MTU;
     if (cases[which].waiting) host->maximumWaitingData = cases[which].waiting;
     while (enet_time_get() - begun < LIMIT_MS) {
         if (enet_host_service(host, &event, 100) <= 0) continue;
         if (event.type == ENET_EVENT_TYPE_DISCONNECT) break;
         if (event.type != ENET_EVENT_TYPE_RECEIVE) continue;
-        bool is_large = event.channelID < cases[which].large;
-        size_t number = is_large ? event.channelID : 100 + small;
+        bool is_large = cases[which].shares ? small == cases[which].small : event.channelID < cases[which].large;
+        size_t number = !is_large ? 100 + small : cases[which].shares ? large : event.channelID;
         if (!is_whole(event.packet, number, is_large ? cases[which].large_length : cases[which].small_length)) {
-            printf("packet %zu on channel %d isn't whole\n", number, event.channelID);
+            printf("packet %zu on channel %d isn't whole, or not the next\n", number, event.channelID);
             return 1;
         }
         *(is_large ? &large : &small) += 1;
@@ -103,13 +108,23 @@ static void send_one(ENetPeer *peer, enet_uint8 channel, size_t number, size_t l
     if (enet_peer_send(peer, channel, packet) != 0) exit(1);
 }
 
+/* Sends all packets of a case. */
+static void send_all(ENetPeer *peer, int which) {
+    bool shares = cases[which].shares;
+    for (size_t i = 0; i < cases[which].small && shares; i++) send_one(peer, 0, 100 + i, cases[which].small_length);
+    for (size_t i = 0; i < cases[which].large; i++) send_one(peer, shares ? 0 : (enet_uint8)i, i, cases[which].large_length);
+    for (size_t i = 0; i < cases[which].small && !shares; i++) send_one(peer, (enet_uint8)cases[which].large, 100 + i, cases[which].small_length);
+}
+
 static int visit(ENetAddress address, int which) {
     ENetEvent event;
     enet_uint32 begun = enet_time_get();
     bool loses = cases[which].loses;
     if (loses && !open_hole(&address)) return 2;
     ENetHost *host = enet_host_create(NULL, 1, 3, 0, 0);
-    if (!host || !enet_host_connect(host, &address, 3, 0)) return 2;
+    if (!host) return 2;
+    host->mtu = host->peers[0].mtu = MTU;
+    if (!enet_host_connect(host, &address, 3, 0)) return 2;
     while (enet_time_get() - begun < LIMIT_MS) {
         int came = enet_host_service(host, &event, loses ? 1 : 100);
         if (loses) pass();
@@ -118,8 +133,7 @@ static int visit(ENetAddress address, int which) {
         if (event.type != ENET_EVENT_TYPE_CONNECT) continue;
         /* The answer to the server's greeting isn't lost. */
         for (enet_uint32 told = enet_time_get(); loses && enet_time_get() - told < 300; pass()) enet_host_service(host, NULL, 1);
-        for (size_t i = 0; i < cases[which].large; i++) send_one(event.peer, (enet_uint8)i, i, cases[which].large_length);
-        for (size_t i = 0; i < cases[which].small; i++) send_one(event.peer, (enet_uint8)cases[which].large, 100 + i, cases[which].small_length);
+        send_all(event.peer, which);
     }
     return 1;
 }
