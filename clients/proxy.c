@@ -1,12 +1,12 @@
-// proxy PORT SERVER SEED [down MS] [loss PERCENT] [rate KBIT]: stands between clients and a server, all on 127.0.0.1, until it is stopped. What
+// proxy PORT SERVER SEED [trip MS] [down MS] [loss PERCENT] [rate KBIT]: stands between clients and a server, all on 127.0.0.1, until it is stopped. What
 // comes to PORT goes to port SERVER, from a socket of its own for each client, and what comes back there goes to that client. Of all
 // datagrams, both ways, 8 % are dropped, 5 % go twice, and 10 % are held back for 1 to 8 ms while others pass, as drawn from SEED. No command
 // is dropped more than twice and no acknowledgement of it either, since a connection ends where one command goes six times in vain.
 //
 // Where one of the last words is given, it is a line in place of that, on which a datagram takes 20 to 37.5 ms, as its client has it, so that
-// what is sent again goes at different times. From 4 seconds after the first one on all are dropped for so many milliseconds (`down`); of all
-// so many percent are dropped, as drawn (`loss`); and all together have so many kilobits a second, each way, with 28 bytes of headers a
-// datagram, where what would wait for more than 100 ms is dropped (`rate`).
+// what is sent again goes at different times, or so many milliseconds for all (`trip`). From 4 seconds after the first one on all are dropped
+// for so many milliseconds (`down`); of all so many percent are dropped, as drawn (`loss`); and all together have so many kilobits a second,
+// each way, with 28 bytes of headers a datagram, where what would wait for more than 100 ms is dropped (`rate`).
 #include <arpa/inet.h>
 #include <poll.h>
 #include <sys/socket.h>
@@ -32,6 +32,7 @@ static Held *held[WAITING];
 static int waiting;
 static uint64_t seed;
 static int is_line;              // whether it is a line that drops them
+static double trip;             // seconds that a datagram takes on that line; 0 where each client has its own
 static double down, loss, rate; // of that line: seconds, the share from 0 to 1, and bytes a second; 0 where there is no such fault
 static double begun;            // when the first datagram came
 static double free_at[2];       // when the line has sent all that it took, to the server and to the clients
@@ -134,7 +135,7 @@ static void pass_over_line(const Held *datagram, int client)
             return;
         sent = *next += (double)(datagram->length + 28) / rate;
     }
-    hold_until(datagram, sent + 20e-3 + 2.5e-3 * ((client - 1) % 8));
+    hold_until(datagram, sent + (trip > 0 ? trip : 20e-3 + 2.5e-3 * ((client - 1) % 8)));
 }
 
 // Drops the datagram, sends it once or twice, or holds it back.
@@ -197,7 +198,9 @@ int main(int count, char **words)
     is_line = count > 4;
     for (int i = 4; i < count; i += 2) {
         double number = (double)number_of(count, words, i + 1, 1, 1000000);
-        if (strcmp(words[i], "down") == 0)
+        if (strcmp(words[i], "trip") == 0)
+            trip = 1e-3 * number;
+        else if (strcmp(words[i], "down") == 0)
             down = 1e-3 * number;
         else if (strcmp(words[i], "loss") == 0)
             loss = 1e-2 * number;
