@@ -60,7 +60,8 @@ typedef struct gofnjerta_config {
     uint32_t incoming;    /* bytes per second that this host can take in; 0: no limit is known */
     uint32_t outgoing;    /* bytes per second that this host can send; 0: no limit is known */
     uint32_t max_packet;  /* the longest packet that is taken in or submitted, in bytes: 1 to 33,554,432 */
-    uint32_t max_waiting; /* bytes of a peer's packets that wait, at which no further packet begins: 1 to 33,554,432 */
+    uint32_t max_waiting; /* bytes of a peer's packets that wait, at which no further packet begins: 1 to 33,554,432. Nor does one begin
+                             where so many packets wait as a 128th of that, but at least 1,024 */
     uint32_t generations; /* how many peers a slot has one after another: 1 and more */
     uint32_t clock;       /* the clock at the opening, in milliseconds; it wraps */
 } gofnjerta_config;

@@ -5,4 +5,5 @@ pub mod StandIn
 pub mod Rooms
 pub mod GivingWay
 pub mod Stops
+pub mod Counting
 pub mod Foresights

@@ -17,7 +17,7 @@ use Rattle.enet_receiver.specs.declared.took.Took.TheVariants.{Held, Again, Outs
 use Rattle.enet_receiver.specs.DataOutcome.{is_next}
 use Rattle.enet_receiver.specs.Foresight.{ReceivingEnd, outcome_for}
 use Rattle.enet_receiver.proofs.Alone.{full_where_waiting, outcome_alone}
-use Rattle.enet_inbox.specs.Inbox.{Inbox, is_full, is_full_for, untaken_of, waiting_of, given_way, given_way_receiver}
+use Rattle.enet_inbox.specs.Inbox.{Inbox, is_full, is_full_for, is_full_of_untaken, given_way, given_way_receiver}
 use Rattle.enet_inbox.specs.DataEffect.{DataEffect, plain_arrival, arrival_of, sequenced, sequenced_on, by_took, unsequenced, unsequenced_taken, handled, stopped, is_waiting, makes_room, is_kept_of, is_kept_on, is_kept_as, is_kept_sequenced}
 use Rattle.enet_inbox.specs.InboxParts.{foreseen_of, foreseen_sequenced}
 use Rattle.enet_inbox.specs.Private.InboxParts.{FindsRoom}
@@ -98,30 +98,30 @@ answer_then b channel c r at =
     ∙ took-by (is_full_for (given_way b) (given_way_receiver r) c) (given_way b) channel (given_way_receiver r) c
 
 -- nothing makes room for the next packet of its channel
-next-full : (next : Bool) (most untaken waiting after : ℕ) → next ≡ true → nat_le most (cond next untaken waiting) ≡ true → nat_le most (cond next untaken after) ≡ true
-next-full true most untaken waiting after e h = h
-next-full false most untaken waiting after e h = absurd (cc)
+next-full : (next untaken waiting after : Bool) → next ≡ true → cond next untaken waiting ≡ true → cond next untaken after ≡ true
+next-full true untaken waiting after e h = h
+next-full false untaken waiting after e h = absurd (cc)
 
 pub full_for_next : (b : Inbox) (channel : ℕ) (c : DataCommand) (r : ReceivingEnd) → IsAt b channel c r → is_next r.receiver c ≡ true → is_full_for (given_way b) (given_way_receiver r) c ≡ true
 full_for_next b channel c r at next =
-    next-full (is_next r.receiver c) b.max_waiting (untaken_of b) (waiting_of b) (waiting_of (given_way b)) next
+    next-full (is_next r.receiver c) (is_full_of_untaken b) (is_full b) (is_full (given_way b)) next
     (full_where_waiting r.max_packet r.receiver c (is_full_for b r c) at.took)
 
-full-so : (next : Bool) (most untaken waiting after : ℕ) → nat_le most (cond next untaken waiting) ≡ true → nat_le most after ≡ true → nat_le most (cond next untaken after) ≡ true
-full-so true most untaken waiting after h e = h
-full-so false most untaken waiting after h e = e
+full-so : (next untaken waiting after : Bool) → cond next untaken waiting ≡ true → after ≡ true → cond next untaken after ≡ true
+full-so true untaken waiting after h e = h
+full-so false untaken waiting after h e = e
 
 pub full_for_all : (b : Inbox) (channel : ℕ) (c : DataCommand) (r : ReceivingEnd) → IsAt b channel c r → is_full (given_way b) ≡ true → is_full_for (given_way b) (given_way_receiver r) c ≡ true
 full_for_all b channel c r at full =
-    full-so (is_next r.receiver c) b.max_waiting (untaken_of b) (waiting_of b) (waiting_of (given_way b))
+    full-so (is_next r.receiver c) (is_full_of_untaken b) (is_full b) (is_full (given_way b))
     (full_where_waiting r.max_packet r.receiver c (is_full_for b r c) at.took) full
 
-room-so : (next : Bool) (most untaken after : ℕ) → next ≡ false → nat_le most after ≡ false → nat_le most (cond next untaken after) ≡ false
-room-so true most untaken after e h = absurd (cc)
-room-so false most untaken after e h = h
+room-so : (next untaken after : Bool) → next ≡ false → after ≡ false → cond next untaken after ≡ false
+room-so true untaken after e h = absurd (cc)
+room-so false untaken after e h = h
 
 pub room_for : (b : Inbox) (c : DataCommand) (r : ReceivingEnd) → is_next r.receiver c ≡ false → is_full (given_way b) ≡ false → is_full_for (given_way b) (given_way_receiver r) c ≡ false
-room_for b c r next full = room-so (is_next r.receiver c) b.max_waiting (untaken_of b) (waiting_of (given_way b)) next full
+room_for b c r next full = room-so (is_next r.receiver c) (is_full_of_untaken b) (is_full (given_way b)) next full
 
 -- where it finds room it is taken in
 kept-so : (full : Bool) (may : Bool) → is_ok (cond full (Err stop.Waiting) (Ok may)) ≡ true → full ≡ false

@@ -1,17 +1,17 @@
 -- All that comes to a peer.
-use Rattle.std.specs.Prelude.{ℕ, ◌+◌, Bool, nat_le, if◌then◌else◌, List, [], length, map, take, sum_by}
+use Rattle.std.specs.Prelude.{ℕ, ◌+◌, ◌/◌, ◌||◌, max, Bool, nat_le, if◌then◌else◌, List, [], length, map, take, sum_by}
 use Rattle.std.specs.List.{range_with_len}
 use Rattle.enet_codec.specs.declared.packet.Packet.{Packet}
 use Rattle.enet_unsequenced.specs.Groups.{Seen, nothing_seen}
 use Rattle.enet_fragment.specs.declared.data.DataCommand.{DataCommand}
-use Rattle.enet_receiver.specs.Receiver.{held_bytes}
+use Rattle.enet_receiver.specs.Receiver.{held_bytes, held_packets}
 use Rattle.enet_receiver.specs.Receiver as receiver
 use Rattle.enet_receiver.specs.DataOutcome.{is_next}
 use Rattle.enet_receiver.specs.Foresight.{ReceivingEnd, new_end}
 
 pub record Inbox : Type 0 where
   pub max_packet : ℕ  -- the most bytes of a packet
-  pub max_waiting : ℕ  -- the bytes that wait at which no further packet begins
+  pub max_waiting : ℕ  -- the bytes that wait at which no further packet begins; the packets are place_limit
   pub receivers : List ReceivingEnd  -- by channel
   pub seen : Seen  -- the unsequenced groups that were dispatched
   pub untaken : List Packet  -- what the user hasn't taken, in the order of dispatch
@@ -34,18 +34,29 @@ untaken_of b = sum_by (λ (q : Packet). length q.body) b.untaken
 abbrev pub waiting_of : Inbox → ℕ
 waiting_of b = sum_by (λ (r : ReceivingEnd). held_bytes r.receiver) b.receivers + untaken_of b
 
--- whether so many wait that no further packet begins
+-- the packets that wait: each takes a place, whether it is held, waits, is in the making, or was dispatched and not taken
+abbrev pub places_of : Inbox → ℕ
+places_of b = sum_by (λ (r : ReceivingEnd). held_packets r.receiver) b.receivers + length b.untaken
+
+-- how many places there are
+abbrev pub place_limit : ℕ → ℕ
+place_limit max_waiting = max 1024 (max_waiting / 128)
+
+-- whether so many bytes or so many packets are at their limit or above
+abbrev pub is_at_limit : ℕ → ℕ → ℕ → Bool
+is_at_limit max_waiting bytes packets = nat_le max_waiting bytes || nat_le (place_limit max_waiting) packets
+
+-- whether so much waits that no further packet begins
 abbrev pub is_full : Inbox → Bool
-is_full b = nat_le b.max_waiting (waiting_of b)
+is_full b = is_at_limit b.max_waiting (waiting_of b) (places_of b)
 
--- the bytes that keep a command from beginning a packet: all that wait, but of the packet that its channel dispatches next only
--- those that the user can take
-abbrev pub counted_for : Inbox → ReceivingEnd → DataCommand → ℕ
-counted_for b r c = if is_next r.receiver c then untaken_of b else waiting_of b
+-- whether the user can take so much that not even the packet that its channel dispatches next begins
+abbrev pub is_full_of_untaken : Inbox → Bool
+is_full_of_untaken b = is_at_limit b.max_waiting (untaken_of b) (length b.untaken)
 
--- whether so many wait that a command begins no packet
+-- whether so much waits that a command begins no packet
 abbrev pub is_full_for : Inbox → ReceivingEnd → DataCommand → Bool
-is_full_for b r c = nat_le b.max_waiting (counted_for b r c)
+is_full_for b r c = if is_next r.receiver c then is_full_of_untaken b else is_full b
 
 abbrev pub cleared_receiver : ReceivingEnd → ReceivingEnd
 cleared_receiver r = record r { receiver = receiver.cleared r.receiver }

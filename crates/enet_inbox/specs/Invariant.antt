@@ -1,7 +1,7 @@
 -- What the fields of an inbox keep.
-use Rattle.std.specs.Prelude.{◌≡◌, ℕ, ◌^◌, ◌<◌, ◌≤◌, [], All, length, slice_index_or}
+use Rattle.std.specs.Prelude.{◌≡◌, ℕ, ◌^◌, ◌<◌, ◌≤◌, List, [], All, length, sum_by, slice_index_or}
 use Rattle.enet_codec.specs.declared.packet.Packet.{Packet}
-use Rattle.enet_receiver.specs.Receiver.{held_bytes}
+use Rattle.enet_receiver.specs.Receiver.{held_bytes, held_packets}
 use Rattle.enet_receiver.specs.Foresight.{ReceivingEnd}
 use Rattle.enet_inbox.specs.Inbox.{Inbox, waiting_of}
 
@@ -17,9 +17,23 @@ pub record IsInPlace (most place : ℕ) (r : ReceivingEnd) : Type 0 where
   pub none_left : r.receiver.dispatched ≡ []
   pub light : held_bytes r.receiver < 2 ^ 64
 
--- The receivers are in their places, and the counter is the bytes that wait.
+-- The receivers are in their places, and the first counter is the bytes that wait.
 pub record KeepsInbox (b : Inbox) (waiting : ℕ) : Type 0 where
   pub receivers : (channel : ℕ) (d : ReceivingEnd) → channel < length b.receivers → IsInPlace b.max_packet channel (slice_index_or b.receivers channel d)
   pub few : length b.receivers ≤ 255
   pub short : All IsShort b.untaken
   pub counted : waiting ≡ waiting_of b
+
+-- how many packets are held, wait or are in the making at receivers
+abbrev pub packets_in : List ReceivingEnd → ℕ
+packets_in rs = sum_by (λ (r : ReceivingEnd). held_packets r.receiver) rs
+
+-- The second counter is those packets; no receiver has more of them than numbers allow.
+pub record KeepsPackets (rs : List ReceivingEnd) (packets : ℕ) : Type 0 where
+  pub few : All (λ (r : ReceivingEnd). held_packets r.receiver < 2 ^ 32) rs
+  pub counted : packets ≡ packets_in rs
+
+-- what an inbox and its two counters keep
+pub record Keeps (b : Inbox) (waiting packets : ℕ) : Type 0 where
+  pub inbox : KeepsInbox b waiting
+  pub places : KeepsPackets b.receivers packets

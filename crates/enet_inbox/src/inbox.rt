@@ -1,18 +1,21 @@
 //! All that comes to a peer.
 
-ghost use Rattle.std.specs.Prelude.{◌≡◌, ◌<◌, drop, IsTrue, IfOk, IfErr, OnOk, OnErr, Ok, Err, Some, true, false, slice_get};
+ghost use Rattle.std.specs.Prelude.{◌≡◌, ◌+◌, ◌<◌, ◌^◌, drop, length, IsTrue, IfOk, IfErr, OnOk, OnErr, Ok, Err, Some, true, false, slice_get};
 ghost use Rattle.std.specs.Option.{option_copied};
 ghost use Rattle.enet_codec.specs.Message.{view};
 ghost use Rattle.enet_fragment.specs.DataCommand.{data_of};
 ghost use Rattle.enet_unsequenced.specs.Groups.{dispatches};
 ghost use Rattle.enet_receiver.specs.ArrivingData.{data_command};
-ghost use Rattle.enet_inbox.specs.Inbox.{empty_inbox, is_full, is_full_for, cleared, forgotten, narrowed, given_way};
+ghost use Rattle.enet_inbox.specs.Inbox.{empty_inbox, place_limit, is_at_limit, is_full, is_full_for, cleared, forgotten, narrowed, given_way};
 ghost use Rattle.enet_inbox.specs.DataEffect.{plain_arrival, arrival, sequenced, unsequenced_taken, passed_over, passed_length, passed_sequenced, is_kept, DataArrives};
 ghost use Rattle.enet_inbox.specs.InboxParts.{foresight_of, unsequenced_verdict, plain_foreseen, foreseen, foreseen_sequenced, with_room, told};
 ghost use Rattle.enet_inbox.specs.Private.InboxParts.{met_by, FindsRoom};
 
 use crate::arriving::{Foreseen, acknowledges, finds_no_room, seen};
-use crate::receivers::{clear_all, give_way, give_way_but, held_in, open_all, waiting_in};
+use crate::receivers::{
+    clear_all, give_way, give_way_but, held_in, open_all, packets_in, waiting_in,
+    waiting_packets_in,
+};
 use crate::taking::{append, pass_on, take_in, take_in_instead};
 use enet_codec::{Command, Packet, Refusal, Stop};
 use enet_receiver::{ArrivingData, Foresight, Incoming};
@@ -33,6 +36,8 @@ pub struct Inbox {
     untaken: VecDeque<Packet>,
     /// The bytes that are held at the receivers or wait to be taken.
     waiting: u128,
+    /// How many packets are held at the receivers.
+    packets: usize,
 }
 
 impl Model for Inbox {
@@ -43,18 +48,40 @@ impl Model for Inbox {
 
     ghost coded = { inbox_code };
 
-    ghost use Rattle.enet_inbox.specs.Invariant.{KeepsInbox};
+    ghost use Rattle.enet_inbox.specs.Invariant.{Keeps};
     ghost use Rattle.enet_inbox.specs.InboxParts.{inbox_of};
 
     ghost view = { λ b. inbox_of b.max_packet b.max_waiting b.receivers.items b.groups b.untaken.items };
 
-    ghost invariant = { λ b. KeepsInbox (inbox_of b.max_packet b.max_waiting b.receivers.items b.groups b.untaken.items) b.waiting };
+    ghost invariant = { λ b. Keeps (inbox_of b.max_packet b.max_waiting b.receivers.items b.groups b.untaken.items) b.waiting b.packets };
+}
+
+/// At how many packets that wait no further one begins: one for each 128 bytes that may wait, and at least 1,024.
+fn place_limit(max_waiting: u32) -> u32
+    ensures { result ≡ place_limit max_waiting }
+{
+    (max_waiting / 128).max(1024)
+}
+
+/// Whether so many bytes or so many packets are at their limit or above.
+fn is_at_limit(max_waiting: u32, bytes: u128, packets: usize) -> bool
+    ensures { result ≡ is_at_limit max_waiting bytes packets }
+{
+    u128::from(max_waiting) <= bytes || place_limit(max_waiting) as usize <= packets
+}
+
+/// How many places are taken: by so many packets at the receivers, and by those that wait to be taken.
+fn places_taken(packets: usize, untaken: &VecDeque<Packet>) -> usize
+    requires { packets < 2 ^ 41 }
+    ensures { result ≡ packets + length untaken.now.items }
+{
+    packets + untaken.len()
 }
 
 impl Inbox {
     /// An inbox of so many channels to which nothing came. It takes packets of at most `max_packet` bytes, and begins none once
-    /// `max_waiting` bytes or more wait: as `data` says, the next packet of each channel may come all the same, and unreliable ones
-    /// may give way. E1 where memory is refused.
+    /// `max_waiting` bytes or more wait, or as many packets as a 128th of that, but at least 1,024: as `data` says, the next packet
+    /// of each channel may come all the same, and unreliable ones may give way. E1 where memory is refused.
     pub fn open(
         alloc: Global,
         channels: u8,
@@ -72,6 +99,7 @@ impl Inbox {
             groups: Groups::new(),
             untaken: VecDeque::new(alloc),
             waiting: 0,
+            packets: 0,
         })
     }
 
@@ -97,12 +125,12 @@ impl Inbox {
     /// A stop is the first that applies: S6 for a command that is no data; S8 where the channel is not below the channel
     /// count; S9 where the payload or the packet is above the maximum packet size, or a fragment's fields fit together
     /// neither with themselves nor with the pieces before (fields and sizes before the window: our profile); S10 where it
-    /// begins a packet while the bytes that are held reliably or weren't taken are at their limit or above, or, of the packet
-    /// that its channel dispatches next, while those that weren't taken alone are (our profile); S11 where memory is refused (our
-    /// profile). After a stop nothing has changed.
+    /// begins a packet while the bytes or the packets that are held reliably or weren't taken are at their limit or above, or, of
+    /// the packet that its channel dispatches next, while those that weren't taken alone are (our profile); S11 where memory is
+    /// refused (our profile). After a stop nothing has changed.
     ///
-    /// Where it begins a packet, other than the one that its channel dispatches next, while the bytes of unreliable packets that
-    /// wait or are in the making bring all to the limit, those packets are given up, on all channels (our profile).
+    /// Where it begins a packet, other than the one that its channel dispatches next, while unreliable packets that wait or are in
+    /// the making bring all to a limit, by their bytes or their number, they are given up, on all channels (our profile).
     pub fn data(&mut self, command: &Command<'_>) -> Result<bool, Stop>
         ensures { DataArrives result (is_kept self.old (view command.now)) (arrival self.old (view command.now)) self.old self.new }
     {
@@ -166,6 +194,7 @@ impl Inbox {
         ensures { self.new ≡ cleared self.old }
     {
         self.waiting -= held_in(&self.receivers);
+        self.packets = 0;
         clear_all(&mut self.receivers);
     }
 
@@ -176,6 +205,7 @@ impl Inbox {
         clear_all(&mut self.receivers);
         self.untaken.clear();
         self.waiting = 0;
+        self.packets = 0;
     }
 
     /// Only so many channels stay, from channel 0 on; what the others hold is dropped. Where there are no more than so many
@@ -186,18 +216,21 @@ impl Inbox {
         let channels = channels as usize;
         if channels < self.receivers.len() {
             self.waiting -= held_in(&self.receivers[channels..]);
+            self.packets -= packets_in(&self.receivers[channels..]);
             self.receivers.truncate(channels);
         }
     }
 
-    /// Whether so many bytes wait that no further packet begins.
+    /// Whether so much waits that no further packet begins.
     fn is_full(&self) -> bool
         ensures { result ≡ is_full self.now }
     {
-        u128::from(self.max_waiting) <= self.waiting
+        let _receivers = &self.receivers;
+        let places = places_taken(self.packets, &self.untaken);
+        is_at_limit(self.max_waiting, self.waiting, places)
     }
 
-    /// Whether so many bytes wait that a command begins no packet at the receiver of its channel.
+    /// Whether so much waits that a command begins no packet at the receiver of its channel.
     fn is_full_for(&self, receiver: &Incoming, arriving: ArrivingData<'_>) -> bool
         ensures { result ≡ is_full_for self.now receiver.now (data_command arriving.entry) }
     {
@@ -207,14 +240,18 @@ impl Inbox {
         if !receiver.is_next(arriving) {
             return true;
         }
-        u128::from(self.max_waiting) <= self.waiting - held_in(&self.receivers)
+        let bytes = self.waiting - held_in(&self.receivers);
+        is_at_limit(self.max_waiting, bytes, self.untaken.len())
     }
 
-    /// Whether so many bytes would wait once the unreliable packets that wait had given way.
+    /// Whether so much would wait once the unreliable packets that wait had given way.
     fn is_full_without_waiting(&self) -> bool
         ensures { result ≡ is_full (given_way self.now) }
     {
-        u128::from(self.max_waiting) <= self.waiting - waiting_in(&self.receivers)
+        let bytes = self.waiting - waiting_in(&self.receivers);
+        let packets = self.packets - waiting_packets_in(&self.receivers);
+        let places = places_taken(packets, &self.untaken);
+        is_at_limit(self.max_waiting, bytes, places)
     }
 
     /// What becomes of a data command with ample memory, where nothing gives way to it.
@@ -374,11 +411,13 @@ impl Inbox {
         let full = self.is_full_for(&self.receivers[channel], arriving);
         let receiver = &mut self.receivers[channel];
         let before = receiver.held();
+        let packets_before = receiver.packets();
         let Some(bytes) = take_in(receiver, &mut self.untaken, arriving, full, what.dispatches)
         else {
             return false;
         };
         self.waiting = self.waiting - u128::from(before) + u128::from(receiver.held()) + bytes;
+        self.packets = self.packets - packets_before + receiver.packets();
         true
     }
 
@@ -390,14 +429,18 @@ impl Inbox {
         ensures unchanged { result ≡ false → self.new ≡ self.old }
     {
         let others = waiting_in(&self.receivers);
+        let other_packets = waiting_packets_in(&self.receivers);
         let receiver = &mut self.receivers[arriving.head.channel as usize];
         let before = receiver.held() - receiver.waiting();
+        let packets_before = receiver.packets() - receiver.waiting_packets();
         let Some(bytes) = take_in_instead(receiver, &mut self.untaken, arriving) else {
             return false;
         };
         let after = receiver.held();
+        let packets_after = receiver.packets();
         give_way_but(&mut self.receivers, arriving.head.channel);
         self.waiting = self.waiting - others - u128::from(before) + u128::from(after) + bytes;
+        self.packets = self.packets - other_packets - packets_before + packets_after;
         true
     }
 
@@ -406,6 +449,7 @@ impl Inbox {
         ensures { self.new ≡ given_way self.old }
     {
         self.waiting -= waiting_in(&self.receivers);
+        self.packets -= waiting_packets_in(&self.receivers);
         give_way(&mut self.receivers);
     }
 

@@ -4,7 +4,8 @@ ghost use Rattle.std.specs.Prelude.{◌≡◌, ◌^◌, ◌<◌, map, IfOk, IfEr
 ghost use Rattle.std.specs.List.{range_with_len};
 ghost use Rattle.enet_receiver.specs.Foresight.{new_end};
 ghost use Rattle.enet_inbox.specs.Inbox.{cleared_receiver, given_way_receiver};
-ghost use Rattle.enet_inbox.specs.Private.Invariant.{held_in, waiting_in};
+ghost use Rattle.enet_inbox.specs.Invariant.{packets_in};
+ghost use Rattle.enet_inbox.specs.Private.Invariant.{held_in, waiting_in, waiting_packets_in};
 ghost use Rattle.enet_inbox.specs.Private.InboxParts.{given_way_but};
 
 use enet_codec::Refusal;
@@ -50,6 +51,30 @@ pub(crate) fn waiting_in(receivers: &[Incoming]) -> u128
     let mut waiting = 0;
     for receiver in receivers {
         waiting += u128::from(receiver.waiting());
+    }
+    waiting
+}
+
+/// How many packets are held, wait or are in the making at receivers.
+pub(crate) fn packets_in(receivers: &[Incoming]) -> usize
+    requires { packets_in receivers.now < 2 ^ 64 }
+    ensures { result ≡ packets_in receivers.now }
+{
+    let mut packets = 0;
+    for receiver in receivers {
+        packets += receiver.packets();
+    }
+    packets
+}
+
+/// How many of those are unreliable.
+pub(crate) fn waiting_packets_in(receivers: &[Incoming]) -> usize
+    requires { waiting_packets_in receivers.now < 2 ^ 64 }
+    ensures { result ≡ waiting_packets_in receivers.now }
+{
+    let mut waiting = 0;
+    for receiver in receivers {
+        waiting += receiver.waiting_packets();
     }
     waiting
 }

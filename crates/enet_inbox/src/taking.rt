@@ -6,7 +6,7 @@ ghost use Rattle.enet_codec.specs.declared.packet.Packet.{Packet};
 ghost use Rattle.enet_receiver.specs.ArrivingData.{data_command};
 ghost use Rattle.enet_receiver.specs.declared.took.Took.TheVariants.{Held};
 ghost use Rattle.enet_receiver.specs.Foresight.{outcome_for, after_command, alone, foreseen, WouldBeHeld};
-ghost use Rattle.enet_receiver.specs.Receiver.{held_bytes};
+ghost use Rattle.enet_receiver.specs.Receiver.{held_bytes, held_packets};
 ghost use Rattle.enet_inbox.specs.DataEffect.{packet_of, emptied};
 ghost use Rattle.enet_inbox.specs.Invariant.{IsShort};
 ghost use Rattle.enet_inbox.specs.Private.Invariant.{bytes_in};
@@ -108,6 +108,7 @@ pub(crate) fn pass_on(
     ensures bytes { IfSome result (λ bytes. bytes_in untaken.new.items ≡ bytes_in untaken.old.items + bytes) }
     ensures short { All IsShort untaken.new.items }
     ensures as_much_held { held_bytes receiver.new.receiver ≡ held_bytes receiver.old.receiver }
+    ensures as_many_held { held_packets receiver.new.receiver ≡ held_packets receiver.old.receiver }
     ensures same_receiver { IfNone result (receiver.new ≡ receiver.old) }
     ensures same_untaken { IfNone result (untaken.new.items ≡ untaken.old.items) }
 {

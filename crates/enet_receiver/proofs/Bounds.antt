@@ -130,7 +130,7 @@ lines_fit most r k =
 line_fits : (most : ℕ) (front number : ℕ) (line : Line) → IsLine front most number line → len line ≤ 65536
 line_fits most front number line is = len-le 65536 line (λ q x there. (is.packets q x there).wire)
 
-pub packets_fit : (most : ℕ) (r : Receiver) → Keeps most r → len r.held + packets_in r.waiting < 2 ^ 63
+pub packets_fit : (most : ℕ) (r : Receiver) → Keeps most r → len r.held + packets_in r.waiting < 2 ^ 32
 packets_fit most r k =
     let held = held_fit most r k in
     let lines = lines_fit most r k in

@@ -73,7 +73,7 @@ abbrev pub is_piece_of_its_packet : Numbering → ℕ → Receiver → DataComma
 is_piece_of_its_packet g most r c = is_piece most c && agrees_with (came_before g r c) c
 
 -- the outcome with ample memory, the first that applies. `most` is the greatest packet that is taken in, in bytes, and `full`
--- says that the bytes that are held, wait or weren't taken are at their limit or above
+-- says that what is held, waits or wasn't taken is at its limit or above
 abbrev pub outcome : Numbering → ℕ → Receiver → DataCommand → Bool → Took
 outcome g most r c full = if is_piece_of_its_packet g most r c then outcome_at r c full (place_read g r c) else Bad
 

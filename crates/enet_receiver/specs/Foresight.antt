@@ -54,7 +54,7 @@ abbrev pub after_command : ReceivingEnd → Option DataCommand → Bool → Rece
 after_command e None full = e
 after_command e (Some c) full = record e { receiver = received wire e.max_packet e.receiver c full }
 
--- a command that would be held with ample memory, where so many bytes wait
+-- a command that would be held with ample memory, where so much waits
 abbrev pub WouldBeHeld : ReceivingEnd → Option DataCommand → Type 0
 WouldBeHeld e o = (full : Bool) × (outcome_for e o full ≡ Held)
 

@@ -7,7 +7,7 @@ use Rattle.enet_fragment.specs.PartialPacket.{count_of}
 use Rattle.enet_fragment.specs.Whole.{is_whole}
 use Rattle.enet_packets.specs.declared.incoming_packet.IncomingPacket.{IncomingPacket}
 use Rattle.enet_packets.specs.declared.incoming_packet.Dispatched.{Dispatched}
-use Rattle.enet_packets.specs.Packets.{Lines, handed_out, bytes_of, bytes_in, line_at, with_line, fresh, last_fresh, still_ahead}
+use Rattle.enet_packets.specs.Packets.{Lines, handed_out, bytes_of, bytes_in, packets_in, line_at, with_line, fresh, last_fresh, still_ahead}
 
 pub record Receiver : Type 0 where
   pub front : ℕ  -- the number of the last reliable command dispatched
@@ -80,6 +80,10 @@ all_released g r = flushed (released g (len r.held) r)
 -- the bytes of all that is held or waits, each packet counted whole from its first piece on
 abbrev pub held_bytes : Receiver → ℕ
 held_bytes r = bytes_of r.held + bytes_in r.waiting
+
+-- how many packets are held, wait or are in the making
+abbrev pub held_packets : Receiver → ℕ
+held_packets r = len r.held + packets_in r.waiting
 
 -- all that is held or waits is dropped; the front, the unreliable number and what was dispatched stay
 abbrev pub cleared : Receiver → Receiver

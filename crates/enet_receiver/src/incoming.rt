@@ -13,8 +13,8 @@ ghost use Rattle.enet_receiver.specs.ReceiverParts.{with_first};
 ghost use Rattle.enet_receiver.specs.Private.ReceiverParts.{with_kept, grown_at, answered_with};
 ghost use Rattle.enet_receiver.specs.Private.InPlace.{ComesAlone, GoesAtOnce, with_moved, only_packet_from};
 ghost use Rattle.enet_receiver.specs.Private.Walk.{Completes};
-ghost use Rattle.enet_packets.specs.Packets.{bytes_in};
-ghost use Rattle.enet_receiver.specs.Receiver.{held_bytes, cleared};
+ghost use Rattle.enet_packets.specs.Packets.{bytes_in, packets_in};
+ghost use Rattle.enet_receiver.specs.Receiver.{held_bytes, held_packets, cleared};
 ghost use Rattle.enet_receiver.specs.DataOutcome.{outcome, outcome_of, place_read, came_at, came_before, is_behind, is_next, is_handled, dispatch_count};
 ghost use Rattle.enet_receiver.specs.Foresight.{new_end, data_if, is_reliable, is_unreliable, is_fragment, is_unreliable_fragment, outcome_for, after_command, WouldBeHeld, Receives, foreseen, alone};
 
@@ -102,7 +102,7 @@ impl Incoming {
         })
     }
 
-    /// Takes a SEND_RELIABLE in; `full` says that the bytes that wait at the peer are at their limit or above.
+    /// Takes a SEND_RELIABLE in; `full` says that the bytes or the packets that wait at the peer are at their limit or above.
     ///
     /// The outcome is the first that applies of `Bad`, `Outside`, `Again`, `Waiting`, `Memory` and `Held` (ENet 1.3's window
     /// rule; the order is our profile). Where it is `Held`, what it completes is dispatched in this call. All other outcomes
@@ -262,6 +262,7 @@ impl Incoming {
         ensures none_left { IfSome result (λ _. self.new.receiver.dispatched ≡ []) }
         ensures unchanged { IfNone result (self.new ≡ self.old) }
         ensures bytes { held_bytes self.new.receiver ≡ held_bytes self.old.receiver }
+        ensures packets { held_packets self.new.receiver ≡ held_packets self.old.receiver }
     {
         if !self.dispatched.is_empty() || !self.comes_alone(arriving) {
             return None;
@@ -323,6 +324,21 @@ impl Incoming {
         ensures { result ≡ bytes_in self.now.receiver.waiting }
     {
         self.waiting.bytes()
+    }
+
+    /// How many packets are held, wait or are in the making. Dispatched packets do not count.
+    pub fn packets(&self) -> usize
+        ensures packets { result ≡ held_packets self.now.receiver }
+        ensures few { result < 2 ^ 32 }
+    {
+        self.held.len() + self.waiting.packets()
+    }
+
+    /// How many of those that `packets` counts are unreliable.
+    pub fn waiting_packets(&self) -> usize
+        ensures { result ≡ packets_in self.now.receiver.waiting }
+    {
+        self.waiting.packets()
     }
 
     /// The channel whose receiver it is.

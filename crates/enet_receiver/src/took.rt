@@ -13,7 +13,7 @@ pub enum Took {
     /// It can't be a piece of its packet, its packet is above the maximum packet size, or it is not a command of the call
     /// that was made.
     Bad,
-    /// It begins a packet while its caller tells that too many bytes wait.
+    /// It begins a packet while its caller tells that too much waits.
     Waiting,
     /// Memory was refused.
     Memory,

@@ -1,18 +1,18 @@
 -- A short run, computed.
-use Rattle.std.proofs.Common.{◌≡◌, ℕ, ◌+◌, Bool, true, false, cond, leb, not, ◌&&◌, List, [], ◌∷◌, refl, sym, ap, subst, ◌∙◌, Option, Some, None, inl}
-use Rattle.std.specs.Prelude.{sum_by, nat_lt, is_ok}
+use Rattle.std.proofs.Common.{◌≡◌, ℕ, ◌+◌, Bool, true, false, cond, leb, not, ◌&&◌, List, [], ◌∷◌, length, refl, sym, ap, subst, ◌∙◌, Option, Some, None, inl}
+use Rattle.std.specs.Prelude.{◌||◌, sum_by, nat_lt, is_ok}
 use Rattle.std.specs.Ordering.{nat_cmp}
 use Rattle.std.specs.FinSet.{contains-empty}
-use Rattle.std.specs.FinMap.{FinMap, empty}
+use Rattle.std.specs.FinMap.{FinMap, empty, len, len-empty}
 use Rattle.std.specs.Map.{values_of}
 use Rattle.enet_codec.specs.declared.stop.Stop.TheVariants as stop
 use Rattle.enet_fragment.specs.Cutting as cutting
 use Rattle.enet_unsequenced.specs.Groups.{nothing_seen, past_base, dispatches}
 use Rattle.enet_packets.specs.declared.incoming_packet.IncomingPacket.{IncomingPacket}
-use Rattle.enet_packets.specs.Packets.{bytes_of, bytes_in}
+use Rattle.enet_packets.specs.Packets.{bytes_of, bytes_in, packets_in}
 use Rattle.enet_packets.proofs.LineLemmas.{bytes_nothing}
 use Rattle.enet_packets.proofs.Maps.{entries-empty}
-use Rattle.enet_receiver.specs.Receiver.{nothing_received, held_bytes}
+use Rattle.enet_receiver.specs.Receiver.{nothing_received, held_bytes, held_packets}
 use Rattle.enet_receiver.specs.Foresight.{ReceivingEnd}
 use Rattle.enet_inbox.specs.Inbox.{Inbox, is_full, untaken_of, given_way}
 use Rattle.enet_inbox.specs.DataEffect.{DataEffect, handled, stopped, unsequenced, unsequenced_taken, is_waiting, met, plain_arrival}
@@ -70,8 +70,16 @@ nothing-in = ap (λ (es : List (ℕ × FinMap nat_cmp IncomingPacket)). sum_by b
 nothing-held : held_bytes nothing_received ≡ 0
 nothing-held = ap (λ n. n + bytes_in empty) bytes_nothing ∙ ap (λ n. 0 + n) nothing-in
 
+none-in : packets_in empty ≡ 0
+none-in = ap (λ (es : List (ℕ × FinMap nat_cmp IncomingPacket)). sum_by len (values_of es)) entries-empty
+
+none-held : held_packets nothing_received ≡ 0
+none-held = ap (λ n. n + packets_in empty) (len-empty nat_cmp IncomingPacket) ∙ ap (λ n. 0 + n) none-in
+
 light : is_full inbox ≡ false
-light = ap (λ n. leb 1000 (sum_by (λ (r : ReceivingEnd). n) inbox.receivers + untaken_of inbox)) nothing-held
+light =
+    ap (λ n. leb 1000 (sum_by (λ (r : ReceivingEnd). n) inbox.receivers + untaken_of inbox) || leb 1024 (sum_by (λ (r : ReceivingEnd). held_packets r.receiver) inbox.receivers + length inbox.untaken)) nothing-held
+    ∙ ap (λ n. leb 1000 0 || leb 1024 (sum_by (λ (r : ReceivingEnd). n) inbox.receivers + length inbox.untaken)) none-held
 
 is : unsequenced inbox 0 1 (7 ∷ 8 ∷ []) ≡ effect true false
 is = ap (λ t. effect t (is_full inbox)) new ∙ ap (effect true) light

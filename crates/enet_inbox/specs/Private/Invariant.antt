@@ -14,6 +14,10 @@ held_in rs = sum_by (λ (r : ReceivingEnd). held_bytes r.receiver) rs
 abbrev pub waiting_in : List ReceivingEnd → ℕ
 waiting_in rs = sum_by (λ (r : ReceivingEnd). packets.bytes_in r.receiver.waiting) rs
 
+-- how many those are
+abbrev pub waiting_packets_in : List ReceivingEnd → ℕ
+waiting_packets_in rs = sum_by (λ (r : ReceivingEnd). packets.packets_in r.receiver.waiting) rs
+
 -- the bytes of packets
 abbrev pub bytes_in : List Packet → ℕ
 bytes_in qs = sum_by (λ (q : Packet). length q.body) qs

@@ -41,7 +41,7 @@ acknowledges-requires c =
     let b = c.args.self.now in
     let here = at (goal.at.acknowledges-requires c).After-index-receiver in
     let there = ap (λ (x : Inbox). slice_get x.receivers (view c.args.command.now).head.channel) c.self.view_is ∙ here.there in
-    (in_place (the_view c.self.inside) c.self.inside.waiting (view c.args.command.now).head.channel c.index-receiver.result.now c.self.invariant there).front
+    (in_place (the_view c.self.inside) c.self.inside.waiting (view c.args.command.now).head.channel c.index-receiver.result.now c.self.invariant.inbox there).front
 
 pub returns : goal.returns
 returns c =

@@ -9,7 +9,7 @@ overflow_add-self c =
     let b = inbox_of i.max_packet i.max_waiting i.receivers.items i.groups i.untaken.items in
     let few : length i.untaken.items < 2 ^ 63 = omega (arith, i.untaken.ok.0, i.untaken.small.0, i.untaken.small.1) in
     let short : length c.args.payload.now < 2 ^ 63 = omega arith in
-    let fits = push_fits b i.waiting (length c.args.payload.now) c.self.invariant few short in
+    let fits = push_fits b i.waiting (length c.args.payload.now) c.self.invariant.inbox few short in
     omega arith
 
 pub invariant_of-self-2 : goal.invariant_of-self-2
@@ -17,4 +17,7 @@ invariant_of-self-2 c =
     let i = c.self.inside in
     let b = inbox_of i.max_packet i.max_waiting i.receivers.items i.groups i.untaken.items in
     let short : length c.args.payload.now < 2 ^ 63 = omega arith in
-    keeps_pushed b i.waiting c.mark.new.self (record { channel = c.args.channel; flags = 2; body = c.args.payload.now }) c.append.new.untaken.items c.self.invariant short (c.append.ensures.added c.if-not-append.false)
+    record {
+      inbox = keeps_pushed b i.waiting c.mark.new.self (record { channel = c.args.channel; flags = 2; body = c.args.payload.now }) c.append.new.untaken.items c.self.invariant.inbox short (c.append.ensures.added c.if-not-append.false);
+      places = c.self.invariant.places;
+    }

@@ -1,10 +1,11 @@
 use Rattle.std.proofs.Common.{◌≡◌, ◌-◌, sym, ap, subst, ◌∙◌, List}
 use Rattle.enet_receiver.specs.Foresight.{ReceivingEnd}
 use Rattle.enet_inbox.specs.Inbox.{Inbox, cleared}
-use Rattle.enet_inbox.specs.Invariant.{KeepsInbox}
+use Rattle.enet_inbox.specs.Invariant.{KeepsInbox, KeepsPackets}
 use Rattle.enet_inbox.specs.Private.Invariant.{held_in}
 use Rattle.enet_inbox.specs.InboxParts.{inbox_of}
 use Rattle.enet_inbox.proofs.Keeping.{keeps_cleared}
+use Rattle.enet_inbox.proofs.Counting.{counts_cleared}
 use Rattle.enet_inbox.proofs.inbox.Inbox.clear.Goals as goal
 
 pub invariant_of-self : goal.invariant_of-self
@@ -14,5 +15,9 @@ invariant_of-self c =
     let freed : c.held_in.result ≡ held_in i.receivers.items = c.held_in.ensures ∙ ap (λ (rs : List ReceivingEnd). held_in rs) c.deref.ensures.value in
     let now : inbox_of i.max_packet i.max_waiting c.clear_all.new.receivers.items i.groups i.untaken.items ≡ cleared b =
     ap (λ (rs : List ReceivingEnd). inbox_of i.max_packet i.max_waiting rs i.groups i.untaken.items) c.clear_all.ensures in
-    subst (λ n. KeepsInbox (inbox_of i.max_packet i.max_waiting c.clear_all.new.receivers.items i.groups i.untaken.items) (i.waiting - n)) (sym freed)
-    (subst (λ (x : Inbox). KeepsInbox x (i.waiting - held_in i.receivers.items)) (sym now) (keeps_cleared b i.waiting c.self.invariant))
+    record {
+      inbox =
+          subst (λ n. KeepsInbox (inbox_of i.max_packet i.max_waiting c.clear_all.new.receivers.items i.groups i.untaken.items) (i.waiting - n)) (sym freed)
+          (subst (λ (x : Inbox). KeepsInbox x (i.waiting - held_in i.receivers.items)) (sym now) (keeps_cleared b i.waiting c.self.invariant.inbox));
+      places = subst (λ (rs : List ReceivingEnd). KeepsPackets rs 0) (sym c.clear_all.ensures) (counts_cleared i.receivers.items);
+    }

@@ -10,7 +10,7 @@ use Rattle.enet_inbox.proofs.inbox.Inbox.foresee.Goals.{After-finds_no_room}
 use Rattle.enet_inbox.proofs.inbox.Inbox.foresee.Goals as goal
 
 front : (c : After-finds_no_room) → HasFront c.args.self.now (view c.args.command.now).head.channel
-front c = subst (λ (x : Inbox). HasFront x (view c.args.command.now).head.channel) c.self.view_is (has_front _ c.self.inside.waiting (view c.args.command.now).head.channel c.self.invariant)
+front c = subst (λ (x : Inbox). HasFront x (view c.args.command.now).head.channel) c.self.view_is (has_front _ c.self.inside.waiting (view c.args.command.now).head.channel c.self.invariant.inbox)
 
 finds : (c : After-finds_no_room) (b : Bool) → c.finds_no_room.result ≡ b → is_waiting (told (plain_foreseen c.args.self.now (view c.args.command.now))) ≡ b
 finds c b e = ap (λ r. is_waiting (told r)) (sym c.foresee_plainly-foreseen.ensures) ∙ sym c.finds_no_room.ensures ∙ e

@@ -1,8 +1,10 @@
-use Rattle.std.proofs.Common.{◌≡◌, sym, subst}
+use Rattle.std.proofs.Common.{◌≡◌, List, sym, subst}
+use Rattle.enet_receiver.specs.Foresight.{ReceivingEnd}
 use Rattle.enet_inbox.specs.Inbox.{Inbox, forgotten}
-use Rattle.enet_inbox.specs.Invariant.{KeepsInbox}
+use Rattle.enet_inbox.specs.Invariant.{KeepsInbox, KeepsPackets}
 use Rattle.enet_inbox.specs.InboxParts.{inbox_of}
 use Rattle.enet_inbox.proofs.Keeping.{keeps_forgotten}
+use Rattle.enet_inbox.proofs.Counting.{counts_cleared}
 use Rattle.enet_inbox.proofs.inbox.Inbox.forget.Goals as goal
 
 pub invariant_of-self : goal.invariant_of-self
@@ -11,4 +13,7 @@ invariant_of-self c =
     let b = inbox_of i.max_packet i.max_waiting i.receivers.items i.groups i.untaken.items in
     let now : inbox_of i.max_packet i.max_waiting c.clear_all.new.receivers.items i.groups c.clear.new.self.items ≡ forgotten b =
     λ j. inbox_of i.max_packet i.max_waiting (c.clear_all.ensures j) i.groups (c.clear.ensures.items j) in
-    subst (λ (x : Inbox). KeepsInbox x 0) (sym now) (keeps_forgotten b i.waiting c.self.invariant)
+    record {
+      inbox = subst (λ (x : Inbox). KeepsInbox x 0) (sym now) (keeps_forgotten b i.waiting c.self.invariant.inbox);
+      places = subst (λ (rs : List ReceivingEnd). KeepsPackets rs 0) (sym c.clear_all.ensures) (counts_cleared i.receivers.items);
+    }

@@ -1,8 +1,10 @@
-use Rattle.std.proofs.Common.{◌≡◌, ◌<◌, sym, subst, arith}
+use Rattle.std.proofs.Common.{◌≡◌, ◌<◌, List, sym, subst, arith}
+use Rattle.enet_receiver.specs.Foresight.{ReceivingEnd}
 use Rattle.enet_inbox.specs.Inbox.{Inbox, empty_inbox}
-use Rattle.enet_inbox.specs.Invariant.{KeepsInbox}
+use Rattle.enet_inbox.specs.Invariant.{KeepsInbox, KeepsPackets}
 use Rattle.enet_inbox.specs.InboxParts.{inbox_of}
 use Rattle.enet_inbox.proofs.Keeping.{keeps_new}
+use Rattle.enet_inbox.proofs.Counting.{counts_new}
 use Rattle.enet_inbox.proofs.inbox.Inbox.open.Goals as goal
 
 pub invariant_of-result : goal.invariant_of-result
@@ -10,4 +12,7 @@ invariant_of-result c =
     let few : c.args.channels < 256 = omega arith in
     let now : inbox_of c.args.max_packet c.args.max_waiting c.in_ok-open_all.field-0.items c.new.result c.new-2.result.items ≡ empty_inbox c.args.channels c.args.max_packet c.args.max_waiting =
     λ j. inbox_of c.args.max_packet c.args.max_waiting (c.in_ok-open_all.ensures.ok j) (c.new.ensures j) (c.new-2.ensures.items j) in
-    subst (λ (x : Inbox). KeepsInbox x 0) (sym now) (keeps_new c.args.channels c.args.max_packet c.args.max_waiting few)
+    record {
+      inbox = subst (λ (x : Inbox). KeepsInbox x 0) (sym now) (keeps_new c.args.channels c.args.max_packet c.args.max_waiting few);
+      places = subst (λ (rs : List ReceivingEnd). KeepsPackets rs 0) (sym c.in_ok-open_all.ensures.ok) (counts_new c.args.channels c.args.max_packet);
+    }

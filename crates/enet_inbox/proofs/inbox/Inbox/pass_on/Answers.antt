@@ -7,12 +7,13 @@ use Rattle.enet_inbox.specs.Invariant.{KeepsInbox}
 use Rattle.enet_inbox.specs.contracts.inbox.Inbox.{the_view}
 use Rattle.enet_inbox.proofs.Outcomes.{foresight_in}
 use Rattle.enet_inbox.proofs.Keeping.{Reached, taken_at, handed_at, kept_passed, bounded}
+use Rattle.enet_inbox.proofs.Counting.{counts_passed}
 use Rattle.enet_inbox.proofs.inbox.Inbox.pass_on.Goals.{After-index_mut-receiver, In-Some}
 use Rattle.enet_inbox.proofs.inbox.Inbox.pass_on.Goals as goal
 
 reached : (c : After-index_mut-receiver) → Reached (the_view c.self.inside) c.args.arriving.head c.args.arriving.head (Some (data_command c.args.arriving)) c.args.what c.index_mut-receiver.result.now (is_full_for c.args.self.now c.index_mut-receiver.result.now (data_command c.args.arriving))
 reached c =
-    taken_at c.args.self.now (the_view c.self.inside) c.self.inside.waiting c.args.arriving.head c.args.arriving.head (data_command c.args.arriving) c.args.what c.index_mut-receiver.result.now (is_full_for c.args.self.now c.index_mut-receiver.result.now (data_command c.args.arriving)) c.self.view_is c.self.invariant refl c.index_mut-receiver.ensures.value refl c.requires.foreseen c.requires.kept
+    taken_at c.args.self.now (the_view c.self.inside) c.self.inside.waiting c.args.arriving.head c.args.arriving.head (data_command c.args.arriving) c.args.what c.index_mut-receiver.result.now (is_full_for c.args.self.now c.index_mut-receiver.result.now (data_command c.args.arriving)) c.self.view_is c.self.invariant.inbox refl c.index_mut-receiver.ensures.value refl c.requires.foreseen c.requires.kept
 
 -- the inbox keeps what it keeps, and the counter fits
 kept : (c : In-Some) → Reached (the_view c.self.inside) c.args.arriving.head c.args.arriving.head (Some (data_command c.args.arriving)) c.args.what c.index_mut-receiver.result.now (is_full_for c.args.self.now c.index_mut-receiver.result.now (data_command c.args.arriving))
@@ -21,7 +22,7 @@ kept : (c : In-Some) → Reached (the_view c.self.inside) c.args.arriving.head c
 kept c t =
     let qs = c.pass_on.new.untaken.items in
     let k = kept_passed (the_view c.self.inside) c.self.inside.waiting c.args.arriving.head.channel c.index_mut-receiver.result.now c.pass_on.new.receiver (Some (data_command c.args.arriving)) (is_full_for c.args.self.now c.index_mut-receiver.result.now (data_command c.args.arriving)) qs c.in-Some.bytes
-    c.self.invariant t.0 c.index_mut-receiver.ensures.value t.2 (c.in-Some.ensures.receiver (is_full_for c.args.self.now c.index_mut-receiver.result.now (data_command c.args.arriving)) t.1.outcome) c.in-Some.ensures.as_much_held c.in-Some.ensures.short c.in-Some.ensures.bytes in
+    c.self.invariant.inbox t.0 c.index_mut-receiver.ensures.value t.2 (c.in-Some.ensures.receiver (is_full_for c.args.self.now c.index_mut-receiver.result.now (data_command c.args.arriving)) t.1.outcome) c.in-Some.ensures.as_much_held c.in-Some.ensures.short c.in-Some.ensures.bytes in
     let few : length qs < 2 ^ 63 = omega (arith, c.pass_on.new.untaken.ok.0, c.pass_on.new.untaken.small.0, c.pass_on.new.untaken.small.1) in
     (k, bounded _ _ k few)
 
@@ -42,4 +43,10 @@ overflow_add-self c =
     omega arith
 
 pub invariant_of-self-2 : goal.invariant_of-self-2
-invariant_of-self-2 c = let at = goal.at.invariant_of-self-2 c in (kept at.In-Some (reached at.After-index_mut-receiver)).0
+invariant_of-self-2 c =
+    let at = goal.at.invariant_of-self-2 c in
+    let t = reached at.After-index_mut-receiver in
+    record {
+      inbox = (kept at.In-Some t).0;
+      places = counts_passed c.self.inside.receivers.items c.self.inside.packets c.args.arriving.head.channel c.index_mut-receiver.result.now c.pass_on.new.receiver c.self.invariant.places t.0 c.index_mut-receiver.ensures.value c.in-Some.ensures.as_many_held;
+    }

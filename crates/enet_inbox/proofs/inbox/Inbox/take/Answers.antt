@@ -8,5 +8,9 @@ pub invariant_of-self-2 : goal.invariant_of-self-2
 invariant_of-self-2 c =
     let i = c.self.inside in
     let b = inbox_of i.max_packet i.max_waiting i.receivers.items i.groups i.untaken.items in
-    subst (λ n. KeepsInbox (inbox_of i.max_packet i.max_waiting i.receivers.items i.groups c.pop_front.new.self.items) (i.waiting - n)) (sym c.len.ensures.value)
-    (keeps_popped b i.waiting c.in_ok-packet.packet c.pop_front.new.self.items c.self.invariant c.in_ok-packet.ensures.items)
+    record {
+      inbox =
+          subst (λ n. KeepsInbox (inbox_of i.max_packet i.max_waiting i.receivers.items i.groups c.pop_front.new.self.items) (i.waiting - n)) (sym c.len.ensures.value)
+          (keeps_popped b i.waiting c.in_ok-packet.packet c.pop_front.new.self.items c.self.invariant.inbox c.in_ok-packet.ensures.items);
+      places = c.self.invariant.places;
+    }

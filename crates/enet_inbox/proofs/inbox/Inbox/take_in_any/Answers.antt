@@ -8,6 +8,7 @@ use Rattle.enet_inbox.specs.DataEffect.{sequenced}
 use Rattle.enet_inbox.specs.Invariant.{KeepsInbox}
 use Rattle.enet_inbox.specs.contracts.inbox.Inbox.{the_view}
 use Rattle.enet_inbox.proofs.Outcomes.{foresight_in}
+use Rattle.enet_inbox.proofs.Counting.{counts_set, one_counted, packets_bounded}
 use Rattle.enet_inbox.proofs.Keeping.{Reached, taken_at, kept_channel, looked_at_twice, handed_at, kept_after, held_counted, bounded}
 use Rattle.enet_inbox.proofs.inbox.Inbox.take_in_any.Goals.{After-index_mut-receiver, After-from-2}
 use Rattle.enet_inbox.proofs.inbox.Inbox.take_in_any.Goals as goal
@@ -17,7 +18,7 @@ reached c =
     let d = c.index_mut-receiver.result.now in
     let same : c.index.result.now ≡ d = looked_at_twice c.self.inside.receivers.items c.args.arriving.head.channel c.index.result.now d (kept_channel c.args.self.now (the_view c.self.inside) c.args.arriving.head.channel (data_command c.args.arriving) c.args.what c.self.view_is c.requires.foreseen c.requires.kept) c.index.ensures c.index_mut-receiver.ensures.value in
     let full : c.is_full_for-full.result ≡ is_full_for c.args.self.now d (data_command c.args.arriving) = c.is_full_for-full.ensures ∙ ap (λ (r : ReceivingEnd). is_full_for c.args.self.now r (data_command c.args.arriving)) same in
-    taken_at c.args.self.now (the_view c.self.inside) c.self.inside.waiting c.args.arriving.head c.args.arriving.head (data_command c.args.arriving) c.args.what c.index_mut-receiver.result.now c.is_full_for-full.result c.self.view_is c.self.invariant refl c.index_mut-receiver.ensures.value full c.requires.foreseen c.requires.kept
+    taken_at c.args.self.now (the_view c.self.inside) c.self.inside.waiting c.args.arriving.head c.args.arriving.head (data_command c.args.arriving) c.args.what c.index_mut-receiver.result.now c.is_full_for-full.result c.self.view_is c.self.invariant.inbox refl c.index_mut-receiver.ensures.value full c.requires.foreseen c.requires.kept
 
 -- the inbox keeps what it keeps, with what the receiver holds counted anew, and the counter fits
 kept : (c : After-from-2) → Reached (the_view c.self.inside) c.args.arriving.head c.args.arriving.head (Some (data_command c.args.arriving)) c.args.what c.index_mut-receiver.result.now c.is_full_for-full.result
@@ -29,7 +30,7 @@ kept c t =
     let was : c.from.result ≡ held_bytes c.index_mut-receiver.result.now.receiver = c.from.ensures ∙ c.held-before.ensures in
     let now : c.from-2.result ≡ held_bytes new.receiver = c.from-2.ensures ∙ c.held.ensures in
     let k = kept_after (the_view c.self.inside) c.self.inside.waiting c.args.arriving.head.channel c.index_mut-receiver.result.now new (Some (data_command c.args.arriving)) c.is_full_for-full.result qs c.in-Some.bytes
-    c.from.result c.from-2.result c.self.invariant t.0 c.index_mut-receiver.ensures.value t.2 c.in-Some.ensures.receiver was now (omega arith) c.in-Some.ensures.short c.in-Some.ensures.bytes in
+    c.from.result c.from-2.result c.self.invariant.inbox t.0 c.index_mut-receiver.ensures.value t.2 c.in-Some.ensures.receiver was now (omega arith) c.in-Some.ensures.short c.in-Some.ensures.bytes in
     let few : length qs < 2 ^ 63 = omega (arith, c.take_in.new.untaken.ok.0, c.take_in.new.untaken.small.0, c.take_in.new.untaken.small.1) in
     (k, bounded _ _ k few)
 
@@ -47,7 +48,7 @@ overflow_sub-self c =
     let d = c.index_mut-receiver.result.now in
     let t = reached (goal.at.overflow_sub-self c).After-index_mut-receiver in
     let was : c.from.result ≡ held_bytes d.receiver = c.from.ensures ∙ c.held-before.ensures in
-    let counted = held_counted (the_view c.self.inside) c.self.inside.waiting c.args.arriving.head.channel d c.self.invariant t.0 c.index_mut-receiver.ensures.value in
+    let counted = held_counted (the_view c.self.inside) c.self.inside.waiting c.args.arriving.head.channel d c.self.invariant.inbox t.0 c.index_mut-receiver.ensures.value in
     omega arith
 
 pub overflow_add-self : goal.overflow_add-self
@@ -63,7 +64,26 @@ overflow_add-self-2 c =
     omega arith
 
 pub invariant_of-self-2 : goal.invariant_of-self-2
-invariant_of-self-2 c = let at = goal.at.invariant_of-self-2 c in (kept at.After-from-2 (reached at.After-index_mut-receiver)).0
+invariant_of-self-2 c =
+    let at = goal.at.invariant_of-self-2 c in
+    let t = reached at.After-index_mut-receiver in
+    record {
+      inbox = (kept at.After-from-2 t).0;
+      places = counts_set c.self.inside.receivers.items c.self.inside.packets c.args.arriving.head.channel c.packets-packets_before.result c.packets.result c.index_mut-receiver.result.now c.take_in.new.receiver c.self.invariant.places t.0 c.index_mut-receiver.ensures.value c.packets-packets_before.ensures.packets c.packets.ensures.packets c.packets.ensures.few;
+    }
+
+pub overflow_sub-self-2 : goal.overflow_sub-self-2
+overflow_sub-self-2 c =
+    let t = reached (goal.at.overflow_sub-self-2 c).After-index_mut-receiver in
+    let one = one_counted c.self.inside.receivers.items c.self.inside.packets c.args.arriving.head.channel c.index_mut-receiver.result.now c.self.invariant.places t.0 c.index_mut-receiver.ensures.value in
+    let was = c.packets-packets_before.ensures.packets in
+    omega arith
+
+pub overflow_add-self-3 : goal.overflow_add-self-3
+overflow_add-self-3 c =
+    let most = packets_bounded c.self.inside.receivers.items c.self.inside.packets c.self.invariant.places c.self.invariant.inbox.few in
+    let few = c.packets.ensures.few in
+    omega arith
 
 pub returns-clause-taken : goal.returns-clause-taken
 returns-clause-taken c = λ _.

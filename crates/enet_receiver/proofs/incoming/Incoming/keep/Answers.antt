@@ -12,7 +12,8 @@ use Rattle.enet_receiver.proofs.incoming.Incoming.keep.Goals as goal
 pub make_room-requires : goal.make_room-requires
 make_room-requires c =
     let s = c.self.inside in
-    packets_fit s.max_packet (receiver_of s.front s.unreliable s.held s.waiting s.dispatched.items) c.self.invariant
+    let fit = packets_fit s.max_packet (receiver_of s.front s.unreliable s.held s.waiting s.dispatched.items) c.self.invariant in
+    omega arith
 
 pub store-requires-clause-agrees : goal.store-requires-clause-agrees
 store-requires-clause-agrees c = (subst (λ (e : ReceivingEnd). Admitted e.max_packet e.receiver (data_command c.args.arriving) c.args.place) (sym c.self.view_is) c.requires.admitted).agrees

@@ -1,0 +1,97 @@
+// swarm PORT PID CHANNELS KIND RATE SECONDS: a hostile peer of the server PID at PORT of 127.0.0.1, which grants so many channels. For so many
+// seconds it sends RATE datagrams a second, each full of commands of one kind, of which a server may keep something. It acknowledges all, so it
+// stays connected. KIND is `empty` (unreliable packets of no bytes for a reliable one that never comes), `lines` (the same, as many for
+// different reliable ones as there are), `held` (reliable packets of no bytes behind one that never comes), `pieces` (the first of 16,384 pieces
+// of such packets), `both` (the same of unreliable packets, as in `lines`), `groups` (unsequenced packets of no bytes) or `pings` (which ask for
+// an acknowledgement). Prints how much it sent, and by how much the server's resident memory grew at most. Packets go on channels from 2 on,
+// which a relay doesn't pass on.
+#include "stranger.h"
+
+enum { FULL = 1392, AHEAD = 28000, PIECES = 16384, FIRST = 2 };
+
+static const char *const kinds[] = { "empty", "lines", "held", "pieces", "both", "groups", "pings" };
+static uint32_t first_word, channels;
+
+// Writes the command of a kind with this number at `at`. The place behind it.
+static size_t put_command(size_t at, int kind, uint32_t number)
+{
+    uint32_t ahead = 2 + number % AHEAD, round = number / AHEAD, channel = FIRST + round % (channels - FIRST);
+    switch (kind) {
+    case 0: return put_all(at, (uint32_t[]){ 1, 0x07, 1, FIRST, 2, 2 + number / 0xffff % AHEAD, 2, number % 0xffff + 1, 2, 0, 0, 0 });
+    case 1: return put_all(at, (uint32_t[]){ 1, 0x07, 1, channel, 2, ahead, 2, round / (channels - FIRST) + 1, 2, 0, 0, 0 });
+    case 2: return put_all(at, (uint32_t[]){ 1, 0x06, 1, channel, 2, ahead, 2, 0, 0, 0 });
+    case 3: return put_all(at, (uint32_t[]){ 1, 0x08, 1, channel, 2, ahead, 2, ahead, 2, 0, 4, PIECES, 4, 0, 4, 0, 4, 0, 0, 0 });
+    case 4:
+        return put_all(at, (uint32_t[]){ 1, 0x0c, 1, channel, 2, ahead, 2, round / (channels - FIRST) + 1, 2, 0, 4, PIECES, 4, 0, 4, 0, 4, 0, 0, 0 });
+    case 5: return put_all(at, (uint32_t[]){ 1, 0x49, 1, FIRST, 2, 0, 2, number & 0xffff, 2, 0, 0, 0 });
+    default: return put_all(at, (uint32_t[]){ 1, 0x85, 1, 0xff, 2, number & 0xffff, 0, 0 });
+    }
+}
+
+// How long a command is that the server sent, with its body; 0 where it is none, or is cut short.
+static size_t command_length(const uint8_t *at, size_t left)
+{
+    static const uint8_t sizes[] = { 0, 8, 48, 44, 8, 4, 6, 8, 24, 8, 12, 16, 24 };
+    size_t kind = at[0] & 15, length = kind < sizeof sizes ? sizes[kind] : 0;
+    if (left < length || left < 4)
+        return 0;
+    if (kind == 6)
+        length += (size_t)at[4] << 8 | at[5];
+    else if (kind >= 7 && kind <= 9)
+        length += (size_t)at[6] << 8 | at[7];
+    else if (kind == 12)
+        length += (size_t)at[6] << 8 | at[7];
+    return length <= left ? length : 0;
+}
+
+// Acknowledges what came.
+static void answer(void)
+{
+    uint8_t in[DATAGRAM];
+    for (ssize_t got; (got = recv(server, in, sizeof in, MSG_DONTWAIT)) >= 4;) {
+        size_t length = (size_t)got, reply = put(0, first_word, 2), step;
+        for (size_t at = in[0] & 0x80 ? 4 : 2; at < length && (step = command_length(in + at, length - at)) != 0; at += step)
+            if (in[at] & 0x80 && reply + 8 <= FULL)
+                reply = put_all(reply, (uint32_t[]){ 1, 1, 1, in[at + 1], 2, 0, 1, in[at + 2], 1, in[at + 3], 2, (uint32_t)in[2] << 8 | in[3], 0, 0 });
+        if (reply > 2)
+            send_out(reply);
+    }
+}
+
+static int kind_of(int count, char **words)
+{
+    for (int kind = 0; count > 4 && kind < (int)(sizeof kinds / sizeof *kinds); kind++)
+        if (strcmp(words[4], kinds[kind]) == 0)
+            return kind;
+    give_up("%s: argument 4 must be a kind", words[0]);
+}
+
+int main(int count, char **words)
+{
+    uint32_t number = 0;
+    double bytes = 0, sent = 0;
+    long process = number_of(count, words, 2, 1, INT32_MAX), most = 0;
+    int kind = kind_of(count, words);
+    double rate = (double)number_of(count, words, 5, 1, 1000000), seconds = (double)number_of(count, words, 6, 1, 3600);
+    channels = (uint32_t)number_of(count, words, 3, FIRST + 1, 255);
+    open_socket((uint16_t)number_of(count, words, 1, 1, 65535));
+    first_word = connect_with(channels);
+    usleep(500000);
+    long before = resident_bytes(process);
+    for (double begun = now(); now() < begun + seconds;) {
+        for (double due = rate * (now() - begun); sent < due;) {
+            size_t at = put_all(0, (uint32_t[]){ 2, 0x8000 | first_word, 2, number & 0xffff, 0, 0 });
+            for (; at + 24 <= FULL; number++)
+                at = put_command(at, kind, number);
+            send_out(at);
+            sent++;
+            bytes += (double)at;
+        }
+        answer();
+        long grown = resident_bytes(process) - before;
+        most = grown > most ? grown : most;
+        poll(NULL, 0, 1);
+    }
+    printf("%s: %u commands, %.0f bytes; the server grew by %ld bytes at most, by %ld in the end\n", words[4], number, bytes, most,
+           resident_bytes(process) - before);
+}
