@@ -3,8 +3,9 @@
 //!
 //! Proved, exactly by specs/Inbox and specs/DataEffect: `data` (why a data command stops its datagram, in the order of the
 //! tests, or whether it may be acknowledged, and the inbox after it; for which command the unreliable packets that wait give
-//! way; want of memory changes nothing and comes only where nothing else stops the command), `foresee`, `pass_over`, `take`, `next`, `clear`, `forget`, `narrow`, `open`; the bytes
-//! that wait are kept by a counter. Law: a data command that stops its datagram changes nothing (`a_stop_changes_nothing`).
+//! way; want of memory changes nothing and comes only where nothing else stops the command), `foresee`, `pass_over`, `take`,
+//! `next`, `clear`, `forget`, `narrow`, `open`; the bytes and the packets that wait are kept by counters. Law: a data command
+//! that stops its datagram changes nothing (`a_stop_changes_nothing`).
 //! Only tested, in `check_numbers` and `check_peer`: that calls succeed with ample memory, and worked rows.
 #![tactic(auto)]
 

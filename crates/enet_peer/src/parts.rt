@@ -30,7 +30,8 @@ pub enum PeerState {
 pub struct Limits {
     /// The greatest packet that is taken in or submitted, in bytes: 1 to 33,554,432.
     pub max_packet: u32,
-    /// Bytes of packets, held or not yet taken by the user, at which no further packet begins: 1 to 33,554,432.
+    /// Bytes of packets, held or not yet taken by the user, at which no further packet begins: 1 to 33,554,432. How many packets
+    /// there may be then goes by it, too (`Inbox::open`).
     pub max_waiting: u32,
     /// Bytes per second that the host can take in; 0 says that no limit is known.
     pub incoming: u32,
