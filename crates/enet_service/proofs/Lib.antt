@@ -2,6 +2,7 @@ pub mod Settled
 pub mod Spells
 pub mod Options
 pub mod PhaseSteps
+pub mod Among
 pub mod ManyCalls
 pub mod Reporting
 pub mod Runs

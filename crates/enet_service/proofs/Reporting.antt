@@ -16,3 +16,6 @@ all_taken xs ys zs a b c ea eb ec = omega (arith, taken_more xs (ys ++ zs), take
 
 pub some_taken : (xs ys : List (Event × Bool)) (a b : ℕ) → a ≡ taken_in xs → b ≡ taken_in ys → stopped (a + b) ≡ stopped (taken_in (xs ++ ys))
 some_taken xs ys a b ea eb = omega (arith, taken_more xs ys, ea, eb)
+
+pub then_taken : (xs ys : List (Event × Bool)) (a b : ℕ) → a ≡ taken_in xs → b ≡ stopped (taken_in ys) → stopped (a + b) ≡ stopped (taken_in (xs ++ ys))
+then_taken xs ys a b ea eb = omega (arith, taken_more xs ys, ea, eb)

@@ -6,3 +6,4 @@ pub mod Phases
 pub mod Queues
 pub mod Run
 pub mod Turn
+pub mod LoneTurn

@@ -15,16 +15,15 @@ pub(crate) struct Heard {
     pub failed: bool,
 }
 
-/// Receives until the wire gives none or fails, at most 256 datagrams.
-pub(crate) fn hear_all<H: Core, W: Wire>(host: &mut H, wire: &mut W) -> Heard
+/// Receives until the wire gives none or fails, at most 256 datagrams. They pass through the buffer.
+pub(crate) fn hear_all<H: Core, W: Wire>(host: &mut H, wire: &mut W, buf: &mut [u8; 4096]) -> Heard
     ensures { (told : List Call) × (W.told wire.new ≡ also (W.told wire.old) (unless_spent (W.faults wire.old) told))
         × HearsAll H.calls 256 host.old told (record { host = host.new; failed = result.failed }) × (result.received ≡ came_in told)
         × (W.faults wire.new ≡ W.faults wire.old + count_of result.failed) }
 {
-    let mut buf = [0u8; 4096];
     let mut received = 0u32;
     for _turn in 0..MOST_PER_TURN {
-        match wire.recv(&mut buf) {
+        match wire.recv(buf) {
             Ok(Some((from, len))) => {
                 host.receive(from, &buf[..len]);
                 received += 1;

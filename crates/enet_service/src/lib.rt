@@ -1,6 +1,7 @@
 //! The service: one thread owns a host and takes its turns; game threads reach it through two queues alone. It is used by [`Queues::open`],
 //! [`BoundService::open`] and [`beside_turns`], which runs the service beside a function of the user's; then by [`settle`]. Or one thread
-//! does all, by [`run`], a turn at a time.
+//! does all, by [`run`], a turn at a time, or by [`Service::hear`], [`Service::obey`] and [`Service::speak`], between which it makes the
+//! orders.
 //!
 //! Proved, for every host that says what its calls do ([`Core`]): a turn is the stated calls in the stated order ([`Service::turn`]), on
 //! what the source gave and the wire told; what was sent and put is what these calls answered; a refused order becomes one event; while an
@@ -14,7 +15,8 @@
 //! 2,147,483,648 orders were taken or events told (`Lasts`). In none of them did the wire fail, and the report has their sums; what the
 //! turns were given is what the drain took and the wire told, each after a wait, and what they put is what the poster posted; E14 comes
 //! exactly where the wire failed. Once settled, the only taker took all that was posted, and the orders that the drain didn't take are told
-//! in order. A host that notes who came and went ([`WatchedHost`]) is the host that it holds, in each of its calls.
+//! in order. A host that notes who came and went ([`WatchedHost`]) is the host that it holds, in each of its calls. The parts of a turn
+//! between which orders are made are those of its phases that they name, each on what the wire told and the source gave.
 //! Only tested, by `check_service`: turns and runs of a real host over memory, with each call of the wire failing and each send blocking in
 //! its turn; that a game thread submits and takes while the service is inside its wire; a connection's opening through a socket of
 //! 127.0.0.1. By scripts/check-rows.sh and scripts/check-clients.sh: that the queues settle (no E16), what is noted and shown to a
@@ -30,6 +32,7 @@ mod bound_service;
 mod hearing;
 mod host;
 mod hosting;
+mod lone;
 mod orders;
 mod queues;
 mod report;

@@ -34,6 +34,7 @@ pub fn run<H: Core, W: Wire, S: Source, K: Sink, R: Wait + Clock>(
         × Ends turns rounds result }
     ensures faults { W.faults wire.new ≡ W.faults wire.old + count_of (is_err result) }
 {
+    let mut buf = [0u8; 4096];
     let mut total = Report::nothing();
     for _turn in 0..turns {
         let ms = match wire.wait(rt) {
@@ -45,7 +46,7 @@ pub fn run<H: Core, W: Wire, S: Source, K: Sink, R: Wait + Clock>(
                 });
             }
         };
-        let report = service.turn(rt, wire, source, sink, ms)?;
+        let report = service.turn_through(rt, wire, source, sink, ms, &mut buf)?;
         total = total.and(report);
     }
     Ok(total)

@@ -16,17 +16,16 @@ pub(crate) struct Sent {
     pub failed: bool,
 }
 
-/// Sends until the host has no datagram, a send would block or the wire fails, at most 256 datagrams.
-pub(crate) fn send_all<H: Core, W: Wire>(host: &mut H, wire: &mut W) -> Sent
+/// Sends until the host has no datagram, a send would block or the wire fails, at most 256 datagrams. They pass through the buffer.
+pub(crate) fn send_all<H: Core, W: Wire>(host: &mut H, wire: &mut W, buf: &mut [u8; 4096]) -> Sent
     ensures { (told : List Call) × (W.told wire.new ≡ also (W.told wire.old) (unless_spent (W.faults wire.old) told))
         × SendsAll H.calls 256 host.old told (record { host = host.new; failed = result.failed }) × (result.sent ≡ went_in told)
         × (result.lost ≡ blocked_in told + count_of result.failed)
         × (W.faults wire.new ≡ W.faults wire.old + count_of result.failed) }
 {
-    let mut buf = [0u8; 4096];
     let mut sent = 0u32;
     for _turn in 0..MOST_PER_TURN {
-        match host.emit(&mut buf) {
+        match host.emit(buf) {
             Some((to, len)) => match wire.send(to, &buf[..len]) {
                 Ok(true) => sent += 1,
                 Ok(false) => {

@@ -56,16 +56,36 @@ impl<H: Core> Service<H> {
             × Turn H.calls self.old round self.new × Reports result round.report }
         ensures faults { W.faults wire.new ≡ W.faults wire.old + count_of (is_err result) }
     {
+        self.turn_through(rt, wire, source, sink, ms, &mut [0u8; 4096])
+    }
+
+    /// A turn, as [`Service::turn`] takes it, whose datagrams pass through this buffer: so turns need not clear one each.
+    pub(crate) fn turn_through<W: Wire, S: Source, K: Sink, R: Wait>(
+        &mut self,
+        rt: &R,
+        wire: &mut W,
+        source: &mut S,
+        sink: &mut K,
+        ms: u32,
+        buf: &mut [u8; 4096],
+    ) -> Result<Report, Fault>
+        ensures turn { (round : Round) × (round.ms ≡ ms) × (round.failed ≡ is_err result)
+            × Chain S.gives source.old round.gave source.new
+            × (W.told wire.new ≡ also (W.told wire.old) (unless_spent (W.faults wire.old) round.told))
+            × Chain (λ s x t. K.puts s x.0 x.1 t) sink.old round.puts sink.new
+            × Turn H.calls self.old round self.new × Reports result round.report }
+        ensures faults { W.faults wire.new ≡ W.faults wire.old + count_of (is_err result) }
+    {
         self.host.tick(ms);
         let again = offer_again(rt, sink, &mut self.waiting);
         let (orders, told) = take_orders(rt, &mut self.host, &mut self.waiting, source, sink);
         let before = again.saturating_add(told);
-        let heard = hear_all(&mut self.host, wire);
+        let heard = hear_all(&mut self.host, wire, buf);
         if heard.failed {
             sink.announce();
             return Err(fault(report_of(orders, heard.received, 0, 0, before)));
         }
-        let sent = send_all(&mut self.host, wire);
+        let sent = send_all(&mut self.host, wire, buf);
         if sent.failed {
             let report = report_of(orders, heard.received, sent.sent, sent.lost, before);
             sink.announce();
@@ -81,7 +101,7 @@ impl<H: Core> Service<H> {
     }
 }
 
-fn report_of(orders: u32, received: u32, sent: u32, lost: u32, events: u32) -> Report
+pub(crate) fn report_of(orders: u32, received: u32, sent: u32, lost: u32, events: u32) -> Report
     ensures { result ≡ record { orders = orders; received = received; sent = sent; lost = lost; events = events } }
 {
     Report {
@@ -93,7 +113,7 @@ fn report_of(orders: u32, received: u32, sent: u32, lost: u32, events: u32) -> R
     }
 }
 
-fn fault(report: Report) -> Fault
+pub(crate) fn fault(report: Report) -> Fault
     ensures { result ≡ record { why = Refusal.WireFault; report = report } }
 {
     Fault {

@@ -22,11 +22,11 @@ loop-turn-preserved g c =
     let turn = c.in_ok-report.ensures.turn in
     let r : Round = turn.0 in
     let waited : g.W.Wire.faults c.wait.new.self ≡ g.W.Wire.faults c.args.wire.now = c.in-Ok.ensures.faults ∙ inv.5 in
-    let turned : g.W.Wire.faults c.turn.new.wire ≡ g.W.Wire.faults c.wait.new.self + 0 = c.in_ok-report.ensures.faults in (
+    let turned : g.W.Wire.faults c.turn_through.new.wire ≡ g.W.Wire.faults c.wait.new.self + 0 = c.in_ok-report.ensures.faults in (
       rounds ++ r ∷ [],
       chain_step _ _ rounds _ r _ inv.1 turn.6,
-      subst (λ (xs : List (Option Submission)). Chain g.S.Source.gives c.args.source.now xs c.turn.new.source) (sym (all_more (λ r. r.gave) rounds r)) (chain_more _ _ _ _ _ _ inv.2 turn.3),
-      subst (λ (xs : List (Event × Bool)). Chain (λ s x t. g.K.Sink.puts s x.0 x.1 t) c.args.sink.now xs c.turn.new.sink) (sym (all_more (λ r. r.puts) rounds r)) (chain_more _ _ _ _ _ _ inv.3 turn.5),
+      subst (λ (xs : List (Option Submission)). Chain g.S.Source.gives c.args.source.now xs c.turn_through.new.source) (sym (all_more (λ r. r.gave) rounds r)) (chain_more _ _ _ _ _ _ inv.2 turn.3),
+      subst (λ (xs : List (Event × Bool)). Chain (λ s x t. g.K.Sink.puts s x.0 x.1 t) c.args.sink.now xs c.turn_through.new.sink) (sym (all_more (λ r. r.puts) rounds r)) (chain_more _ _ _ _ _ _ inv.3 turn.5),
       told_more _ _ _ _ _ _ _ _ rounds r inv.4 inv.5 c.in-Ok.ensures.told turn.1 waited turn.4,
       omega (arith, turned, waited),
       All-push IsSound rounds r inv.6 turn.2,
@@ -44,8 +44,8 @@ returns-in_err-report-clause-run g c =
     let out = err_from_is_err_and c.from_residual.result c.from_residual.ensures.1 in (
       rounds ++ r ∷ [],
       chain_step _ _ rounds _ r _ inv.1 turn.6,
-      subst (λ (xs : List (Option Submission)). Chain g.S.Source.gives c.args.source.now xs c.turn.new.source) (sym (all_more (λ r. r.gave) rounds r)) (chain_more _ _ _ _ _ _ inv.2 turn.3),
-      subst (λ (xs : List (Event × Bool)). Chain (λ s x t. g.K.Sink.puts s x.0 x.1 t) c.args.sink.now xs c.turn.new.sink) (sym (all_more (λ r. r.puts) rounds r)) (chain_more _ _ _ _ _ _ inv.3 turn.5),
+      subst (λ (xs : List (Option Submission)). Chain g.S.Source.gives c.args.source.now xs c.turn_through.new.source) (sym (all_more (λ r. r.gave) rounds r)) (chain_more _ _ _ _ _ _ inv.2 turn.3),
+      subst (λ (xs : List (Event × Bool)). Chain (λ s x t. g.K.Sink.puts s x.0 x.1 t) c.args.sink.now xs c.turn_through.new.sink) (sym (all_more (λ r. r.puts) rounds r)) (chain_more _ _ _ _ _ _ inv.3 turn.5),
       told_more _ _ _ _ _ _ _ _ rounds r inv.4 inv.5 c.in-Ok.ensures.told turn.1 waited turn.4,
       rw (out.1, out.2) (inl (record { before = rounds; last = r; in_order = refl; sound = inv.6; within = omega (arith, inv.7); failed = turn.2; told = turn.7 })),
     )

@@ -8,7 +8,7 @@ use Rattle.enet_service.specs.Counts.{count_of, stopped, taken_in, blocked_in}
 use Rattle.enet_service.proofs.PhaseSteps.{chain_more, sends_then, sends_nothing, tells_then, tells_nothing}
 use Rattle.enet_service.proofs.Tellings.{told_on}
 use Rattle.enet_service.proofs.Reporting.{same_report, all_taken, some_taken}
-use Rattle.enet_service.proofs.service.Service.turn.Goals as goal
+use Rattle.enet_service.proofs.service.Service.turn_through.Goals as goal
 
 pub returns-then-heard-clause-turn : goal.returns-then-heard-clause-turn
 returns-then-heard-clause-turn g c =
