@@ -26,8 +26,8 @@ const MANY: u32 = 2_147_483_648;
 pub enum RunLength {
     /// So many turns.
     Turns(u64),
-    /// As many turns as it takes until so much time has passed, the other thread, if there is one, has left, or 2,147,483,648 orders were
-    /// taken or events told. Where the clock can't be read only the last two end it.
+    /// As many turns as it takes until so much time has passed, the other thread, if there is one, has left, whoever watches wants the end
+    /// ([`Watch::wants_end`]), or 2,147,483,648 orders were taken or events told. Where the clock can't be read only the last three end it.
     Time(Duration),
 }
 
@@ -92,7 +92,7 @@ pub(crate) fn show<W: Watch>(host: &mut WatchedHost, report: Report, watch: &mut
     host.forget();
 }
 
-// Turns until so much time has passed, the other thread has left, or much was done.
+// Turns until so much time has passed, the other thread has left, whoever watches wants the end, or much was done.
 fn turns_for<R: Wait + Clock, N: Wire, W: Watch>(
     rt: &R,
     service: &mut Service<WatchedHost>,
@@ -115,7 +115,7 @@ fn turns_for<R: Wait + Clock, N: Wire, W: Watch>(
     for _ in rt.forever() {
         let report = turns_of(rt, service, wire, source, sink, TURNS_AT_ONCE, watch)?;
         total = total.and(report);
-        if signals.has_left() || is_over(rt, total, &start, time) {
+        if signals.has_left() || watch.wants_end() || is_over(rt, total, &start, time) {
             return Ok(total);
         }
     }

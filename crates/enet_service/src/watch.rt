@@ -7,6 +7,11 @@ use crate::watched::WatchedHost;
 pub trait Watch {
     /// These turns are over (64 at most where a run is for a time): the sums of their reports, and the host with what it noted in them.
     fn look(&mut self, host: &WatchedHost, report: Report);
+
+    /// Whether a run for a time is to end; it is asked after each look.
+    fn wants_end(&self) -> bool {
+        false
+    }
 }
 
 /// Nobody is told.

@@ -114,6 +114,11 @@ impl WatchedHost {
         self.refused
     }
 
+    /// By their slots, the peers whose connection was told and whose end wasn't.
+    pub fn met(&self) -> &[Option<Met>] {
+        self.met.as_slice()
+    }
+
     /// Forgets what was noted.
     pub(crate) fn forget(&mut self)
         ensures { self.new ≡ self.old }
