@@ -41,6 +41,7 @@ impl Pending {
     }
 
     /// Makes room for so many commands more, and for their keys; whether there is. No command changes.
+    #[inline(always)]
     pub(crate) fn reserve(&mut self, more: usize) -> bool
         ensures same { self.new.slab.slots ≡ self.old.slab.slots }
         ensures room { IsTrue result → HasRoomFor self.new.slab more }
@@ -117,6 +118,7 @@ impl Pending {
     }
 
     /// Takes the command under a key out.
+    #[inline(always)]
     pub(crate) fn take(&mut self, key: u32) -> Option<Sent>
         ensures value { result ≡ get self.old.slab key }
         ensures updates { Updates self.old.slab self.new.slab key None }

@@ -58,6 +58,7 @@ impl TimedSlab {
     }
 
     /// Makes room for so many commands more, and for their moments; whether there is. No command changes.
+    #[inline(always)]
     pub(crate) fn reserve(&mut self, more: usize) -> bool
         ensures same { self.new.slots ≡ self.old.slots }
         ensures room { IsTrue result → HasRoomFor self.new more }
@@ -101,6 +102,7 @@ impl TimedSlab {
     }
 
     /// Takes the command under a key out.
+    #[inline(always)]
     pub(crate) fn take(&mut self, key: u32) -> Option<Sent>
         ensures value { result ≡ get self.old key }
         ensures updates { Updates self.old self.new key None }
