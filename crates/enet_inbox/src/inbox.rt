@@ -1,6 +1,6 @@
 //! All that comes to a peer.
 
-ghost use Rattle.std.specs.Prelude.{◌≡◌, ◌+◌, ◌<◌, ◌^◌, drop, length, IsTrue, IfOk, IfErr, OnOk, OnErr, Ok, Err, Some, true, false, slice_get};
+ghost use Rattle.std.specs.Prelude.{◌≡◌, ◌+◌, ◌<◌, ◌^◌, drop, IsTrue, IfOk, IfErr, OnOk, OnErr, Ok, Err, Some, true, false, slice_get};
 ghost use Rattle.std.specs.Option.{option_copied};
 ghost use Rattle.enet_codec.specs.Message.{view};
 ghost use Rattle.enet_fragment.specs.DataCommand.{data_of};
@@ -70,12 +70,12 @@ fn is_at_limit(max_waiting: u32, bytes: u128, packets: usize) -> bool
     u128::from(max_waiting) <= bytes || place_limit(max_waiting) as usize <= packets
 }
 
-/// How many places are taken: by so many packets at the receivers, and by those that wait to be taken.
-fn places_taken(packets: usize, untaken: &VecDeque<Packet>) -> usize
-    requires { packets < 2 ^ 41 }
-    ensures { result ≡ packets + length untaken.now.items }
+/// How many places are taken: by so many packets at the receivers, and by so many that wait to be taken.
+fn places_taken(packets: usize, untaken: usize) -> usize
+    requires { packets + untaken < 2 ^ 64 }
+    ensures { result ≡ packets + untaken }
 {
-    packets + untaken.len()
+    packets + untaken
 }
 
 impl Inbox {
@@ -226,7 +226,7 @@ impl Inbox {
         ensures { result ≡ is_full self.now }
     {
         let _receivers = &self.receivers;
-        let places = places_taken(self.packets, &self.untaken);
+        let places = places_taken(self.packets, self.untaken.len());
         is_at_limit(self.max_waiting, self.waiting, places)
     }
 
@@ -250,7 +250,7 @@ impl Inbox {
     {
         let bytes = self.waiting - waiting_in(&self.receivers);
         let packets = self.packets - waiting_packets_in(&self.receivers);
-        let places = places_taken(packets, &self.untaken);
+        let places = places_taken(packets, self.untaken.len());
         is_at_limit(self.max_waiting, bytes, places)
     }
 

@@ -6,4 +6,4 @@ pub places_taken-places-requires : goal.places_taken-places-requires
 places_taken-places-requires c =
     let i = c.self.inside in
     let most = packets_bounded i.receivers.items i.packets c.self.invariant.places c.self.invariant.inbox.few in
-    omega arith
+    omega (arith, i.untaken.ok.0, i.untaken.small.0, i.untaken.small.1)

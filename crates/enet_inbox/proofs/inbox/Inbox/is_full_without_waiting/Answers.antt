@@ -29,6 +29,7 @@ returns c =
     let fewer : c.waiting_packets_in.result ≡ waiting_packets_in c.self.inside.receivers.items = c.waiting_packets_in.ensures ∙ ap (λ (rs : List ReceivingEnd). waiting_packets_in rs) c.deref-2.ensures.value in
     let counted = (counts_given_way c.self.inside.receivers.items c.self.inside.packets c.self.invariant.places).counted in
     let taken = c.places_taken-places.ensures in
+    let untaken = c.len.ensures in
     let places : c.places_taken-places.result ≡ places_of (given_way b) = omega arith in
     c.is_at_limit.ensures ∙ (λ j. is_at_limit c.self.inside.max_waiting (left j) (places j)) ∙ ap (λ (x : Inbox). is_full (given_way x)) c.self.view_is
 
@@ -49,4 +50,4 @@ pub places_taken-places-requires : goal.places_taken-places-requires
 places_taken-places-requires c =
     let i = c.self.inside in
     let most = packets_bounded i.receivers.items i.packets c.self.invariant.places c.self.invariant.inbox.few in
-    omega arith
+    omega (arith, i.untaken.ok.0, i.untaken.small.0, i.untaken.small.1)
