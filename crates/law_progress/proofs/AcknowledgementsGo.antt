@@ -1,5 +1,5 @@
 -- The oldest acknowledgement that waits goes with the next datagram, whatever else waits.
-use Rattle.std.proofs.Common.{◌≡◌, ℕ, suc, ◌-◌, ◌≤◌, leb, true, cond, List, [], ◌∷◌, length, sym, ap, subst, ◌∙◌, arith}
+use Rattle.std.proofs.Common.{◌≡◌, ℕ, suc, ◌-◌, ◌≤◌, leb, true, cond, List, [], ◌∷◌, length, refl, sym, ap, subst, ◌∙◌, arith}
 use Rattle.std.proofs.lemmas.Bool.Decides.{nat_tests}
 use Rattle.enet_codec.specs.Message.{Message}
 use Rattle.enet_outbox.specs.declared.parts.Acknowledgement.{Acknowledgement}
@@ -62,3 +62,11 @@ acknowledgement-goes pace o a rest big e =
         let times : repeated (length o.acknowledgements) with_one_acknowledgement f0 ≡ repeated (suc (length rest)) with_one_acknowledgement f0 = ap (λ (l : List Acknowledgement). repeated (length l) with_one_acknowledgement f0) e in
         let rest_of : repeated (suc (length rest)) with_one_acknowledgement f0 ≡ repeated (length rest) with_one_acknowledgement f1 = ap (repeated (length rest) with_one_acknowledgement) step in
         subst (λ (f : Filling). Gone m most f) (sym (times ∙ rest_of)) (by-acknowledgements pace (Gone m most) k (length rest) f1 begun)
+
+-- so where a datagram would have nothing in it, none waits
+pub none-waits : (pace : Pace) (o : Outbox) → 576 ≤ pace.mtu → (filled pace o).messages ≡ [] → o.acknowledgements ≡ []
+none-waits pace o big none = by o.acknowledgements refl
+  where
+    by : (xs : List Acknowledgement) → o.acknowledgements ≡ xs → o.acknowledgements ≡ []
+    by [] e = e
+    by (a ∷ rest) e = (let h = acknowledgement-goes pace o a rest big e in absurd (subst (λ (l : List Message). Has l (acknowledgement_of a)) none h.0))

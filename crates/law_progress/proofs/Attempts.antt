@@ -1,6 +1,5 @@
 -- An attempt to connect or to disconnect is about one command of channel 0xFF, which goes again and again until patience is over.
-use Rattle.std.proofs.Common.{◌≡◌, ℕ, zero, suc, ◌+◌, ◌-◌, ◌*◌, ◌%◌, ◌^◌, ◌<◌, ◌≤◌, ◌&&◌, ◌||◌, ◌==◌, not, eqb, leb, ltb, max, min, Bool, true, false, cond, List, [], ◌∷◌, ◌++◌, map, refl, sym, ap, subst, ◌∙◌, inl, inr, ◌⊎◌, arith, Option, Some, None, is_some}
-use Rattle.std.proofs.lemmas.Bool.Decides.{nat_tests}
+use Rattle.std.proofs.Common.{◌≡◌, ℕ, zero, suc, ◌+◌, ◌*◌, ◌%◌, ◌^◌, ◌<◌, ◌≤◌, ◌&&◌, ◌||◌, ◌==◌, not, eqb, leb, ltb, max, min, Bool, true, false, cond, List, [], ◌∷◌, ◌++◌, map, refl, sym, ap, subst, ◌∙◌, inl, inr, ◌⊎◌, arith, Option, Some, None, is_some}
 use Rattle.std.specs.List.{position, slice_get, slice_set, list_any, range_with_len}
 use Rattle.enet_codec.specs.declared.packet.Packet.{Packet}
 use Rattle.enet_codec.specs.declared.command.Verify.{Verify}
@@ -11,6 +10,7 @@ use Rattle.enet_rtt.specs.Clock.{elapsed_time}
 use Rattle.enet_rtt.specs.Timing.{timeout}
 use Rattle.enet_rtt.specs.Transmission as transmission
 use Rattle.enet_rtt.specs.Expiry.{gives_up}
+use Rattle.enet_rtt.specs.declared.transmission.Transmission.{Transmission}
 use Rattle.enet_rtt.specs.declared.expiry.Patience.{Patience}
 use Rattle.enet_rtt.specs.declared.expiry.Expiry.TheVariants.{No, Resend, End}
 use Rattle.enet_connect.specs.declared.terms.Terms.{Terms}
@@ -39,6 +39,7 @@ use Rattle.enet_peer.specs.Endings.{settled, disconnecting, cut_off_in, is_later
 use Rattle.enet_peer.specs.CommandEffect.{obeyed, stopped, is_allowed, is_of_handshake, is_connect, by_body, answered, answered_at, is_answered_in, on_acknowledge, on_match, acknowledged, with_answer, on_verify_in, welcomed, on_disconnect_in}
 use Rattle.enet_peer.specs.Calls.{pace_of, gone_on, gone_on_in, ticked, pinged, after_timeouts_by, growth_bound, is_connected, next_event, event_after, packet_event, last_event}
 use Rattle.law_progress.specs.Attempts.{Step, Hears, PutsOut, Takes, after_step, after_take, Stays, Turn, Turns, last_of, LastsAtMost}
+use Rattle.law_progress.proofs.Timed.{Timed, timed-begun, timed-again, timed-marked}
 use Rattle.law_progress.proofs.NothingLeft.{nothing-left}
 use Rattle.law_progress.proofs.SomethingGoes.{none-due}
 
@@ -102,17 +103,9 @@ record Attempt : Type 0 where
   most : ℕ
   about : is_about kind command.control ≡ true
 
--- by now the command went first and last at these moments
-record Went (a : Attempt) (now : ℕ) (t : SentControl) : Type 0 where
-  command : t.command ≡ a.command
-  last : ℕ
-  first_is : t.transmission.first ≡ a.first % 2 ^ 32
-  last_is : t.transmission.last ≡ last % 2 ^ 32
-  after : a.first ≤ last
-  by : last ≤ now
-  brief : last ≤ a.first + a.most
-  in_time : now ≤ a.first + a.timeout + 2 * a.most
-  grown : ((t.transmission.due ≡ false) × (t.transmission.timeout + a.first ≤ a.timeout + last)) ⊎ ((t.transmission.due ≡ true) × (t.transmission.timeout + a.first ≤ a.timeout + now) × (now ≤ a.first + a.most))
+-- by now the command went, and goes on as it should
+abbrev Went : Attempt → ℕ → SentControl → Type 0
+Went a now t = (t.command ≡ a.command) × Timed a.first a.timeout a.most now t.transmission
 
 -- channel 0xFF has it queued, at the first moment, or sent
 abbrev Shape : Attempt → ℕ → Commands → Type 0
@@ -156,43 +149,29 @@ shape-next a now c n e (inl q) =
     let x = a.command in
     let mine = next-first (now % 2 ^ 32) a.timeout c x q.0 q.1 reliable in
     let same : ◌≡◌ {A = controlling.Next} (record { command = x; commands = record c { queued = []; sent = cond (controlling.is_reliable x.control) (c.sent ++ controlling.begun (now % 2 ^ 32) a.timeout x ∷ []) c.sent } }) n = some-is (sym mine ∙ e) in
-    let first = q.2 in
     subst (λ (k : controlling.Next). Shape a now k.commands) same (inr (
       controlling.begun (now % 2 ^ 32) a.timeout x,
       refl,
       ap (λ b. cond b (c.sent ++ controlling.begun (now % 2 ^ 32) a.timeout x ∷ []) c.sent) reliable ∙ ap (λ (l : List SentControl). l ++ controlling.begun (now % 2 ^ 32) a.timeout x ∷ []) q.1,
-      record {
-        command = refl;
-        last = now;
-        first_is = ap (λ k. k % 2 ^ 32) q.2;
-        last_is = refl;
-        after = omega arith;
-        by = omega arith;
-        brief = omega arith;
-        in_time = omega arith;
-        grown = inl (refl, omega arith);
-      },
+      (refl, subst (λ k. Timed a.first a.timeout a.most k (transmission.begun (k % 2 ^ 32) a.timeout)) (sym q.2) (timed-begun a.first a.timeout a.timeout a.most (omega arith))),
     ))
   where
     some-is : {X : Type 0} {u v : X} → Some u ≡ Some v → u ≡ v
     some-is {X} {u} {v} e = cc
-shape-next a now c n e (inr (t, none, sent, w)) = by w.grown
+shape-next a now c n e (inr (t, none, sent, w)) = by t.transmission.due refl
   where
     some-is : {X : Type 0} {u v : X} → Some u ≡ Some v → u ≡ v
     some-is {X} {u} {v} e = cc
 
-    by : ((t.transmission.due ≡ false) × (t.transmission.timeout + a.first ≤ a.timeout + w.last)) ⊎ ((t.transmission.due ≡ true) × (t.transmission.timeout + a.first ≤ a.timeout + now) × (now ≤ a.first + a.most)) → Shape a now n.commands
-    by (inl k) = absurd (let f : Some n ≡ None = sym e ∙ next-waits (now % 2 ^ 32) a.timeout c t none sent k.0 in cc)
-    by (inr k) =
-        let same : ◌≡◌ {A = controlling.Next} (record { command = t.command; commands = record c { sent = slice_set c.sent 0 (controlling.again (now % 2 ^ 32) t) } }) n = some-is (sym (next-again (now % 2 ^ 32) a.timeout c t sent k.0) ∙ e) in
-        let after = w.after in
-        let low = w.by in
-        let soon = k.2 in
+    by : (b : Bool) → t.transmission.due ≡ b → Shape a now n.commands
+    by false k = absurd (let f : Some n ≡ None = sym e ∙ next-waits (now % 2 ^ 32) a.timeout c t none sent k in cc)
+    by true k =
+        let same : ◌≡◌ {A = controlling.Next} (record { command = t.command; commands = record c { sent = slice_set c.sent 0 (controlling.again (now % 2 ^ 32) t) } }) n = some-is (sym (next-again (now % 2 ^ 32) a.timeout c t sent k) ∙ e) in
         subst (λ (x : controlling.Next). Shape a now x.commands) same (inr (
           controlling.again (now % 2 ^ 32) t,
           none,
           ap (λ (l : List SentControl). slice_set l 0 (controlling.again (now % 2 ^ 32) t)) sent,
-          record { command = w.command; last = now; first_is = w.first_is; last_is = refl; after = omega arith; by = omega arith; brief = soon; in_time = w.in_time; grown = inl (refl, k.1) },
+          (w.0, timed-again a.first a.timeout a.most now t.transmission w.1 k),
         ))
 
 -- a datagram that is filled keeps what each command of channel 0xFF that goes keeps, where the channels are empty
@@ -270,7 +249,7 @@ matches a now o channel number empty shape = by (channel == 0xFF)
         is = ap (λ (l : List SentControl). outbox.as_control (controlling.control_at l (controlling.position_of number l))) sent
 
         found : (b : Bool) → eqb t.command.number number ≡ b → (outbox.as_control (controlling.acknowledged_control o.control number) ≡ matched.Nothing) ⊎ (outbox.as_control (controlling.acknowledged_control o.control number) ≡ matched.Control a.command.control)
-        found true e = inr (is ∙ (λ i. outbox.as_control (controlling.control_at (t ∷ []) (let k : ℕ = cond (not (e i)) (1 + 0) 0 in cond (ltb k 1) (Some k) None))) ∙ ap (λ (x : Numbered). matched.Control x.control) w.command)
+        found true e = inr (is ∙ (λ i. outbox.as_control (controlling.control_at (t ∷ []) (let k : ℕ = cond (not (e i)) (1 + 0) 0 in cond (ltb k 1) (Some k) None))) ∙ ap (λ (x : Numbered). matched.Control x.control) w.0)
         found false e = inl (is ∙ (λ i. outbox.as_control (controlling.control_at (t ∷ []) (let k : ℕ = cond (not (e i)) (1 + 0) 0 in cond (ltb k 1) (Some k) None))))
 
     by : (b : Bool) → (cond b (outbox.as_control (controlling.acknowledged_control o.control number)) (matched_on (slice_get o.senders channel) number) ≡ matched.Nothing)
@@ -487,64 +466,10 @@ first-marked a p queued none = record {
 }
 
 -- later it waits, and where it waited out its timeout it is due to go again, or patience is over
-elapsed-is : (since now : ℕ) → since ≤ now → now < since + 2 ^ 32 → elapsed_time (now % 2 ^ 32) (since % 2 ^ 32) ≡ now - since
-elapsed-is since now low high = omega arith
-
-le-of : (m n : ℕ) → leb m n ≡ true → m ≤ n
-le-of m n e = grind (arith, nat_tests)
-
-lt-of : (m n : ℕ) → leb m n ≡ false → n < m
-lt-of m n e = grind (arith, nat_tests)
-
-at-most-twice : (bound t : ℕ) → transmission.grown_time bound t ≤ 2 * t
-at-most-twice bound t = grind arith
-
-went-waits : (a : Attempt) (before now : ℕ) (t : SentControl) → Went a before t → t.transmission.due ≡ false → before ≤ now → now < a.first + 2 ^ 32 → leb t.transmission.timeout (elapsed_time (now % 2 ^ 32) t.transmission.last) ≡ false → Went a now t
-went-waits a before now t w waits up near early = by w.grown
-  where
-    low : w.last ≤ now
-    low = let b = w.by in omega arith
-
-    gone : elapsed_time (now % 2 ^ 32) t.transmission.last ≡ now - w.last
-    gone = ap (elapsed_time (now % 2 ^ 32)) w.last_is ∙ elapsed-is w.last now low (let x = w.after in omega arith)
-
-    soon : now - w.last < t.transmission.timeout
-    soon = let x = lt-of t.transmission.timeout (elapsed_time (now % 2 ^ 32) t.transmission.last) early in let y = gone in omega arith
-
-    by : ((t.transmission.due ≡ false) × (t.transmission.timeout + a.first ≤ a.timeout + w.last)) ⊎ ((t.transmission.due ≡ true) × (t.transmission.timeout + a.first ≤ a.timeout + before) × (before ≤ a.first + a.most)) → Went a now t
-    by (inr d) = absurd (let f : true ≡ false = sym d.0 ∙ waits in cc)
-    by (inl k) = (let x = k.1 in let y = soon in let z = w.brief in let v = w.after in let l = low in
-        record { command = w.command; last = w.last; first_is = w.first_is; last_is = w.last_is; after = w.after; by = low; brief = w.brief; in_time = omega arith; grown = inl (waits, k.1) })
-
-went-again : (a : Attempt) (before now bound most : ℕ) (t : SentControl) → Went a before t → t.transmission.due ≡ false → before ≤ now → now < a.first + 2 ^ 32 → leb t.transmission.timeout (elapsed_time (now % 2 ^ 32) t.transmission.last) ≡ true
-    → most ≡ a.most → leb most (elapsed_time (now % 2 ^ 32) t.transmission.first) ≡ false → Went a now (record t { transmission = record t.transmission { timeout = transmission.grown_time bound t.transmission.timeout; due = true } })
-went-again a before now bound most t w waits up near late same patient = by w.grown
-  where
-    low : w.last ≤ now
-    low = let b = w.by in omega arith
-
-    gone : elapsed_time (now % 2 ^ 32) t.transmission.last ≡ now - w.last
-    gone = ap (elapsed_time (now % 2 ^ 32)) w.last_is ∙ elapsed-is w.last now low (let x = w.after in omega arith)
-
-    over : t.transmission.timeout ≤ now - w.last
-    over = let x = le-of t.transmission.timeout (elapsed_time (now % 2 ^ 32) t.transmission.last) late in let y = gone in omega arith
-
-    since : elapsed_time (now % 2 ^ 32) t.transmission.first ≡ now - a.first
-    since = ap (elapsed_time (now % 2 ^ 32)) w.first_is ∙ elapsed-is a.first now (let x = w.after in let y = low in omega arith) near
-
-    brief : now ≤ a.first + a.most
-    brief = let x = lt-of most (elapsed_time (now % 2 ^ 32) t.transmission.first) patient in let y = since in omega arith
-
-    by : ((t.transmission.due ≡ false) × (t.transmission.timeout + a.first ≤ a.timeout + w.last)) ⊎ ((t.transmission.due ≡ true) × (t.transmission.timeout + a.first ≤ a.timeout + before) × (before ≤ a.first + a.most))
-        → Went a now (record t { transmission = record t.transmission { timeout = transmission.grown_time bound t.transmission.timeout; due = true } })
-    by (inr d) = absurd (let f : true ≡ false = sym d.0 ∙ waits in cc)
-    by (inl k) = (let x = k.1 in let y = over in let z = brief in let v = w.after in let l = low in let g = at-most-twice bound t.transmission.timeout in
-        record { command = w.command; last = w.last; first_is = w.first_is; last_is = w.last_is; after = w.after; by = low; brief = w.brief; in_time = omega arith; grown = inr (refl, omega arith, brief) })
-
 later-marked : (a : Attempt) (before now gap : ℕ) (p : Peering) → Rests a before p.outbox.control → p.patience.maximum ≡ a.most → before ≤ now → now ≤ before + gap → a.timeout + 2 * a.most + gap < 2 ^ 32 → Marked a now p
 later-marked a before now gap p r most up down near = record {
-  resent = λ bound e. inr (controlling.marked bound n t, r.queued, ap (map (controlling.marked bound n)) r.alone, by bound e (leb t.transmission.timeout (elapsed_time n t.transmission.last)) refl);
-  rests = λ e f. inr (t, r.queued, r.alone, went-waits a before now t w r.waits up close (early f));
+  resent = λ bound e. inr (controlling.marked bound n t, r.queued, ap (map (controlling.marked bound n)) r.alone, (r.went.0, goes bound e));
+  rests = λ e f. inr (t, r.queued, r.alone, (r.went.0, subst (λ (x : Transmission). Timed a.first a.timeout a.most now x) (stays f) (goes 0 e)));
 }
   where
     n : ℕ
@@ -553,34 +478,27 @@ later-marked a before now gap p r most up down near = record {
     t : SentControl
     t = r.sent
 
-    w : Went a before t
-    w = r.went
+    w : Timed a.first a.timeout a.most before t.transmission
+    w = r.went.1
 
     close : now < a.first + 2 ^ 32
     close = let x = w.in_time in omega arith
 
-    early : has_late p.outbox n ≡ false → leb t.transmission.timeout (elapsed_time n t.transmission.last) ≡ false
-    early f =
+    -- nothing is late: it stays as it was
+    stays : has_late p.outbox n ≡ false → transmission.marked 0 n t.transmission ≡ t.transmission
+    stays f =
         let first : (transmission.is_late n t.transmission || false) ≡ false = ap (list_any (controlling.is_late n)) (sym r.alone) ∙ or-left (list_any (controlling.is_late n) p.outbox.control.sent) _ f in
-        let late : transmission.is_late n t.transmission ≡ false = or-left (transmission.is_late n t.transmission) false first in
-        ap (λ b. not b && leb t.transmission.timeout (elapsed_time n t.transmission.last)) (sym r.waits) ∙ late
+        ap (λ b. cond b (record t.transmission { timeout = transmission.grown_time 0 t.transmission.timeout; due = true }) t.transmission) (or-left (transmission.is_late n t.transmission) false first)
 
-    patient : has_ended p.outbox n p.patience p.heard ≡ false → leb t.transmission.timeout (elapsed_time n t.transmission.last) ≡ true → leb p.patience.maximum (elapsed_time n t.transmission.first) ≡ false
-    patient e late =
+    patient : has_ended p.outbox n p.patience p.heard ≡ false → transmission.is_late n t.transmission ≡ true → leb a.most (elapsed_time n t.transmission.first) ≡ false
+    patient e is_late =
         let first : (transmission.ends n p.patience p.heard t.transmission || false) ≡ false = ap (list_any (controlling.ends n p.patience p.heard)) (sym r.alone) ∙ or-left (list_any (controlling.ends n p.patience p.heard) p.outbox.control.sent) _ e in
         let not_ended : transmission.ends n p.patience p.heard t.transmission ≡ false = or-left (transmission.ends n p.patience p.heard t.transmission) false first in
-        let is_late : transmission.is_late n t.transmission ≡ true = (λ i. not (r.waits i) && late i) in
-        or-left (leb p.patience.maximum (elapsed_time n t.transmission.first)) _ (ap (λ b. b && gives_up p.patience n p.heard t.transmission) (sym is_late) ∙ not_ended)
+        ap (λ m. leb m (elapsed_time n t.transmission.first)) (sym most)
+        ∙ or-left (leb p.patience.maximum (elapsed_time n t.transmission.first)) _ (ap (λ b. b && gives_up p.patience n p.heard t.transmission) (sym is_late) ∙ not_ended)
 
-    by : (bound : ℕ) → has_ended p.outbox n p.patience p.heard ≡ false → (b : Bool) → leb t.transmission.timeout (elapsed_time n t.transmission.last) ≡ b → Went a now (controlling.marked bound n t)
-    by bound e true late =
-        let is_late : transmission.is_late n t.transmission ≡ true = (λ i. not (r.waits i) && late i) in
-        subst (λ b. Went a now (record t { transmission = cond b (record t.transmission { timeout = transmission.grown_time bound t.transmission.timeout; due = true }) t.transmission })) (sym is_late)
-        (went-again a before now bound p.patience.maximum t w r.waits up close late most (patient e late))
-    by bound e false early' =
-        let is_early : transmission.is_late n t.transmission ≡ false = (λ i. not (r.waits i) && early' i) in
-        subst (λ b. Went a now (record t { transmission = cond b (record t.transmission { timeout = transmission.grown_time bound t.transmission.timeout; due = true }) t.transmission })) (sym is_early)
-        (went-waits a before now t w r.waits up close early')
+    goes : (bound : ℕ) → has_ended p.outbox n p.patience p.heard ≡ false → Timed a.first a.timeout a.most now (transmission.marked bound n t.transmission)
+    goes bound e = timed-marked a.first a.timeout a.most before now bound t.transmission w r.waits up close (patient e)
 
 -- at the end of a turn nothing is left to be put out, so the command waits
 record Rested (a : Attempt) (now : ℕ) (p : Peering) : Type 0 where
@@ -590,11 +508,11 @@ record Rested (a : Attempt) (now : ℕ) (p : Peering) : Type 0 where
 rests-left : (a : Attempt) (now : ℕ) (c : Commands) → controlling.next (now % 2 ^ 32) a.timeout c ≡ None → Shape a now c → Rests a now c
 rests-left a now c none (inl q) =
     absurd (let f : None ≡ Some _ = sym none ∙ next-first (now % 2 ^ 32) a.timeout c a.command q.0 q.1 (reliable-about a.kind a.command.control a.about) in cc)
-rests-left a now c none (inr (t, queued, sent, w)) = by w.grown
+rests-left a now c none (inr (t, queued, sent, w)) = by t.transmission.due refl
   where
-    by : ((t.transmission.due ≡ false) × (t.transmission.timeout + a.first ≤ a.timeout + w.last)) ⊎ ((t.transmission.due ≡ true) × (t.transmission.timeout + a.first ≤ a.timeout + now) × (now ≤ a.first + a.most)) → Rests a now c
-    by (inl k) = record { sent = t; queued = queued; alone = sent; went = w; waits = k.0 }
-    by (inr k) = absurd (let f : None ≡ Some _ = sym none ∙ next-again (now % 2 ^ 32) a.timeout c t sent k.0 in cc)
+    by : (b : Bool) → t.transmission.due ≡ b → Rests a now c
+    by false k = record { sent = t; queued = queued; alone = sent; went = w; waits = k }
+    by true k = absurd (let f : None ≡ Some _ = sym none ∙ next-again (now % 2 ^ 32) a.timeout c t sent k in cc)
 
 turn-rests : (a : Attempt) (now : ℕ) (p q : Peering) → ((ticked p (now % 2 ^ 32)).state ≡ state_of a.kind → Lasts a now (ticked p (now % 2 ^ 32))) → Turn (state_of a.kind) now p q → Rested a now q
 turn-rests a now p q first turn = subst (λ (x : Peering). Rested a now x) (sym turn.after) (subst (λ (x : Peering). Rested a now x) (sym (waits-on a.kind r l.state)) (record {
@@ -623,7 +541,7 @@ turn-rests a now p q first turn = subst (λ (x : Peering). Rested a now x) (sym 
 -- turn after turn
 turns-last : (a : Attempt) (gap : ℕ) (moments : List ℕ) (now : ℕ) (p q : Peering) → a.timeout + 2 * a.most + gap < 2 ^ 32 → ((r : Peering) → Turn (state_of a.kind) now p r → Rested a now r) → Turns (state_of a.kind) gap now p moments q
     → last_of now moments ≤ a.first + a.timeout + 2 * a.most
-turns-last a gap [] now p q near first turn = (first q turn).rests.went.in_time
+turns-last a gap [] now p q near first turn = (first q turn).rests.went.1.in_time
 turns-last a gap (next ∷ later) now p q near first (r, turn, up, down, rest) =
     let k = first r turn in
     turns-last a gap later next r q near

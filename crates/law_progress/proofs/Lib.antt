@@ -13,5 +13,7 @@ pub mod NothingLeft
 -- a peer
 pub mod PeerAnswers
 pub mod Removed
+pub mod Timed
 pub mod Attempts
 pub mod Told
+pub mod Waiting

@@ -24,7 +24,7 @@ use Rattle.law_progress.specs.Outboxes.{AreSome, due_count, due_controls, ready_
 use Rattle.law_progress.proofs.SomethingGoes.{skipped-length}
 
 -- what is found passes the test
-found-passes : {X : Type 0} (f : X → Bool) (xs : List X) (i : ℕ) (p : X) → position f xs ≡ Some i → slice_get xs i ≡ Some p → f p ≡ true
+pub found-passes : {X : Type 0} (f : X → Bool) (xs : List X) (i : ℕ) (p : X) → position f xs ≡ Some i → slice_get xs i ≡ Some p → f p ≡ true
 found-passes f [] i p e t = absurd (cc)
 found-passes {X} f (x ∷ xs) i p e t = go (f x) refl (λ j k h. found-passes f xs j p k h)
   where

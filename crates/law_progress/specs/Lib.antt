@@ -3,3 +3,4 @@ pub mod Delivered
 pub mod Outboxes
 pub mod Peers
 pub mod Attempts
+pub mod Waits

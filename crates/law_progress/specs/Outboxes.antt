@@ -1,8 +1,9 @@
 -- When a peer has something to put out.
-use Rattle.std.specs.Prelude.{◌≡◌, ℕ, true, ◌+◌, ◌≤◌, if◌then◌else◌, List, [], ◌∷◌, length, Some, slice_get}
+use Rattle.std.specs.Prelude.{◌≡◌, ℕ, true, ◌+◌, ◌≤◌, if◌then◌else◌, List, [], ◌∷◌, length, Some, None, slice_get}
 use Rattle.enet_codec.specs.Message.{Message}
 use Rattle.enet_fragment.specs.declared.data.DataCommand.{DataCommand}
 use Rattle.enet_senders.specs.Controlling.{Commands}
+use Rattle.enet_senders.specs.Controlling as controlling
 use Rattle.enet_senders.specs.declared.control.SentControl.{SentControl}
 use Rattle.enet_sender.specs.Sender.{Sender}
 use Rattle.enet_sender.specs.declared.sent.Sent.{Sent}
@@ -33,6 +34,11 @@ pub record HasNew (senders : List SendingEnd) (channel : ℕ) : Type 0 where
 -- at least one
 abbrev pub AreSome : List Message → Type 0
 AreSome ms = (m : Message) × Has ms m
+
+-- no acknowledgement waits, and no command of channel 0xFF is due or may go
+pub record IsSpent (pace : Pace) (o : Outbox) : Type 0 where
+  pub acknowledgements : o.acknowledgements ≡ []
+  pub controls : controlling.next pace.now pace.timeout o.control ≡ None
 
 -- what is ready to go: all that waits to go first, and what is due to go again
 abbrev pub due_count : List Sent → ℕ

@@ -6,12 +6,13 @@
 //! acknowledgement is acknowledged wherever it comes while there is room, and from each reached link an exchange without losses leads to
 //! where all reliable packets were dispatched (`everything_can_arrive`); nothing holds back for good what an outbox has to send
 //! (`nothing_is_held_back`); a peer answers what its sender waits for, and the answer takes it away (`what_waits_is_answered`); what was
-//! acknowledged was delivered (`acknowledged_was_delivered`); an attempt ends within a stated time (`every_attempt_ends`). Not proved:
-//! that rounds without losses bring all channels of a connection to where nothing is outstanding, with the transit limit, the throttle and
-//! the timers of real peers, nor how many rounds that takes; that a peer which is to disconnect later comes to do so.
+//! acknowledged was delivered (`acknowledged_was_delivered`); an attempt ends within a stated time (`every_attempt_ends`), and so does
+//! each wait for an acknowledgement (`no_wait_is_endless`). Not proved: that rounds without losses bring all channels of a connection to
+//! where nothing is outstanding, with the transit limit, the throttle and the timers of real peers, nor how many rounds that takes; that a
+//! peer which is to disconnect later comes to do so.
 #![tactic(auto)]
 
-ghost use Rattle.std.specs.Prelude.{◌≡◌, ℕ, ◌+◌, ◌*◌, ◌<◌, ◌≤◌, Bool, Option, Some, map, slice_get, true, false, List, ◌∷◌, length};
+ghost use Rattle.std.specs.Prelude.{◌≡◌, ℕ, ◌+◌, ◌*◌, ◌<◌, ◌≤◌, Bool, Option, Some, map, slice_get, true, false, List, [], ◌∷◌, length};
 ghost use Rattle.enet_codec.specs.declared.command.Offer.{Offer};
 ghost use Rattle.enet_codec.specs.Message.{Message, acknowledge};
 ghost use Rattle.enet_seq.specs.Numbering.{wire};
@@ -30,7 +31,8 @@ ghost use Rattle.enet_outbox.specs.Outbox.{Outbox};
 ghost use Rattle.enet_outbox.specs.Emission.{filled, acknowledgement_of};
 ghost use Rattle.enet_peer.specs.declared.parts.Limits.{Limits};
 ghost use Rattle.enet_peer.specs.declared.parts.PeerState.TheVariants as state;
-ghost use Rattle.enet_peer.specs.Peering.{Peering, connecting, answering};
+ghost use Rattle.enet_connect.specs.declared.terms.Terms.{Terms};
+ghost use Rattle.enet_peer.specs.Peering.{Peering, joined, connecting, answering};
 ghost use Rattle.enet_peer.specs.Endings.{disconnecting};
 ghost use Rattle.enet_peer.specs.CommandEffect.{obeyed};
 ghost use Rattle.law_connection.specs.Link.{PutOut};
@@ -39,10 +41,11 @@ ghost use Rattle.law_connection.specs.WireLink.{WireLink};
 ghost use Rattle.law_connection.specs.Connection.{Put, Connection};
 ghost use Rattle.law_connection.specs.Invariant.{Invariant};
 ghost use Rattle.law_progress.specs.Links.{Waits, AreShort, AllDispatched, IsUp, AreTimed, GetsThrough};
-ghost use Rattle.law_progress.specs.Outboxes.{AreFit, AreQuiet, HasNew, AreSome, ready};
+ghost use Rattle.law_progress.specs.Outboxes.{AreFit, AreQuiet, HasNew, AreSome, IsSpent, ready};
 ghost use Rattle.law_progress.specs.Peers.{Awaits, IsAnswered, IsRemoved};
 ghost use Rattle.law_progress.specs.Delivered.{IsDelivered};
 ghost use Rattle.law_progress.specs.Attempts.{LastsAtMost, TellsWhenLeft};
+ghost use Rattle.law_progress.specs.Waits.{NoneWaitsLonger};
 
 /// One channel of one connection, after any list of events, whatever was lost, repeated, reordered or late by then, while both ends go on.
 ///
@@ -65,12 +68,13 @@ pub fn everything_can_arrive()
 /// `data`: where a reliable command is queued on some channel and nothing waits for its acknowledgement on any, the next datagram has a
 /// command, if each that is queued fits a datagram. `acknowledgements`: the one that has waited longest goes with the next datagram, and no
 /// new one comes to wait. `ends`: a datagram with a command leaves less that is ready to go, so putting out all at one moment comes to an
-/// end.
+/// end. `spent`: then no acknowledgement waits, and no command of channel 0xFF is due or may go.
 pub fn nothing_is_held_back()
     ensures data { (pace : Pace) (o : Outbox) (channel : ℕ) → AreFit pace o → AreQuiet o.senders → HasNew o.senders channel → AreSome (filled pace o).messages }
     ensures acknowledgements { (pace : Pace) (o : Outbox) (a : Acknowledgement) (rest : List Acknowledgement) → 576 ≤ pace.mtu → o.acknowledgements ≡ a ∷ rest
         → Has (filled pace o).messages (acknowledgement_of a) × (length (filled pace o).outbox.acknowledgements ≤ length rest) }
     ensures ends { (pace : Pace) (o : Outbox) → AreSome (filled pace o).messages → ready (filled pace o).outbox < ready o }
+    ensures spent { (pace : Pace) (o : Outbox) → 576 ≤ pace.mtu → (filled pace o).messages ≡ [] → IsSpent pace o }
 {}
 
 /// A connected peer, in every reached connection, on a channel below 255.
@@ -97,8 +101,8 @@ pub fn acknowledged_was_delivered()
     ensures back { (joined : Bool) (d : Connection) (channel : ℕ) → Invariant joined d → channel < 255 → IsDelivered d.two d.one channel }
 {}
 
-/// One peer, whatever comes to it: commands of any kind, at any time, from anyone, or none. Its clock goes on by any steps of less than some
-/// 49 days, and at each moment all is put out that may go. Times are in milliseconds.
+/// One peer, whatever comes to it: commands of any kind, at any time, from anyone, or none. Its clock goes on by any steps of less than
+/// some 49 days, and at each moment all is put out that may go. Times are in milliseconds.
 ///
 /// `connecting`, `answering`: a client that asks and a server that has answered stay so for 60,500 at most, from the first moment at which
 /// they put something out, with ENet's default patience. `disconnecting`: so does a peer that has asked for the end, for at most its first
@@ -109,4 +113,16 @@ pub fn every_attempt_ends()
     ensures answering { (start : ℕ) (offer : Offer) (server : Server) (limits : Limits) → LastsAtMost state.Answering (answering start offer server limits) 60500 }
     ensures disconnecting { (p : Peering) (info : ℕ) → LastsAtMost state.Disconnecting (disconnecting p info) (timeout p.estimate + 2 * p.patience.maximum) }
     ensures told { TellsWhenLeft state.Connecting × TellsWhenLeft state.Answering × TellsWhenLeft state.Disconnecting }
+{}
+
+/// One peer, whatever comes to it and whatever its user does. Its clock goes on by any steps of less than some 49 days, and at each moment
+/// all goes again that is due.
+///
+/// No command waits for its acknowledgement longer than its timeout and the greatest patience together, whichever state the peer is in: by
+/// then it is acknowledged, or the peer has ended. So of a peer that is connected from the start (`joined`), of a client that asks
+/// (`connecting`) and of a server that has answered (`answering`).
+pub fn no_wait_is_endless()
+    ensures joined { (start : ℕ) (terms : Terms) (limits : Limits) → NoneWaitsLonger (joined start terms limits) }
+    ensures connecting { (start : ℕ) (offer : Offer) (limits : Limits) → NoneWaitsLonger (connecting start offer limits) }
+    ensures answering { (start : ℕ) (offer : Offer) (server : Server) (limits : Limits) → NoneWaitsLonger (answering start offer server limits) }
 {}

@@ -1,0 +1,116 @@
+-- How a command goes again and again, on a clock that doesn't wrap: its timeout grows no faster than the time since its first send.
+use Rattle.std.proofs.Common.{◌≡◌, ℕ, ◌+◌, ◌-◌, ◌*◌, ◌%◌, ◌^◌, ◌<◌, ◌≤◌, ◌&&◌, not, leb, Bool, true, false, cond, refl, sym, ap, subst, ◌∙◌, inl, inr, ◌⊎◌, arith}
+use Rattle.std.proofs.lemmas.Bool.Decides.{nat_tests}
+use Rattle.enet_rtt.specs.Clock.{elapsed_time}
+use Rattle.enet_rtt.specs.Transmission as transmission
+use Rattle.enet_rtt.specs.declared.transmission.Transmission.{Transmission}
+
+-- by now a command that first went at this moment, with at most this timeout, goes on as it should, where patience lasts for `most`
+pub record Timed (first wait most now : ℕ) (t : Transmission) : Type 0 where
+  pub last : ℕ
+  pub first_is : t.first ≡ first % 2 ^ 32
+  pub last_is : t.last ≡ last % 2 ^ 32
+  pub after : first ≤ last
+  pub by : last ≤ now
+  pub brief : last ≤ first + most
+  pub in_time : now ≤ first + wait + 2 * most
+  pub grown : ((t.due ≡ false) × (t.timeout + first ≤ wait + last) × (now ≤ last + t.timeout)) ⊎ ((t.due ≡ true) × (t.timeout + first ≤ wait + now) × (now ≤ first + most))
+
+pub timed-begun : (first wait least most : ℕ) → least ≤ wait → Timed first wait most first (transmission.begun (first % 2 ^ 32) least)
+timed-begun first wait least most low = record { last = first; first_is = refl; last_is = refl; after = omega arith; by = omega arith; brief = omega arith; in_time = omega arith; grown = inl (refl, omega arith, omega arith) }
+
+pub timed-again : (first wait most now : ℕ) (t : Transmission) → Timed first wait most now t → t.due ≡ true → Timed first wait most now (transmission.again (now % 2 ^ 32) t)
+timed-again first wait most now t w due = by w.grown
+  where
+    by : ((t.due ≡ false) × (t.timeout + first ≤ wait + w.last) × (now ≤ w.last + t.timeout)) ⊎ ((t.due ≡ true) × (t.timeout + first ≤ wait + now) × (now ≤ first + most)) → Timed first wait most now (transmission.again (now % 2 ^ 32) t)
+    by (inl k) = absurd (let f : true ≡ false = sym due ∙ k.0 in cc)
+    by (inr k) =
+        let after = w.after in
+        let low = w.by in
+        let grown = k.1 in
+        record { last = now; first_is = w.first_is; last_is = refl; after = omega arith; by = omega arith; brief = k.2; in_time = w.in_time; grown = inl (refl, k.1, omega arith) }
+
+elapsed-is : (since now : ℕ) → since ≤ now → now < since + 2 ^ 32 → elapsed_time (now % 2 ^ 32) (since % 2 ^ 32) ≡ now - since
+elapsed-is since now low high = omega arith
+
+le-of : (m n : ℕ) → leb m n ≡ true → m ≤ n
+le-of m n e = grind (arith, nat_tests)
+
+lt-of : (m n : ℕ) → leb m n ≡ false → n < m
+lt-of m n e = grind (arith, nat_tests)
+
+at-most-twice : (bound t : ℕ) → transmission.grown_time bound t ≤ 2 * t
+at-most-twice bound t = grind arith
+
+-- a moment comes at which it hasn't waited out its timeout
+pub timed-waits : (first wait most before now : ℕ) (t : Transmission) → Timed first wait most before t → t.due ≡ false → before ≤ now → now < first + 2 ^ 32 → leb t.timeout (elapsed_time (now % 2 ^ 32) t.last) ≡ false
+    → Timed first wait most now t
+timed-waits first wait most before now t w waits up near early = by w.grown
+  where
+    low : w.last ≤ now
+    low = let b = w.by in omega arith
+
+    gone : elapsed_time (now % 2 ^ 32) t.last ≡ now - w.last
+    gone = ap (elapsed_time (now % 2 ^ 32)) w.last_is ∙ elapsed-is w.last now low (let x = w.after in omega arith)
+
+    soon : now - w.last < t.timeout
+    soon = let x = lt-of t.timeout (elapsed_time (now % 2 ^ 32) t.last) early in let y = gone in omega arith
+
+    by : ((t.due ≡ false) × (t.timeout + first ≤ wait + w.last) × (before ≤ w.last + t.timeout)) ⊎ ((t.due ≡ true) × (t.timeout + first ≤ wait + before) × (before ≤ first + most)) → Timed first wait most now t
+    by (inr d) = absurd (let f : true ≡ false = sym d.0 ∙ waits in cc)
+    by (inl k) = (let x = k.1 in let y = soon in let z = w.brief in let v = w.after in let l = low in
+        record { last = w.last; first_is = w.first_is; last_is = w.last_is; after = w.after; by = low; brief = w.brief; in_time = omega arith; grown = inl (waits, k.1, omega arith) })
+
+-- or has, and patience lasts: it is due to go again
+pub timed-late : (first wait most before now bound : ℕ) (t : Transmission) → Timed first wait most before t → t.due ≡ false → before ≤ now → now < first + 2 ^ 32 → leb t.timeout (elapsed_time (now % 2 ^ 32) t.last) ≡ true
+    → leb most (elapsed_time (now % 2 ^ 32) t.first) ≡ false → Timed first wait most now (record t { timeout = transmission.grown_time bound t.timeout; due = true })
+timed-late first wait most before now bound t w waits up near late patient = by w.grown
+  where
+    low : w.last ≤ now
+    low = let b = w.by in omega arith
+
+    gone : elapsed_time (now % 2 ^ 32) t.last ≡ now - w.last
+    gone = ap (elapsed_time (now % 2 ^ 32)) w.last_is ∙ elapsed-is w.last now low (let x = w.after in omega arith)
+
+    over : t.timeout ≤ now - w.last
+    over = let x = le-of t.timeout (elapsed_time (now % 2 ^ 32) t.last) late in let y = gone in omega arith
+
+    since : elapsed_time (now % 2 ^ 32) t.first ≡ now - first
+    since = ap (elapsed_time (now % 2 ^ 32)) w.first_is ∙ elapsed-is first now (let x = w.after in let y = low in omega arith) near
+
+    brief : now ≤ first + most
+    brief = let x = lt-of most (elapsed_time (now % 2 ^ 32) t.first) patient in let y = since in omega arith
+
+    by : ((t.due ≡ false) × (t.timeout + first ≤ wait + w.last) × (before ≤ w.last + t.timeout)) ⊎ ((t.due ≡ true) × (t.timeout + first ≤ wait + before) × (before ≤ first + most))
+        → Timed first wait most now (record t { timeout = transmission.grown_time bound t.timeout; due = true })
+    by (inr d) = absurd (let f : true ≡ false = sym d.0 ∙ waits in cc)
+    by (inl k) = (let x = k.1 in let y = over in let z = brief in let v = w.after in let l = low in let g = at-most-twice bound t.timeout in
+        record { last = w.last; first_is = w.first_is; last_is = w.last_is; after = w.after; by = low; brief = w.brief; in_time = omega arith; grown = inr (refl, omega arith, brief) })
+
+-- at a moment at which the peer's patience isn't over
+pub timed-marked : (first wait most before now bound : ℕ) (t : Transmission) → Timed first wait most before t → t.due ≡ false → before ≤ now → now < first + 2 ^ 32
+    → (transmission.is_late (now % 2 ^ 32) t ≡ true → leb most (elapsed_time (now % 2 ^ 32) t.first) ≡ false) → Timed first wait most now (transmission.marked bound (now % 2 ^ 32) t)
+timed-marked first wait most before now bound t w waits up near patient = by (leb t.timeout (elapsed_time (now % 2 ^ 32) t.last)) refl
+  where
+    n : ℕ
+    n = now % 2 ^ 32
+
+    by : (b : Bool) → leb t.timeout (elapsed_time n t.last) ≡ b → Timed first wait most now (transmission.marked bound n t)
+    by true late =
+        let is_late : transmission.is_late n t ≡ true = (λ i. not (waits i) && late i) in
+        subst (λ b. Timed first wait most now (cond b (record t { timeout = transmission.grown_time bound t.timeout; due = true }) t)) (sym is_late) (timed-late first wait most before now bound t w waits up near late (patient is_late))
+    by false early =
+        let is_early : transmission.is_late n t ≡ false = (λ i. not (waits i) && early i) in
+        subst (λ b. Timed first wait most now (cond b (record t { timeout = transmission.grown_time bound t.timeout; due = true }) t)) (sym is_early) (timed-waits first wait most before now t w waits up near early)
+
+-- so long it has waited
+pub timed-elapsed : (first wait most now : ℕ) (t : Transmission) → Timed first wait most now t → t.due ≡ false → now < first + 2 ^ 32 → elapsed_time (now % 2 ^ 32) t.first ≤ most + t.timeout
+timed-elapsed first wait most now t w waits near = by w.grown
+  where
+    by : ((t.due ≡ false) × (t.timeout + first ≤ wait + w.last) × (now ≤ w.last + t.timeout)) ⊎ ((t.due ≡ true) × (t.timeout + first ≤ wait + now) × (now ≤ first + most)) → elapsed_time (now % 2 ^ 32) t.first ≤ most + t.timeout
+    by (inr d) = absurd (let f : true ≡ false = sym d.0 ∙ waits in cc)
+    by (inl k) =
+        let e : elapsed_time (now % 2 ^ 32) t.first ≡ now - first = ap (elapsed_time (now % 2 ^ 32)) w.first_is ∙ elapsed-is first now (let x = w.after in let y = w.by in omega arith) near in
+        let soon = k.2 in
+        let brief = w.brief in
+        omega arith
