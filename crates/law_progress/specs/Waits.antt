@@ -1,4 +1,5 @@
--- How long a command waits for its acknowledgement, whatever comes and whatever the user does. Times are in milliseconds, as in Attempts.
+-- How long a command waits for its acknowledgement, whatever comes and whatever the user does, settings apart. Times are in milliseconds,
+-- as in Attempts.
 use Rattle.std.specs.Prelude.{◌≡◌, ℕ, ◌+◌, ◌*◌, ◌%◌, ◌^◌, ◌<◌, ◌≤◌, ◌||◌, Bool, false, List, [], ◌∷◌, Option, Some, None}
 use Rattle.std.specs.List.{list_any}
 use Rattle.enet_rtt.specs.Clock.{elapsed_time}

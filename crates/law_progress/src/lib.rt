@@ -115,8 +115,8 @@ pub fn every_attempt_ends()
     ensures told { TellsWhenLeft state.Connecting × TellsWhenLeft state.Answering × TellsWhenLeft state.Disconnecting }
 {}
 
-/// One peer, whatever comes to it and whatever its user does. Its clock goes on by any steps of less than some 49 days, and at each moment
-/// all goes again that is due.
+/// One peer, whatever comes to it, whatever its user submits and takes, and however it disconnects. Its clock goes on by any steps of less
+/// than some 49 days, at each moment all goes again that is due, and the patience stays as it is at first.
 ///
 /// No command waits for its acknowledgement longer than its timeout and the greatest patience together, whichever state the peer is in: by
 /// then it is acknowledged, or the peer has ended. So of a peer that is connected from the start (`joined`), of a client that asks
