@@ -38,6 +38,7 @@ use Rattle.law_service.proofs.Lifting.{each-life}
 use Rattle.law_service.proofs.EndToEnd.{end-to-end, behind-at}
 use Rattle.law_relay.specs.Relay.{Relaying}
 use Rattle.law_relay.proofs.Refusals.{has-answers, between-pairs-unless}
+use Rattle.law_relay.proofs.Unreliable.{between-pairs-on-one}
 use Rattle.law_relay.specs.Chat.{ServesAll, service_of, Served, EachServed, config_of, HasServed, EachHasServed, Played, hosts_of, users_of, users_by, ChatsInOrder, OfChatServer, OfChatThreads}
 
 none : (s : ChatServer) → Served s s
@@ -139,6 +140,7 @@ chats hosts server l users asks h = record {
   headline = h;
   answers = has-answers server;
   pairs = λ x j there q is here. between-pairs-unless hosts server l (has-answers server) users asks h x j there q is here;
+  on_one = λ x j there q is here. between-pairs-on-one hosts server l users asks h x j there q is here;
 }
 
 pub of-chat-server : OfChatServer

@@ -388,20 +388,30 @@ part-none f (x ∷ xs) (y ∷ ys) (inl same) k =
     ap (λ (b : Bool). cond b (x ∷ filter f xs) (filter f xs)) (ap f same.0 ∙ t.0) ∙ part-none f xs ys same.1 t.1)
 part-none f (x ∷ xs) (y ∷ ys) (inr more) k = part-none f (x ∷ xs) ys more (none-tail (f y) y (filter f ys) k).1
 
+-- of whom the server took nothing, nothing is heard
+heard-none : (server : Running) (hosts : Addr → Bool) (l : Relaying server) (q : PeerRef) (channel : ℕ) (p : PeerRef) → (user_of hosts server).taken p ≡ [] → filter (is_of p) (heard q channel [] l.expanded) ≡ []
+heard-none server hosts l q channel p none = part-none (is_of p) (heard q channel [] l.expanded) l.expanded (heard-part q channel [] l.expanded) expanded
+  where
+    t : Told server l
+    t = told-is server l
+
+    expanded : filter (is_of p) l.expanded ≡ []
+    expanded = first-none (filter (is_of p) l.expanded) (filter (is_of p) t.more) (sym (filter-append (is_of p) l.expanded t.more) ∙ ap (filter (is_of p)) (sym t.all) ∙ none)
+
 -- so where no stranger is, each is of a connection
+pub all-part : (hosts : Addr → Bool) (server : Running) (l : Relaying server) (cu : ℕ → User) (asked : List (ℕ × PeerRef)) (h : IsHeadline (user_of hosts server) cu asked)
+    → (q : PeerRef) (channel : ℕ) (chat : List Event) → IsPart chat (heard q channel [] l.expanded)
+    → (user_of hosts server).guests ≡ false → (p : PeerRef) → filter (is_of p) chat ≢ [] → (y : ℕ) × (h.here y ≡ Some p) × (y < length asked)
+all-part hosts server l cu asked h q channel chat part quiet p some =
+    h.all_here quiet p (λ none. some (part-none (is_of p) chat (heard q channel [] l.expanded) part (heard-none server hosts l q channel p none)))
+
 pub all-other : (hosts : Addr → Bool) (server : Running) (l : Relaying server) (cu : ℕ → User) (asked : List (ℕ × PeerRef)) (h : IsHeadline (user_of hosts server) cu asked)
     → (q : PeerRef) (channel : ℕ) (chat : List Event) → IsFront chat (heard q channel [] l.expanded)
     → (user_of hosts server).guests ≡ false → (p : PeerRef) → filter (is_of p) chat ≢ [] → (y : ℕ) × (h.here y ≡ Some p) × (y < length asked)
 all-other hosts server l cu asked h q channel chat front quiet p some = h.all_here quiet p (λ none. some (empty none))
   where
-    t : Told server l
-    t = told-is server l
-
     empty : (user_of hosts server).taken p ≡ [] → filter (is_of p) chat ≡ []
-    empty none =
-        let expanded : filter (is_of p) l.expanded ≡ [] = first-none (filter (is_of p) l.expanded) (filter (is_of p) t.more) (sym (filter-append (is_of p) l.expanded t.more) ∙ ap (filter (is_of p)) (sym t.all) ∙ none) in
-        let of-heard : filter (is_of p) (heard q channel [] l.expanded) ≡ [] = part-none (is_of p) (heard q channel [] l.expanded) l.expanded (heard-part q channel [] l.expanded) expanded in
-        first-none (filter (is_of p) chat) (filter (is_of p) front.0) (sym (filter-append (is_of p) chat front.0) ∙ ap (filter (is_of p)) (sym front.1) ∙ of-heard)
+    empty none = first-none (filter (is_of p) chat) (filter (is_of p) front.0) (sym (filter-append (is_of p) chat front.0) ∙ ap (filter (is_of p)) (sym front.1) ∙ heard-none server hosts l q channel p none)
 
 pub between-pairs : BetweenPairs
 between-pairs hosts server l cu asked h x j there q is here none =

@@ -86,11 +86,11 @@ onto m es now ms bs rest asks takes t = record {
   got_is = ap (λ (l : List (List ℕ)). takes_of m ++ l) t.got_is ∙ takes;
 }
 
-abbrev first-or : Packet → List Packet → Packet
+abbrev pub first-or : Packet → List Packet → Packet
 first-or d [] = d
 first-or d (p ∷ ps) = p
 
-abbrev but-first : List Packet → List Packet
+abbrev pub but-first : List Packet → List Packet
 but-first [] = []
 but-first (p ∷ ps) = ps
 

@@ -171,7 +171,7 @@ relay-rule r l q channel low =
 
 -- order
 
-skipped : (xs : List Event) (y : Event) (ys : List Event) → IsPart xs ys → IsPart xs (y ∷ ys)
+pub skipped : {X : Type 0} (xs : List X) (y : X) (ys : List X) → IsPart xs ys → IsPart xs (y ∷ ys)
 skipped [] y ys h = tt
 skipped (x ∷ xs) y ys h = inr h
 

@@ -32,6 +32,7 @@ use Rattle.law_service.specs.Spans.{Span, Spans, rounds_in}
 use Rattle.law_service.specs.EndToEnd.{Running, user_of, user_in, user_at, ThreadAt, configs, AllMake, calls_at, asked}
 use Rattle.law_relay.specs.Relay.{Relaying, heard}
 use Rattle.law_relay.specs.Refusals.{Answers, all_asked, TakesChatUnless}
+use Rattle.law_relay.specs.Unreliable.{TakesSome}
 
 -- runs of a server one after another, each as `ChatServer::serve` and `ChatServer::serve_alone` promise: how long it was to be, and its report
 abbrev pub ServesAll : ChatServer → List (RunLength × Report) → ChatServer → Type 0
@@ -96,12 +97,15 @@ hosts_of at clients = is_host at (length clients)
 abbrev pub users_of : (Node → Addr) → List Running → ℕ → User
 users_of at clients i = user_in (hosts_of at clients) (slice_get clients i)
 
--- then the headline holds, and for each pair of clients j takes of what i submitted on channel 0 each once, in order and without a gap
+-- then the headline holds, and for each pair of clients j takes of what i submitted on channel 0 each once, in order and without a gap, and some
+-- of what it submitted on channel 1, each once and in order
 pub record ChatsInOrder (hosts : Addr → Bool) (server : Running) (relaying : Relaying server) (users : ℕ → User) (asks : List (ℕ × PeerRef)) : Type 0 where
   pub headline : IsHeadline (user_of hosts server) users asks
   pub answers : Answers server
   pub pairs : (x j : ℕ) (there q : PeerRef) → slice_get asks x ≡ Some (j, there) → headline.here x ≡ Some q
       → TakesChatUnless (user_of hosts server) users asks headline.here (heard q 0 [] relaying.expanded) (all_asked q 0 answers.answered) (came 0 ((users j).taken there))
+  pub on_one : (x j : ℕ) (there q : PeerRef) → slice_get asks x ≡ Some (j, there) → headline.here x ≡ Some q
+      → TakesSome (user_of hosts server) users asks headline.here (heard q 1 [] relaying.expanded) (came 1 ((users j).taken there))
 
 abbrev pub OfChatServer : Type 0
 OfChatServer = (at : Node → Addr) → AreApart at → (settings : Settings) (served : ChatServer) (left : Service Host) → is_in_range settings ≡ true → (s : HasServed settings served left)

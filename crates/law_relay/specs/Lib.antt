@@ -1,4 +1,5 @@
 pub mod Relay
 pub mod Pairs
 pub mod Refusals
+pub mod Unreliable
 pub mod Chat

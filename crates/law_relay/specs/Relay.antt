@@ -53,7 +53,7 @@ RelayRule = (r : Running) (l : Relaying r) (q : PeerRef) (channel : ℕ) → cha
     → flat_map (packet_in q channel) (orders (given (all_gave (rounds_of r)))) ++ flat_map (packet_in q channel) l.waits ≡ chat_for q channel l.expanded
 
 -- a subsequence
-abbrev pub IsPart : List Event → List Event → Type 0
+abbrev pub IsPart : {X : Type 0} → List X → List X → Type 0
 IsPart [] ys = Unit {0}
 IsPart (x ∷ xs) [] = ⊥
 IsPart (x ∷ xs) (y ∷ ys) = ((x ≡ y) × IsPart xs ys) ⊎ IsPart (x ∷ xs) ys

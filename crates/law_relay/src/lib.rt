@@ -3,17 +3,18 @@
 //! Proved, of the contracts of `ChatServer`'s runs (`Serves`) and of the laws of services: what the server's service is given for a peer
 //! is the chat for it (`relay_rule`); of each pair (i, j) of clients, what j takes on channel 0 of what i submitted there is whole, each
 //! once, in i's order, from some packet on, since j hears from its Connect on, and leaves out nothing flagged RELIABLE before the last
-//! (`each_pair`), but for orders that were refused, which are named (`refused_left_out`); so it is of any runs of a `ChatServer`, one after
-//! another (`chat_server_in_order`).
+//! (`each_pair`), but for orders that were refused, which are named (`refused_left_out`); on channel 1 it takes some of what i submitted
+//! there, each whole and once, in order; so it is of any runs of a `ChatServer`, one after another (`chat_server_in_order`).
 //! Premise: that of `law_service`. Where the server takes leave of its clients after the runs, that no order is given then (`Leaves`) is a
 //! premise, too: the contract of `ChatServer::take_leave` doesn't say it.
-//! Neither: a pair's channel 1, and a run that ended in an error, of which `serve` promises nothing.
+//! Neither: a run that ended in an error, of which `serve` promises nothing; nor is it said of what i submitted unsequenced on channel 1.
 #![tactic(auto)]
 
 ghost use Rattle.law_relay.specs.Chat.{EachServed, EachHasServed, OfChatServer, OfChatThreads};
 ghost use Rattle.law_relay.specs.Relay.{RelayRule, BetweenClients};
 ghost use Rattle.law_relay.specs.Pairs.{BetweenPairs};
 ghost use Rattle.law_relay.specs.Refusals.{EachHasAnswers, BetweenClientsUnless, BetweenPairsUnless};
+ghost use Rattle.law_relay.specs.Unreliable.{BetweenPairsOnOne};
 
 /// What the server's service is given for a peer is the chat for it: each packet of another peer that came while it was in the table,
 /// once and in order (`rule`). So what a client takes follows the chat for it, where none of its orders was refused (`order`).
@@ -29,11 +30,13 @@ pub fn each_pair()
 {}
 
 /// Each order that the service was given was answered, and the events name those that were refused (`answers`). What a client takes
-/// follows the chat for it, but for those whose order was refused (`order`), and so it is of each pair of clients (`pairs`).
+/// follows the chat for it, but for those whose order was refused (`order`), and so it is of each pair of clients (`pairs`). On channel 1,
+/// where orders go unreliably, a client takes of each other some of what that submitted there, each whole and once, in order (`on_one`).
 pub fn refused_left_out()
     ensures answers { EachHasAnswers }
     ensures order { BetweenClientsUnless }
     ensures pairs { BetweenPairsUnless }
+    ensures on_one { BetweenPairsOnOne }
 {}
 
 /// Any runs of a server, one after another, are as one (`runs`). From a fresh server on they make a service's turns and a relay's work, also
