@@ -1,3 +1,4 @@
 pub mod Stepping
 pub mod Reaching
 pub mod Told
+pub mod Playing

@@ -1,5 +1,5 @@
 -- By one event, and by a list of them, what a world keeps is what its transcript tells; so the headline is on it.
-use Rattle.std.proofs.Common.{◌≡◌, ◌≢◌, ℕ, zero, suc, ◌+◌, ◌<◌, ◌⊎◌, inl, inr, ◌==◌, ◌&&◌, Bool, true, false, cond, List, [], ◌∷◌, ◌++◌, map, length, refl, sym, ap, subst, ◌∙◌, append-nil, arith, Option, Some, None, Result, Ok, Err, IfOk, slice_get}
+use Rattle.std.proofs.Common.{◌≡◌, ◌≢◌, ℕ, zero, suc, ◌+◌, ◌<◌, ◌⊎◌, inl, inr, ◌==◌, ◌&&◌, Bool, true, false, cond, List, [], ◌∷◌, ◌++◌, map, length, refl, sym, ap, subst, ◌∙◌, append-nil, arith, Option, Some, None, Result, Ok, Err, slice_get}
 use Rattle.std.specs.Prelude.{zip, flat_map}
 use Rattle.std.proofs.lemmas.List.{length-append}
 use Rattle.std.proofs.lemmas.Option.{slice_get_within}
@@ -8,7 +8,6 @@ use Rattle.enet_codec.specs.declared.event.Event.{Event}
 use Rattle.enet_codec.specs.declared.event.PeerRef.{PeerRef}
 use Rattle.enet_codec.specs.declared.packet.Packet.{Packet}
 use Rattle.enet_codec.specs.declared.refusal.Refusal.{Refusal}
-use Rattle.enet_codec.specs.declared.refusal.Refusal.TheVariants.{BadConfig}
 use Rattle.enet_codec.specs.Config.{is_in_range}
 use Rattle.law_connection.specs.LinkSteps.{Has}
 use Rattle.law_connection.proofs.Lists.{Has-push}
@@ -173,7 +172,7 @@ begins w event answer what m = absurd m
 -- ---- what is told of a world
 
 -- the end of a connection at the side whose user asked for it
-abbrev HasEndOf : World → ℕ → Side → PeerRef → Type 0
+abbrev pub HasEndOf : World → ℕ → Side → PeerRef → Type 0
 HasEndOf w x s name = (e : HostEnd) × Has (site_of w s).ends e × (e.connection ≡ x) × (e.name ≡ name)
 
 pub record IsToldBy (hs : List Happened) (w : World) : Type 0 where
@@ -182,7 +181,7 @@ pub record IsToldBy (hs : List Happened) (w : World) : Type 0 where
   pub count_is : w.count ≡ length (asked hs)
   pub begun : (x : ℕ) (s : Side) (name : PeerRef) → slice_get (asked hs) x ≡ Some (s, name) → HasEndOf w x s name
 
-end-stays : (m : Side) (what : Happening) (w v : World) → HappensAt m what w v → (x : ℕ) (s : Side) (name : PeerRef) → HasEndOf w x s name → HasEndOf v x s name
+pub end-stays : (m : Side) (what : Happening) (w v : World) → HappensAt m what w v → (x : ℕ) (s : Side) (name : PeerRef) → HasEndOf w x s name → HasEndOf v x s name
 end-stays m what w v h x s name p = by (is_side m s) refl
   where
     old : Site
@@ -318,7 +317,7 @@ record Reached (a b : Config) (hs : List Happened) (w : World) : Type 0 where
   runs : Runs (open_world a b) events given w
   told : IsToldBy hs w
 
-each-told : (a b : Config) → (is_in_range a && is_in_range b) ≡ true → (events : List WorldEvent) (given : List (Result Answer Refusal)) (w : World) → Runs (open_world a b) events given w → IsToldBy (zip events given) w
+pub each-told : (a b : Config) → (is_in_range a && is_in_range b) ≡ true → (events : List WorldEvent) (given : List (Result Answer Refusal)) (w : World) → Runs (open_world a b) events given w → IsToldBy (zip events given) w
 each-told a b fits events given w r =
     (runs-on Steps (Reached a b) step events given [] (open_world a b) w r (record { events = []; given = []; runs = refl; told = open-told a b fits })).told
   where
@@ -332,8 +331,17 @@ each-told a b fits events given w r =
 
 -- ---- the headline
 
-on-transcript : (w : World) (hs : List Happened) → Sound (λ x. false) w → kept.HasHeadline false w → IsToldBy hs w → IsOnTranscript hs
-on-transcript w hs sound k told = record { here = here; each = each; apart = apart; all = all }
+-- the name of a connection's peer at the side whose user didn't ask for it
+abbrev pub here_by : World → ℕ → Option (Side × PeerRef) → Option PeerRef
+here_by w x None = None
+here_by w x (Some a) = called (end_of x (site_of w (other a.0)).ends)
+
+-- the page, with the names that the ends have in the end
+abbrev pub IsOn : World → List Happened → Type 0
+IsOn w hs = (t : IsOnTranscript hs) × ((x : ℕ) → t.here x ≡ here_by w x (slice_get (asked hs) x))
+
+pub on-transcript : (w : World) (hs : List Happened) → Sound (λ x. false) w → kept.HasHeadline false w → IsToldBy hs w → IsOn w hs
+on-transcript w hs sound k told = (record { here = here; each = each; apart = apart; all = all }, λ x. refl)
   where
     is-user : (s : Side) → IsUsers (λ a. true) (user hs s) (site_of w s)
     is-user s = record { recorded = told.each s; headline = k.hosts s; covered = λ quiet. told.covered s }
@@ -342,15 +350,11 @@ on-transcript w hs sound k told = record { here = here; each = each; apart = apa
     below A e h = sound.a.below e h
     below B e h = sound.b.below e h
 
-    here-by : ℕ → Option (Side × PeerRef) → Option PeerRef
-    here-by x None = None
-    here-by x (Some a) = called (end_of x (site_of w (other a.0)).ends)
-
     here : ℕ → Option PeerRef
-    here x = here-by x (slice_get (asked hs) x)
+    here x = here_by w x (slice_get (asked hs) x)
 
     here-is : (x : ℕ) (a : Side × PeerRef) → slice_get (asked hs) x ≡ Some a → here x ≡ called (end_of x (site_of w (other a.0)).ends)
-    here-is x a is = ap (here-by x) is
+    here-is x a is = ap (here_by w x) is
 
     flipped : (one two : Option HostEnd) → HasHeadlineBetween one two → HasHeadlineBetween two one
     flipped one two h = record { forth = h.back; back = h.forth; unsequenced_forth = h.unsequenced_back; unsequenced_back = h.unsequenced_forth }
@@ -411,24 +415,3 @@ on-transcript w hs sound k told = record { here = here; each = each; apart = apa
         let low : e.0.connection < length (asked hs) = (let l : e.0.connection < w.count = below s e.0 e.1 in let n : w.count ≡ length (asked hs) = told.count_is in omega arith) in
         let a = get-within (asked hs) e.0.connection low in
         (e.0.connection, a.0, a.1, named-of s e.0 e.1 a.0 a.1 ∙ ap (λ (q : PeerRef). Some q) e.2)
-
--- so it is of each list that was played
-
-played : (a b : Config) → (is_in_range a && is_in_range b) ≡ true → (events : List WorldEvent) (given : List (Result Answer Refusal)) (w : World) → Runs (open_world a b) events given w → IsOnTranscript (zip events given)
-played a b fits events given w r =
-    on-transcript w (zip events given) (sound-list a b fits events given w r) (headline-list a b fits events given w r) (each-told a b fits events given w r)
-
-pub answered : {V : Type 0} (items : V → List (Result Answer Refusal)) (a b : Config) (events : List WorldEvent) (r : Result V Refusal) (first w : World) → (is_in_range a && is_in_range b) ≡ true → first ≡ open_world a b
-    → IfOk r (λ v. Runs first events (items v) w) → IfOk r (λ v. IsOnTranscript (zip events (items v)))
-answered items a b events (Ok v) first w fits fresh runs = played a b fits events (items v) w (subst (λ (z : World). Runs z events (items v) w) fresh runs)
-answered items a b events (Err why) first w fits fresh runs = tt
-
-pub stepped : {V : Type 0} (items : V → List (Result Answer Refusal)) (a b : Config) (events : List WorldEvent) (r : Result V Refusal) (first w : World) → first ≡ open_world a b
-    → IfOk r (λ v. Runs first events (items v) w) → IfOk r (λ v. (z : World) × Runs (open_world a b) events (items v) z)
-stepped items a b events (Ok v) first w fresh runs = (w, subst (λ (z : World). Runs z events (items v) w) fresh runs)
-stepped items a b events (Err why) first w fresh runs = tt
-
--- settings by which something else than that refusal came
-pub fitted : {V : Type 0} (b : Bool) (r : Result V Refusal) (v : V) → (b ≡ false → r ≡ Err BadConfig) → r ≡ Ok v → b ≡ true
-fitted true r v refused ok = refl
-fitted false r v refused ok = absurd (let z : ◌≡◌ {A = Result _ Refusal} (Ok v) (Err BadConfig) = sym ok ∙ refused refl in cc)

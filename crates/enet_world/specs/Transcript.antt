@@ -1,5 +1,5 @@
 -- The headline of two hosts, either of whose users may ask for a connection, said of their events and of the answers to them alone.
-use Rattle.std.specs.Prelude.{◌≡◌, ◌≢◌, ◌⊎◌, ℕ, ◌==◌, ◌&&◌, Bool, true, false, if◌then◌else◌, List, [], ◌∷◌, flat_map, Option, Some, Result, Ok, slice_get}
+use Rattle.std.specs.Prelude.{◌≡◌, ◌≢◌, ◌≤◌, ◌⊎◌, ℕ, ◌==◌, ◌&&◌, Bool, true, false, if◌then◌else◌, List, [], ◌∷◌, take, flat_map, Option, Some, Result, Ok, slice_get}
 use Rattle.enet_codec.specs.declared.event.Event.{Event}
 use Rattle.enet_codec.specs.declared.event.PeerRef.{PeerRef}
 use Rattle.enet_codec.specs.declared.packet.Packet.{Packet}
@@ -71,3 +71,8 @@ pub record IsHeadline (users : Side → User) (asked : List (Side × PeerRef)) :
 -- the headline
 abbrev pub IsOnTranscript : List Happened → Type 0
 IsOnTranscript hs = IsHeadline (user hs) (asked hs)
+
+-- the same of each front of a list: so at each moment; and a connection keeps the name that the other side has for its peer
+pub record IsOnEachFront (hs : List Happened) : Type 0 where
+  pub front : (n : ℕ) → IsOnTranscript (take n hs)
+  pub stays : (n m x : ℕ) (p : PeerRef) → n ≤ m → (front n).here x ≡ Some p → (front m).here x ≡ Some p

@@ -5,7 +5,7 @@ ghost use Rattle.std.specs.Option.{option_copied, option_map};
 ghost use Rattle.enet_codec.specs.Config.{is_in_range};
 ghost use Rattle.law_network.specs.Headline.{HasHeadline, end_at, submitted_at, taken_at, events_at};
 ghost use Rattle.law_network.specs.World.{World as TwoHosts, Steps, Runs, open_world, site_of, other};
-ghost use Rattle.enet_world.specs.Transcript.{IsOnTranscript};
+ghost use Rattle.enet_world.specs.Transcript.{IsOnEachFront};
 ghost use Rattle.enet_world.specs.Worlds.{begun};
 
 use crate::hosts::Hosts;
@@ -90,9 +90,11 @@ impl World {
     /// where there is no memory for the answers, before anything happens.
     ///
     /// `steps`: the answers are those of a world's run. `headline`: the headline on one page, of the events and their answers alone
-    /// (specs/Transcript), whichever user asked for a connection: what one user submitted on a channel to its peer is followed by
-    /// what the other took of its peer of that connection, a subsequence, each packet whole and once, that leaves out none flagged
-    /// RELIABLE before its last. Each end's events are one life, no two connections share a name, and all that was taken is of these.
+    /// (specs/Transcript), after each event, whichever user asked for a connection: what one user has submitted on a channel to its
+    /// peer is followed by what the other has taken of its peer of that connection, a subsequence, each packet whole and once, that
+    /// leaves out none flagged RELIABLE before its last; what came unsequenced apart, of which each packet was submitted to go so, with
+    /// its bytes. Each end's events are one life, no two connections share a name, a connection keeps its name, and all that was taken
+    /// is of these.
     pub fn play(
         alloc: Global,
         cfg_a: Config,
@@ -102,7 +104,7 @@ impl World {
         ensures out_of_range { (is_in_range cfg_a && is_in_range cfg_b) ≡ false → result ≡ Err Refusal.BadConfig }
         ensures in_range { (is_in_range cfg_a && is_in_range cfg_b) ≡ true → IfErr result (λ why. why ≡ Refusal.Memory) }
         ensures steps { IfOk result (λ answers. (w : TwoHosts) × Runs (open_world cfg_a cfg_b) events.now answers.items w) }
-        ensures headline { IfOk result (λ answers. IsOnTranscript (zip events.now answers.items)) }
+        ensures headline { IfOk result (λ answers. IsOnEachFront (zip events.now answers.items)) }
     {
         let mut world = World::open(alloc, cfg_a, cfg_b)?;
         let answers = world.run(events);

@@ -1,7 +1,7 @@
 use Rattle.std.proofs.Common.{ap, ◌&&◌}
 use Rattle.enet_codec.specs.Config.{is_in_range}
 use Rattle.enet_world.specs.Worlds.{Begun}
-use Rattle.enet_world.proofs.Told.{answered, fitted, stepped}
+use Rattle.enet_world.proofs.Playing.{answered, fitted, stepped}
 use Rattle.enet_world.proofs.world.World.play.Goals as goal
 
 pub returns-clause-headline : goal.returns-clause-headline
