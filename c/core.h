@@ -14,6 +14,8 @@ uint32_t gofnjerta_core_connect(gofnjerta_host *host, const gofnjerta_address *t
 uint32_t gofnjerta_core_submit(gofnjerta_host *host, const gofnjerta_peer *peer, uint8_t channel, uint8_t flags, const void *body, size_t length);
 uint32_t gofnjerta_core_stage(gofnjerta_host *host, const void *body, size_t length);
 uint32_t gofnjerta_core_submit_staged(gofnjerta_host *host, const gofnjerta_peer *peer, uint8_t channel, uint8_t flags);
+uint32_t gofnjerta_core_broadcast(gofnjerta_host *host, const gofnjerta_peer *peers, size_t count, uint8_t channel, uint8_t flags,
+                                  const void *body, size_t length);
 gofnjerta_received gofnjerta_core_receive(gofnjerta_host *host, const gofnjerta_address *from, const void *datagram, size_t length);
 uint32_t gofnjerta_core_service(gofnjerta_host *host, void *buffer, size_t room, gofnjerta_datagram *datagram);
 uint32_t gofnjerta_core_tick(gofnjerta_host *host, uint32_t ms);

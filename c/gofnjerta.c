@@ -73,6 +73,16 @@ uint32_t gofnjerta_submit_staged(gofnjerta_host *host, gofnjerta_peer peer, uint
     return gofnjerta_core_submit_staged(host, &peer, channel, flags);
 }
 
+uint32_t gofnjerta_broadcast(gofnjerta_host *host, const gofnjerta_peer *peers, size_t count, uint8_t channel, uint8_t flags,
+                             const void *body, size_t length) {
+    static const gofnjerta_peer nobody;
+    if (!peers && count == 0) peers = &nobody;
+    body = bytes_at(body, length);
+    if (!host || !peers || !body) return GOFNJERTA_NULL;
+    if (length > GOFNJERTA_MAX_PACKET || count > PTRDIFF_MAX / sizeof *peers) return GOFNJERTA_TOO_LARGE;
+    return gofnjerta_core_broadcast(host, peers, count, channel, flags, body, length);
+}
+
 uint32_t gofnjerta_receive(gofnjerta_host *host, gofnjerta_address from, const void *datagram, size_t length, gofnjerta_received *received) {
     datagram = bytes_at(datagram, length);
     if (!host || !datagram) return GOFNJERTA_NULL;

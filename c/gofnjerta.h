@@ -176,7 +176,14 @@ uint32_t gofnjerta_connect(gofnjerta_host *host, gofnjerta_address to, uint8_t c
  * NO_SUCH_CHANNEL, TOO_LARGE, MEMORY. */
 uint32_t gofnjerta_submit(gofnjerta_host *host, gofnjerta_peer peer, uint8_t channel, uint8_t flags, const void *body, size_t length);
 
-/* A packet to many peers: its body is copied once by gofnjerta_stage, in place of the one that was staged before, and shared by each
+/* Submits a packet to each of `count` peers: a copy of `length` bytes at `body`, which they share. Peers that have gone or aren't
+ * connected are passed by. A peer by which it is refused for another reason doesn't keep it from the others, and the first such reason is
+ * the answer: NO_SUCH_CHANNEL, TOO_LARGE, MEMORY. Nothing is submitted to any peer where there is no memory for the copy (MEMORY), and
+ * where length is above GOFNJERTA_MAX_PACKET or there can't be so many peers (TOO_LARGE). */
+uint32_t gofnjerta_broadcast(gofnjerta_host *host, const gofnjerta_peer *peers, size_t count, uint8_t channel, uint8_t flags,
+                             const void *body, size_t length);
+
+/* A packet to many peers, one call each: its body is copied once by gofnjerta_stage, in place of the one that was staged before, and shared by each
  * gofnjerta_submit_staged. It stays staged until the next one is, or the host is closed. TOO_LARGE above GOFNJERTA_MAX_PACKET, MEMORY;
  * the other answers UNSTAGED and what gofnjerta_submit does. */
 uint32_t gofnjerta_stage(gofnjerta_host *host, const void *body, size_t length);

@@ -32,9 +32,10 @@ void layer_release_of(Layer *layer, const ENetPeer *peer) {
         if (layer->sent[i].slot == peer->incomingPeerID) give_back(layer, i, 0);
 }
 
-static bool make_room_sent(Layer *layer) {
-    if (layer->sent_count < layer->sent_room) return true;
-    size_t room = layer->sent_room ? layer->sent_room * 2 : 16;
+static bool make_room_sent(Layer *layer, size_t count) {
+    size_t room = layer->sent_room ? layer->sent_room : 16;
+    while (room - layer->sent_count < count) room *= 2;
+    if (room == layer->sent_room) return true;
     Given *sent = realloc(layer->sent, room * sizeof *sent);
     if (!sent) return false;
     layer->sent = sent;
@@ -70,20 +71,46 @@ static int send_anew(Layer *layer, const ENetPeer *peer, enet_uint8 channel, ENe
     return 0;
 }
 
-int enet_peer_send(ENetPeer *peer, enet_uint8 channel, ENetPacket *packet) {
-    Layer *layer = layer_of(peer->host);
-    uint16_t number = peer->incomingPeerID;
-    if (peer->state != ENET_PEER_STATE_CONNECTED || layer->ends || packet->dataLength > layer->host.maximumPacketSize) return -1;
-    if (!make_room_sent(layer)) return -1;
-    if (layer->staged != packet ? send_anew(layer, peer, channel, packet) : !share(layer, peer, channel, packet)) return -1;
+/* The slot's peer holds a reference until the next service. There is room for it. */
+static void hold(Layer *layer, uint16_t number, ENetPacket *packet) {
     layer->sent[layer->sent_count++] = (Given){packet, number};
     packet->referenceCount++;
-    put_mark(&peer->outgoingCommands, &layer->marks[number].queued);
+    put_mark(&layer->host.peers[number].outgoingCommands, &layer->marks[number].queued);
+}
+
+int enet_peer_send(ENetPeer *peer, enet_uint8 channel, ENetPacket *packet) {
+    Layer *layer = layer_of(peer->host);
+    if (peer->state != ENET_PEER_STATE_CONNECTED || layer->ends || packet->dataLength > layer->host.maximumPacketSize) return -1;
+    if (!make_room_sent(layer, 1)) return -1;
+    if (layer->staged != packet ? send_anew(layer, peer, channel, packet) : !share(layer, peer, channel, packet)) return -1;
+    hold(layer, peer->incomingPeerID, packet);
     return 0;
 }
 
+/* One order for these peers, who share one copy of the packet's bytes. */
+static void give_all(Layer *layer, const gofnjerta_peer *names, size_t count, enet_uint8 channel, ENetPacket *packet) {
+    const void *body = packet->dataLength ? packet->data : NULL;
+    if (!count || !make_room_sent(layer, count)) return;
+    if (gofnjerta_broadcast(&layer->core, names, count, channel, (uint8_t)packet->flags, body, packet->dataLength)) return;
+    for (size_t i = 0; i < count; i++) hold(layer, names[i].slot, packet);
+    layer->given = packet;
+    layer->orders = count;
+}
+
+/* Whether a broadcast goes to a peer: not where it asked for fewer channels. */
+static bool is_reached(const ENetPeer *peer, enet_uint8 channel) {
+    return peer->state == ENET_PEER_STATE_CONNECTED && channel < peer->channelCount;
+}
+
 void enet_host_broadcast(ENetHost *host, enet_uint8 channel, ENetPacket *packet) {
-    for (size_t i = 0; i < slots_in_use(layer_of(host)); i++)
-        if (host->peers[i].state == ENET_PEER_STATE_CONNECTED) enet_peer_send(&host->peers[i], channel, packet);
+    Layer *layer = layer_of(host);
+    gofnjerta_peer names[BATCH];
+    size_t count = 0, slots = layer->ends || packet->dataLength > host->maximumPacketSize ? 0 : slots_in_use(layer);
+    for (size_t i = 0; i < slots; i++) {
+        if (is_reached(&host->peers[i], channel)) names[count++] = layer->slots[i].name;
+        if (count < BATCH && i + 1 < slots) continue;
+        give_all(layer, names, count, channel, packet);
+        count = 0;
+    }
     if (packet->referenceCount == 0) enet_packet_destroy(packet);
 }

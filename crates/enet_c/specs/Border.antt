@@ -1,18 +1,21 @@
 -- What a call across the border makes of what a handle holds.
-use Rattle.std.specs.Prelude.{◌≡◌, ◌⊎◌, ◌<◌, ◌≤◌, ◌++◌, ℕ, true, Option, Some, None, Result, Ok, Err, List, length, drop, is_ok}
+use Rattle.std.specs.Prelude.{◌≡◌, ◌⊎◌, ◌<◌, ◌≤◌, ◌++◌, ℕ, true, Option, Some, None, Result, Ok, Err, List, [], ◌∷◌, length, drop, is_ok}
 use Rattle.std.specs.Option.{option_and_then}
 use Rattle.std.specs.List.{list_any}
 use Rattle.enet_codec.specs.declared.address.Addr.{Addr}
 use Rattle.enet_codec.specs.declared.config.Config.{Config}
 use Rattle.enet_codec.specs.declared.event.Event.{Event}
+use Rattle.enet_codec.specs.declared.event.Outward.{Outward}
 use Rattle.enet_codec.specs.declared.event.PeerRef.{PeerRef}
 use Rattle.enet_codec.specs.declared.event.Received.{Received}
 use Rattle.enet_codec.specs.declared.refusal.Refusal.{Refusal}
+use Rattle.enet_codec.specs.Outward.{errands}
 use Rattle.enet_slot.specs.declared.giving.Question.{Question}
 use Rattle.enet_slot.specs.Slot.{SlotState}
 use Rattle.enet_slot.specs.Calls.{submission}
 use Rattle.enet_slot.specs.Sharing.{wants_room}
 use Rattle.enet_host.specs.Host.{Host}
+use Rattle.enet_host.specs.Broadcast.{SubmitsEach}
 use Rattle.enet_host.specs.Calls.{on_named, with_bandwidth, Takes}
 use Rattle.enet_host.specs.Foretelling.{body_of}
 use Rattle.enet_host.specs.Opening.{host_basis, Opens, Connects, opened}
@@ -97,6 +100,16 @@ SubmitsBody call (Some body) c = SettlesWithMemory (call body) c
 abbrev pub SubmitsStaged : PeerRef → ℕ → ℕ → Crossing → Type 0
 SubmitsStaged name channel flags c =
     SubmitsBody (λ body slots. on_named slots name (submission channel (record { flags = flags; body = body }))) c.before.staged c
+
+-- a packet is submitted to each of these peers, or memory for its copy is refused
+pub record SubmitsToEach (names : List PeerRef) (packet : Outward) (c : Crossing) : Type 0 where
+  pub answer : Result (Unit {0}) Refusal
+  pub submits : SubmitsEach (errands names (packet ∷ [])) answer c.before.host.slots c.after.host.slots
+  pub told : c.number ≡ answered_by answer
+  pub rest : c.after ≡ record c.before { host = record c.before.host { slots = c.after.host.slots } }
+
+abbrev pub Broadcasts : List PeerRef → Outward → Crossing → Type 0
+Broadcasts names packet c = SubmitsToEach names packet c ⊎ ((c.number ≡ 1) × (c.after ≡ c.before))
 
 -- new bandwidths, or 1 where a peer that must be told wants memory for it
 abbrev pub SetsBandwidth : ℕ → ℕ → Crossing → Type 0

@@ -1,16 +1,18 @@
 //! The host's calls on what a handle holds, with numbers in place of refusals.
 
-ghost use Rattle.std.specs.Prelude.{◌≡◌};
+ghost use Rattle.std.specs.Prelude.{◌≡◌, None, map};
+ghost use Rattle.enet_codec.specs.Outward.{errands};
 ghost use Rattle.enet_slot.specs.Calls.{submission};
+ghost use Rattle.enet_host.specs.Broadcast.{SubmitsEach};
 ghost use Rattle.enet_host.specs.Calls.{on_named};
-ghost use Rattle.enet_c.specs.Border.{Asks, Copies, PutsOut, SettlesWithMemory, SubmitsStaged, Tells};
-ghost use Rattle.enet_c.specs.Shapes.{reading_named};
+ghost use Rattle.enet_c.specs.Border.{Asks, Broadcasts, Copies, PutsOut, SettlesWithMemory, SubmitsStaged, Tells};
+ghost use Rattle.enet_c.specs.Shapes.{name_meant, reading_named};
 
 use crate::held::Held;
-use crate::numbers::{OK, SHORT, UNSTAGED, UNTOLD, number_of};
+use crate::numbers::{OK, SHORT, UNSTAGED, UNTOLD, answer, number_of};
 use crate::shapes::{CoreAddress, CoreDatagram, CoreEvent, CorePeer, CoreReading, state_number};
 use bytes::Bytes;
-use enet_host::{Addr, Event, PeerRef, Refusal};
+use enet_host::{Addr, Event, Outward, PeerRef, Refusal};
 use std::alloc::Global;
 
 /// A body of no more bytes is copied before the host is asked whether it would refuse it, which it seldom does.
@@ -86,6 +88,41 @@ impl Held {
             Some(why) => number_of(why),
             None => number_of(Refusal::Memory),
         }
+    }
+
+    /// Submits a packet, whose body is copied once, to each of these peers.
+    pub(crate) fn broadcast(
+        &mut self,
+        alloc: Global,
+        peers: &[CorePeer],
+        channel: u8,
+        flags: u8,
+        body: &[u8],
+    ) -> u32
+        ensures { Broadcasts (map name_meant peers.now) (record { except = None; channel = channel; flags = flags; body = body.now }) (record { before = self.old; number = result; after = self.new }) }
+    {
+        let Ok(body) = Bytes::copy_from_slice(alloc, body) else {
+            return number_of(Refusal::Memory);
+        };
+        let packet = Outward {
+            except: None,
+            channel,
+            flags,
+            body,
+        };
+        answer(self.submit_each(peers, &[packet]))
+    }
+
+    /// Submits packets to each of these peers.
+    fn submit_each(&mut self, peers: &[CorePeer], packets: &[Outward]) -> Result<(), Refusal>
+        ensures submits { SubmitsEach (errands (map name_meant peers.now) packets.now) result self.old.host.slots self.new.host.slots }
+        ensures rest { self.new ≡ record self.old { host = record self.old.host { slots = self.new.host.slots } } }
+    {
+        let mut told = Ok(());
+        for peer in peers {
+            told = told.and(self.host.submit_each(&[peer.into_name()], packets));
+        }
+        told
     }
 
     /// Puts out the next datagram, into the first 4,096 bytes of a buffer.

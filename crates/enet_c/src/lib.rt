@@ -10,7 +10,8 @@
 //! `Settles` and `SettlesWithMemory` (`on_named`). `connect` is `Asks` (the host's `Connects`), `receive` is `TakesIn` (`Receives`),
 //! `service` is `PutsOut` (`Serves`) and leaves the rest of the buffer alone, `next_event` is `Tells` (`Takes`) and keeps the body of the
 //! packet that it told, which `body` copies (`Copies`); `submit` answers 1 only where nothing else is refused, and `throttle_configure`
-//! only where the host may want memory to tell the peer (`wants_room_in`); `peer` and `totals_of` show what the host holds, and `due_in`
+//! only where the host may want memory to tell the peer (`wants_room_in`); `broadcast` is the host's `submit_each` with one packet
+//! (`Broadcasts`); `peer` and `totals_of` show what the host holds, and `due_in`
 //! when time brings it something (`IsDueIn`); `open` is `Begins` (`Opens`), and `close` leaves the handle closed. A name that `error_name`
 //! or `stop_name` gives is that of the refusal or stop with this number.
 //! `compress` and `decompress` are the range coder's (`code_of`, `body_of`), and know no handle.
@@ -49,6 +50,7 @@ pub use shapes::{
 };
 pub use telling::{gofnjerta_core_body, gofnjerta_core_next_event};
 pub use traffic::{
-    gofnjerta_core_connect, gofnjerta_core_receive, gofnjerta_core_service, gofnjerta_core_stage,
-    gofnjerta_core_submit, gofnjerta_core_submit_staged, gofnjerta_core_tick,
+    gofnjerta_core_broadcast, gofnjerta_core_connect, gofnjerta_core_receive,
+    gofnjerta_core_service, gofnjerta_core_stage, gofnjerta_core_submit,
+    gofnjerta_core_submit_staged, gofnjerta_core_tick,
 };

@@ -1,10 +1,10 @@
 //! Connections, packets, datagrams and time.
 
-ghost use Rattle.std.specs.Prelude.{◌≡◌, IfNone};
+ghost use Rattle.std.specs.Prelude.{◌≡◌, None, map, IfNone};
 ghost use Rattle.enet_slot.specs.Calls.{submission};
 ghost use Rattle.enet_host.specs.Calls.{on_named};
 ghost use Rattle.enet_host.specs.Ticking.{ticked};
-ghost use Rattle.enet_c.specs.Border.{closed, Crosses, Asks, PutsOut, SettlesWithMemory, Stages, SubmitsStaged, TakesIn};
+ghost use Rattle.enet_c.specs.Border.{closed, Crosses, Asks, Broadcasts, PutsOut, SettlesWithMemory, Stages, SubmitsStaged, TakesIn};
 ghost use Rattle.enet_c.specs.Shapes.{address_meant, name_meant};
 
 use crate::numbers::{CLOSED, OK, number_of};
@@ -91,6 +91,27 @@ pub extern "C" fn gofnjerta_core_submit_staged(
         return CLOSED;
     };
     let number = held.submit_staged(peer.into_name(), channel, flags);
+    handle.put(held);
+    number
+}
+
+/// Submits a packet to each of these peers, which share one copy of its body. Peers that have gone or aren't connected are passed by;
+/// else the answer is the first refusal, E4, E5 or E1, and the other peers get it. E1 without any submission where the copy finds no memory.
+#[unsafe(no_mangle)]
+pub extern "C" fn gofnjerta_core_broadcast(
+    alloc: Global,
+    handle: &mut Handle,
+    peers: &[CorePeer],
+    channel: u8,
+    flags: u8,
+    body: &[u8],
+) -> u32
+    ensures { Crosses (Broadcasts (map name_meant peers.now) (record { except = None; channel = channel; flags = flags; body = body.now })) handle.old.own.value result handle.new.own.value }
+{
+    let Some(mut held) = handle.take(alloc) else {
+        return CLOSED;
+    };
+    let number = held.broadcast(alloc, peers, channel, flags, body);
     handle.put(held);
     number
 }
