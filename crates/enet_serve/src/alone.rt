@@ -53,7 +53,7 @@ impl Alone<'_> {
         }
     }
 
-    // Takes turns until so much time has passed, or much was done.
+    // Takes turns until so much time has passed, whoever watches wants the end, or much was done.
     fn run_for_time<R: Wait + Clock, W: Watch>(
         &mut self,
         rt: &R,
@@ -75,7 +75,7 @@ impl Alone<'_> {
         for _ in rt.forever() {
             let report = self.run_for_turns(rt, bound, TURNS_AT_ONCE, watch)?;
             total = total.and(report);
-            if is_over(rt, total, &start, time) {
+            if watch.wants_end() || is_over(rt, total, &start, time) {
                 return Ok(total);
             }
         }

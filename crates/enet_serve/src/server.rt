@@ -15,8 +15,9 @@ use enet_service::{
     BoundService, Ends, EventReceiver, MioWire, OrderSender, QueueSink, QueueSource, Queues,
     Report, Returned, RunLength, Shared, Signals, Unopened, Watch, beside_turns, settle,
 };
-use enet_submit::Drain;
+use enet_submit::{Drain, Order};
 use std::alloc::Global;
+use std::collections::VecDeque;
 use std::net::Net;
 use std::rt::Clock;
 use std::sync::Wait;
@@ -45,10 +46,10 @@ pub struct ChatServer {
 }
 
 impl ChatServer {
-    ghost use Rattle.std.specs.Prelude.{◌≡◌, ◌≢◌, ◌+◌, ◌⊎◌, ◌↔◌, IsSome, true, false, None, OnOk, IfOk, IfErr, Err};
+    ghost use Rattle.std.specs.Prelude.{◌≡◌, ◌≢◌, ◌+◌, ◌⊎◌, ◌↔◌, ◌++◌, [], IsSome, true, false, None, OnOk, OnErr, IfOk, IfErr, Err};
     ghost use Rattle.enet_submit.specs.Words.{capacity_of};
     ghost use Rattle.enet_service.specs.ServiceRuns.{AreNew, IsCapacity};
-    ghost use Rattle.enet_serve.specs.Serving.{Serves, EndsRun, IsNotServed, IsOpened, is_in_range, host_of, faults_of, peers_of, backlog_of, orders_of, queue_capacity_of};
+    ghost use Rattle.enet_serve.specs.Serving.{Serves, EndsRun, IsNotServed, IsOpened, is_in_range, host_of, faults_of, waiting_of, peers_of, backlog_of, orders_of, queue_capacity_of};
 
     /// A server at this address, with no peer.
     ///
@@ -209,6 +210,24 @@ impl ChatServer {
         relayed?;
         self.kept = kept?;
         Ok(report)
+    }
+
+    /// Has the next run begin with these orders, behind those that wait: so what an operator asks for (to end a connection, to say
+    /// something) comes to a turn of that run, once. None of them is left in `orders`.
+    ///
+    /// E1 for want of memory, and then all is as it was.
+    pub fn order(&mut self, orders: &mut VecDeque<Order>) -> Result<(), Refusal>
+        ensures ordered { OnOk result (orders_of self.new ≡ orders_of self.old ++ orders.old.items) }
+        ensures taken { OnOk result (orders.new.items ≡ []) }
+        ensures same { OnErr result ((orders_of self.new ≡ orders_of self.old) × (orders.new.items ≡ orders.old.items)) }
+        ensures memory { IfErr result (λ why. why ≡ Refusal.Memory) }
+        ensures host { (host_of self.new ≡ host_of self.old) × (waiting_of self.new ≡ waiting_of self.old) × (faults_of self.new ≡ faults_of self.old) }
+        ensures relay { (peers_of self.new ≡ peers_of self.old) × (backlog_of self.new ≡ backlog_of self.old) × (queue_capacity_of self.new ≡ queue_capacity_of self.old) }
+    {
+        match self.kept.orders.append(orders) {
+            Ok(()) => Ok(()),
+            Err(_) => Err(Refusal::Memory),
+        }
     }
 
     /// The host, which tells how much went through it.
