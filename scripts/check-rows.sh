@@ -144,6 +144,8 @@ serve --port 47001 --turns -1
 serve --port 47001 --threads 0
 serve --port 47001 --threads 3
 serve --port 47001 --turns 2 --forever
+serve --port 47001 --control
+serve --port 47001 --turns 2 --control
 serve --port 47001 --address localhost
 serve --port 47001 --address 127.0.0.1.1
 demo --clients 0
@@ -181,6 +183,10 @@ services() {
     end_service
     goes_on forever 2
     goes_on forever-in-one-thread 1 --threads 1
+    goes_on control-without-input 2 --control
+    obeys control
+    obeys control-in-one-thread --threads 1
+    goes_on_unread unread
 }
 
 # `serve --forever` with the words behind $2, $1 its name here, goes on in $2 threads and writes its first line alone.
@@ -193,6 +199,38 @@ goes_on() {
     [ "$(find "/proc/$first/task" -mindepth 1 -maxdepth 1 | wc -l)" -eq "$2" ] || fail "$name" "it doesn't serve in $2 threads"
     end_service
     [ ! -s "$room/first" ] && [ "$(sized "$room/first.err")" = "$(listening)" ] || fail "$name" "it wrote: $(head -c 200 "$room/first" "$room/first.err")"
+}
+
+# `serve --forever --control` with the words behind $1, its name here, answers each line, and ends with `stop` and with no other.
+obeys() {
+    local name=$1 status
+    free_port
+    {
+        printf '%s\n' peers nonsense 'kick 0.0' 'kick x' 'say hello' 'log on' 'log maybe' 'log off' ' stop' 'stop now'
+        head -c 2000 /dev/zero | tr '\0' x
+        printf '\nstop'
+        sleep 1
+        printf '\n'
+    } | timeout 20 "$program" serve --port "$port" --forever --control "${@:2}" > "$room/out" 2> "$room/err"
+    status=${PIPESTATUS[1]}
+    printf '%s\n' 'peers 0' 'not understood' 'no peer 0.0' 'not understood' 'said to 0' 'log on' 'not understood' 'log off' \
+        'not understood' 'not understood' 'not understood' 'stopping' | cmp -s - "$room/out" || { fail "$name" "it answered: $(head -c 400 "$room/out")"; return; }
+    [ "$status" -eq 0 ] || { fail "$name" "status $status where 0 is wanted"; return; }
+    [ "$(sized "$room/err")" = "$(listening)" ] || { fail "$name" "standard error is: $(head -c 200 "$room/err")"; return; }
+    passed=$((passed + 1))
+}
+
+# It answers with a standard output that takes nothing: `stop` ends it.
+goes_on_unread() {
+    local name=$1
+    free_port
+    mkfifo "$room/unread"
+    exec 7<> "$room/unread"
+    head -c 65536 /dev/zero >&7
+    { printf 'peers\nstop\n'; sleep 8; } | timeout 20 "$program" serve --port "$port" --forever --control >&7 2> "$room/err"
+    [ "${PIPESTATUS[1]}" -eq 0 ] && passed=$((passed + 1)) || fail "$name" 'it was held up by its standard output'
+    exec 7>&-
+    rm "$room/unread"
 }
 
 # What `demo` prints with $1 clients of which each got $2 packets, and the last word $3.
@@ -229,7 +267,7 @@ command_lines() {
     command_line help 0 '' /dev/null "$room/out" --help
     grep -q lab "$room/out" || fail help "it doesn't name the lab"
     command_line help-of-serve 0 '' /dev/null "$room/out" serve --help
-    grep -q -- '--queue-capacity' "$room/out" && grep -q -- '--threads' "$room/out" || fail help-of-serve 'an option is missing'
+    grep -q -- '--queue-capacity' "$room/out" && grep -q -- '--threads' "$room/out" && grep -q -- '--control' "$room/out" || fail help-of-serve 'an option is missing'
     command_line input-that-cannot-be-read 1 'input or output failed' / "$room/out" lab
     command_line output-that-cannot-be-written 1 'input or output failed' "$rows/one-reliable-packet.lab" /dev/full lab
 }

@@ -29,6 +29,8 @@ pub struct ServeOptions {
     /// Whether each connection, each end of one and each refused order is told.
     pub logs: bool,
     pub threads: ServerThreads,
+    /// Whether standard input is read.
+    pub is_controlled: bool,
 }
 
 /// Which threads serve.
@@ -122,7 +124,8 @@ fn serve_command<'a>(alloc: Global) -> Result<Command<'a>, AllocError> {
         .arg(turns(alloc))?
         .arg(forever(alloc)?)?
         .arg(logs(alloc))?
-        .arg(threads(alloc))
+        .arg(threads(alloc))?
+        .arg(control(alloc)?)
 }
 
 fn demo_command<'a>(alloc: Global) -> Result<Command<'a>, AllocError> {
@@ -199,6 +202,15 @@ fn logs<'a>(alloc: Global) -> Arg<'a> {
         .action(ArgAction::SetTrue)
 }
 
+fn control<'a>(alloc: Global) -> Result<Arg<'a>, AllocError> {
+    Arg::new(alloc, "control")
+        .long("control")
+        .help("Do what lines of standard input say: stop, totals, peers, kick, say, log")
+        .action(ArgAction::SetTrue)
+        .conflicts_with("turns")?
+        .requires_arg("forever")
+}
+
 fn threads<'a>(alloc: Global) -> Arg<'a> {
     number8(alloc, "threads", 1, 2)
         .help("How many threads serve: one does all, of two one relays")
@@ -265,6 +277,7 @@ fn serve_options(found: &ArgMatches<'_>) -> Option<ServeOptions> {
             1 => ServerThreads::One,
             _ => ServerThreads::Two,
         },
+        is_controlled: found.get_flag("control"),
     })
 }
 

@@ -6,17 +6,21 @@
 //! `enet_serve`, how a script of the lab is answered by `enet_lab`, and what is told of a datagram by `enet_text`.
 //! Only tested, by scripts/check-inspect.sh: what `inspect` writes and its status. By scripts/check-rows.sh: the scripts of scripts/rows;
 //! the command lines `--help`, no subcommand, an unknown one, a word too many, and those of `serve` and `demo` with numbers out of range;
-//! what both print; an input that can't be read, an output that can't be written, a port that is taken, an address that isn't there, a
-//! system that makes no threads. By scripts/check-clients.sh: what clients of the reference library get from `serve`, and those of `demo`
+//! what both print; the answers to the lines of `serve --control`, and that a standard output that takes nothing holds up nothing; an
+//! input that can't be read, an output that can't be written, a port that is taken, an address that isn't there, a system that makes no
+//! threads. By scripts/check-clients.sh: what clients of the reference library get from `serve`, and those of `demo`
 //! from a server of that library, the log, and how a server ends whose relay finds no memory. By hand alone: want of memory elsewhere
 //! (`E1 Memory`, status 1), and the line of totals of `serve --forever`.
 //! Neither: that `serve` ends, since threads may wait.
 #![tactic(auto)]
 
 mod command_line;
+mod control;
 mod demonstrating;
+mod desk;
 mod failure;
 mod inspecting;
+mod outlet;
 mod serving;
 mod watching;
 

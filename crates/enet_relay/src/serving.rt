@@ -19,7 +19,7 @@ const DAY: u64 = 86_400;
 /// Serves, and tells how much it was.
 pub fn serve<R>(rt: &R, options: ServeOptions) -> Result<(), Failure>
 where
-    R: Threads + Wait + Net + Clock + Sync + Print + Eprint + AllocGlobal,
+    R: Threads + Wait + Net + Clock + Sync + Input + Print + Eprint + AllocGlobal,
 {
     let settings = Settings {
         address: options.address,
@@ -53,10 +53,16 @@ fn tell_start<R: Eprint>(rt: &R, server: &ChatServer, settings: Settings) {
 
 fn serve_as_asked<R>(rt: &R, server: &mut ChatServer, options: ServeOptions) -> Result<(), Failure>
 where
-    R: Threads + Wait + Clock + Sync + Print + Eprint,
+    R: Threads + Wait + Clock + Sync + Input + Print + Eprint + AllocGlobal,
 {
     let gauge = Gauge::new();
-    let mut operator = Operator::new(rt, &gauge, options.logs);
+    let mut operator = Operator::new(
+        rt,
+        &gauge,
+        options.peers,
+        options.logs,
+        options.is_controlled,
+    )?;
     match options.length {
         Length::Turns(turns) => serve_turns(
             rt,
@@ -109,21 +115,23 @@ where
     println!(rt; "served {turns} received {received} sent {sent}").map_err(|_| Failure::Io)
 }
 
-// Serves until the process is stopped.
-fn serve_on<R, W>(
+// Serves until the process is stopped, or its operator says so. What the operator asks for comes between two runs.
+fn serve_on<R>(
     rt: &R,
     server: &mut ChatServer,
     threads: ServerThreads,
     gauge: &Gauge,
-    watch: &mut W,
+    operator: &mut Operator<'_, R>,
 ) -> Result<(), Failure>
 where
-    R: Threads + Wait + Clock + Sync,
-    W: Watch + Send,
+    R: Threads + Wait + Clock + Sync + Input + Print + Eprint + AllocGlobal,
 {
     for _ in rt.forever() {
         let day = RunLength::Time(Duration::from_secs(DAY));
-        serve_run(rt, server, threads, day, gauge, watch)?;
+        serve_run(rt, server, threads, day, gauge, operator)?;
+        if operator.hand_over(server)? {
+            return Ok(());
+        }
     }
     Ok(())
 }

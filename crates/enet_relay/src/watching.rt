@@ -1,7 +1,12 @@
 //! What the server's operator is told while it serves.
 
-use enet_serve::{Gauge, Met, Note, Watch, WatchedHost};
+use crate::control::Word;
+use crate::desk::Desk;
+use crate::outlet::{Outlet, Stream};
+use enet_codec::Refusal;
+use enet_serve::{ChatServer, Gauge, Met, Note, Watch, WatchedHost};
 use enet_service::Report;
+use std::alloc::{AllocError, Global};
 use std::net::Ipv4Addr;
 use std::rt::Clock;
 use std::sync::atomic::Ordering::SeqCst;
@@ -10,13 +15,18 @@ use std::time::{Duration, Instant};
 /// Totals are told once in so many seconds.
 const BETWEEN_TOTALS: u64 = 60;
 
+/// At one look so many lines of the operator are obeyed at most.
+const MOST_LINES: u32 = 16;
+
 /// Tells the server's operator on standard error: its totals each minute and, where that is asked, each connection, each end of one and each
-/// refused order. A line that can't be written ends nothing.
+/// refused order; and does what the operator says. A line that can't be written, or not at once, ends nothing and holds up nothing.
 #[derive(Drop)]
 pub struct Operator<'a, R> {
     rt: &'a R,
     gauge: &'a Gauge,
     logs: bool,
+    errors: Outlet,
+    desk: Desk,
     told_at: Option<Instant>,
     lost: u64,
     refused: u64,
@@ -25,37 +35,62 @@ pub struct Operator<'a, R> {
     events: u64,
 }
 
-impl<'a, R> Operator<'a, R> {
-    pub fn new(rt: &'a R, gauge: &'a Gauge, logs: bool) -> Operator<'a, R> {
-        Operator {
+impl<'a, R: AllocGlobal> Operator<'a, R> {
+    /// For a server with room for so many peers. Where it is controlled, standard input is read.
+    pub fn new(
+        rt: &'a R,
+        gauge: &'a Gauge,
+        peers: u16,
+        logs: bool,
+        is_controlled: bool,
+    ) -> Result<Operator<'a, R>, AllocError> {
+        Ok(Operator {
             rt,
             gauge,
             logs,
+            errors: Outlet::new(Stream::Error),
+            desk: Desk::new(rt.alloc(), peers, is_controlled)?,
             told_at: None,
             lost: 0,
             refused: 0,
             orders: 0,
             events: 0,
-        }
+        })
+    }
+
+    /// Hands to the server what its operator asked for. True where nothing was, and it is to end: so what was said before comes before
+    /// the end. E1 for want of memory.
+    pub fn hand_over(&mut self, server: &mut ChatServer) -> Result<bool, Refusal> {
+        let is_done = self.desk.stops && self.desk.orders.is_empty();
+        server.order(&mut self.desk.orders)?;
+        Ok(is_done)
     }
 }
 
-impl<R: Clock + Eprint> Watch for Operator<'_, R> {
+impl<R: Clock + Input + Print + Eprint + AllocGlobal> Watch for Operator<'_, R> {
     fn look(&mut self, host: &WatchedHost, report: Report) {
         self.lost = self.lost.saturating_add(u64::from(report.lost));
         self.orders = self.orders.saturating_add(u64::from(report.orders));
         self.events = self.events.saturating_add(u64::from(report.events));
         self.refused = self.refused.saturating_add(host.refused());
         if self.logs {
-            log_all(self.rt, host);
+            self.log_all(host);
         }
         if self.is_time() {
-            self.tell_totals(host);
+            let totals = self.totals(host);
+            self.errors.line(self.rt, totals);
         }
+        self.errors.settle(self.rt);
+        self.desk.note(self.rt, host);
+        self.obey(host);
+    }
+
+    fn wants_end(&self) -> bool {
+        self.desk.stops || !self.desk.orders.is_empty()
     }
 }
 
-impl<R: Clock + Eprint> Operator<'_, R> {
+impl<R: Clock + Input + Print + Eprint + AllocGlobal> Operator<'_, R> {
     // Whether a minute has passed since it was time, first since it was asked. Never where the clock can't be read.
     fn is_time(&mut self) -> bool {
         let Ok(now) = Instant::now(self.rt) else {
@@ -73,7 +108,8 @@ impl<R: Clock + Eprint> Operator<'_, R> {
     }
 
     // `out` counts what the host put out; `lost` says how many of those didn't leave. What waits is in the queues and beside them.
-    fn tell_totals(&self, host: &WatchedHost) {
+    fn totals(&self, host: &WatchedHost) -> Result<String, AllocError> {
+        let alloc = self.rt.alloc();
         let peers = self.gauge.peers.load(SeqCst);
         let totals = host.host().totals();
         let came = totals.datagrams_in;
@@ -84,45 +120,78 @@ impl<R: Clock + Eprint> Operator<'_, R> {
         let refused = self.refused;
         let orders = self.gauge.asked().saturating_sub(self.orders);
         let events = self.events.saturating_sub(self.gauge.expanded());
-        let _ = eprintln!(self.rt;
-            "peers {peers} in {came} bytes {bytes_in} out {went} bytes {bytes_out} lost {lost} refused {refused} waiting orders {orders} events {events}"
-        );
+        format!(in alloc;
+            "peers {peers} in {came} bytes {bytes_in} out {went} bytes {bytes_out} lost {lost} refused {refused} waiting orders {orders} events {events}\n"
+        )
     }
-}
 
-fn log_all<R: Eprint>(rt: &R, host: &WatchedHost) {
-    for note in host.notes() {
-        log(rt, note);
-    }
-    let missed = host.missed();
-    if missed > 0 {
-        let _ = eprintln!(rt; "{missed} more");
-    }
-}
-
-fn log<R: Eprint>(rt: &R, note: &Note) {
-    match note {
-        // A server that only relays gives no order to connect.
-        Note::Asked { .. } => {}
-        Note::Came { met, info } => log_met(rt, "connect", met, *info),
-        Note::Went { met, info } => log_met(rt, "disconnect", met, *info),
-        Note::Refused { peer, why } => {
-            let _ = match peer {
-                Some(peer) => {
-                    let slot = peer.slot;
-                    let generation = peer.generation;
-                    eprintln!(rt; "order to {slot}.{generation} refused: {why}")
-                }
-                None => eprintln!(rt; "order to connect refused: {why}"),
+    // Does what the operator says now.
+    fn obey(&mut self, host: &WatchedHost) {
+        for _line in 0..MOST_LINES {
+            let Some(word) = self.desk.next(self.rt) else {
+                return;
             };
+            self.carry_out(host, word);
+        }
+    }
+
+    fn carry_out(&mut self, host: &WatchedHost, word: Word) {
+        let rt = self.rt;
+        match word {
+            Word::Totals => {
+                let totals = self.totals(host);
+                self.desk.answer(rt, totals);
+            }
+            Word::Log(logs) => {
+                self.logs = logs;
+                let told = if logs { "on" } else { "off" };
+                self.desk.answer(rt, format!(in rt.alloc(); "log {told}\n"));
+            }
+            Word::Peers => self.desk.tell_peers(rt, host),
+            Word::Stop => self.desk.stop(rt),
+            Word::Kick { peer, info } => self.desk.kick(rt, host, peer, info),
+            Word::Say(text) => self.desk.say(rt, host, text),
+            Word::Unknown => {
+                let line = format!(in rt.alloc(); "not understood\n");
+                self.desk.answer(rt, line);
+            }
+        }
+    }
+
+    fn log_all(&mut self, host: &WatchedHost) {
+        for note in host.notes() {
+            if let Some(line) = logged(self.rt.alloc(), note) {
+                self.errors.line(self.rt, line);
+            }
+        }
+        self.errors.miss(host.missed());
+    }
+}
+
+// A server that only relays gives no order to connect: of such a one nothing is told.
+fn logged(alloc: Global, note: &Note) -> Option<Result<String, AllocError>> {
+    match note {
+        Note::Asked { .. } => None,
+        Note::Came { met, info } => Some(logged_met(alloc, "connect", met, *info)),
+        Note::Went { met, info } => Some(logged_met(alloc, "disconnect", met, *info)),
+        Note::Refused {
+            peer: Some(peer),
+            why,
+        } => {
+            let slot = peer.slot;
+            let generation = peer.generation;
+            Some(format!(in alloc; "order to {slot}.{generation} refused: {why}\n"))
+        }
+        Note::Refused { peer: None, why } => {
+            Some(format!(in alloc; "order to connect refused: {why}\n"))
         }
     }
 }
 
-fn log_met<R: Eprint>(rt: &R, what: &str, met: &Met, info: u32) {
+fn logged_met(alloc: Global, what: &str, met: &Met, info: u32) -> Result<String, AllocError> {
     let slot = met.peer.slot;
     let generation = met.peer.generation;
     let ip = Ipv4Addr::from_bits(met.address.ip);
     let port = met.address.port;
-    let _ = eprintln!(rt; "{what} {slot}.{generation} at {ip}:{port} info {info}");
+    format!(in alloc; "{what} {slot}.{generation} at {ip}:{port} info {info}\n")
 }

@@ -1,0 +1,191 @@
+//! What the server does at its operator's word.
+
+use crate::control::{Control, Word};
+use crate::outlet::{Outlet, Stream};
+use bytes::Bytes;
+use enet_codec::{DisconnectMode, PeerRef};
+use enet_serve::{Met, Note, WatchedHost};
+use enet_submit::Order;
+use std::alloc::{AllocError, Global};
+use std::collections::VecDeque;
+use std::net::Ipv4Addr;
+use std::rt::Clock;
+use std::time::Instant;
+
+/// The channel and the flags of what the operator says: reliable, where chat is.
+const CHAT: u8 = 0;
+
+const RELIABLE: u8 = 1;
+
+/// Where the operator is heard and answered.
+#[derive(Drop)]
+pub struct Desk {
+    // Where there is none, nobody is heard.
+    control: Option<Control>,
+    answers: Outlet,
+    // When the peer of each slot connected.
+    since: Vec<Option<Instant>>,
+    /// What the server is to be asked for.
+    pub orders: VecDeque<Order>,
+    /// Whether it is to end.
+    pub stops: bool,
+}
+
+impl Desk {
+    /// Of a server with room for so many peers.
+    pub fn new(alloc: Global, peers: u16, is_controlled: bool) -> Result<Desk, AllocError> {
+        let mut since = Vec::new(alloc);
+        let mut control = None;
+        if is_controlled {
+            since.resize(usize::from(peers), None)?;
+            control = Some(Control::new());
+        }
+        Ok(Desk {
+            control,
+            answers: Outlet::new(Stream::Output),
+            since,
+            orders: VecDeque::new(alloc),
+            stops: false,
+        })
+    }
+
+    /// What the operator says next, if it is there.
+    pub fn next<R: Input + AllocGlobal>(&mut self, rt: &R) -> Option<Word> {
+        self.control.as_mut()?.next(rt)
+    }
+
+    /// Answers on standard output.
+    pub fn answer<R: Print + Eprint>(&mut self, rt: &R, line: Result<String, AllocError>) {
+        self.answers.line(rt, line);
+    }
+
+    /// Notes when peers connect.
+    pub fn note<R: Clock>(&mut self, rt: &R, host: &WatchedHost) {
+        for note in host.notes() {
+            if let Note::Came { met, .. } = note {
+                self.note_met(rt, met.peer);
+            }
+        }
+    }
+
+    fn note_met<R: Clock>(&mut self, rt: &R, peer: PeerRef) {
+        if let Some(since) = self.since.get_mut(usize::from(peer.slot)) {
+            *since = Instant::now(rt).ok();
+        }
+    }
+
+    /// Who is connected: a line each, and then how many there are.
+    pub fn tell_peers<R: Clock + Print + Eprint + AllocGlobal>(
+        &mut self,
+        rt: &R,
+        host: &WatchedHost,
+    ) {
+        let mut peers = 0u32;
+        for met in host.met() {
+            if let Some(met) = met {
+                let line = self.peer_line(rt, host, met);
+                self.answer(rt, line);
+                peers = peers.saturating_add(1);
+            }
+        }
+        self.answer(rt, format!(in rt.alloc(); "peers {peers}\n"));
+    }
+
+    fn peer_line<R: Clock + AllocGlobal>(
+        &self,
+        rt: &R,
+        host: &WatchedHost,
+        met: &Met,
+    ) -> Result<String, AllocError> {
+        let peer = met.peer;
+        let slot = peer.slot;
+        let generation = peer.generation;
+        let ip = Ipv4Addr::from_bits(met.address.ip);
+        let port = met.address.port;
+        let seconds = self.seconds(rt, peer);
+        let trip = host.host().round_trip(peer).map_or(0, |trip| trip.mean);
+        let throttle = host.host().throttle(peer).unwrap_or(0);
+        let transit = host.host().in_transit(peer).unwrap_or(0);
+        format!(in rt.alloc();
+            "peer {slot}.{generation} at {ip}:{port} for {seconds} s round trip {trip} ms throttle {throttle} in transit {transit} bytes\n"
+        )
+    }
+
+    // For how long a peer is connected; 0 where that isn't known.
+    fn seconds<R: Clock>(&self, rt: &R, peer: PeerRef) -> u64 {
+        match self.since.get(usize::from(peer.slot)) {
+            Some(Some(since)) => match since.elapsed(rt) {
+                Ok(elapsed) => elapsed.as_secs(),
+                Err(_) => 0,
+            },
+            _ => 0,
+        }
+    }
+
+    /// Has the server end.
+    pub fn stop<R: Print + Eprint + AllocGlobal>(&mut self, rt: &R) {
+        self.stops = true;
+        self.answer(rt, format!(in rt.alloc(); "stopping\n"));
+    }
+
+    /// Has the connection of this peer end.
+    pub fn kick<R: Print + Eprint + AllocGlobal>(
+        &mut self,
+        rt: &R,
+        host: &WatchedHost,
+        peer: PeerRef,
+        info: u32,
+    ) {
+        let slot = peer.slot;
+        let generation = peer.generation;
+        let is_there = match host.met().get(usize::from(slot)) {
+            Some(Some(met)) => met.peer == peer,
+            _ => false,
+        };
+        let order = Order::Disconnect {
+            peer,
+            how: DisconnectMode::Ask,
+            info,
+        };
+        let line = if !is_there {
+            format!(in rt.alloc(); "no peer {slot}.{generation}\n")
+        } else if self.orders.push_back(order).is_err() {
+            format!(in rt.alloc(); "no memory\n")
+        } else {
+            format!(in rt.alloc(); "kicked {slot}.{generation}\n")
+        };
+        self.answer(rt, line);
+    }
+
+    /// Has this text sent to each client, reliably on channel 0.
+    pub fn say<R: Print + Eprint + AllocGlobal>(
+        &mut self,
+        rt: &R,
+        host: &WatchedHost,
+        text: Bytes,
+    ) {
+        let mut clients = 0u32;
+        for met in host.met() {
+            if let Some(met) = met {
+                if self.say_to(met.peer, &text) {
+                    clients = clients.saturating_add(1);
+                }
+            }
+        }
+        self.answer(rt, format!(in rt.alloc(); "said to {clients}\n"));
+    }
+
+    // False where there is no memory.
+    fn say_to(&mut self, peer: PeerRef, text: &Bytes) -> bool {
+        let Ok(body) = text.clone() else {
+            return false;
+        };
+        let order = Order::Submit {
+            peer,
+            channel: CHAT,
+            flags: RELIABLE,
+            body,
+        };
+        self.orders.push_back(order).is_ok()
+    }
+}
