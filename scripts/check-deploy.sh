@@ -1,0 +1,126 @@
+#!/usr/bin/env bash
+# What deploy/ has, tried: `check-deploy.sh [PROGRAM]`. systemd-analyze verifies the units and finds the service exposed by at most 1.5 of 10. The
+# entrypoint of the container is process 1 of a namespace of its own: SIGTERM comes while four clients of the reference library talk
+# (clients/guests.c), all are told, and it ends with status 0. The wrapper for Agones runs beside a stub of the SDK's sidecar: it is ready,
+# healthy, allocated with the first client, and shut down, once by SIGTERM and once since the last client has left. PROGRAM is the built
+# `enet_relay`, by default the one that `rt ci`, or `rt run` in crates/enet_relay, leaves. Installs, as root, what is missing. Prints what failed,
+# and as last line 'N passed, M failed'; the status is 1 where one failed.
+cd "$(dirname "$0")/.." || exit 1
+. scripts/clients.sh
+program=$(realpath "${1:-crates/enet_relay/out/enet_relay}")
+passed=0
+failed=0
+room=$(mktemp -d) || exit 1
+started=()
+trap 'kill "${started[@]}" 2> "$room/gone"; rm -rf "$room"' EXIT
+
+judge() {
+    if [ "$2" = 0 ]; then
+        passed=$((passed + 1))
+    else
+        echo "FAILED $1: $(head -c 600 "$room/why")"
+        failed=$((failed + 1))
+    fi
+}
+
+install_tools() {
+    local missing=()
+    command -v systemd-analyze > "$room/found" || missing+=(systemd)
+    command -v unshare > "$room/found" || missing+=(util-linux)
+    command -v curl > "$room/found" || missing+=(curl)
+    command -v python3 > "$room/found" || missing+=(python3)
+    [ ${#missing[@]} -eq 0 ] || { apt-get install -y "${missing[@]}" || { apt-get update && apt-get install -y "${missing[@]}"; }; } > "$room/install" 2>&1
+}
+
+# The units, with the program at the place that they name.
+units() {
+    local unit=$room/root/etc/systemd/system
+    mkdir -p "$unit" "$room/root/usr/local/bin" "$room/root/bin"
+    cp deploy/systemd/* "$unit"
+    cp "$program" "$room/root/usr/local/bin/enet_relay"
+    cp /bin/sh "$room/root/bin/sh"
+    systemd-analyze --root="$room/root" --recursive-errors=no verify "$unit/enet-relay.service" "$unit/enet-relay.socket" > "$room/why" 2>&1 || return 1
+    [ ! -s "$room/why" ] || return 1
+    systemd-analyze --root="$room/root" --offline=true --threshold=15 security "$unit/enet-relay.service" > "$room/why" 2>&1
+}
+
+# Waits up to 10 seconds until the file $1 has a line that begins with $2.
+wait_for() {
+    for _ in {1..100}; do
+        grep -q "^$2" "$1" 2> "$room/gone" && return
+        sleep 0.1
+    done
+    echo "no line '$2': $(head -c 400 "$1")" > "$room/why"
+    return 1
+}
+
+# Starts two pairs of guests on the port $1, and waits until they talk.
+receive_guests() {
+    pairs=()
+    local pair
+    for pair in 1 2; do
+        timeout 60 "$room/guests" "$1" "${2:-told}" > "$room/pair$pair" 2> "$room/pair$pair.err" &
+        pairs+=($!)
+        started+=($!)
+    done
+    wait_for "$room/pair1" talking && wait_for "$room/pair2" talking
+}
+
+# Whether each pair of guests fared well.
+guests_fared() {
+    local pair
+    for pair in "${pairs[@]}"; do
+        wait "$pair" || { cat "$room/pair1.err" "$room/pair2.err" > "$room/why"; return 1; }
+    done
+}
+
+container() {
+    free_port
+    unshare --pid --fork --kill-child -- env PATH="$room:$PATH" sh deploy/container/entrypoint.sh \
+        serve --port "$port" --forever --log > "$room/container.out" 2> "$room/container.err" &
+    local outer=$! first begun
+    started+=("$outer")
+    wait_for "$room/container.err" 'listening at' && receive_guests "$port" || return 1
+    first=$(pgrep -P "$outer")
+    begun=$SECONDS
+    kill -TERM "$first"
+    guests_fared || return 1
+    wait "$outer" || { echo "status $?" > "$room/why"; return 1; }
+    [ $((SECONDS - begun)) -le 4 ] || { echo "it took $((SECONDS - begun)) seconds" > "$room/why"; return 1; }
+}
+
+# The wrapper, ended by SIGTERM where $1 is `term`, else once its clients have left.
+agones() {
+    free_port
+    local sdk=$port how=$1 wrapper
+    python3 deploy/agones/sidecar_stub.py "$sdk" > "$room/sidecar" 2> "$room/sidecar.err" &
+    started+=($!)
+    free_port
+    AGONES_SDK_HTTP_PORT=$sdk HEALTH_SECONDS=1 ALLOCATE_SELF=1 SHUTDOWN_EMPTY=1 EMPTY_SECONDS=2 sh deploy/agones/agones_run.sh \
+        "$program" serve --port "$port" --forever --log --control > "$room/wrapper.out" 2> "$room/wrapper.err" &
+    wrapper=$!
+    started+=("$wrapper")
+    wait_for "$room/sidecar" Ready && wait_for "$room/sidecar" health || return 1
+    if [ "$how" = term ]; then receive_guests "$port"; else receive_guests "$port" 20; fi || return 1
+    wait_for "$room/sidecar" Allocated || return 1
+    [ "$how" != term ] || kill -TERM "$wrapper"
+    guests_fared && wait_for "$room/sidecar" Shutdown || return 1
+    wait "$wrapper" || { echo "status $?" > "$room/why"; return 1; }
+}
+
+install_tools
+if ! build_clients "$room"; then
+    echo '0 passed, 1 failed'
+    exit 1
+fi
+ln -s "$program" "$room/enet_relay"
+units
+judge units $?
+container
+judge container $?
+agones term
+judge agones-terminated $?
+agones empty
+judge agones-empty $?
+echo "$passed passed, $failed failed"
+[ "$failed" -eq 0 ]
