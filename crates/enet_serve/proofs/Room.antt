@@ -21,6 +21,7 @@ use Rattle.enet_events.specs.declared.numbered.Numbered.{Numbered}
 use Rattle.enet_service.proofs.Settled.{of_one_seat}
 use Rattle.enet_service.specs.declared.report.Report.{Report}
 use Rattle.enet_service.specs.declared.run_length.RunLength.{RunLength}
+use Rattle.enet_service.specs.LoneTurn.{beside}
 use Rattle.enet_service.specs.Queues.{given, accepted}
 use Rattle.enet_service.specs.Run.{all_gave, all_puts}
 use Rattle.enet_host.specs.Host.{Host}
@@ -89,7 +90,7 @@ pub record IsFirst (capacity : ℕ) (from : Standing) (sender : OrderSender) (re
 pub serves_beside : (old new : ChatServer) (run_length : RunLength) (report : Report) (from to : Standing) (sender : OrderSender) (receiver : EventReceiver) (begun ended : Relay) (relayed : Result (Unit {0}) Refusal) (done : Unit {0}) (parts : RelayParts)
     → HasTurned run_length from to report → from.service ≡ old.bound.service → to.service ≡ new.bound.service → Relays begun ended → relayed ≡ Ok done → IfOk relayed (λ _. IsThrough ended)
     → IsFirst old.queue_capacity from sender receiver → IsBegun old.kept sender receiver begun → Leaves ended parts → IsLeft parts to.drain to.poster new.kept
-    → new.queue_capacity ≡ old.queue_capacity → Serves (old.queue_capacity + 1) old run_length new report
+    → new.queue_capacity ≡ old.queue_capacity → Serves beside (old.queue_capacity + 1) old run_length new report
 serves_beside old new run_length report from to sender receiver begun ended relayed done parts t service service_after r is_done on_done first b leaves left capacity =
     let through : IsThrough ended = IfOk-at_ok (λ (x : Unit {0}). IsThrough ended) is_done on_done in
     let rounds = t.rounds in

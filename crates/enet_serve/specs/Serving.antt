@@ -13,12 +13,14 @@ use Rattle.enet_host.specs.Opening.{opened}
 use Rattle.enet_bridge.specs.Ends.{orders}
 use Rattle.enet_bridge.specs.Socket.{failures_of}
 use Rattle.enet_service.specs.declared.report.Report.{Report}
+use Rattle.enet_service.specs.Hosting.{host_calls}
+use Rattle.enet_service.specs.LoneTurn.{Kind, RoundsOf}
 use Rattle.enet_service.specs.Queues.{given, accepted}
 use Rattle.enet_service.specs.Turn.{Round}
 use Rattle.enet_service.specs.Run.{IsSound, all_gave, all_puts, total}
 use Rattle.enet_chat.specs.Relaying.{noted_all, relayed_all, SameForEach, AreBehind, AreFarBehind}
 use Rattle.enet_service.specs.declared.run_length.RunLength.{RunLength}
-use Rattle.enet_service.specs.ServiceRuns.{Lasts, TakesTurns, IsCapacity}
+use Rattle.enet_service.specs.ServiceRuns.{Lasts, IsCapacity}
 use Rattle.enet_serve.specs.declared.server.ChatServer.{ChatServer}
 use Rattle.enet_serve.specs.declared.server.Settings.{Settings}
 
@@ -63,16 +65,16 @@ pub record IsOpened (settings : Settings) (server : ChatServer) : Type 0 where
   pub orders : orders_of server ≡ []
 
 -- ---- a run
--- From one run to the next. In none of its turns the wire failed, and the report is their sums. The events that the turns put are
+-- From one run to the next, by turns of this kind. In none of them the wire failed, and the report is their sums. The events that the turns put are
 -- expanded behind those that waited, once and in order, or wait. The orders that were asked for are for every peer what those events
 -- give for it, in order (SameForEach); they come behind those that waited, and were handed to the turns, once and in order, or wait.
 -- Events wait only where orders do, and where so many orders were handed to the turns or wait
-pub record Serves (many : ℕ) (old : ChatServer) (run_length : RunLength) (new : ChatServer) (report : Report) : Type 0 where
+pub record Serves (kind : Kind) (many : ℕ) (old : ChatServer) (run_length : RunLength) (new : ChatServer) (report : Report) : Type 0 where
   pub rounds : List Round
   pub expanded : List Event
   pub asked_for : List Order
   pub lasts : Lasts run_length rounds
-  pub turns : TakesTurns old.bound.service rounds new.bound.service
+  pub turns : RoundsOf kind host_calls old.bound.service rounds new.bound.service
   pub sound : All IsSound rounds
   pub queue_capacity : queue_capacity_of new ≡ queue_capacity_of old
   pub totals : report ≡ total rounds

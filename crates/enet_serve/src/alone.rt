@@ -1,8 +1,8 @@
 //! A run whose relay shares its service's thread.
-
+use crate::lone_turn::lone_turn;
 use enet_chat::{Gauge, LoneRelay};
 use enet_codec::Refusal;
-use enet_service::{Bell, BoundService, Fault, MioWire, Report, RunLength, Watch, is_over, run};
+use enet_service::{Bell, BoundService, Fault, MioWire, Report, RunLength, Watch, is_over};
 use std::alloc::Global;
 use std::rt::Clock;
 use std::sync::{Arc, Wait};
@@ -28,7 +28,7 @@ impl Alone<'_> {
     ghost use Rattle.enet_service.specs.ServiceRuns.{Lasts, LastsForTime};
     ghost use Rattle.enet_serve.specs.Private.Alone.{Goes, pair};
 
-    /// Takes the turns of a run, and expands after each of them what it told. `watch` is told of the turns.
+    /// Takes the turns of a run, each of which expands what it tells. `watch` is told of the turns.
     ///
     /// E14 where the wire fails, E1 for want of memory.
     pub(crate) fn run<R: Wait + Clock, W: Watch>(
@@ -111,7 +111,7 @@ impl Alone<'_> {
         }
     }
 
-    // Takes so many turns, and expands after each of them what it told. Where they fail, the report has all that was done.
+    // Takes so many turns, whose datagrams pass through one buffer. Where they fail, the report has all that was done.
     fn turn_by_turn<R: Wait + Clock>(
         &mut self,
         rt: &R,
@@ -127,9 +127,10 @@ impl Alone<'_> {
         ensures failed { IfErr result (λ fault. fault.why ≡ Refusal.WireFault → failures_of bound.new.wire ≡ failures_of bound.old.wire + 1) }
         ensures other { IfErr result (λ fault. fault.why ≢ Refusal.WireFault → failures_of bound.new.wire ≡ failures_of bound.old.wire) }
     {
+        let mut buf = [0u8; 4096];
         let mut total = Report::nothing();
         for _turn in 0..turns {
-            match self.take_turn(rt, bound) {
+            match self.take_turn(rt, bound, &mut buf) {
                 Ok(report) => total = total.and(report),
                 Err(Fault { why, report }) => {
                     return Err(Fault {
@@ -142,12 +143,12 @@ impl Alone<'_> {
         Ok(total)
     }
 
-    // Takes a turn, and expands what it told. While orders wait the service doesn't sleep. An event that the list refused ends the run:
-    // while it waited no order would be taken, and so, with many orders, no event expanded that makes room for it.
+    // Takes a turn. While orders wait the service doesn't sleep.
     fn take_turn<R: Wait + Clock>(
         &mut self,
         rt: &R,
         bound: &mut BoundService<MioWire>,
+        buf: &mut [u8; 4096],
     ) -> Result<Report, Fault>
         ensures goes { IfOk result (λ report. (rounds : List Round) × (length rounds ≡ 1) × (report ≡ total rounds)
             × Goes (pair bound.old.service self.old.relay) rounds (pair bound.new.service self.new.relay)) }
@@ -161,19 +162,8 @@ impl Alone<'_> {
             bell.ring();
         }
         let BoundService { wire, service } = bound;
-        let report = run(rt, service, wire, &mut relay.orders, &mut relay.events, 1)?;
-        if service.waiting.is_some() {
-            return Err(Fault {
-                why: Refusal::Memory,
-                report,
-            });
-        }
-        match relay.expand() {
-            Ok(()) => {
-                relay.show(gauge);
-                Ok(report)
-            }
-            Err(why) => Err(Fault { why, report }),
-        }
+        let report = lone_turn(rt, service, wire, relay, buf)?;
+        relay.show(gauge);
+        Ok(report)
     }
 }

@@ -1,17 +1,19 @@
 //! A server over the service, one of whose threads takes turns and another relays chat, or one does both ([`ChatServer`]); and a
 //! demonstration of it: the server and its clients in one process ([`demonstrate`]).
 //!
-//! Proved: one call of [`ChatServer::serve`] or [`ChatServer::serve_alone`] (`Serves`) is turns of the service, as many as were asked for
-//! where a number was, in none of which the wire failed, and its report their sums. Each event that the turns told was expanded by the rule
-//! of the relay, once and in order, or waits for the next call; each order that the events gave was handed to a turn, once and for every
-//! receiver in order, or waits, too; and events wait only where orders do, and where more orders were handed to the turns or wait than
-//! the queue has places, in one thread 256 at least. So nothing is lost or doubled on the way, nor from one call to the next. Where it ends early, E14 says that the wire failed, and only E14 does; no run begins where the queues' places are out of
-//! range. A server opens with the standard host of its settings, with nothing waiting ([`ChatServer::open`]). After a call that was refused
-//! nothing else is said of the server. What the relay keeps is as before once leave was taken. Of each client of the demonstration
-//! (`Visits`): its service took so many turns, in none of which the wire failed; the turns were given the first part of what the client
-//! asks for, which is its connection and, over the first that it is told of, three packets of chat; and what is told of the client is
-//! whether the turns told its connection, and how many packets they told. So its game thread missed no event and counted none twice. A
-//! number of clients that is out of its range is refused, with a refusal that comes for nothing else.
+//! Proved: one call of [`ChatServer::serve`] or [`ChatServer::serve_alone`] (`Serves`) is turns of the service, each in the order of its
+//! kind (in one thread a turn tells events and takes orders between hearing and sending), as many as were asked for where a number was, in
+//! none of which the wire failed, and its report their sums. Each event that the turns told was expanded by the rule of the relay, once and
+//! in order, or waits for the next call; each order that the events gave was handed to a turn, once and for every receiver in order, or
+//! waits, too; and events wait only where orders do, and where more orders were handed to the turns or wait than the queue has places, in
+//! one thread 256 at least. So nothing is lost or doubled on the way, nor from one call to the next. Where it ends early, E14 says that the
+//! wire failed, and only E14 does; no run begins where the queues' places are out of range. A server opens with the standard host of its
+//! settings, with nothing waiting ([`ChatServer::open`]). After a call that was refused nothing else is said of the server. What the relay
+//! keeps is as before once leave was taken. Of each client of the demonstration (`Visits`): its service took so many turns, in none of
+//! which the wire failed; the turns were given the first part of what the client asks for, which is its connection and, over the first that
+//! it is told of, three packets of chat; and what is told of the client is whether the turns told its connection, and how many packets they
+//! told. So its game thread missed no event and counted none twice. A number of clients that is out of its range is refused, with a refusal
+//! that comes for nothing else.
 //! Only tested, by scripts/check-rows.sh and scripts/check-clients.sh: what real clients get, that a call ends, at which address a server
 //! listens, what the system says where it can't, that the queues settle (no E16), that the server ends once its relay has, that its clients
 //! are told of its end; that each client of the demonstration gets all packets of the others, that a port that is taken is a refusal, and
@@ -24,6 +26,7 @@ mod alone;
 mod client;
 mod demonstration;
 mod leaving;
+mod lone_turn;
 mod orders;
 mod player;
 mod server;

@@ -49,6 +49,7 @@ impl ChatServer {
     ghost use Rattle.std.specs.Prelude.{◌≡◌, ◌≢◌, ◌+◌, ◌⊎◌, ◌↔◌, ◌++◌, [], IsSome, true, false, None, OnOk, OnErr, IfOk, IfErr, Err};
     ghost use Rattle.enet_submit.specs.Words.{capacity_of};
     ghost use Rattle.enet_service.specs.ServiceRuns.{AreNew, IsCapacity};
+    ghost use Rattle.enet_service.specs.LoneTurn.{beside, lone};
     ghost use Rattle.enet_serve.specs.Serving.{Serves, EndsRun, IsNotServed, IsOpened, is_in_range, host_of, faults_of, waiting_of, peers_of, backlog_of, orders_of, queue_capacity_of};
 
     /// A server at this address, with no peer.
@@ -97,7 +98,7 @@ impl ChatServer {
     where
         R: Threads + Wait + Clock + Sync,
         W: Watch + Send,
-        ensures serves { IfOk result (Serves (queue_capacity_of self.old + 1) self.old run_length self.new) }
+        ensures serves { IfOk result (Serves beside (queue_capacity_of self.old + 1) self.old run_length self.new) }
         ensures refused { IfErr result (IsNotServed self.old) }
         ensures range { OnOk result (IsCapacity (queue_capacity_of self.old)) }
         ensures sound { OnOk result (faults_of self.new ≡ faults_of self.old) }
@@ -119,8 +120,8 @@ impl ChatServer {
         self.run_turns(rt, shared, ends, run_length, gauge, watch)
     }
 
-    /// Serves for a run, as [`ChatServer::serve`] does, in one thread: after each turn of the service this thread expands what the turn
-    /// told, and the next turn takes the orders. A packet wakes no other thread and passes no queue between two of them, so that each takes
+    /// Serves for a run, as [`ChatServer::serve`] does, in one thread: in each turn this thread expands what the service told, and the
+    /// service takes the orders before it sends. A packet wakes no other thread and passes no queue between two of them, so that each takes
     /// less time and there is no use of a second processor.
     ///
     /// E14 where the wire fails, E1 for want of memory, where an event found none, too. Whatever is refused, nothing is promised of the
@@ -135,7 +136,7 @@ impl ChatServer {
     where
         R: Wait + Clock,
         W: Watch,
-        ensures serves { IfOk result (Serves 256 self.old run_length self.new) }
+        ensures serves { IfOk result (Serves lone 256 self.old run_length self.new) }
         ensures refused { IfErr result (λ why. (why ≡ Refusal.WireFault) ⊎ (why ≡ Refusal.Memory)) }
         ensures sound { OnOk result (faults_of self.new ≡ faults_of self.old) }
         ensures failed { IfErr result (λ why. why ≡ Refusal.WireFault → faults_of self.new ≡ faults_of self.old + 1) }
@@ -166,7 +167,7 @@ impl ChatServer {
     ) -> Result<Report, Refusal>
         requires new { AreNew shared.queue.now shared.events.now ends }
         requires places { capacity_of shared.queue.now ≡ queue_capacity_of self.old }
-        ensures serves { IfOk result (Serves (queue_capacity_of self.old + 1) self.old run_length self.new) }
+        ensures serves { IfOk result (Serves beside (queue_capacity_of self.old + 1) self.old run_length self.new) }
         ensures refused { IfErr result EndsRun }
         ensures sound { OnOk result (faults_of self.new ≡ faults_of self.old) }
         ensures failed { IfErr result (λ why. why ≡ Refusal.WireFault → faults_of self.new ≡ faults_of self.old + 1) }

@@ -22,7 +22,9 @@ use Rattle.enet_service.specs.Hosting.{host_calls}
 use Rattle.enet_service.specs.Queues.{given, accepted}
 use Rattle.enet_service.specs.Turn.{Round}
 use Rattle.enet_service.specs.Run.{IsSound, all_gave, all_puts}
-use Rattle.enet_service.specs.ServiceRuns.{TakesTurns, beginning}
+use Rattle.enet_service.specs.LoneTurn.{Kind, AreAmong, RoundsOf}
+use Rattle.enet_service.specs.ServiceRuns.{beginning}
+use Rattle.enet_service.proofs.Among.{rounds_among}
 use Rattle.enet_service.proofs.PhaseSteps.{chain_more}
 use Rattle.enet_service.proofs.Spells.{given_both, accepted_both}
 use Rattle.enet_serve.specs.declared.server.ChatServer.{ChatServer}
@@ -41,8 +43,8 @@ use Rattle.law_relay.proofs.Refusals.{has-answers, between-pairs-unless}
 use Rattle.law_relay.proofs.Unreliable.{between-pairs-on-one}
 use Rattle.law_relay.specs.Chat.{ServesAll, service_of, Served, EachServed, config_of, HasServed, EachHasServed, Played, hosts_of, users_of, users_by, ChatsInOrder, OfChatServer, OfChatThreads}
 
-none : (s : ChatServer) → Served s s
-none s = record {
+none : (kind : Kind) (s : ChatServer) → Served kind s s
+none kind s = record {
   rounds = [];
   expanded = [];
   asked_for = [];
@@ -54,12 +56,12 @@ none s = record {
   orders_done = append-nil (orders_of s);
 }
 
-one : (many : ℕ) (old : ChatServer) (run_length : RunLength) (new : ChatServer) (report : Report) → Serves many old run_length new report → Served old new
-one many old run_length new report s = record {
+one : (its kind : Kind) → AreAmong its kind → (many : ℕ) (old : ChatServer) (run_length : RunLength) (new : ChatServer) (report : Report) → Serves its many old run_length new report → Served kind old new
+one its kind among many old run_length new report s = record {
   rounds = s.rounds;
   expanded = s.expanded;
   asked_for = s.asked_for;
-  turns = s.turns;
+  turns = rounds_among its kind among host_calls (service_of old) s.rounds (service_of new) s.turns;
   sound = s.sound;
   events = s.events;
   peers = s.peers;
@@ -67,8 +69,8 @@ one many old run_length new report s = record {
   orders_done = s.orders_done;
 }
 
-more : (a b c : ChatServer) → Served a b → Served b c → Served a c
-more a b c p q = record {
+more : (kind : Kind) (a b c : ChatServer) → Served kind a b → Served kind b c → Served kind a c
+more kind a b c p q = record {
   rounds = p.rounds ++ q.rounds;
   expanded = p.expanded ++ q.expanded;
   asked_for = p.asked_for ++ q.asked_for;
@@ -83,11 +85,11 @@ more a b c p q = record {
 }
 
 pub each-served : EachServed
-each-served old [] new h = subst (λ (s : ChatServer). Served old s) (sym h) (none old)
-each-served old (run ∷ runs) new h = more old h.0 new (one h.1.0 old run.0 h.0 run.1 h.1.1) (each-served h.0 runs new h.2)
+each-served kind old [] new h = subst (λ (s : ChatServer). Served kind old s) (sym h) (none kind old)
+each-served kind old (run ∷ runs) new h = more kind old h.0 new (one h.1.0 kind h.1.1 h.1.2 old run.0 h.0 run.1 h.1.3) (each-served kind h.0 runs new h.2)
 
 pub each-has-served : EachHasServed
-each-has-served settings fresh served runs left opened h leaves = record {
+each-has-served kind settings fresh served runs left opened h leaves = record {
   running = r;
   relaying = record {
     expanded = s.expanded;
@@ -108,8 +110,8 @@ each-has-served settings fresh served runs left opened h leaves = record {
   peers = s.peers ∙ ap (λ (ps : List PeerRef). noted_all ps s.expanded) opened.peers;
 }
   where
-    s : Served fresh served
-    s = each-served fresh runs served h
+    s : Served kind fresh served
+    s = each-served kind fresh runs served h
 
     more-rounds : List Round
     more-rounds = rounds_in leaves.spans
@@ -120,12 +122,12 @@ each-has-served settings fresh served runs left opened h leaves = record {
     begins : service_of fresh ≡ beginning (config_of settings)
     begins = (λ i. record { host = opened.host i; waiting = opened.waiting i })
 
-    turns : TakesTurns (beginning (config_of settings)) s.rounds (service_of served)
-    turns = subst (λ (t : Service Host). TakesTurns t s.rounds (service_of served)) begins s.turns
+    turns : RoundsOf kind host_calls (beginning (config_of settings)) s.rounds (service_of served)
+    turns = subst (λ (t : Service Host). RoundsOf kind host_calls t s.rounds (service_of served)) begins s.turns
 
     -- its runs, and what came after them
     spans : List Span
-    spans = (record { rounds = s.rounds; how = Now; parted = [] }) ∷ leaves.spans
+    spans = (record { kind = kind; rounds = s.rounds; how = Now; parted = [] }) ∷ leaves.spans
 
     acts : Spans host_calls (beginning (config_of settings)) spans left
     acts = (service_of served, (service_of served, turns, refl), leaves.acts)

@@ -20,7 +20,7 @@ use Rattle.enet_service.specs.Phases.{Chain}
 use Rattle.enet_service.specs.Queues.{given, accepted}
 use Rattle.enet_service.specs.Turn.{Round}
 use Rattle.enet_service.specs.Run.{IsSound, all_gave, all_puts}
-use Rattle.enet_service.specs.ServiceRuns.{TakesTurns}
+use Rattle.enet_service.specs.LoneTurn.{Kind, AreAmong, RoundsOf}
 use Rattle.enet_chat.specs.Relaying.{noted_all, relayed_all, SameForEach}
 use Rattle.enet_serve.specs.declared.server.ChatServer.{ChatServer}
 use Rattle.enet_serve.specs.declared.server.Settings.{Settings}
@@ -34,19 +34,20 @@ use Rattle.law_relay.specs.Relay.{Relaying, heard}
 use Rattle.law_relay.specs.Refusals.{Answers, all_asked, TakesChatUnless}
 use Rattle.law_relay.specs.Unreliable.{TakesSome}
 
--- runs of a server one after another, each as `ChatServer::serve` and `ChatServer::serve_alone` promise: how long it was to be, and its report
-abbrev pub ServesAll : ChatServer → List (RunLength × Report) → ChatServer → Type 0
-ServesAll old runs new = Chain (λ s run t. (many : ℕ) × Serves many s run.0 t run.1) old runs new
+-- runs of a server one after another, each as `ChatServer::serve` or `ChatServer::serve_alone` promises, whose turns are of this kind: how
+-- long it was to be, and its report
+abbrev pub ServesAll : Kind → ChatServer → List (RunLength × Report) → ChatServer → Type 0
+ServesAll kind old runs new = Chain (λ s run t. (one : Kind) × AreAmong one kind × (many : ℕ) × Serves one many s run.0 t run.1) old runs new
 
 abbrev pub service_of : ChatServer → Service Host
 service_of server = record { host = host_of server; waiting = waiting_of server }
 
 -- all runs as one
-pub record Served (old new : ChatServer) : Type 0 where
+pub record Served (kind : Kind) (old new : ChatServer) : Type 0 where
   pub rounds : List Round
   pub expanded : List Event
   pub asked_for : List Order
-  pub turns : TakesTurns (service_of old) rounds (service_of new)
+  pub turns : RoundsOf kind host_calls (service_of old) rounds (service_of new)
   pub sound : All IsSound rounds
   pub events : backlog_of old ++ accepted (all_puts rounds) ≡ expanded ++ backlog_of new
   pub peers : peers_of new ≡ noted_all (peers_of old) expanded
@@ -54,7 +55,7 @@ pub record Served (old new : ChatServer) : Type 0 where
   pub orders_done : orders_of old ++ asked_for ≡ orders (given (all_gave rounds)) ++ orders_of new
 
 abbrev pub EachServed : Type 0
-EachServed = (old : ChatServer) (runs : List (RunLength × Report)) (new : ChatServer) → ServesAll old runs new → Served old new
+EachServed = (kind : Kind) (old : ChatServer) (runs : List (RunLength × Report)) (new : ChatServer) → ServesAll kind old runs new → Served kind old new
 
 abbrev pub config_of : Settings → Config
 config_of settings = standard_config settings.peers settings.channels
@@ -80,7 +81,7 @@ pub record HasServed (settings : Settings) (served : ChatServer) (left : Service
   pub peers : peers_of served ≡ noted_all [] relaying.expanded
 
 abbrev pub EachHasServed : Type 0
-EachHasServed = (settings : Settings) (fresh served : ChatServer) (runs : List (RunLength × Report)) (left : Service Host) → IsOpened settings fresh → ServesAll fresh runs served → Leaves (service_of served) left
+EachHasServed = (kind : Kind) (settings : Settings) (fresh served : ChatServer) (runs : List (RunLength × Report)) (left : Service Host) → IsOpened settings fresh → ServesAll kind fresh runs served → Leaves (service_of served) left
     → HasServed settings served left
 
 -- Its service and any number of clients' services, and an interleaving of their hosts' calls in which the network is honest

@@ -32,7 +32,8 @@ use Rattle.law_network.proofs.Lists.{same-or}
 use Rattle.enet_service.specs.declared.service.Service.{Service}
 use Rattle.enet_service.specs.Phases.{Ordered, Wired, Offers, CarriesOut, refusal_event, left_over, Orders, HearsAll, EndsSending, at_limit, has_none, fails, SendsAll, TellsAll}
 use Rattle.enet_service.specs.Queues.{given, accepted}
-use Rattle.enet_service.specs.Run.{Rounds, all_gave, all_puts}
+use Rattle.enet_service.specs.LoneTurn.{Kind, beside, lone, either, Obeyed, ObeysAll, Begins, LoneTurn, TurnOf, RoundsOf, gave_in, puts_in}
+use Rattle.enet_service.specs.Run.{all_gave, all_puts}
 use Rattle.enet_service.specs.Turn.{Round, AfterHearing, AfterSending, Turn}
 use Rattle.law_headline.specs.Kept.{submitted_by, taken_by}
 use Rattle.law_headline.specs.Page.{is_of}
@@ -264,9 +265,44 @@ turn-ledger old round new t =
     join old (over t.ticked old.waiting) new [] (round.gave ++ []) [] (t.again ++ (t.ordered.puts ++ t.of_events)) (quiet old.host t.ticked old.waiting (call.Tick round.ms) t.tick (λ name channel. refl) (λ name. refl)) a in
     subst (λ (p : List (Event × Bool)). Ledger old new round.gave p) (sym t.put) (subst (λ (g : List (Option Submission)). Ledger old new g (t.again ++ (t.ordered.puts ++ t.of_events))) (append-nil round.gave) all)
 
-pub rounds-ledger : (old : Service Noted) (rounds : List Round) (new : Service Noted) → Rounds noting old rounds new → Ledger old new (all_gave rounds) (all_puts rounds)
-rounds-ledger old [] new r = subst (λ (s : Service Noted). Ledger old s [] []) (sym r) (nothing old [] refl)
-rounds-ledger old (x ∷ rounds) new r = join old r.0 new x.gave (all_gave rounds) x.puts (all_puts rounds) (turn-ledger old x r.0 r.1) (rounds-ledger r.0 rounds new r.2)
+-- a turn whose orders its own thread makes
+
+begins-ledger : (old : Service Noted) (ms : ℕ) (came : List Told) (puts : List (Event × Bool)) (new : Service Noted) → Begins noting old ms came puts new → Ledger old new [] puts
+begins-ledger old ms came puts new t =
+    let d : Ledger (over t.heard t.waits) new [] t.of_events = tells-ledger (over t.heard t.waits) t.of_events new t.telling in
+    let c : Ledger (over t.ticked t.waits) new [] t.of_events =
+    join (over t.ticked t.waits) (over t.heard t.waits) new [] [] [] t.of_events (hears-ledger t.waits 256 t.ticked came (record { host = t.heard; failed = false }) t.hearing) d in
+    let b : Ledger (over t.ticked old.waiting) new [] (t.again ++ t.of_events) =
+    join (over t.ticked old.waiting) (over t.ticked t.waits) new [] [] t.again t.of_events (offers-again t.ticked old.waiting t.waits t.again t.offered) c in
+    let all : Ledger old new [] (t.again ++ t.of_events) =
+    join old (over t.ticked old.waiting) new [] [] [] (t.again ++ t.of_events) (quiet old.host t.ticked old.waiting (call.Tick ms) t.tick (λ name channel. refl) (λ name. refl)) b in
+    subst (λ (p : List (Event × Bool)). Ledger old new [] p) (sym t.put) all
+
+obeys-ledger : (old : Service Noted) (obeyed : List Obeyed) (new : Service Noted) → ObeysAll noting old obeyed new → Ledger old new (gave_in obeyed) (puts_in obeyed)
+obeys-ledger old [] new r = subst (λ (s : Service Noted). Ledger old s [] []) (sym r) (nothing old [] refl)
+obeys-ledger old (o ∷ obeyed) new r =
+    join old r.0 new o.gave (gave_in obeyed) o.puts (puts_in obeyed) (orders-ledger 256 old o.gave (record { service = r.0; puts = o.puts }) r.1) (obeys-ledger r.0 obeyed new r.2)
+
+lone-ledger : (old : Service Noted) (round : Round) (new : Service Noted) → LoneTurn noting old round new → Ledger old new round.gave round.puts
+lone-ledger old round new t =
+    let c : Ledger t.ordered new [] [] =
+    subst (λ (w : Option Event). Ledger t.ordered (over new.host w) [] []) (sym t.waits) (sends-ledger t.ordered.waiting 256 t.ordered.host t.went (record { host = new.host; failed = false }) t.sends) in
+    let b : Ledger t.begun new (gave_in t.obeyed ++ []) (puts_in t.obeyed ++ []) = join t.begun t.ordered new (gave_in t.obeyed) [] (puts_in t.obeyed) [] (obeys-ledger t.begun t.obeyed t.ordered t.obeys) c in
+    let a : Ledger old new (gave_in t.obeyed ++ []) (t.told_first ++ (puts_in t.obeyed ++ [])) =
+    join old t.begun new [] (gave_in t.obeyed ++ []) t.told_first (puts_in t.obeyed ++ []) (begins-ledger old round.ms t.came t.told_first t.begun t.begins) b in
+    subst (λ (p : List (Event × Bool)). Ledger old new round.gave p) (ap (λ (p : List (Event × Bool)). t.told_first ++ p) (append-nil (puts_in t.obeyed)) ∙ sym t.put)
+    (subst (λ (g : List (Option Submission)). Ledger old new g (t.told_first ++ (puts_in t.obeyed ++ []))) (append-nil (gave_in t.obeyed) ∙ sym t.gave) a)
+
+-- a turn of any kind
+turn-of-ledger : (kind : Kind) (old : Service Noted) (round : Round) (new : Service Noted) → TurnOf kind noting old round new → Ledger old new round.gave round.puts
+turn-of-ledger beside old round new t = turn-ledger old round new t
+turn-of-ledger lone old round new t = lone-ledger old round new t
+turn-of-ledger either old round new (inl t) = turn-ledger old round new t
+turn-of-ledger either old round new (inr t) = lone-ledger old round new t
+
+pub rounds-ledger : (kind : Kind) (old : Service Noted) (rounds : List Round) (new : Service Noted) → RoundsOf kind noting old rounds new → Ledger old new (all_gave rounds) (all_puts rounds)
+rounds-ledger kind old [] new r = subst (λ (s : Service Noted). Ledger old s [] []) (sym r) (nothing old [] refl)
+rounds-ledger kind old (x ∷ rounds) new r = join old r.0 new x.gave (all_gave rounds) x.puts (all_puts rounds) (turn-of-ledger kind old x r.0 r.1) (rounds-ledger kind r.0 rounds new r.2)
 
 -- partings, which submit nothing and tell nothing
 parted : (how : DisconnectMode) (old : Service Noted) (peer : PeerRef) (new : Service Noted) (why : Option Refusal) → noting.obeys old.host (orders.Disconnect peer how 0) why new.host → new.waiting ≡ old.waiting → Ledger old new [] []
@@ -283,7 +319,7 @@ spans-ledger old (x ∷ spans) new r =
     let rest : Ledger r.1.0 new (all_gave (rounds_in spans)) (all_puts (rounds_in spans)) =
     join r.1.0 r.0 new [] (all_gave (rounds_in spans)) [] (all_puts (rounds_in spans)) (parts-ledger x.how r.1.0 x.parted r.0 r.1.2) (spans-ledger r.0 spans new r.2) in
     let all : Ledger old new (all_gave x.rounds ++ all_gave (rounds_in spans)) (all_puts x.rounds ++ all_puts (rounds_in spans)) =
-    join old r.1.0 new (all_gave x.rounds) (all_gave (rounds_in spans)) (all_puts x.rounds) (all_puts (rounds_in spans)) (rounds-ledger old x.rounds r.1.0 r.1.1) rest in
+    join old r.1.0 new (all_gave x.rounds) (all_gave (rounds_in spans)) (all_puts x.rounds) (all_puts (rounds_in spans)) (rounds-ledger x.kind old x.rounds r.1.0 r.1.1) rest in
     subst (λ (g : List (Option Submission)). Ledger old new g (all_puts (x.rounds ++ rounds_in spans))) (sym (flat_map-append (λ (t : Round). t.gave) x.rounds (rounds_in spans)))
     (subst (λ (p : List (Event × Bool)). Ledger old new (all_gave x.rounds ++ all_gave (rounds_in spans)) p) (sym (flat_map-append (λ (t : Round). t.puts) x.rounds (rounds_in spans))) all)
 
@@ -435,7 +471,7 @@ tells-by old rounds new calls none l = (sends, takes)
         ∙ sym (l.packets name channel) ∙ ap (λ (c : List Call). submitted_in c name channel) (sym l.calls_are)
 
 pub each-tells : EachRunTells
-each-tells old rounds new calls none r = tells-by old rounds new calls none (rounds-ledger (noted old []) rounds (noted new calls) r)
+each-tells kind old rounds new calls none r = tells-by old rounds new calls none (rounds-ledger kind (noted old []) rounds (noted new calls) r)
 
 pub life-tells : (old : Service Host) (spans : List Span) (new : Service Host) (calls : List Call) → old.waiting ≡ None → Spans noting (noted old []) spans (noted new calls)
     → (AreNumbered (given (all_gave (rounds_in spans))) → (name : PeerRef) (channel : ℕ) → submitted (rounds_in spans) new.waiting name channel ≡ submitted_in calls name channel)

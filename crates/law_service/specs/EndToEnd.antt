@@ -20,7 +20,7 @@ use Rattle.law_headline.specs.Nets.{Net, place_of, AreApart, is_host, HappensAt,
 use Rattle.law_headline.specs.Page.{User, IsHeadline, is_of}
 use Rattle.enet_service.specs.declared.service.Service.{Service}
 use Rattle.enet_service.specs.Queues.{given}
-use Rattle.enet_service.specs.Run.{Rounds, all_gave}
+use Rattle.enet_service.specs.Run.{all_gave}
 use Rattle.enet_service.specs.ServiceRuns.{beginning}
 use Rattle.enet_service.specs.Turn.{Round}
 use Rattle.law_service.specs.Noting.{Noted, noting}

@@ -1,18 +1,16 @@
 -- A run whose relay shares its service's thread.
-use Rattle.std.specs.Prelude.{◌≡◌, List, ◌++◌}
+use Rattle.std.specs.Prelude.{◌≡◌, List}
 use Rattle.std.specs.List.{All}
-use Rattle.enet_codec.specs.declared.event.Event.{Event}
-use Rattle.enet_submit.specs.declared.order.Order.{Order}
-use Rattle.enet_bridge.specs.Ends.{orders}
 use Rattle.enet_host.specs.Host.{Host}
 use Rattle.enet_chat.specs.declared.lone.LoneRelay.{LoneRelay}
-use Rattle.enet_chat.specs.Relaying.{noted_all, relayed_all, SameForEach, AreBehind, AreFarBehind}
+use Rattle.enet_chat.specs.Relaying.{AreBehind, AreFarBehind}
 use Rattle.enet_service.specs.declared.service.Service.{Service}
-use Rattle.enet_service.specs.Queues.{given, accepted}
+use Rattle.enet_service.specs.Hosting.{host_calls}
+use Rattle.enet_service.specs.LoneTurn.{RoundsOf, lone}
 use Rattle.enet_service.specs.Turn.{Round}
 use Rattle.enet_service.specs.Run.{IsSound, all_gave, all_puts}
-use Rattle.enet_service.specs.ServiceRuns.{TakesTurns}
 use Rattle.enet_serve.specs.declared.threads.Carryover.{Carryover}
+use Rattle.enet_serve.specs.Private.Passing.{Passes}
 
 -- a service, and the relay that shares its thread
 pub record Pair : Type 0 where
@@ -28,15 +26,10 @@ pub record IsOf (kept : Carryover) (relay : LoneRelay) : Type 0 where
   pub events : relay.events ≡ kept.backlog.items
   pub orders_are : relay.orders ≡ kept.orders.items
 
--- Turns in which the wire did not fail. Between them events were expanded, as in a run of two threads
+-- Turns in which the wire did not fail. In them events were expanded and orders taken, as in a run of two threads
 pub record Goes (old : Pair) (rounds : List Round) (new : Pair) : Type 0 where
-  pub expanded : List Event
-  pub asked_for : List Order
-  pub turns : TakesTurns old.service rounds new.service
+  pub turns : RoundsOf lone host_calls old.service rounds new.service
   pub sound : All IsSound rounds
-  pub events : old.relay.events ++ accepted (all_puts rounds) ≡ expanded ++ new.relay.events
+  pub passes : Passes old.relay (all_gave rounds) (all_puts rounds) new.relay
   pub behind : AreBehind new.relay.events new.relay.orders
   pub far_behind : AreFarBehind 256 new.relay.events new.relay.orders
-  pub peers : new.relay.table ≡ noted_all old.relay.table expanded
-  pub for_each : SameForEach asked_for (relayed_all old.relay.table expanded)
-  pub orders_done : old.relay.orders ++ asked_for ≡ orders (given (all_gave rounds)) ++ new.relay.orders

@@ -1,11 +1,13 @@
-use Rattle.std.proofs.Common.{refl}
+use Rattle.std.proofs.Common.{[], ◌∷◌, refl, sym, ◌∙◌}
+use Rattle.enet_service.specs.Turn.{Round}
 use Rattle.enet_serve.specs.Private.Alone.{pair}
-use Rattle.enet_serve.proofs.TurnByTurn.{goes_turns}
+use Rattle.enet_serve.proofs.TurnByTurn.{goes_turn, one_total}
 use Rattle.enet_serve.proofs.alone.Alone.take_turn.Goals as goal
 
-pub returns-in-Ok-clause-goes : goal.returns-in-Ok-clause-goes
-returns-in-Ok-clause-goes g c =
-    let ran = c.in_ok-report.ensures.run in
+pub returns-clause-goes : goal.returns-clause-goes
+returns-clause-goes g c =
+    let took = c.in_ok-report.ensures.turn in
+    let r : Round = took.0 in
     let before = pair c.args.bound.now.service c.args.self.now.relay in
-    let after = pair c.run.new.service c.expand.new.self in
-    (ran.0, ran.5.1, ran.5.2, goes_turns before after _ ran.0 ran.1 ran.5.0 refl ran.2 ran.3 c.expand.ensures.expands c.in-Ok.ensures.behind c.in-Ok.ensures.far_behind)
+    let after = pair c.lone_turn.new.service c.lone_turn.new.relay in
+    (r ∷ [], refl, sym took.1 ∙ one_total r took.2.came took.2.went took.2.counts, goes_turn before after r took.2 took.3 c.in_ok-report.ensures.behind c.in_ok-report.ensures.far_behind)
