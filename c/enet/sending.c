@@ -87,10 +87,11 @@ int enet_peer_send(ENetPeer *peer, enet_uint8 channel, ENetPacket *packet) {
     return 0;
 }
 
-/* One order for these peers, who share one copy of the packet's bytes. */
+/* One order for these peers, who share one copy of the packet's bytes; one peer alone is sent it. */
 static void give_all(Layer *layer, const gofnjerta_peer *names, size_t count, enet_uint8 channel, ENetPacket *packet) {
     const void *body = packet->dataLength ? packet->data : NULL;
-    if (!count || !make_room_sent(layer, count)) return;
+    if (count == 1) enet_peer_send(&layer->host.peers[names[0].slot], channel, packet);
+    if (count < 2 || !make_room_sent(layer, count)) return;
     if (gofnjerta_broadcast(&layer->core, names, count, channel, (uint8_t)packet->flags, body, packet->dataLength)) return;
     for (size_t i = 0; i < count; i++) hold(layer, names[i].slot, packet);
     layer->given = packet;

@@ -10,11 +10,11 @@
 //! up to the first that gives a datagram, and names its peer as it was before (`GivesInTurn`); `next_event` goes by the first slot in
 //! turn that has an event (`IsFirst`), and `next_event_of`, `next_packet` and `next_body` say of the event that it gives whose it is
 //! and what it hands out (`Foretells`). Inside, by the invariant of `HostCore`: a slot that sleeps has nothing to put out or to tell, and
-//! it is noted when time brings it something (`KeepsSleepers` of `enet_sleepers`). `next_peer` is the name
-//! that an accepted connection gets, `submission_refusal` the refusal of `submit` but E1. `submit_each` is the submissions of its errands,
-//! peer by peer and one after another, and answers the first refusal but E2 and E3 (`SubmitsEach`). `tick` and `set_bandwidth` are one change on each slot; once a second the
-//! outgoing bandwidth is shared out among the connected peers. `due_in` is in how many milliseconds time brings something: a tick of
-//! fewer changes the clock alone (`IsDueIn`).
+//! it is noted when time brings it something (`KeepsSleepers` of `enet_sleepers`). `next_peer` is the name that an accepted connection
+//! gets, `submission_refusal` the refusal of `submit` but E1. `submit_each` is the submissions of its errands, peer by peer and one after
+//! another, and answers the first refusal but E2 and E3 (`SubmitsEach`). `tick` and `set_bandwidth` are one change on each slot; once a
+//! second the outgoing bandwidth is shared out among the connected peers. `due_in` is in how many milliseconds time brings something: a
+//! tick of fewer changes the clock alone (`IsDueIn`).
 //! No slot of any host holds a peer that is free (`HostCore::keeps`). Want of memory, of which no clause can say when it comes,
 //! changes nothing.
 //! Only tested, by `check_hosts`: that calls succeed with ample memory, worked scripts, captured files, foreign bytes. Neither: that
