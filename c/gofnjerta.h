@@ -183,9 +183,9 @@ uint32_t gofnjerta_submit(gofnjerta_host *host, gofnjerta_peer peer, uint8_t cha
 uint32_t gofnjerta_broadcast(gofnjerta_host *host, const gofnjerta_peer *peers, size_t count, uint8_t channel, uint8_t flags,
                              const void *body, size_t length);
 
-/* A packet to many peers, one call each: its body is copied once by gofnjerta_stage, in place of the one that was staged before, and shared by each
- * gofnjerta_submit_staged. It stays staged until the next one is, or the host is closed. TOO_LARGE above GOFNJERTA_MAX_PACKET, MEMORY;
- * the other answers UNSTAGED and what gofnjerta_submit does. */
+/* A packet to many peers, one call each: its body is copied once by gofnjerta_stage, in place of the one that was staged before, and
+ * shared by each gofnjerta_submit_staged. It stays staged until the next one is, or the host is closed. TOO_LARGE above
+ * GOFNJERTA_MAX_PACKET, MEMORY; the other answers UNSTAGED and what gofnjerta_submit does. */
 uint32_t gofnjerta_stage(gofnjerta_host *host, const void *body, size_t length);
 uint32_t gofnjerta_submit_staged(gofnjerta_host *host, gofnjerta_peer peer, uint8_t channel, uint8_t flags);
 
