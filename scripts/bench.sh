@@ -62,6 +62,7 @@ tell() {
     free_port
     "$@" "$program" serve "$port" "$peers" "$kind" "$seconds" > "$room/told" 2> "$room/relay" &
     relay=$!
+    until grep -q ":$(printf '%04X' "$port") " /proc/net/udp || ! kill -0 "$relay" 2> /dev/null; do sleep 0.1; done
     came=$(timeout $((seconds + 90)) "$room/tell" listen "$port" "$peers")
     kill "$relay" 2> /dev/null
     wait "$relay"
