@@ -1,10 +1,10 @@
 #!/usr/bin/env bash
-# What deploy/ has, tried: `check-deploy.sh [PROGRAM]`. systemd-analyze verifies the units and finds the service exposed by at most 1.5 of 10. The
-# entrypoint of the container is process 1 of a namespace of its own: SIGTERM comes while four clients of the reference library talk
+# What deploy/ has, tried: `check-deploy.sh [PROGRAM]`. systemd-analyze verifies the units and finds the service exposed by at most 1.5 of
+# 10. The entrypoint of the container is process 1 of a namespace of its own: SIGTERM comes while four clients of the reference library talk
 # (clients/guests.c), all are told, and it ends with status 0. The wrapper for Agones runs beside a stub of the SDK's sidecar: it is ready,
 # healthy, allocated with the first client, and shut down, once by SIGTERM and once since the last client has left. PROGRAM is the built
-# `enet_relay`, by default the one that `rt ci`, or `rt run` in crates/enet_relay, leaves. Installs, as root, what is missing. Prints what failed,
-# and as last line 'N passed, M failed'; the status is 1 where one failed.
+# `enet_relay`, by default the one that `rt ci`, or `rt run` in crates/enet_relay, leaves. Installs, as root, what is missing. Prints what
+# failed, and as last line 'N passed, M failed'; the status is 1 where one failed.
 cd "$(dirname "$0")/.." || exit 1
 . scripts/clients.sh
 program=$(realpath "${1:-crates/enet_relay/out/enet_relay}")

@@ -18,8 +18,8 @@ const BETWEEN_TOTALS: u64 = 60;
 /// At one look so many lines of the operator are obeyed at most.
 const MOST_LINES: u32 = 16;
 
-/// Tells the server's operator on standard error: its totals each minute and, where that is asked, each connection, each end of one and each
-/// refused order; and does what the operator says. A line that can't be written, or not at once, ends nothing and holds up nothing.
+/// Tells the server's operator on standard error: its totals each minute and, where that is asked, each connection, each end of one and
+/// each refused order; and does what the operator says. A line that can't be written, or not at once, ends nothing and holds up nothing.
 #[derive(Drop)]
 pub struct Operator<'a, R> {
     rt: &'a R,

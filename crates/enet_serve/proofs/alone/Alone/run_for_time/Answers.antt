@@ -36,8 +36,8 @@ loop-preserved g c =
       total_of_both c.loop.total c.in_ok-report.report c.and-total.result before more inv.6 c.in_ok-report.ensures.goes.2 c.and-total.ensures,
     )
 
-pub returns-then-is_over-clause-goes : goal.returns-then-is_over-clause-goes
-returns-then-is_over-clause-goes g c =
+pub returns-then-wants_end-clause-goes : goal.returns-then-wants_end-clause-goes
+returns-then-wants_end-clause-goes g c =
     let inv = c.loop.invariant in
     let before : List Round = inv.2 in
     let more : List Round = c.in_ok-report.ensures.goes.0 in
