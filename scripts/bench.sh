@@ -76,7 +76,7 @@ tell() {
 count_instructions() {
     local all
     all=$(tell "$@" valgrind --tool=callgrind --toggle-collect=tell_all --callgrind-out-file=/dev/null)
-    echo "${all% *} $(awk -v count="${all% *}" '/Collected/ { print count > 0 ? int($NF / count) : 0 }' "$room/relay")"
+    echo "${all% *} $(awk -v count="${all% *}" '/Collected/ { print (count > 0 ? int($NF / count) : 0) }' "$room/relay")"
 }
 
 tell_row() {
