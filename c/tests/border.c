@@ -159,6 +159,25 @@ static void staged(gofnjerta_host *a, gofnjerta_host *b, gofnjerta_peer from_b) 
     CHECK(packets == 3 && empty == 1);
 }
 
+/* A packet to several peers: one that has gone is passed by, and the first other refusal is told. */
+static void several(gofnjerta_host *a, gofnjerta_host *b, gofnjerta_peer from_b) {
+    static uint8_t large[200001];
+    gofnjerta_event event;
+    gofnjerta_peer names[] = {{from_b.slot, from_b.generation + 1}, from_b, {4, 0}};
+    ANSWERS(GOFNJERTA_OK, gofnjerta_broadcast(b, names, 3, 0, GOFNJERTA_RELIABLE, "abc", 3));
+    ANSWERS(GOFNJERTA_OK, gofnjerta_broadcast(b, names, 1, 0, GOFNJERTA_RELIABLE, "gone", 4));
+    ANSWERS(GOFNJERTA_OK, gofnjerta_broadcast(b, NULL, 0, 0, GOFNJERTA_RELIABLE, "none", 4));
+    ANSWERS(GOFNJERTA_NO_SUCH_CHANNEL, gofnjerta_broadcast(b, names, 3, 2, GOFNJERTA_RELIABLE, "abc", 3));
+    ANSWERS(GOFNJERTA_TOO_LARGE, gofnjerta_broadcast(b, names, 3, 0, GOFNJERTA_RELIABLE, large, 200001));
+    ANSWERS(GOFNJERTA_TOO_LARGE, gofnjerta_broadcast(b, names, 3, 0, GOFNJERTA_RELIABLE, large, (size_t)GOFNJERTA_MAX_PACKET + 1));
+    ANSWERS(GOFNJERTA_TOO_LARGE, gofnjerta_broadcast(b, names, SIZE_MAX, 0, GOFNJERTA_RELIABLE, "abc", 3));
+    ANSWERS(GOFNJERTA_OK, gofnjerta_broadcast(b, names + 1, 1, 0, GOFNJERTA_RELIABLE, NULL, 0));
+    settle(a, b);
+    int packets = 0, empty = 0;
+    for (; gofnjerta_next_event(a, &event) == GOFNJERTA_OK && event.kind == GOFNJERTA_RECEIVE; packets++) empty += event.length == 0;
+    CHECK(packets == 2 && empty == 1);
+}
+
 /* Lengths over the limits, channels and peers that aren't there. */
 static void beyond(gofnjerta_host *b, gofnjerta_peer from_b) {
     static uint8_t large[200001], buffer[GOFNJERTA_ROOM];
@@ -254,6 +273,7 @@ static void nothing(void) {
     BOTH(submit, peer, 0, 0, "x", 1);
     BOTH(stage, "x", 1);
     BOTH(submit_staged, peer, 0, 0);
+    BOTH(broadcast, &peer, 1, 0, 0, "x", 1);
     BOTH(receive, at_a, "x", 1, &got);
     BOTH(service, buffer, sizeof buffer, &gave);
     BOTH(tick, 1);
@@ -278,6 +298,8 @@ static void nothing(void) {
     ANSWERS(GOFNJERTA_NULL, gofnjerta_connect(&host, at_a, 2, 0, 0, NULL));
     ANSWERS(GOFNJERTA_NULL, gofnjerta_submit(&host, peer, 0, 0, NULL, 1));
     ANSWERS(GOFNJERTA_NULL, gofnjerta_stage(&host, NULL, 1));
+    ANSWERS(GOFNJERTA_NULL, gofnjerta_broadcast(&host, NULL, 1, 0, 0, "x", 1));
+    ANSWERS(GOFNJERTA_NULL, gofnjerta_broadcast(&host, &peer, 1, 0, 0, NULL, 1));
     ANSWERS(GOFNJERTA_NULL, gofnjerta_receive(&host, at_a, NULL, 1, NULL));
     ANSWERS(GOFNJERTA_NULL, gofnjerta_service(&host, NULL, sizeof buffer, &gave));
     ANSWERS(GOFNJERTA_NULL, gofnjerta_service(&host, buffer, sizeof buffer, NULL));
@@ -313,6 +335,7 @@ int main(void) {
     ANSWERS(GOFNJERTA_OK, gofnjerta_open(&b, &config));
     conversation(&a, &b, &from_b, &from_a);
     staged(&a, &b, from_b);
+    several(&a, &b, from_b);
     beyond(&b, from_b);
     parted(&a, &b, from_b, from_a);
     crowded(&b);
