@@ -28,7 +28,7 @@ pub struct Config {
     pub max_packet: u32,
     /// Bytes of a peer's packets at which no further packet begins: 1 to 33,554,432. Those count that are held or not yet taken by
     /// the user; for the packet that its channel dispatches next only the latter do. Unreliable packets that wait are given up
-    /// where that makes room for another.
+    /// where that makes room for another. Nor does a packet begin where as many wait as a 128th of this, but at least 1,024.
     pub max_waiting: u32,
     /// How many peers a slot has one after another, before it is used up: 1 to 4,294,967,295 (our profile).
     pub generations: u32,
