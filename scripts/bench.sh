@@ -8,7 +8,7 @@
 # 4,000 slots, and among 400 clients that only listen. With `layer` and `broadcast` it is one of a server that tells 64 or 200 clients of the
 # reference library 100 bytes 60 times a second (clients/tell.c): what each broadcast takes with all that comes of it, in processor time and,
 # in a second run, which takes valgrind, in instructions outside the system. Where PROCESSOR is set, each relay runs on that processor alone;
-# where THREADS is set, `serve` serves in so many threads (1 or 2). Proves nothing, and takes some minutes.
+# where THREADS is set, `serve` serves in so many threads (1 or 2; else 1). Proves nothing, and takes some minutes.
 cd "$(dirname "$0")/.." || exit 1
 . scripts/clients.sh
 program=${1:-crates/enet_relay/out/enet_relay}

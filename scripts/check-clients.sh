@@ -1,15 +1,15 @@
 #!/usr/bin/env bash
 # Clients of the reference library talk through a relay, in the scenarios of clients/client.c: first straight, then by way of
 # clients/proxy.c, which drops, repeats and reorders datagrams; eight by way of one that drops all for 4 seconds, in which no connection may
-# end; and a crowd of them (clients/crowd.c) straight, where each queue of the
-# relay has 64 places, so that both are full at once and neither of its two threads may wait for the other. Clients of `demo` visit a server of the
-# reference library, and so does `example_echo`, whose own server a client of that library visits (clients/echo.c). Three of that library
-# play at `example_game` side by side until each has won (clients/guess.c), and it ends. Two guests (clients/guests.c) are told when a
-# server ends after its turns, and when it ends since its relay found no memory; they notice nothing of receptions that fail
-# (clients/faults.c). The crowd and some of the others come to a server of one thread, too. Each scenario has a server of its own, and all run
-# side by side: `check-clients.sh [PROGRAM]`. PROGRAM is the built `enet_relay`, by default the one that `rt ci`, or `rt run` in
-# crates/enet_relay, leaves; `reference` stands for the relay of clients/server.c, which tells whether the clients themselves are right. Prints
-# what failed, and as last line 'N passed, M failed'; the status is 1 where one failed. It ends within 4 minutes.
+# end; and a crowd of them (clients/crowd.c) straight. These come to a server of one thread, and the crowd and some of the others to one of
+# two, each of whose queues has 64 places for the crowd, so that both are full at once and neither thread may wait for the other. Clients of
+# `demo` visit a server of the reference library, and so does `example_echo`, whose own server a client of that library visits
+# (clients/echo.c). Three of that library play at `example_game` side by side until each has won (clients/guess.c), and it ends. Two guests
+# (clients/guests.c) are told when a server ends after its turns, and when it ends since its relay found no memory; they notice nothing of
+# receptions that fail (clients/faults.c). Each scenario has a server of its own, and all run side by side: `check-clients.sh [PROGRAM]`.
+# PROGRAM is the built `enet_relay`, by default the one that `rt ci`, or `rt run` in crates/enet_relay, leaves; `reference` stands for the
+# relay of clients/server.c, which tells whether the clients themselves are right. Prints what failed, and as last line 'N passed, M
+# failed'; the status is 1 where one failed. It ends within 4 minutes.
 cd "$(dirname "$0")/.." || exit 1
 . scripts/clients.sh
 program=${1:-crates/enet_relay/out/enet_relay}
@@ -225,7 +225,7 @@ no_memory() {
     trap 'exit 1' TERM
     local name=no-memory-$2
     if [ "$2" = 2 ]; then
-        receive_guests "$name" "$1" told --forever
+        receive_guests "$name" "$1" told --forever --threads 2
         kill -USR1 "$relay"
     else
         FAULTS_ANYWHERE=1 receive_guests "$name" "$1" told --forever --threads 1
@@ -282,11 +282,11 @@ all() {
     start crowd 300 300 straight
     start outage 8 8 down
     if [ "$program" != reference ]; then
-        start crowd 300 300 straight 1
-        start outage 8 8 down 1
-        start talk 8 8 straight 1
-        start talk 8 8 lossy 1
-        start large 2 2 lossy 1
+        start crowd 300 300 straight 2
+        start outage 8 8 down 2
+        start talk 8 8 straight 2
+        start talk 8 8 lossy 2
+        start large 2 2 lossy 2
         free_port
         names+=(visit)
         visit "$port" &

@@ -169,6 +169,7 @@ services() {
     service_line serve-small-queues 0 "$(listening)" 'served 2 received 0 sent 0' serve --port "$port" --turns 2 --queue-capacity 1
     service_line serve-small-room 0 "$(listening)" 'served 2 received 0 sent 0' serve --port "$port" --turns 2 --room 1
     service_line serve-with-log 0 "$(listening)" 'served 2 received 0 sent 0' serve --port "$port" --turns 2 --log
+    service_line serve-in-two-threads 0 "$(listening)" 'served 2 received 0 sent 0' serve --port "$port" --turns 2 --threads 2
     service_line serve-in-one-thread 0 "$(listening)" 'served 2 received 0 sent 0' serve --port "$port" --turns 2 --threads 1
     service_line serve-no-turn-in-one-thread 0 "$(listening)" 'served 0 received 0 sent 0' serve --port "$port" --turns 0 --threads 1
     PROGRAM=$program program=$room/no-threads service_line serve-without-threads 1 'no second thread can be made' '' \
@@ -181,11 +182,12 @@ services() {
         serve --port "$port" --turns 2 --address 192.0.2.1
     service_line another-address 0 "$(listening 127.0.0.2)" 'served 2 received 0 sent 0' serve --port "$port" --turns 2 --address 127.0.0.2
     end_service
-    goes_on forever 2
+    goes_on forever 1
     goes_on forever-in-one-thread 1 --threads 1
-    goes_on control-without-input 2 --control
+    goes_on forever-in-two-threads 2 --threads 2
+    goes_on control-without-input 1 --control
     obeys control
-    obeys control-in-one-thread --threads 1
+    obeys control-in-two-threads --threads 2
     goes_on_unread unread
 }
 

@@ -30,7 +30,7 @@ free_port() {
 
 # Becomes a relay on port $2 of 127.0.0.1 with $3 slots and 3 channels: that of server.c in the directory $4 where $1 is `reference`, the
 # same over our layer where it is `layer`, else the program $1, with $5 places in each queue between its threads (65,536 where it isn't given).
-# Where PROCESSOR is set, it runs on that processor alone, and where THREADS is, that program serves in so many threads.
+# Where PROCESSOR is set, it runs on that processor alone. That program serves in as many threads as THREADS says, one where it isn't set.
 relay() {
     local on=()
     [ -z "${PROCESSOR:-}" ] || on=(taskset -c "$PROCESSOR")

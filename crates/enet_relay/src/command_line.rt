@@ -213,8 +213,7 @@ fn control<'a>(alloc: Global) -> Result<Arg<'a>, AllocError> {
 
 fn threads<'a>(alloc: Global) -> Arg<'a> {
     number8(alloc, "threads", 1, 2)
-        .help("How many threads serve: one does all, of two one relays")
-        .default_value("2")
+        .help("How many threads serve: one does all, of two one relays. Without it one with --forever, else two")
 }
 
 fn turns<'a>(alloc: Global) -> Arg<'a> {
@@ -273,8 +272,8 @@ fn serve_options(found: &ArgMatches<'_>) -> Option<ServeOptions> {
         queue_capacity: found.get_one::<u32>("queue-capacity")?,
         length,
         logs: found.get_flag("log"),
-        threads: match found.get_one::<u8>("threads")? {
-            1 => ServerThreads::One,
+        threads: match (found.get_one::<u8>("threads"), length) {
+            (Some(1), _) | (None, Length::Forever) => ServerThreads::One,
             _ => ServerThreads::Two,
         },
         is_controlled: found.get_flag("control"),
