@@ -8,7 +8,7 @@ use anyhow::{Result, bail};
 use bytes::Bytes;
 use enet_chat::{Gauge, LoneRelay, Table};
 use enet_codec::{Config, RELIABLE};
-use enet_service::{BoundService, MemoryWire, Report, Step, Told, Unwatched, run};
+use enet_service::{BoundService, MemoryWire, Report, Step, Told, Unwatched, Wire};
 use std::alloc::Global;
 use std::collections::VecDeque;
 use std::rt::Clock;
@@ -16,6 +16,9 @@ use std::sync::Wait;
 
 /// How many milliseconds a turn has.
 const MS: u32 = 4;
+
+/// How often events are expanded and orders taken in a turn, at most.
+const MOST_ROUNDS: u32 = 64;
 
 /// After how many turns the server is shown.
 const SHOWN: u32 = 64;
@@ -29,7 +32,7 @@ const LINE: Line = Line {
 };
 
 /// For so many turns of 4 ms clients chat through a server of 40 slots, each 40 times a second: half of it reliably, on channel 0, half
-/// on channel 1. A turn is what a server in one thread does: its service's, and then its relay expands what that told.
+/// on channel 1. A turn is what a server in one thread does: what comes, the orders that its relay makes of it, and what goes.
 pub fn chat<R: Wait + Clock>(
     rt: &R,
     alloc: Global,
@@ -137,16 +140,39 @@ impl Room {
             self.deliver(&mut script, datagram)?;
         }
         bound.wire = MemoryWire::new(self.alloc, script);
-        let BoundService { wire, service } = bound;
-        let LoneRelay { orders, events, .. } = &mut self.relay;
-        let Ok(report) = run(rt, service, wire, orders, events, 1) else {
-            bail!("a turn failed");
-        };
-        self.relay.expand()?;
+        let report = self.serve(rt, bound)?;
         self.relay.show(&self.gauge);
         self.digest.number(u64::from(report.orders));
         self.digest.number(u64::from(report.events));
-        self.send_all(wire.told())
+        self.send_all(bound.wire.told())
+    }
+
+    // What comes, the orders of it, and what goes.
+    fn serve<R: Wait + Clock>(
+        &mut self,
+        rt: &R,
+        bound: &mut BoundService<MemoryWire>,
+    ) -> Result<Report> {
+        let BoundService { wire, service } = bound;
+        let LoneRelay { events, .. } = &mut self.relay;
+        let ms = wire.wait(rt)?;
+        let Ok(heard) = service.hear(rt, wire, events, ms, &mut self.buf) else {
+            bail!("a turn failed");
+        };
+        let mut report = heard;
+        self.relay.expand()?;
+        for _ in 0..MOST_ROUNDS {
+            let LoneRelay { orders, events, .. } = &mut self.relay;
+            if orders.is_empty() {
+                break;
+            }
+            report = report.and(service.obey(rt, orders, events));
+            self.relay.expand()?;
+        }
+        match service.speak(wire, &mut self.buf) {
+            Ok(sent) => Ok(report.and(sent)),
+            Err(_) => bail!("a turn failed"),
+        }
     }
 
     // What comes to the server goes into its wire's script, what comes to a client to that one.
