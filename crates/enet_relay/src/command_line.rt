@@ -212,8 +212,9 @@ fn control<'a>(alloc: Global) -> Result<Arg<'a>, AllocError> {
 }
 
 fn threads<'a>(alloc: Global) -> Arg<'a> {
-    number8(alloc, "threads", 1, 2)
-        .help("How many threads serve: one does all, of two one relays. Without it one with --forever, else two")
+    number8(alloc, "threads", 1, 2).help(
+        "How many threads serve: one does all, of two one relays. Without it one with --forever, else two",
+    )
 }
 
 fn turns<'a>(alloc: Global) -> Arg<'a> {

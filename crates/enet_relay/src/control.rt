@@ -2,11 +2,10 @@
 
 use bytes::Bytes;
 use enet_codec::PeerRef;
-use libc::STDIN_FILENO;
 use libc::net::{POLLIN, poll};
 use libc::types::pollfd;
+use libc::{STDIN_FILENO, read};
 use std::alloc::Global;
-use std::io::Read;
 
 /// A longer line isn't understood.
 const LONGEST: usize = 1_024;
@@ -61,30 +60,30 @@ impl Control {
     }
 
     /// The next line that is there; None where none is there yet.
-    pub fn next<R: Input + AllocGlobal>(&mut self, rt: &R) -> Option<Word> {
+    pub fn next(&mut self, alloc: Global) -> Option<Word> {
         for _ in 0..4 * LONGEST {
-            match self.next_byte(rt)? {
-                b'\n' => return Some(self.end_line(rt.alloc())),
+            match self.next_byte()? {
+                b'\n' => return Some(self.end_line(alloc)),
                 byte => self.add(byte),
             }
         }
         None
     }
 
-    fn next_byte<R: Input>(&mut self, rt: &R) -> Option<u8> {
+    fn next_byte(&mut self) -> Option<u8> {
         if self.from >= self.to {
-            self.fill(rt)?;
+            self.fill()?;
         }
         let byte = *self.chunk.get(self.from)?;
         self.from += 1;
         Some(byte)
     }
 
-    fn fill<R: Input>(&mut self, rt: &R) -> Option<()> {
+    fn fill(&mut self) -> Option<()> {
         if self.is_over || !is_readable() {
             return None;
         }
-        match rt.reader().read(&mut self.chunk) {
+        match usize::try_from(read(STDIN_FILENO, &mut self.chunk)) {
             Ok(len) if len > 0 => {
                 self.from = 0;
                 self.to = len;

@@ -50,8 +50,8 @@ impl Desk {
     }
 
     /// What the operator says next, if it is there.
-    pub fn next<R: Input + AllocGlobal>(&mut self, rt: &R) -> Option<Word> {
-        self.control.as_mut()?.next(rt)
+    pub fn next(&mut self, alloc: Global) -> Option<Word> {
+        self.control.as_mut()?.next(alloc)
     }
 
     /// Answers on standard output.
@@ -75,25 +75,27 @@ impl Desk {
     }
 
     /// Who is connected: a line each, and then how many there are.
-    pub fn tell_peers<R: Clock + Print + Eprint + AllocGlobal>(
+    pub fn tell_peers<R: Clock + Print + Eprint>(
         &mut self,
         rt: &R,
+        alloc: Global,
         host: &WatchedHost,
     ) {
         let mut peers = 0u32;
         for met in host.met() {
             if let Some(met) = met {
-                let line = self.peer_line(rt, host, met);
+                let line = self.peer_line(rt, alloc, host, met);
                 self.answer(rt, line);
                 peers = peers.saturating_add(1);
             }
         }
-        self.answer(rt, format!(in rt.alloc(); "peers {peers}\n"));
+        self.answer(rt, format!(in alloc; "peers {peers}\n"));
     }
 
-    fn peer_line<R: Clock + AllocGlobal>(
+    fn peer_line<R: Clock>(
         &self,
         rt: &R,
+        alloc: Global,
         host: &WatchedHost,
         met: &Met,
     ) -> Result<String, AllocError> {
@@ -106,7 +108,7 @@ impl Desk {
         let trip = host.host().round_trip(peer).map_or(0, |trip| trip.mean);
         let throttle = host.host().throttle(peer).unwrap_or(0);
         let transit = host.host().in_transit(peer).unwrap_or(0);
-        format!(in rt.alloc();
+        format!(in alloc;
             "peer {slot}.{generation} at {ip}:{port} for {seconds} s round trip {trip} ms throttle {throttle} in transit {transit} bytes\n"
         )
     }
@@ -123,15 +125,16 @@ impl Desk {
     }
 
     /// Has the server end.
-    pub fn stop<R: Print + Eprint + AllocGlobal>(&mut self, rt: &R) {
+    pub fn stop<R: Print + Eprint>(&mut self, rt: &R, alloc: Global) {
         self.stops = true;
-        self.answer(rt, format!(in rt.alloc(); "stopping\n"));
+        self.answer(rt, format!(in alloc; "stopping\n"));
     }
 
     /// Has the connection of this peer end.
-    pub fn kick<R: Print + Eprint + AllocGlobal>(
+    pub fn kick<R: Print + Eprint>(
         &mut self,
         rt: &R,
+        alloc: Global,
         host: &WatchedHost,
         peer: PeerRef,
         info: u32,
@@ -148,19 +151,20 @@ impl Desk {
             info,
         };
         let line = if !is_there {
-            format!(in rt.alloc(); "no peer {slot}.{generation}\n")
+            format!(in alloc; "no peer {slot}.{generation}\n")
         } else if self.orders.push_back(order).is_err() {
-            format!(in rt.alloc(); "no memory\n")
+            format!(in alloc; "no memory\n")
         } else {
-            format!(in rt.alloc(); "kicked {slot}.{generation}\n")
+            format!(in alloc; "kicked {slot}.{generation}\n")
         };
         self.answer(rt, line);
     }
 
     /// Has this text sent to each client, reliably on channel 0.
-    pub fn say<R: Print + Eprint + AllocGlobal>(
+    pub fn say<R: Print + Eprint>(
         &mut self,
         rt: &R,
+        alloc: Global,
         host: &WatchedHost,
         text: Bytes,
     ) {
@@ -172,7 +176,7 @@ impl Desk {
                 }
             }
         }
-        self.answer(rt, format!(in rt.alloc(); "said to {clients}\n"));
+        self.answer(rt, format!(in alloc; "said to {clients}\n"));
     }
 
     // False where there is no memory.

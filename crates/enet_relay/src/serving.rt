@@ -19,7 +19,7 @@ const DAY: u64 = 86_400;
 /// Serves, and tells how much it was.
 pub fn serve<R>(rt: &R, options: ServeOptions) -> Result<(), Failure>
 where
-    R: Threads + Wait + Net + Clock + Sync + Input + Print + Eprint + AllocGlobal,
+    R: Threads + Wait + Net + Clock + Sync + Print + Eprint + AllocGlobal,
 {
     let settings = Settings {
         address: options.address,
@@ -53,11 +53,12 @@ fn tell_start<R: Eprint>(rt: &R, server: &ChatServer, settings: Settings) {
 
 fn serve_as_asked<R>(rt: &R, server: &mut ChatServer, options: ServeOptions) -> Result<(), Failure>
 where
-    R: Threads + Wait + Clock + Sync + Input + Print + Eprint + AllocGlobal,
+    R: Threads + Wait + Clock + Sync + Print + Eprint + AllocGlobal,
 {
     let gauge = Gauge::new();
     let mut operator = Operator::new(
         rt,
+        rt.alloc(),
         &gauge,
         options.peers,
         options.logs,
@@ -124,7 +125,7 @@ fn serve_on<R>(
     operator: &mut Operator<'_, R>,
 ) -> Result<(), Failure>
 where
-    R: Threads + Wait + Clock + Sync + Input + Print + Eprint + AllocGlobal,
+    R: Threads + Wait + Clock + Sync + Print + Eprint,
 {
     for _ in rt.forever() {
         let day = RunLength::Time(Duration::from_secs(DAY));

@@ -23,6 +23,7 @@ const MOST_LINES: u32 = 16;
 #[derive(Drop)]
 pub struct Operator<'a, R> {
     rt: &'a R,
+    alloc: Global,
     gauge: &'a Gauge,
     logs: bool,
     errors: Outlet,
@@ -35,10 +36,11 @@ pub struct Operator<'a, R> {
     events: u64,
 }
 
-impl<'a, R: AllocGlobal> Operator<'a, R> {
+impl<'a, R> Operator<'a, R> {
     /// For a server with room for so many peers. Where it is controlled, standard input is read.
     pub fn new(
         rt: &'a R,
+        alloc: Global,
         gauge: &'a Gauge,
         peers: u16,
         logs: bool,
@@ -46,10 +48,11 @@ impl<'a, R: AllocGlobal> Operator<'a, R> {
     ) -> Result<Operator<'a, R>, AllocError> {
         Ok(Operator {
             rt,
+            alloc,
             gauge,
             logs,
             errors: Outlet::new(Stream::Error),
-            desk: Desk::new(rt.alloc(), peers, is_controlled)?,
+            desk: Desk::new(alloc, peers, is_controlled)?,
             told_at: None,
             lost: 0,
             refused: 0,
@@ -67,7 +70,7 @@ impl<'a, R: AllocGlobal> Operator<'a, R> {
     }
 }
 
-impl<R: Clock + Input + Print + Eprint + AllocGlobal> Watch for Operator<'_, R> {
+impl<R: Clock + Print + Eprint> Watch for Operator<'_, R> {
     fn look(&mut self, host: &WatchedHost, report: Report) {
         self.lost = self.lost.saturating_add(u64::from(report.lost));
         self.orders = self.orders.saturating_add(u64::from(report.orders));
@@ -90,7 +93,7 @@ impl<R: Clock + Input + Print + Eprint + AllocGlobal> Watch for Operator<'_, R> 
     }
 }
 
-impl<R: Clock + Input + Print + Eprint + AllocGlobal> Operator<'_, R> {
+impl<R: Clock + Print + Eprint> Operator<'_, R> {
     // Whether a minute has passed since it was time, first since it was asked. Never where the clock can't be read.
     fn is_time(&mut self) -> bool {
         let Ok(now) = Instant::now(self.rt) else {
@@ -109,7 +112,7 @@ impl<R: Clock + Input + Print + Eprint + AllocGlobal> Operator<'_, R> {
 
     // `out` counts what the host put out; `lost` says how many of those didn't leave. What waits is in the queues and beside them.
     fn totals(&self, host: &WatchedHost) -> Result<String, AllocError> {
-        let alloc = self.rt.alloc();
+        let alloc = self.alloc;
         let peers = self.gauge.peers.load(SeqCst);
         let totals = host.host().totals();
         let came = totals.datagrams_in;
@@ -128,7 +131,7 @@ impl<R: Clock + Input + Print + Eprint + AllocGlobal> Operator<'_, R> {
     // Does what the operator says now.
     fn obey(&mut self, host: &WatchedHost) {
         for _line in 0..MOST_LINES {
-            let Some(word) = self.desk.next(self.rt) else {
+            let Some(word) = self.desk.next(self.alloc) else {
                 return;
             };
             self.carry_out(host, word);
@@ -136,7 +139,7 @@ impl<R: Clock + Input + Print + Eprint + AllocGlobal> Operator<'_, R> {
     }
 
     fn carry_out(&mut self, host: &WatchedHost, word: Word) {
-        let rt = self.rt;
+        let (rt, alloc) = (self.rt, self.alloc);
         match word {
             Word::Totals => {
                 let totals = self.totals(host);
@@ -145,14 +148,14 @@ impl<R: Clock + Input + Print + Eprint + AllocGlobal> Operator<'_, R> {
             Word::Log(logs) => {
                 self.logs = logs;
                 let told = if logs { "on" } else { "off" };
-                self.desk.answer(rt, format!(in rt.alloc(); "log {told}\n"));
+                self.desk.answer(rt, format!(in alloc; "log {told}\n"));
             }
-            Word::Peers => self.desk.tell_peers(rt, host),
-            Word::Stop => self.desk.stop(rt),
-            Word::Kick { peer, info } => self.desk.kick(rt, host, peer, info),
-            Word::Say(text) => self.desk.say(rt, host, text),
+            Word::Peers => self.desk.tell_peers(rt, alloc, host),
+            Word::Stop => self.desk.stop(rt, alloc),
+            Word::Kick { peer, info } => self.desk.kick(rt, alloc, host, peer, info),
+            Word::Say(text) => self.desk.say(rt, alloc, host, text),
             Word::Unknown => {
-                let line = format!(in rt.alloc(); "not understood\n");
+                let line = format!(in alloc; "not understood\n");
                 self.desk.answer(rt, line);
             }
         }
@@ -160,7 +163,7 @@ impl<R: Clock + Input + Print + Eprint + AllocGlobal> Operator<'_, R> {
 
     fn log_all(&mut self, host: &WatchedHost) {
         for note in host.notes() {
-            if let Some(line) = logged(self.rt.alloc(), note) {
+            if let Some(line) = logged(self.alloc, note) {
                 self.errors.line(self.rt, line);
             }
         }
