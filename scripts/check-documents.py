@@ -6,6 +6,7 @@
 - each file that a document links to is there;
 - each commit of measure/results is one of this history (told as passed over where the history isn't there);
 - README's commands name files that are there, and its command for all tests is the one that .ci/run runs;
+- the counts of definitions that docs/HEADLINE.md and docs/PROOFS.md tell are those of scripts/trusted.py;
 - the plots are what measure/draw.py makes of measure/results.
 
 The last line is 'N passed, M failed'; the status is 1 where one fails.
@@ -154,6 +155,20 @@ def commands(counts):
         counts.check(run and run[1] in lines, "README.md hasn't the command that .ci/run runs")
 
 
+def trusted(counts):
+    """What a reader of a clause must trust: so many definitions, so many lines."""
+    said = subprocess.run([sys.executable, "scripts/trusted.py"], capture_output=True, text=True, check=False).stdout
+    told = {name: (int(many), int(lines)) for name, many, lines in re.findall(r"^(.+): (\d+) definitions, (\d+) lines", said, re.M)}
+    page, run, steps = (told.get(name, (0, 0)) for name in ("Fleet::play, headline: the page", "Fleet::run, headline", "Fleet::run, headline and steps"))
+    wanted = {
+        "docs/HEADLINE.md": f"That is all: {page[0]} definitions, {page[1]} lines.",
+        "docs/PROOFS.md": f"| {page[0]} definitions, {page[1]} lines | {run[0]} definitions, {run[1]} lines, and with the clause that ties them to the "
+        f"events {steps[0]}, {steps[1]:,} |",
+    }
+    for document, words in wanted.items():
+        counts.check(words in read(document), f"{document} hasn't '{words}'")
+
+
 def plots(counts):
     drawn = subprocess.run([sys.executable, "measure/draw.py", "--check"], capture_output=True, text=True, check=False)
     counts.check(drawn.returncode == 0, drawn.stdout.strip())
@@ -162,7 +177,7 @@ def plots(counts):
 def main():
     os.chdir(os.path.join(os.path.dirname(os.path.abspath(__file__)), ".."))
     counts = Counts()
-    for check in (stated, names, links, commits, commands, plots):
+    for check in (stated, names, links, commits, commands, trusted, plots):
         check(counts)
     print(f"{counts.passed} passed, {counts.failed} failed")
     return 1 if counts.failed else 0
