@@ -159,11 +159,12 @@ def trusted(counts):
     """What a reader of a clause must trust: so many definitions, so many lines."""
     said = subprocess.run([sys.executable, "scripts/trusted.py"], capture_output=True, text=True, check=False).stdout
     told = {name: (int(many), int(lines)) for name, many, lines in re.findall(r"^(.+): (\d+) definitions, (\d+) lines", said, re.M)}
-    page, run, steps = (told.get(name, (0, 0)) for name in ("Fleet::play, headline: the page", "Fleet::run, headline", "Fleet::run, headline and steps"))
+    names = ("Fleet::play, headline: the page", "Fleet::run, headline", "Fleet::run, headline and steps")
+    page, run, steps = (told.get(name, (0, 0)) for name in names)
     wanted = {
         "docs/HEADLINE.md": f"That is all: {page[0]} definitions, {page[1]} lines.",
-        "docs/PROOFS.md": f"| {page[0]} definitions, {page[1]} lines | {run[0]} definitions, {run[1]} lines, and with the clause that ties them to the "
-        f"events {steps[0]}, {steps[1]:,} |",
+        "docs/PROOFS.md": f"| {page[0]} definitions, {page[1]} lines | {run[0]} definitions, {run[1]} lines, and with the clause that ties "
+        f"them to the events {steps[0]}, {steps[1]:,} |",
     }
     for document, words in wanted.items():
         counts.check(words in read(document), f"{document} hasn't '{words}'")
