@@ -342,15 +342,16 @@ static void loss(void) {
     join(0);
     pass(0, true, 1500);
     ENetPeer *peer = peers[0];
-    CHECK(peer->packetsLost == 0 && peer->packetLoss == 0);
+    const enet_uint32 before = peer->packetsLost; /* on a busy machine a command may have gone twice */
+    CHECK(peer->packetLoss == 0);
     server->intercept = drop;
     drops = true;
     give(peer, 10, ENET_PACKET_FLAG_RELIABLE);
-    for (begun = enet_time_get(); peer->packetsLost < 2 && lasts();) serve(0, true, ENET_EVENT_TYPE_NONE);
+    for (begun = enet_time_get(); peer->packetsLost < before + 2 && lasts();) serve(0, true, ENET_EVENT_TYPE_NONE);
     drops = false;
     pass(0, true, 1500);
     enet_uint32 lost = peer->packetsLost, sent = peer->packetsSent;
-    printf("lost: %s\n", lost >= 2 && lost < 10 ? "some" : "none or many");
+    printf("lost: %s\n", lost >= before + 2 && lost < before + 10 ? "some" : "none or many");
     enet_time_set(enet_time_get() + 10000);
     for (begun = enet_time_get(); peer->packetsLost && lasts();) {
         lost = peer->packetsLost, sent = peer->packetsSent;
