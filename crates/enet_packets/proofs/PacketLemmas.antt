@@ -6,6 +6,7 @@ use Rattle.std.specs.Cmp.{nat_cmp_is}
 use Rattle.std.proofs.lemmas.Map.Lookups.{exact_unsigned}
 use Rattle.std.specs.Cmp.{nat_cmp_total}
 use Rattle.std.specs.Option.{IfSome, option_map, unwrap_or}
+use Rattle.std.specs.Result.{IfOk}
 use Rattle.std.specs.List.Sorted.{IsStrictlySortedBy}
 use Rattle.std.specs.Map.{lookup, keys_of, values_of, remove_entry, set_value}
 use Rattle.std.specs.BTreeMap.{is_at, insert_entry}
@@ -26,9 +27,9 @@ use Rattle.enet_fragment.specs.Whole.{is_whole}
 use Rattle.enet_packets.specs.declared.incoming_packet.IncomingPacket.{IncomingPacket}
 use Rattle.enet_packets.specs.declared.incoming_packet.Dispatched.{Dispatched}
 use Rattle.enet_packets.specs.Invariant.{AreWholeUpTo, KeepsPackets, total_of}
-use Rattle.enet_packets.specs.Private.Invariant.{most_if}
+use Rattle.enet_packets.specs.Private.Invariant.{most_if, most_with}
 use Rattle.enet_packets.specs.Packets.{bytes_of, fresh, last_fresh, handed_out}
-use Rattle.enet_packets.proofs.Maps.{sum_bounded, length_bounded, len-sorted, values-sorted}
+use Rattle.enet_packets.proofs.Maps.{sum_bounded, length_bounded, len-sorted, values-sorted, set_value-same}
 
 abbrev pub Entries : Type 0
 Entries = List (ℕ × IncomingPacket)
@@ -315,3 +316,13 @@ pub goes : (until : ℕ) (e : ℕ × IncomingPacket) (es : Entries) → e.0 ≤ 
 goes until e es low =
     let test : nat_lt until e.0 ≡ false = grind (arith, nat_tests) in
     ap (λ b. cond b (e ∷ where_key nat_cmp (nat_lt until) es) (where_key nat_cmp (nat_lt until) es)) test
+
+-- a packet that a piece may have been added to
+pub keeps-grown : (r : Result Bool Refusal) (es fs : Entries) (k : ℕ) (v w : IncomingPacket) (place : Place) (body : List ℕ)
+    → lookup (is_at (nat_cmp k)) es ≡ Some v → fs ≡ set_value (is_at (nat_cmp k)) es w
+    → IfOk r (λ whole. (w ≡ record { flags = v.flags; making = with_piece v.making place body }) × (whole ≡ is_whole w.making)) → OnErr r (w ≡ v)
+    → (bytes most : ℕ) → KeepsPackets es bytes most → KeepsPackets fs bytes (most_with r most k)
+keeps-grown (Ok whole) es fs k v w place body there is ok err bytes most keeps =
+    subst (λ b. KeepsPackets fs bytes (most_if b most k)) (sym ok.1) (keeps-set es fs bytes most k v w there (ap total_of ok.0) is keeps)
+keeps-grown (Err why) es fs k v w place body there is ok err bytes most keeps =
+    subst (λ (xs : Entries). KeepsPackets xs bytes most) (sym (is ∙ ap (set_value (is_at (nat_cmp k)) es) err ∙ set_value-same (is_at (nat_cmp k)) es v there)) keeps

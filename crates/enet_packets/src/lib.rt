@@ -5,10 +5,12 @@
 //! by unreliable number) insert, add a piece, remove, hand out and forget just what their contracts say; `dispatch` and
 //! `flush` hand out the whole packets of a line from a number on, by rising number, and drop those that have fallen
 //! behind; the counts of packets and bytes are exact (`len`, `bytes`, `packets`), by counters, and `is_empty` tells
-//! just whether there is a line; want of memory changes nothing.
+//! just whether there is a line; want of memory changes nothing. Each packet has memory of its own (`BoxedPacket`), so that a
+//! place that a map keeps free costs a pointer.
 //! Only tested, by `check_peer`: that calls succeed with ample memory, and worked lines.
 #![tactic(auto)]
 
+mod boxed_packet;
 mod incoming_packet;
 mod packets;
 mod waiting;

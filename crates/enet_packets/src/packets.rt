@@ -10,6 +10,7 @@ ghost use Rattle.std.specs.VecDeque.{deque_len, deque_capacity};
 ghost use Rattle.enet_fragment.specs.PartialPacket.{belongs, piece_at, with_piece};
 ghost use Rattle.enet_fragment.specs.Whole.{is_whole};
 
+use crate::boxed_packet::BoxedPacket;
 use crate::{Dispatched, IncomingPacket};
 use enet_codec::Refusal;
 use enet_fragment::Place;
@@ -20,7 +21,8 @@ use std::marker::Model;
 /// Packets by their numbers. Contracts see it as a finite map.
 #[derive(Drop)]
 pub struct Packets {
-    packets: BTreeMap<u16, IncomingPacket>,
+    alloc: Global,
+    packets: BTreeMap<u16, BoxedPacket>,
     bytes: u64,
     /// No whole packet has a number above this one, so those past it are in the making and need not be looked at.
     last_whole: u16,
@@ -48,12 +50,20 @@ ghost use Rattle.enet_packets.specs.Private.Invariant.{most_if, most_with};
 ghost use Rattle.enet_packets.specs.Packets.{bytes_of, fresh, last_fresh, still_ahead, handed_out};
 
 /// Adds a packet, where memory is not refused.
-fn put(packets: &mut BTreeMap<u16, IncomingPacket>, number: u16, coming: IncomingPacket) -> bool
+fn put(
+    packets: &mut BTreeMap<u16, BoxedPacket>,
+    alloc: Global,
+    number: u16,
+    coming: IncomingPacket,
+) -> bool
     ensures added { IsTrue result → packets.new.entries ≡ tree.insert_entry nat_cmp packets.old.entries number coming }
     ensures refused { result ≡ false → packets.new.entries ≡ packets.old.entries }
-    ensures ordered { tree.IsOrdered nat_cmp packets.new }
+    ensures ordered { IsTrue result → tree.IsOrdered nat_cmp packets.new }
 {
-    match packets.insert(number, coming) {
+    let Some(boxed) = BoxedPacket::new(alloc, coming) else {
+        return false;
+    };
+    match packets.insert(number, boxed) {
         Ok(_) => true,
         Err(_) => false,
     }
@@ -61,7 +71,7 @@ fn put(packets: &mut BTreeMap<u16, IncomingPacket>, number: u16, coming: Incomin
 
 /// Adds a piece to the packet of this number. Answers whether that is whole then.
 fn add_piece(
-    packets: &mut BTreeMap<u16, IncomingPacket>,
+    packets: &mut BTreeMap<u16, BoxedPacket>,
     number: u16,
     place: Place,
     bytes: &[u8],
@@ -75,10 +85,7 @@ fn add_piece(
     ensures kept { (bytes most : ℕ) → KeepsPackets packets.old.entries bytes most → KeepsPackets packets.new.entries bytes (most_with result most number) }
 {
     match packets.get_mut(&number) {
-        Some(coming) => match coming.making.add(place, bytes) {
-            Ok(()) => Ok(coming.making.is_whole()),
-            Err(why) => Err(why),
-        },
+        Some(coming) => coming.add(place, bytes),
         None => Ok(false),
     }
 }
@@ -95,24 +102,21 @@ fn whole_up_to(last_whole: u16, number: u16, is_whole: bool) -> u16
 }
 
 /// Whether a packet is whole and its number above `last`.
-fn is_newer(number: u16, coming: &IncomingPacket, last: u16) -> bool
+fn is_newer(number: u16, coming: &BoxedPacket, last: u16) -> bool
     ensures { result ≡ (is_whole coming.now.making && nat_lt last number) }
 {
-    coming.making.is_whole() && last < number
+    coming.packet().making.is_whole() && last < number
 }
 
 /// Whether a packet is handed out where those from `first` on are.
-fn is_fresh(number: u16, coming: &IncomingPacket, first: u32) -> bool
+fn is_fresh(number: u16, coming: &BoxedPacket, first: u32) -> bool
     ensures { result ≡ (is_whole coming.now.making && nat_le first number) }
 {
-    coming.making.is_whole() && first <= u32::from(number)
+    coming.packet().making.is_whole() && first <= u32::from(number)
 }
 
 /// Takes the first packet out, if its number is at most `until`.
-fn pop_up_to(
-    packets: &mut BTreeMap<u16, IncomingPacket>,
-    until: u16,
-) -> Option<(u16, IncomingPacket)>
+fn pop_up_to(packets: &mut BTreeMap<u16, BoxedPacket>, until: u16) -> Option<(u16, BoxedPacket)>
     ensures some { IfSome result (λ e. packets.old.entries ≡ e ∷ packets.new.entries) }
     ensures low { IfSome result (λ e. e.0 ≤ until) }
     ensures none { IfNone result (packets.new.entries ≡ packets.old.entries) }
@@ -126,14 +130,14 @@ fn pop_up_to(
 }
 
 /// Hands a packet out if it is whole and its number at least `first`.
-fn hand_out(number: u16, coming: IncomingPacket, first: u32, dispatched: &mut VecDeque<Dispatched>)
+fn hand_out(number: u16, coming: BoxedPacket, first: u32, dispatched: &mut VecDeque<Dispatched>)
     requires { deque_len dispatched.old < deque_capacity dispatched.old }
     ensures items { dispatched.new.items ≡ (if is_whole coming.making && nat_le first number then dispatched.old.items ++ handed_out coming ∷ [] else dispatched.old.items) }
     ensures room { deque_len dispatched.new ≤ deque_len dispatched.old + 1 }
     ensures capacity { deque_capacity dispatched.new ≡ deque_capacity dispatched.old }
 {
     if is_fresh(number, &coming, first) {
-        dispatched.push_back_reserved(coming.handed_out());
+        dispatched.push_back_reserved(coming.into_packet().handed_out());
     }
 }
 
@@ -143,6 +147,7 @@ impl Packets {
         ensures { result ≡ map.empty }
     {
         Packets {
+            alloc,
             packets: BTreeMap::new(alloc),
             bytes: 0,
             last_whole: 0,
@@ -170,7 +175,10 @@ impl Packets {
     pub fn get(&self, number: u16) -> Option<&IncomingPacket>
         ensures { option_copied result ≡ map.get self.now number }
     {
-        self.packets.get(&number)
+        match self.packets.get(&number) {
+            Some(coming) => Some(coming.packet()),
+            None => None,
+        }
     }
 
     /// Adds a packet under a number that has none. `Refusal::Memory` changes nothing.
@@ -184,7 +192,7 @@ impl Packets {
     {
         let total = u64::from(coming.making.total());
         let is_whole = coming.making.is_whole();
-        if !put(&mut self.packets, number, coming) {
+        if !put(&mut self.packets, self.alloc, number, coming) {
             return Err(Refusal::Memory);
         }
         self.bytes += total;
@@ -213,8 +221,8 @@ impl Packets {
         ensures rest { self.new ≡ map.remove self.old number }
     {
         let coming = self.packets.remove(&number)?;
-        self.bytes -= u64::from(coming.making.total());
-        Some(coming)
+        self.bytes -= u64::from(coming.packet().making.total());
+        Some(coming.into_packet())
     }
 
     /// Takes all packets out.
@@ -273,7 +281,7 @@ impl Packets {
     {
         let until = self.last_fresh(*last);
         while let Some((number, coming)) = pop_up_to(&mut self.packets, until) {
-            self.bytes -= u64::from(coming.making.total());
+            self.bytes -= u64::from(coming.packet().making.total());
             hand_out(number, coming, first, dispatched);
         }
         *last = until;

@@ -24,7 +24,7 @@ invariant_of-self-2 c =
     let next : c.whole_up_to-self-inside.result ≡ most_if (is_whole c.args.coming.making) c.self.inside.last_whole c.args.number = c.whole_up_to-self-inside.ensures ∙ ap (λ w. most_if w c.self.inside.last_whole c.args.number) c.is_whole-is_whole.ensures in
     subst (λ n. KeepsPackets c.put.new.packets.entries (c.self.inside.bytes + n) c.whole_up_to-self-inside.result) (sym total)
     (subst (λ n. KeepsPackets c.put.new.packets.entries (c.self.inside.bytes + total_of c.args.coming) n) (sym next)
-    (keeps-insert es c.put.new.packets.entries c.self.inside.bytes c.self.inside.last_whole c.args.number c.args.coming (omega arith) (omega arith) absent (c.put.ensures.added c.if-not-put.false) c.put.ensures.ordered c.self.invariant))
+    (keeps-insert es c.put.new.packets.entries c.self.inside.bytes c.self.inside.last_whole c.args.number c.args.coming (omega arith) (omega arith) absent (c.put.ensures.added c.if-not-put.false) (c.put.ensures.ordered c.if-not-put.false) c.self.invariant))
 
 pub returns-then-not-put-clause-few : goal.returns-then-not-put-clause-few
 returns-then-not-put-clause-few c =
