@@ -34,6 +34,15 @@ pub struct Progress {
     pub asks: bool,
 }
 
+/// A turn of a channel.
+#[derive(Clone, Copy)]
+struct Turn {
+    /// How many turns there were before it.
+    turn: usize,
+    /// Whose turn it is.
+    channel: usize,
+}
+
 /// What the channels share.
 #[derive(Clone, Copy)]
 pub struct Flow {
@@ -282,15 +291,40 @@ fn pack_channel(
     }
 }
 
-/// The first turn from this one on whose channel may have something that goes, where the channel `first` has turn 0; the number of
-/// channels where there is none.
-fn next_turn(senders: &Senders, first: usize, turn: usize) -> usize
+/// Puts what is due on a channel into the datagram as `pack_channel` does. Where the window is nearly full, a channel that surely has
+/// to wait is passed over.
+fn pack_turn(
+    senders: &mut Senders,
+    flow: &mut Flow,
+    channel: u8,
+    pace: Pace,
+    buf: &mut [u8],
+    progress: &mut Progress,
+)
+    requires { channel < length senders.old }
+    ensures { (s : SendingEnd) → slice_get senders.old channel ≡ Some s → (t : SendingEnd) × ((senders.new ≡ slice_set senders.old channel t)
+        × PacksChannel pace (record { channel = channel; sender = s; flow = flow.old }) (record { channel = channel; sender = t; flow = flow.new })
+        (record { progress = progress.old; buf = buf.old }) (record { progress = progress.new; buf = buf.new })) }
+{
+    let most = flow.throttle.transit_limit(pace.window, pace.mtu);
+    let is_nearly_full = u64::from(flow.transit) + u64::from(pace.mtu) > u64::from(most);
+    if is_nearly_full && senders.has_to_wait(channel, flow.transit, most) {
+        return;
+    }
+    *progress = pack_channel(senders, flow, channel, pace, buf, *progress);
+}
+
+/// The first turn from this one on whose channel may have something that goes, where the channel `first` has turn 0; where there is
+/// none, one past the last.
+fn next_turn(senders: &Senders, first: usize, turn: usize) -> Turn
     requires first { first ≤ 256 }
     requires turn { turn ≤ length senders.now }
     requires few { length senders.now ≤ 255 }
-    ensures later { turn ≤ result }
-    ensures within { result ≤ length senders.now }
-    ensures still { (k : ℕ) (e : SendingEnd) → turn ≤ k → k < result → slice_get senders.now ((first + k) % length senders.now) ≡ Some e → IsStill e.sender }
+    ensures later { turn ≤ result.turn }
+    ensures within { result.turn ≤ length senders.now }
+    ensures channel { result.turn < length senders.now → result.channel ≡ (first + result.turn) % length senders.now }
+    ensures low { result.channel ≤ 255 }
+    ensures still { (k : ℕ) (e : SendingEnd) → turn ≤ k → k < result.turn → slice_get senders.now ((first + k) % length senders.now) ≡ Some e → IsStill e.sender }
 {
     let channels = senders.len();
     let mut next = turn;
@@ -298,11 +332,17 @@ fn next_turn(senders: &Senders, first: usize, turn: usize) -> usize
         let channel = (first + next) % channels;
         let ready = senders.next_ready(channel).min(channels);
         if ready == channel {
-            return next;
+            return Turn {
+                turn: next,
+                channel,
+            };
         }
         next = channels.min(next + (ready - channel));
     }
-    next
+    Turn {
+        turn: next,
+        channel: 0,
+    }
 }
 
 /// Puts what is due on the channels into the datagram, cyclically from the channel `first` on, as far as it fits. A closed
@@ -323,14 +363,13 @@ pub(crate) fn pack_channels(
 {
     let channels = senders.len();
     let mut progress = from;
-    let mut turn = next_turn(senders, first, 0);
-    'turns: while turn < channels {
+    let mut next = next_turn(senders, first, 0);
+    'turns: while next.turn < channels {
         if progress.closed {
             return progress;
         }
-        let channel = (first + turn) % channels;
-        progress = pack_channel(senders, flow, channel as u8, pace, buf, progress);
-        turn = next_turn(senders, first, turn + 1);
+        pack_turn(senders, flow, next.channel as u8, pace, buf, &mut progress);
+        next = next_turn(senders, first, next.turn + 1);
     }
     progress
 }

@@ -7,3 +7,4 @@ pub mod Pending
 pub mod Foretold
 pub mod Rings
 pub mod Private
+pub mod Waiting

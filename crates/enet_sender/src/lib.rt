@@ -7,7 +7,7 @@
 //! nothing has changed, `refused`), `next_due` (the first due resend, else the head of the queue exactly where the sender's
 //! span and the bytes in transit let it go, written where it fits; NoRoom and Nothing change nothing), `skip`,
 //! `acknowledge`, `late`, `ends`, `is_late`, `mark`, `clear`, `left`; and `next_late`, in how many milliseconds something is late
-//! first. Where it matters each asks that rings and slab
+//! first. Where `has_to_wait` answers true, nothing goes, at whatever time (`Waits`, specs/Waiting). Where it matters each asks that rings and slab
 //! fit (`KeepsIn`, specs/Rings): each key of the rings is in the slab, once in the rings, and nothing under the mark of a vacant
 //! place; bodies are short; what is sent stands in the place of its number, of at most 8,192 the first of which isn't vacant, and
 //! none is due to go again before the place where the search for one begins; the reliable numbers of the queue go on, one by one,

@@ -11,6 +11,7 @@ ghost use Rattle.enet_sender.specs.declared.pending.Pending.{Pending};
 ghost use Rattle.enet_sender.specs.declared.sent.Sent.{Sent};
 ghost use Rattle.enet_sender.specs.Sender.{with_marked, lateness, after_lateness, ends, is_late, cleared, after_acknowledgement, acknowledged_bytes, next, next_queued, next_resent, first_sent, may_go, piece_of_body, is_more, skipped, with_skipped, left};
 ghost use Rattle.enet_sender.specs.Due.{Did, new_end, with_submitted};
+ghost use Rattle.enet_sender.specs.Waiting.{Waits};
 ghost use Rattle.enet_fragment.specs.Cutting.{piece_length, piece_count};
 ghost use Rattle.enet_sender.specs.CommandChoice.{fragment_limit};
 ghost use Rattle.enet_sender.specs.Private.Invariant.{IsShort};
@@ -139,6 +140,25 @@ impl Outgoing {
             Some(place) => self.resend(pending, place, now, buf, at),
             None => self.send_first(pending, now, timeout, transit, most, buf, at),
         }
+    }
+
+    /// Whether the channel surely has to wait: nothing that is sent is due to go again, and the head of the queue may not go yet, where
+    /// `transit` payload bytes of the peer are sent and unacknowledged, and `most` may be. Where it answers true, `next_due` with these two
+    /// answers `Nothing`; it may also answer false where nothing may go.
+    pub fn has_to_wait(&self, pending: &Pending, transit: u32, most: u32) -> bool
+        requires { KeepsIn pending.now self.now }
+        ensures { IsTrue result → Waits transit most (sender_in pending.now self.now) }
+    {
+        if self.due_from < self.sent.len() {
+            return false;
+        }
+        let Some(key) = first(&self.queued) else {
+            return false;
+        };
+        let Some(head) = pending.get(key) else {
+            return false;
+        };
+        !self.may_go(&head.command, transit, most)
     }
 
     /// The place of the first sent command that is due to go again.

@@ -8,7 +8,8 @@
 //! asks it of its caller. `any_late`, `any_ends` and `mark` look only at commands whose timeout has passed, and `next_late` reads when
 //! the first one's has (`Pending` of `enet_sender`). Two sets of channels are kept, of those that may have something to put out
 //! and of those that may have something sent: `have_no_packet` and `have_no_reliable` look at these alone.
-//! `next_ready` promises of each channel that it passes over that it has nothing queued, and nothing that is due to go again.
+//! `next_ready` promises of each channel that it passes over that it has nothing queued, and nothing that is due to go again; where
+//! `has_to_wait` answers true, `next_due` has nothing to write on that channel.
 //! `next_late` says when something is late first. Of channel 0xFF, exactly by specs/Controlling: `queue`, `next_due`, `acknowledge`,
 //! `late`, `next_late`, `clear`, `is_idle`, `is_still`, `reserve`, `open` and the calls that only test or only mark (`ends`, `is_late`, `mark`,
 //! `has_queued`); a list without commands has room for one.

@@ -1,6 +1,6 @@
 //! The channels of a peer over its commands.
 
-ghost use Rattle.std.specs.Prelude.{◌≡◌, ◌≢◌, ℕ, ◌^◌, true, false, ◌⊎◌, ◌↔◌, ◌<◌, ◌≤◌, OnOk, IfOk, IfErr, IfSome, IsErrAnd, Some, [], not, length, map, take, slice_get, slice_set, All};
+ghost use Rattle.std.specs.Prelude.{◌≡◌, ◌≢◌, ℕ, ◌^◌, true, false, ◌⊎◌, ◌↔◌, ◌<◌, ◌≤◌, IsTrue, OnOk, IfOk, IfErr, IfSome, IsErrAnd, Some, [], not, length, map, take, slice_get, slice_set, All};
 ghost use Rattle.std.specs.List.{range_with_len, list_all, list_any};
 ghost use Rattle.enet_rtt.specs.Clock.{HappensIn};
 ghost use Rattle.enet_seq.specs.Numbering.{wire};
@@ -8,6 +8,7 @@ ghost use Rattle.enet_fragment.specs.Cutting.{piece_count};
 ghost use Rattle.enet_sender.specs.CommandChoice.{fragment_limit};
 ghost use Rattle.enet_sender.specs.Sender.{after_acknowledgement, acknowledged_bytes, next, with_skipped, ends, is_late, left};
 ghost use Rattle.enet_sender.specs.Due.{SendingEnd, Did, with_submitted, new_end};
+ghost use Rattle.enet_sender.specs.Waiting.{Waits};
 ghost use Rattle.enet_sender.specs.declared.outgoing.Outgoing.{Outgoing};
 ghost use Rattle.enet_sender.specs.declared.sent.Sent.{Sent};
 ghost use Rattle.enet_sender.specs.Rings.{end_in, IsEmpty};
@@ -112,6 +113,21 @@ fn next_due_on(
     ensures kept { KeepsAllIn pending.new channels.new.items }
 {
     channels[usize::from(channel)].next_due(pending, now, timeout, transit, most, buf, at)
+}
+
+/// Whether a channel surely has to wait.
+fn has_to_wait_on(
+    channels: &[Outgoing],
+    pending: &Pending,
+    channel: u8,
+    transit: u32,
+    most: u32,
+) -> bool
+    requires kept { KeepsAllIn pending.now channels.now }
+    requires inside { channel < length channels.now }
+    ensures { (e : SendingEnd) → slice_get (ends_in pending.now channels.now) channel ≡ Some e → IsTrue result → Waits transit most e.sender }
+{
+    channels[usize::from(channel)].has_to_wait(pending, transit, most)
 }
 
 /// The rest of a channel's unreliable packet is dropped: the other channels stay as they were.
@@ -359,6 +375,16 @@ impl Senders {
             Due::NoRoom => {}
         }
         due
+    }
+
+    /// Whether a channel surely has to wait: nothing that is sent there is due to go again, and the head of its queue may not go yet, where
+    /// `transit` payload bytes of the peer are sent and unacknowledged, and `most` may be. Where it answers true, `next_due` with these
+    /// two answers `Nothing`; it may also answer false where nothing may go.
+    pub fn has_to_wait(&self, channel: u8, transit: u32, most: u32) -> bool
+        requires { channel < length self.now }
+        ensures { (s : SendingEnd) → slice_get self.now channel ≡ Some s → IsTrue result → Waits transit most s.sender }
+    {
+        has_to_wait_on(&self.channels, &self.pending, channel, transit, most)
     }
 
     /// The first channel from `from` on of which something may go. Those that are passed over have nothing queued, and nothing
