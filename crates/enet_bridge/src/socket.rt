@@ -160,6 +160,12 @@ impl MioWire {
         Some(u32::from_ne_bytes([value[0], value[1], value[2], value[3]]))
     }
 
+    /// Asks the system to keep so many bytes of datagrams until they are received, in place of 4 MB. It may keep fewer
+    /// ([`MioWire::receive_buffer`] tells), which is no fault.
+    pub fn set_receive_buffer(&self, bytes: u32) {
+        widen_incoming(&self.socket, bytes);
+    }
+
     /// What the system said at the last call that answered E14.
     pub fn reason(&self) -> Option<io::Error>
         ensures { result ≡ reason_of self.now }
@@ -271,11 +277,24 @@ fn opened<R: Net>(rt: &R, addr: Addr) -> io::Result<(UdpSocket, Poll, Bell)> {
 
 // Asks the system to keep more datagrams that weren't received yet, or didn't leave yet. It may keep fewer, which is no fault.
 fn widen(socket: &UdpSocket) {
-    let mut value = [0u8; 16];
-    value[..4].copy_from_slice(&BUFFER.to_ne_bytes());
+    widen_incoming(socket, BUFFER);
+    let value = option_value(BUFFER);
+    let fd = socket.as_raw_fd();
+    let _ = unsafe { c::setsockopt(fd, c::SOL_SOCKET, c::SO_SNDBUF, &value, 4) };
+}
+
+// Asks it to keep so many bytes that weren't received yet.
+fn widen_incoming(socket: &UdpSocket, bytes: u32) {
+    let value = option_value(bytes);
     let fd = socket.as_raw_fd();
     let _ = unsafe { c::setsockopt(fd, c::SOL_SOCKET, c::SO_RCVBUF, &value, 4) };
-    let _ = unsafe { c::setsockopt(fd, c::SOL_SOCKET, c::SO_SNDBUF, &value, 4) };
+}
+
+// A number as an option of a socket has it.
+fn option_value(number: u32) -> [u8; 16] {
+    let mut value = [0u8; 16];
+    value[..4].copy_from_slice(&number.to_ne_bytes());
+    value
 }
 
 fn socket_addr(addr: Addr) -> SocketAddr {

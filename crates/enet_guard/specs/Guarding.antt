@@ -16,6 +16,9 @@ pub record Guarding : Type 0 where
   pub recent : List Asked
   pub clock : ℕ
 
+abbrev pub no_rules : Rules
+no_rules = record { peers_of_address = None; connects_of_address = None; connects = None }
+
 -- a guard to which nothing came, of a host of so many slots
 abbrev pub new_guard : Rules → ℕ → Guarding
 new_guard rules slots = record { rules = rules; banned = []; seats = replicate slots None; half_open = []; recent = []; clock = 0 }
@@ -24,6 +27,9 @@ new_guard rules slots = record { rules = rules; banned = []; seats = replicate s
 abbrev pub is_below : ℕ → Option ℕ → Bool
 is_below count None = true
 is_below count (Some most) = nat_lt count most
+
+abbrev pub is_other : ℕ → ℕ → Bool
+is_other ip banned = not (eqb banned ip)
 
 -- no rule, and nobody is banned
 abbrev pub has_no_rule : Guarding → Bool

@@ -1,7 +1,7 @@
 //! The guard: whom it lets pass.
 ghost use Rattle.std.specs.Prelude.{◌≡◌, ◌<◌, length, IfSome, slice_get};
 ghost use Rattle.std.specs.List.{filter, position};
-ghost use Rattle.enet_guard.specs.Guarding.{is_below, is_seated_at, is_kept, is_known, is_of, is_same, without_first};
+ghost use Rattle.enet_guard.specs.Guarding.{is_below, is_seated_at, is_kept, is_known, is_other, is_of, is_same, without_first};
 
 use enet_codec::{Addr, Refusal};
 use std::alloc::Global;
@@ -26,6 +26,22 @@ pub struct Rules {
     pub connects_of_address: Option<u32>,
     /// How many CONNECTs may pass in a second in all.
     pub connects: Option<u32>,
+}
+
+impl Rules {
+    ghost use Rattle.std.specs.Prelude.{◌≡◌};
+    ghost use Rattle.enet_guard.specs.Guarding.{no_rules};
+
+    /// No limit.
+    pub fn none() -> Rules
+        ensures { result ≡ no_rules }
+    {
+        Rules {
+            peers_of_address: None,
+            connects_of_address: None,
+            connects: None,
+        }
+    }
 }
 
 /// A CONNECT that passed.
@@ -66,9 +82,9 @@ impl Model for Guard {
 
 impl Guard {
     ghost use Rattle.std.specs.Prelude.{◌≡◌, ◌++◌, ◌∷◌, [], OnOk, OnErr, IfOk, IfErr, count_by};
-    ghost use Rattle.std.specs.List.{list_any};
+    ghost use Rattle.std.specs.List.{filter, list_any};
     ghost use Rattle.std.specs.Prelude.{eqb};
-    ghost use Rattle.enet_guard.specs.Guarding.{new_guard, has_no_rule, forgotten, Judges, noted, is_again, has_room, peers_at, later, seated};
+    ghost use Rattle.enet_guard.specs.Guarding.{new_guard, has_no_rule, forgotten, Judges, noted, is_again, has_room, is_other, peers_at, later, seated};
 
     /// A guard with these rules for a host of so many slots, to which nothing came. E1 for want of memory.
     pub fn new(alloc: Global, rules: Rules, slots: u16) -> Result<Guard, Refusal>
@@ -99,6 +115,13 @@ impl Guard {
             Ok(()) => Ok(()),
             Err(_) => Err(Refusal::Memory),
         }
+    }
+
+    /// Lets the CONNECTs of this address pass again, as the rules say, however often it was banned.
+    pub fn unban(&mut self, ip: u32)
+        ensures { self.new ≡ record self.old { banned = filter (is_other ip) self.old.banned } }
+    {
+        let_go(&mut self.banned, ip);
     }
 
     /// Whether it has no rule and nobody is banned.
@@ -231,6 +254,13 @@ impl Guard {
             drop_first(&mut self.half_open, seated.address);
         }
     }
+}
+
+// Drops each that is this address.
+fn let_go(banned: &mut Vec<u32>, ip: u32)
+    ensures { banned.new.items ≡ filter (is_other ip) banned.old.items }
+{
+    banned.retain(|banned| *banned != ip);
 }
 
 // Keeps those that still count.

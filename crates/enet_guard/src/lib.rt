@@ -1,6 +1,6 @@
 //! Who may ask for a connection: a wire that passes over CONNECTs beyond some limits before the host sees them ([`Guarded`]). The limits are
 //! how many peers of an address there are at once, how many CONNECTs pass in a second, of an address and in all ([`Rules`]), and addresses
-//! that are banned ([`Guard::ban`]).
+//! that are banned ([`Guard::ban`], until [`Guard::unban`]).
 //!
 //! Proved: which datagrams ask for a connection, by the spellings of `enet_codec` ([`asks`]); which CONNECTs pass, by the rules, the time and
 //! what was told of the host's slots (`Judges`), and that a CONNECT which comes again counts once; that all else passes untouched, and that a
