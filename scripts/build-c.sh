@@ -19,7 +19,7 @@ mkdir -p "$1/include/gofnjerta/enet" "$1/lib/pkgconfig" "$1/lib/gofnjerta/pkgcon
 folder=$(cd "$1" && pwd)
 [ $# -lt 2 ] || archive=$(realpath "$2")
 cd "$(dirname "$0")/.."
-kit=$(dirname "$(dirname "$(realpath "$(command -v rt)")")")
+kit=$(dirname "$(rt doc)")
 if [ $# -lt 2 ]; then
     (cd crates/enet_c && rt lib --jobs 1)
     archive=$PWD/crates/enet_c/out/libenet_c.a

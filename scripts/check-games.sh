@@ -1,27 +1,37 @@
 #!/usr/bin/env bash
 # Programs that were built for libenet, on ours: `check-games.sh [ARCHIVE]`, run by hand. ARCHIVE is the proved part, by default
-# crates/enet_c/out/libenet_c.a. Fetches Debian's cube2-server, godot3-server and python3-enet, with the libraries that they need, without
-# installing them, and runs each, in a network namespace of its own, with libenet at both ends (the control), with our libenet.so.7 at either
-# end, and at both:
+# crates/enet_c/out/libenet_c.a. Fetches Debian's cube2-server, redeclipse-server, yuzu, godot3-server and python3-enet, with the libraries
+# that they need (50 MB), without installing them, and runs each, in a network namespace of its own, with libenet at both ends (the control),
+# with our libenet.so.7 at either end, and at both; the clients of the first three are those of c/games:
 # - cube2: its server registers with a master server by TCP, takes two players of an address and no third (maxdupclients);
+# - redeclipse: its server, without the game's data (860 MB), which it doesn't ask for, welcomes two players with 130,000 bytes each, and
+#   throws out a third;
+# - yuzu: a room, in which two members talk and send a game's datagrams, and which refuses a third;
 # - godot3: a server and a client over its multiplayer, in the compression modes 0 to 4 (1 is the range coder);
 # - python3-enet: plain, with a checksum, with an interceptor, with the range coder, and with all three.
+# Not here is 0ad: its server is the game itself, which starts with its data alone, 1.4 GB to fetch and 3.2 GB on the disk.
 # Prints a line for each, 'passed' or 'failed', and as last line 'N passed, M failed'; the status is 1 where one failed. It takes root, for
 # the namespace, a network to Debian's packages, and some five minutes.
 cd "$(dirname "$0")/.." || exit 1
 . scripts/clients.sh
-packages=(cube2-server godot3-server python3-enet libenet7 libsquish0 libtheora0 libvpx7 libvorbis0a libopus0 libogg0 libpcre2-32-0 libwebp7
-    libfreetype6 libpng16-16 libbrotli1)
+packages=(cube2-server redeclipse-server redeclipse-common yuzu godot3-server python3-enet libenet7 libsquish0 libtheora0 libvpx7 libvorbis0a
+    libopus0 libogg0 libpcre2-32-0 libwebp7 libfreetype6 libpng16-16 libbrotli1 libsqlite3-0 libmbedcrypto7 libcpp-httplib0.11 libfmt9 libssl3)
 
 # Everything that the runs need, in the folder `room`.
 prepare() {
-    mkdir -p "$room/debs" "$room/root" "$room/home" "$room/cube" "$room/godot" && chmod 755 "$room" "$room/debs" || return 1
+    mkdir -p "$room/debs" "$room/root" "$room/home" "$room/cube" "$room/godot" "$room/eclipse/data/maps" || return 1
+    chmod 755 "$room" "$room/debs" && mkfifo "$room/quiet" || return 1
     (cd "$room/debs" && apt-get download "${packages[@]}") || return 1
     local deb
     for deb in "$room"/debs/*.deb; do dpkg-deb -x "$deb" "$room/root" || return 1; done
-    bash scripts/build-c.sh "$room/made" "$1" && cc -O1 -Wall -Wextra c/games/cube.c -o "$room/cube-client" -lenet || return 1
+    bash scripts/build-c.sh "$room/made" "$1" || return 1
+    local game
+    for game in cube eclipse room; do cc -O1 -Wall -Wextra "c/games/$game.c" -o "$room/$game-client" -lenet || return 1; done
     cp c/games/visit.gd c/games/project.godot "$room/godot/" && cp c/games/visit.py c/games/master.py "$room/" || return 1
     printf '%s\n' 'maxclients 8' 'maxdupclients 2' 'updatemaster 1' 'mastername "127.0.0.1"' 'serverport 28785' > "$room/cube/server-init.cfg"
+    # Red Eclipse's server looks for a file of the game's data and reads its own settings.
+    touch "$room/eclipse/data/maps/readme.txt" && ln -s "$room/root/usr/share/games/redeclipse"/* "$room/eclipse/" || return 1
+    printf '%s\n' 'servertype 1' 'serverport 28801' > "$room/home/servinit.cfg"
 }
 
 # Runs the rest of the words with the library $1, ours or libenet's.
@@ -52,19 +62,29 @@ both_ends() {
     wait "$relay" 2> /dev/null
 }
 
+# A game's server, run by the words from $6 on in the folder $4, and the client $5-client at its port $3; $1 and $2 are their libraries. It
+# serves until it is ended; nothing comes from its standard input, which stays open.
+visited() {
+    (cd "$room/$4" && on "$1" "${@:6}") > "$room/server" 2>&1 <> "$room/quiet" &
+    local relay=$! status
+    until_bound "$3" && on "$2" "$room/$5-client" "$3" > "$room/client" 2>&1
+    status=$?
+    pkill -P "$relay" 2> /dev/null
+    kill "$relay" 2> /dev/null
+    wait "$relay" 2> /dev/null
+    return "$status"
+}
+
 # Cube 2's server with a master server beside it, and its clients.
 cube() {
     /usr/bin/python3 "$room/master.py" > "$room/master" 2>&1 &
     local master=$!
     for _ in {1..100}; do grep -q '0100007F:7073 00000000:0000 0A' /proc/net/tcp && break; sleep 0.1; done # 28787, and it listens
-    (cd "$room/cube" && on "$1" "$room/root/usr/lib/cube2/cube2_server" "-q$room/cube") > "$room/server" 2>&1 &
-    local relay=$!
-    until_bound 28785 && on "$2" "$room/cube-client" 28785 > "$room/client" 2>&1 && wait "$master" &&
+    visited "$1" "$2" 28785 cube cube "$room/root/usr/lib/cube2/cube2_server" "-q$room/cube" && wait "$master" &&
         grep -q 'master server registration succeeded' "$room/server"
     tell $? cube2 "$1" "$2"
-    pkill -P "$relay" 2> /dev/null
-    kill "$relay" "$master" 2> /dev/null
-    wait "$relay" "$master" 2> /dev/null
+    kill "$master" 2> /dev/null
+    wait "$master" 2> /dev/null
 }
 
 tell() {
@@ -83,6 +103,10 @@ run_all() {
     for pair in "libenet libenet" "ours libenet" "libenet ours" "ours ours"; do
         read -ra ends <<< "$pair"
         cube "${ends[@]}"
+        visited "${ends[@]}" 28801 eclipse eclipse "$room/root/usr/lib/games/redeclipse/redeclipse-server" "-h$room/home"
+        tell $? redeclipse "${ends[@]}"
+        visited "${ends[@]}" 24872 home room "$room/root/usr/games/yuzu-room" --room-name hall --preferred-game none --port 24872
+        tell $? yuzu "${ends[@]}"
         for mode in 0 1 2 3 4; do
             both_ends "godot3, mode $mode" "${ends[@]}" "$room/root/usr/bin/godot3-server" --path "$room/godot" -s visit.gd "$mode"
         done
