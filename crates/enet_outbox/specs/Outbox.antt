@@ -1,5 +1,5 @@
 -- All that a peer has to send. Times are in milliseconds.
-use Rattle.std.specs.Prelude.{ℕ, ◌%◌, ◌/◌, ◌&&◌, ◌||◌, not, ◌==◌, Bool, if◌then◌else◌, List, [], ◌∷◌, ◌++◌, length, map, take, Option, Some, None, slice_get, slice_set, sum_by}
+use Rattle.std.specs.Prelude.{ℕ, ◌%◌, ◌/◌, ◌&&◌, ◌||◌, not, ◌==◌, Bool, nat_le, if◌then◌else◌, List, [], ◌∷◌, ◌++◌, length, map, take, Option, Some, None, slice_get, slice_set, sum_by}
 use Rattle.std.specs.List.{range_with_len, list_all, list_any}
 use Rattle.enet_seq.specs.Windows.{after}
 use Rattle.enet_seq.specs.Numbering.{wire}
@@ -98,6 +98,14 @@ with_sequenced o mtu channel q (Some s) = record o { senders = slice_set o.sende
 abbrev pub submitted : Outbox → ℕ → ℕ → Packet → Outbox
 submitted o mtu channel q =
     if is_unsequenced mtu q then with_unsequenced o channel q else with_sequenced o mtu channel q (slice_get o.senders channel)
+
+-- as many acknowledgements may wait to go
+abbrev pub acknowledgement_limit : ℕ
+acknowledgement_limit = 8192
+
+-- whether as many wait as may
+abbrev pub is_crowded : Outbox → Bool
+is_crowded o = nat_le acknowledgement_limit (length o.acknowledgements)
 
 -- a command that came is to be acknowledged
 abbrev pub with_acknowledgement : Outbox → Acknowledgement → Outbox

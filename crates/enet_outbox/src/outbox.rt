@@ -8,7 +8,7 @@ ghost use Rattle.enet_fragment.specs.Cutting.{piece_length, piece_count};
 ghost use Rattle.enet_sender.specs.Due.{SendingEnd};
 ghost use Rattle.enet_sender.specs.Sender as sender;
 ghost use Rattle.enet_senders.specs.Controlling.{is_idle};
-ghost use Rattle.enet_outbox.specs.Outbox.{after_acknowledgement, after_lateness, cleared, empty_outbox, is_done, is_quiet, lateness, marked, matched_by, narrowed, sampled, submitted, transit_of, with_acknowledgement, with_control, with_unsequenced};
+ghost use Rattle.enet_outbox.specs.Outbox.{acknowledgement_limit, after_acknowledgement, after_lateness, cleared, empty_outbox, is_crowded, is_done, is_quiet, lateness, marked, matched_by, narrowed, sampled, submitted, transit_of, with_acknowledgement, with_control, with_unsequenced};
 
 use crate::{Acknowledgement, Matched, Unsequenced, lists};
 use bytes::Bytes;
@@ -21,6 +21,10 @@ use enet_throttle::Throttle;
 use std::alloc::Global;
 use std::collections::VecDeque;
 use std::marker::Model;
+
+/// How many acknowledgements of a peer wait to be put out at most (our profile): as many as a turn of a service can take in, 256 datagrams
+/// of 32 commands, and can put out.
+const ACKNOWLEDGEMENT_LIMIT: usize = 8_192;
 
 /// All that a peer has to send: acknowledgements, the commands of channel 0xFF, unsequenced packets, and its channels'
 /// senders, with the throttle that drops unreliable and unsequenced packets. Contracts see it as a `Sending`: all that it
@@ -47,6 +51,8 @@ impl Model for Outbox {
 
     ghost use Rattle.std.specs.Prelude.{◌-◌};
     ghost use Rattle.std.specs.VecDeque.{deque_len, deque_capacity};
+    ghost use Rattle.std.specs.Prelude.{◌≤◌, length};
+    ghost use Rattle.enet_outbox.specs.Outbox.{acknowledgement_limit};
     ghost use Rattle.enet_outbox.specs.Invariant.{KeepsOutbox, KeepsIdle};
 
     ghost view = { λ o. record {
@@ -63,7 +69,7 @@ impl Model for Outbox {
       control_room = o.control.room;
     } };
 
-    ghost invariant = { λ o. KeepsOutbox o.transit o.senders × KeepsIdle o.idle o.senders };
+    ghost invariant = { λ o. KeepsOutbox o.transit o.senders × KeepsIdle o.idle o.senders × (length o.acknowledgements.items ≤ acknowledgement_limit) };
 }
 
 impl Outbox {
@@ -175,9 +181,11 @@ impl Outbox {
         }
     }
 
-    /// Queues an acknowledgement behind those that wait. There must be room for it, so it takes no memory.
+    /// Queues an acknowledgement behind those that wait, of which there must be less than 8,192 (our profile). There must be room for it,
+    /// so it takes no memory.
     pub fn acknowledge(&mut self, what: Acknowledgement)
-        requires { 1 ≤ self.old.acknowledgement_room }
+        requires room { 1 ≤ self.old.acknowledgement_room }
+        requires few { is_crowded self.old.outbox ≡ false }
         ensures outbox { self.new.outbox ≡ with_acknowledgement self.old.outbox what }
         ensures room { self.old.acknowledgement_room ≤ self.new.acknowledgement_room + 1 }
         ensures control_room { self.new.control_room ≡ self.old.control_room }
@@ -342,6 +350,14 @@ impl Outbox {
         ensures { result ≡ nat_lt 0 (length self.now.outbox.acknowledgements) }
     {
         !self.acknowledgements.is_empty()
+    }
+
+    /// Whether as many acknowledgements wait to be put out as may: 8,192. More never wait (our profile).
+    pub fn is_crowded(&self) -> bool
+        ensures crowded { result ≡ is_crowded self.now.outbox }
+        ensures few { length self.now.outbox.acknowledgements ≤ acknowledgement_limit }
+    {
+        self.acknowledgements.len() >= ACKNOWLEDGEMENT_LIMIT
     }
 
     /// Whether a command of channel 0xFF is queued.

@@ -152,6 +152,7 @@ pub(crate) fn pack_acknowledgements(
 ) -> Progress
     ensures packs { PacksAcknowledgements acknowledgements.old.items acknowledgements.new.items (record { progress = from; buf = buf.old }) (record { progress = result; buf = buf.new }) }
     ensures room { deque_capacity acknowledgements.old - deque_len acknowledgements.old ≤ deque_capacity acknowledgements.new - deque_len acknowledgements.new }
+    ensures fewer { length acknowledgements.new.items ≤ length acknowledgements.old.items }
 {
     let mut progress = from;
     'acknowledgements: while let Some(acknowledgement) = first(acknowledgements) {

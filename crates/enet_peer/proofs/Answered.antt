@@ -26,7 +26,7 @@ use Rattle.enet_peer.specs.declared.parts.PeerState.TheVariants as state
 use Rattle.enet_peer.specs.CommandEffect.{Obeys, wants_memory, answered, answered_at, is_answered_in, obeyed, acknowledged, on_acknowledge, on_match}
 use Rattle.enet_peer.specs.Calls.{PutsOut, after_timeouts_by, destination_of, gone_on_in, pace_of, ticked}
 use Rattle.enet_peer.specs.Reachable.{Answers, IsAnswering, IsReachable, IsStill, answer_to}
-use Rattle.enet_peer.proofs.Obeying.{obeys-holds}
+use Rattle.enet_peer.proofs.Obeying.{obeys-holds, unless-holds}
 
 -- a peer in that state
 abbrev at-end : Peering → Peering
@@ -62,7 +62,7 @@ answered-waits a p m sent may w = by (m.head.acknowledge && may && is_answered_i
         (w.0, w.1 ++ x ∷ [], ap (λ (xs : List Acknowledgement). xs ++ x ∷ []) w.2)
 
 -- what an acknowledgement matches isn't among those that wait
-matched-stays : (o : Outbox) (channel number : ℕ) → (after_acknowledgement o channel number).acknowledgements ≡ o.acknowledgements
+pub matched-stays : (o : Outbox) (channel number : ℕ) → (after_acknowledgement o channel number).acknowledgements ≡ o.acknowledgements
 matched-stays o channel number = by (channel == 0xFF)
   where
     on : (x : Option SendingEnd) → (acknowledged_on o channel number x).acknowledgements ≡ o.acknowledgements
@@ -86,9 +86,15 @@ acknowledged-waits a p now channel number time w = by (matched_by p.outbox chann
 
 obeyed-waits : (a : Acknowledgement) (p : Peering) (h : Head) (now : ℕ) (sent : Option ℕ) (body : Body) → IsAnswering a p → IsAnswering a (obeyed (at-end p) now sent (record { head = h; body = body })).after
 obeyed-waits a p h now sent (acknowledge number time) w =
-    answered-waits a (on_acknowledge (at-end p) now h.channel number time) (record { head = h; body = acknowledge number time }) sent true (acknowledged-waits a p now h.channel number time w)
-obeyed-waits a p h now sent (verify_connect v) w = answered-waits a (at-end p) (record { head = h; body = verify_connect v }) sent true (refl, w.1, w.2)
-obeyed-waits a p h now sent (disconnect info) w = answered-waits a (at-end p) (record { head = h; body = disconnect info }) sent true (refl, w.1, w.2)
+    let m : Message = record { head = h; body = acknowledge number time } in
+    unless-holds (IsAnswering a) (at-end p) m (answered (on_acknowledge (at-end p) now h.channel number time) m sent true) (refl, w.1, w.2)
+    (answered-waits a (on_acknowledge (at-end p) now h.channel number time) m sent true (acknowledged-waits a p now h.channel number time w))
+obeyed-waits a p h now sent (verify_connect v) w =
+    let m : Message = record { head = h; body = verify_connect v } in
+    unless-holds (IsAnswering a) (at-end p) m (answered (at-end p) m sent true) (refl, w.1, w.2) (answered-waits a (at-end p) m sent true (refl, w.1, w.2))
+obeyed-waits a p h now sent (disconnect info) w =
+    let m : Message = record { head = h; body = disconnect info } in
+    unless-holds (IsAnswering a) (at-end p) m (answered (at-end p) m sent true) (refl, w.1, w.2) (answered-waits a (at-end p) m sent true (refl, w.1, w.2))
 obeyed-waits a p h now sent (connect offer) w = (refl, w.1, w.2)
 obeyed-waits a p h now sent ping w = (refl, w.1, w.2)
 obeyed-waits a p h now sent (bandwidth_limit incoming outgoing) w = (refl, w.1, w.2)

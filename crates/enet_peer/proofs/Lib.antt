@@ -2,6 +2,7 @@ pub mod Submitting
 pub mod Taking
 pub mod Obeying
 pub mod Answered
+pub mod Crowding
 pub mod Arriving
 pub mod Reaching
 pub mod Places

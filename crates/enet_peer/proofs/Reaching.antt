@@ -53,10 +53,10 @@ use Rattle.enet_peer.specs.declared.parts.Limits.{Limits}
 use Rattle.enet_peer.specs.declared.parts.PeerEvent.{PeerEvent}
 use Rattle.enet_peer.specs.declared.parts.PeerEvent.TheVariants as event
 use Rattle.enet_peer.specs.Endings.{ended, freed, disconnecting, parting, settled, is_later, cut_off_in}
-use Rattle.enet_peer.specs.CommandEffect.{Outcome, Obeys, wants_memory, answered, answered_at, is_answered_in, is_allowed, is_connect, obeyed, by_body, by_answer, by_arrival, on_data, stopped, sampled, with_answer, on_match, accepted, is_connecting, on_acknowledge, welcomed, on_verify_in, on_last_disconnect, on_disconnect_in}
+use Rattle.enet_peer.specs.CommandEffect.{Outcome, Obeys, unless_crowded_out, wants_memory, answered, answered_at, is_answered_in, is_allowed, is_connect, obeyed, by_body, by_answer, by_arrival, on_data, stopped, sampled, with_answer, on_match, accepted, is_connecting, on_acknowledge, welcomed, on_verify_in, on_last_disconnect, on_disconnect_in}
 use Rattle.enet_peer.specs.Calls.{Leave, AtOnce, TellsOnce, Asks, AsksLater, Refused, Leaves, left, Submits, submitted, PutsOut, after_timeouts, growth_bound, after_timeouts_by, is_pinged, ticked, is_connected, pace_of, gone_on_in, Taken, Takes, next_event, event_after, packet_event, last_event, with_bandwidth, with_throttle}
 use Rattle.enet_peer.specs.Reachable.{IsReachable, IsStill, IsStillIn, KeepsHoldings, WaitsIn, holdings_of}
-use Rattle.enet_peer.proofs.Obeying.{obeys-holds}
+use Rattle.enet_peer.proofs.Obeying.{obeys-holds, unless-holds}
 
 -- ---- a fact of each element of a list and its place
 
@@ -384,9 +384,11 @@ body-keeps p h now sent (send_unreliable_fragment f payload) k = data-keeps p (r
 
 obeyed-keeps : (p : Peering) (now : ℕ) (sent : Option ℕ) (m : Message) → IsReachable p → IsReachable (obeyed p now sent m).after
 obeyed-keeps p now sent m h =
-    let some : Outcome = cond (is_allowed p.state m.body) (by_body p now sent m m.body) (stopped p stop.NotConnected) in
+    let effect : Outcome = unless_crowded_out p m (by_body p now sent m m.body) in
+    let some : Outcome = cond (is_allowed p.state m.body) effect (stopped p stop.NotConnected) in
     if-outcome (is_connect m.body) (stopped p stop.BadCommand) some (λ t. h)
-    (if-outcome (is_allowed p.state m.body) (by_body p now sent m m.body) (stopped p stop.NotConnected) (λ t. body-keeps p m.head now sent m.body h) h)
+    (if-outcome (is_allowed p.state m.body) effect (stopped p stop.NotConnected)
+    (λ t. unless-holds IsReachable p m (by_body p now sent m m.body) h (body-keeps p m.head now sent m.body h)) h)
 
 pub obeys-keeps : (r : Result (Unit {0}) Stop) (p q : Peering) (now : ℕ) (sent : Option ℕ) (m : Message) → IsReachable p → Obeys r (wants_memory p now sent m) (obeyed p now sent m) p q → IsReachable q
 obeys-keeps r p q now sent m h o = obeys-holds IsReachable r (wants_memory p now sent m) (obeyed p now sent m) p q h (obeyed-keeps p now sent m h) o

@@ -18,7 +18,7 @@ use Rattle.enet_inbox.specs.DataEffect.{DataEffect, arrival, passed_over}
 use Rattle.enet_inbox.specs.DataEffect as coming
 use Rattle.enet_outbox.specs.declared.parts.Matched.{Matched}
 use Rattle.enet_outbox.specs.declared.parts.Matched.TheVariants as matched
-use Rattle.enet_outbox.specs.Outbox.{with_acknowledgement, matched_by, after_acknowledgement}
+use Rattle.enet_outbox.specs.Outbox.{is_crowded, with_acknowledgement, matched_by, after_acknowledgement}
 use Rattle.enet_outbox.specs.Outbox as outbox
 use Rattle.enet_peer.specs.declared.parts.PeerState.{PeerState}
 use Rattle.enet_peer.specs.declared.parts.PeerState.TheVariants as state
@@ -188,11 +188,25 @@ abbrev pub is_connect : Body → Bool
 is_connect (connect offer) = true
 is_connect _ = false
 
+-- whether a command drops all acknowledgements that wait
+abbrev pub drops_acknowledgements : PeerState → Body → Bool
+drops_acknowledgements state.Connected body = is_disconnect body
+drops_acknowledgements state.DisconnectLater body = is_disconnect body
+drops_acknowledgements _ body = false
+
+-- whether a command asks for an acknowledgement where as many wait to go as may, and it doesn't drop them
+abbrev pub is_crowded_out : Peering → Message → Bool
+is_crowded_out p m = m.head.acknowledge && not (drops_acknowledgements p.state m.body) && is_crowded p.outbox
+
+-- then it stops the datagram
+abbrev pub unless_crowded_out : Peering → Message → Outcome → Outcome
+unless_crowded_out p m o = if is_crowded_out p m then stopped p stop.Waiting else o
+
 -- a command comes at the time `now`, in a datagram that tells this sent time or none. A CONNECT never comes to a peer
 abbrev pub obeyed : Peering → ℕ → Option ℕ → Message → Outcome
 obeyed p now sent m =
     if is_connect m.body then stopped p stop.BadCommand
-    else (if is_allowed p.state m.body then by_body p now sent m m.body
+    else (if is_allowed p.state m.body then unless_crowded_out p m (by_body p now sent m m.body)
     else stopped p stop.NotConnected)
 
 -- whether something of a data command is kept

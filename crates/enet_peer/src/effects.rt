@@ -1,13 +1,14 @@
 //! The commands that come to a peer.
 
-ghost use Rattle.std.specs.Prelude.{◌≡◌, ◌≤◌, ◌&&◌, IsTrue, OnOk, OnErr, IfOk, IfErr, Ok, Some, is_some, true};
+ghost use Rattle.std.specs.Prelude.{◌≡◌, ◌≤◌, ◌&&◌, false, IsTrue, OnOk, OnErr, IfOk, IfErr, Ok, Some, is_some, true};
 ghost use Rattle.enet_codec.specs.Message.{view};
 ghost use Rattle.enet_inbox.specs.InboxParts.{told};
 ghost use Rattle.enet_inbox.specs.InboxParts as coming;
 ghost use Rattle.enet_peer.specs.Acting.{foreseen, foreseen_data};
 ghost use Rattle.enet_peer.specs.Private.Acting.{taken_in, acted, may_be_answered, wants_place, is_welcomed_by, may_clear, Replies};
 ghost use Rattle.enet_peer.specs.Private.Peered.{places_of};
-ghost use Rattle.enet_peer.specs.CommandEffect.{obeyed, wants_memory, is_kept, Obeys, answered, is_allowed, is_answered_in, accepted, on_acknowledge, on_verify_in, on_disconnect_in, on_bandwidth, on_throttle, sampled, with_answer};
+ghost use Rattle.enet_outbox.specs.Outbox.{is_crowded};
+ghost use Rattle.enet_peer.specs.CommandEffect.{obeyed, wants_memory, is_kept, is_crowded_out, drops_acknowledgements, Obeys, answered, is_allowed, is_answered_in, accepted, on_acknowledge, on_verify_in, on_disconnect_in, on_bandwidth, on_throttle, sampled, with_answer};
 
 use crate::{Peer, PeerState};
 use enet_codec::{Command, Head, Stop, Verify};
@@ -58,6 +59,18 @@ fn is_answered_in(state: PeerState, command: &Command<'_>) -> bool
     }
 }
 
+/// Whether a command that comes to a peer in this state drops all acknowledgements that wait.
+fn drops_acknowledgements(state: PeerState, command: &Command<'_>) -> bool
+    ensures { result ≡ drops_acknowledgements state (view command.now).body }
+{
+    match state {
+        PeerState::Connected | PeerState::DisconnectLater => {
+            matches!(command, Command::Disconnect { .. })
+        }
+        _ => false,
+    }
+}
+
 /// What a command begins with.
 fn head_of(command: &Command<'_>) -> Head
     ensures { result ≡ (view command.now).head }
@@ -82,8 +95,8 @@ impl Peer {
     /// Takes a command in that came at the time `now`, in milliseconds, in a datagram that tells this sent time or none.
     /// Where it asks for an acknowledgement and may have one, that waits from then on to be put out.
     ///
-    /// A stop is the first that applies: S6 for a CONNECT; S7 where the peer's state does not allow the command; for a data
-    /// command S8 where there is no such channel, S9 where its payload is too long or its fragment is bad, and S10 where it
+    /// A stop is the first that applies: S6 for a CONNECT; S7 where the peer's state does not allow the command; S10 where it asks for
+    /// an acknowledgement and 8,192 wait already, unless it is a DISCONNECT that drops these (our profile); for a data command S8 where there is no such channel, S9 where its payload is too long or its fragment is bad, and S10 where it
     /// begins a packet and finds no room, as `Inbox::data` says (not where the peer is to disconnect later); S11 where memory is refused (our
     /// profile). After these nothing has changed. S12 comes last, where the command is to be acknowledged and the datagram tells
     /// no sent time: it took effect (our profile).
@@ -132,6 +145,9 @@ impl Peer {
         if !is_allowed(self.state, command) {
             return Err(Stop::NotConnected);
         }
+        if self.is_crowded_out(command) {
+            return Err(Stop::Waiting);
+        }
         match command {
             Command::SendReliable { .. }
             | Command::SendUnreliable { .. }
@@ -140,6 +156,15 @@ impl Peer {
             | Command::SendUnreliableFragment { .. } => self.foresee_data(command),
             _ => Ok(NOTHING_KEPT),
         }
+    }
+
+    /// Whether a command asks for an acknowledgement where as many wait to go as may, and it does not drop them.
+    fn is_crowded_out(&self, command: &Command<'_>) -> bool
+        ensures { result ≡ is_crowded_out self.now.peer (view command.now) }
+    {
+        self.outbox.is_crowded()
+            && head_of(command).acknowledge
+            && !drops_acknowledgements(self.state, command)
     }
 
     /// The same of a data command. A peer that is to disconnect later passes it over.
@@ -269,6 +294,7 @@ impl Peer {
     ) -> Result<(), Stop>
         requires head { head ≡ (view command.now).head }
         requires room { IsTrue (may_be_answered sent (view command.now) may && is_answered_in self.old.peer.state (view command.now).body) → 1 ≤ self.old.acknowledgement_room }
+        requires few { IsTrue (may_be_answered sent (view command.now) may && is_answered_in self.old.peer.state (view command.now).body) → is_crowded self.old.peer.outbox ≡ false }
         ensures { Replies result (answered self.old.peer (view command.now) sent may) self.new.peer }
     {
         if !(head.acknowledge && may && is_answered_in(self.state, command)) {

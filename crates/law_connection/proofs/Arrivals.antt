@@ -23,7 +23,8 @@ use Rattle.enet_peer.specs.Peering.{Peering}
 use Rattle.enet_peer.specs.declared.parts.PeerState.{PeerState}
 use Rattle.enet_peer.specs.declared.parts.PeerState.TheVariants as state
 use Rattle.enet_peer.specs.Endings.{ended, is_later}
-use Rattle.enet_peer.specs.CommandEffect.{Outcome, is_allowed, is_of_handshake, obeyed, by_body, by_answer, by_arrival, on_data, stopped, on_acknowledge, welcomed, on_verify_in, on_disconnect_in, on_bandwidth, on_throttle}
+use Rattle.enet_peer.specs.CommandEffect.{Outcome, is_allowed, is_of_handshake, obeyed, unless_crowded_out, by_body, by_answer, by_arrival, on_data, stopped, on_acknowledge, welcomed, on_verify_in, on_disconnect_in, on_bandwidth, on_throttle}
+use Rattle.enet_peer.proofs.Obeying.{unless-holds}
 use Rattle.law_connection.specs.Link.{is_late}
 use Rattle.law_connection.specs.LinkSteps.{Has, DropAnswers}
 use Rattle.law_connection.specs.WireLink.{WireLink, drops_answers}
@@ -184,6 +185,13 @@ holds-verified : (own other : End) (p : Peering) (v : Verify) (s : PeerState) �
 holds-verified own other p v state.Connecting e tidy h = holds-welcomed own other p v (confirmed p.offer v) e tidy h
 holds-verified own other p v s e tidy h = h
 
+-- where it is allowed, and not crowded out
+coming-if : (own other : End) (p : Peering) (now : ℕ) (sent : Option ℕ) (m : Message) → (is_allowed p.state m.body ≡ true → Holds own other (by_body p now sent m m.body).after) → Holds own other p
+    → Holds own other (cond (is_allowed p.state m.body) (unless_crowded_out p m (by_body p now sent m m.body)) (stopped p stop.NotConnected)).after
+coming-if own other p now sent m f k =
+    outcome-if own other (is_allowed p.state m.body) (unless_crowded_out p m (by_body p now sent m m.body)) (stopped p stop.NotConnected)
+    (λ t. unless-holds (Holds own other) p m (by_body p now sent m m.body) k (f t)) k
+
 -- whatever comes
 pub holds-coming : (own other : End) (p : Peering) (h : Head) (sent_then now : ℕ) (sent : Option ℕ) (body : Body) → Has other.log (made h sent_then body) → IsClean other → IsTidy own.submitted p
     → (h.channel < 255 → (c : DataCommand) → data_of (record { head = h; body = body }) ≡ Some c → is_late (sent_on h.channel other) sent_then c.number ≡ false)
@@ -192,54 +200,54 @@ pub holds-coming : (own other : End) (p : Peering) (h : Head) (sent_then now : �
 holds-coming own other p h sent_then now sent (connect offer) there clean tidy late late' k = k
 holds-coming own other p h sent_then now sent (acknowledge number time) there clean tidy late late' k =
     let m : Message = record { head = h; body = acknowledge number time } in
-    outcome-if own other (is_allowed p.state m.body) (by_body p now sent m m.body) (stopped p stop.NotConnected)
+    coming-if own other p now sent m
     (λ t. holds-answered own other (on_acknowledge p now h.channel number time) m sent true (far-of other (made h sent_then m.body) clean there refl)
     (holds-acknowledged own other p (made h sent_then m.body) now number time there refl (λ few. late' few number time refl) k)) k
 holds-coming own other p h sent_then now sent (verify_connect v) there clean tidy late late' k =
     let m : Message = record { head = h; body = verify_connect v } in
-    outcome-if own other (is_allowed p.state m.body) (by_body p now sent m m.body) (stopped p stop.NotConnected)
+    coming-if own other p now sent m
     (λ t. holds-answered own other (on_verify_in p.state p v) m sent true (far-of other (made h sent_then m.body) clean there refl) (holds-verified own other p v p.state refl tidy k)) k
 holds-coming own other p h sent_then now sent (disconnect info) there clean tidy late late' k =
     let m : Message = record { head = h; body = disconnect info } in
-    outcome-if own other (is_allowed p.state m.body) (by_body p now sent m m.body) (stopped p stop.NotConnected)
+    coming-if own other p now sent m
     (λ t. holds-answered own other (on_disconnect_in p.state p (m.head.acknowledge && is_some sent) info) m sent true (far-of other (made h sent_then m.body) clean there refl) (holds-disconnect own other p p.state (m.head.acknowledge && is_some sent) info k)) k
 holds-coming own other p h sent_then now sent ping there clean tidy late late' k =
     let m : Message = record { head = h; body = ping } in
-    outcome-if own other (is_allowed p.state m.body) (by_body p now sent m m.body) (stopped p stop.NotConnected)
+    coming-if own other p now sent m
     (λ t. holds-answered own other p m sent true (far-of other (made h sent_then m.body) clean there refl) k) k
 holds-coming own other p h sent_then now sent (bandwidth_limit incoming outgoing) there clean tidy late late' k =
     let m : Message = record { head = h; body = bandwidth_limit incoming outgoing } in
     let q : Peering = on_bandwidth p incoming in
-    outcome-if own other (is_allowed p.state m.body) (by_body p now sent m m.body) (stopped p stop.NotConnected)
+    coming-if own other p now sent m
     (λ t. holds-answered own other q m sent true (far-of other (made h sent_then m.body) clean there refl)
     (holds-quiet own other p q (quiet-out p q refl refl refl) (record { dispatches = refl; receivers = refl; untaken = λ i few. refl; numbers = λ i few. refl }) k)) k
 holds-coming own other p h sent_then now sent (throttle_configure interval acceleration deceleration) there clean tidy late late' k =
     let m : Message = record { head = h; body = throttle_configure interval acceleration deceleration } in
     let q : Peering = on_throttle p interval acceleration deceleration in
-    outcome-if own other (is_allowed p.state m.body) (by_body p now sent m m.body) (stopped p stop.NotConnected)
+    coming-if own other p now sent m
     (λ t. holds-answered own other q m sent true (far-of other (made h sent_then m.body) clean there refl)
     (holds-quiet own other p q (quiet-out p q refl refl refl) (record { dispatches = refl; receivers = refl; untaken = λ i few. refl; numbers = λ i few. refl }) k)) k
 holds-coming own other p h sent_then now sent (send_unsequenced group payload) there clean tidy late late' k =
     let m : Message = record { head = h; body = send_unsequenced group payload } in
-    outcome-if own other (is_allowed p.state m.body) (by_body p now sent m m.body) (stopped p stop.NotConnected)
+    coming-if own other p now sent m
     (λ t. holds-unsequenced own other p h group payload sent (far-of other (made h sent_then m.body) clean there refl) k) k
 holds-coming own other p h sent_then now sent (send_reliable payload) there clean tidy late late' k =
     let m : Message = record { head = h; body = send_reliable payload } in
     let c : DataCommand = record { reliable = true; number = h.number; unreliable = 0; fragment = None; body = payload } in
-    outcome-if own other (is_allowed p.state m.body) (by_body p now sent m m.body) (stopped p stop.NotConnected)
+    coming-if own other p now sent m
     (λ t. data-by own other p (made h sent_then m.body) c sent (logged-of other (made h sent_then m.body) c clean there refl refl (λ few. late few c refl)) tidy (data-state p.state m.body refl t) k) k
 holds-coming own other p h sent_then now sent (send_unreliable n payload) there clean tidy late late' k =
     let m : Message = record { head = h; body = send_unreliable n payload } in
     let c : DataCommand = record { reliable = false; number = h.number; unreliable = n; fragment = None; body = payload } in
-    outcome-if own other (is_allowed p.state m.body) (by_body p now sent m m.body) (stopped p stop.NotConnected)
+    coming-if own other p now sent m
     (λ t. data-by own other p (made h sent_then m.body) c sent (logged-of other (made h sent_then m.body) c clean there refl refl (λ few. late few c refl)) tidy (data-state p.state m.body refl t) k) k
 holds-coming own other p h sent_then now sent (send_fragment f payload) there clean tidy late late' k =
     let m : Message = record { head = h; body = send_fragment f payload } in
     let c : DataCommand = record { reliable = true; number = h.number; unreliable = 0; fragment = Some f; body = payload } in
-    outcome-if own other (is_allowed p.state m.body) (by_body p now sent m m.body) (stopped p stop.NotConnected)
+    coming-if own other p now sent m
     (λ t. data-by own other p (made h sent_then m.body) c sent (logged-of other (made h sent_then m.body) c clean there refl refl (λ few. late few c refl)) tidy (data-state p.state m.body refl t) k) k
 holds-coming own other p h sent_then now sent (send_unreliable_fragment f payload) there clean tidy late late' k =
     let m : Message = record { head = h; body = send_unreliable_fragment f payload } in
     let c : DataCommand = record { reliable = false; number = h.number; unreliable = f.start; fragment = Some f; body = payload } in
-    outcome-if own other (is_allowed p.state m.body) (by_body p now sent m m.body) (stopped p stop.NotConnected)
+    coming-if own other p now sent m
     (λ t. data-by own other p (made h sent_then m.body) c sent (logged-of other (made h sent_then m.body) c clean there refl refl (λ few. late few c refl)) tidy (data-state p.state m.body refl t) k) k

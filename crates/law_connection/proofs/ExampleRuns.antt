@@ -55,7 +55,7 @@ abbrev arrived : End
 arrived = with_peer pair.two (with_untaken here (example_packet ∷ rest))
 
 comes : arrived ≡ with_peer pair.two (obeyed here 0 (Some 0) put.message).after
-comes = ap (with_peer pair.two) (sym (first-comes here).1)
+comes = ap (with_peer pair.two) (sym (first-comes here refl).1)
 
 abbrev took : End
 took = record arrived { peer = Some (with_untaken here rest); events = told.Receive example_packet ∷ [] }

@@ -6,6 +6,7 @@ use Rattle.std.specs.Ordering.{nat_cmp}
 use Rattle.std.specs.FinMap.{get, len, entries, get-empty}
 use Rattle.enet_codec.specs.declared.packet.Packet.{Packet}
 use Rattle.enet_codec.specs.Message.{Message}
+use Rattle.enet_codec.specs.declared.stop.Stop.TheVariants as stop
 use Rattle.enet_seq.specs.Numbering.{wire}
 use Rattle.enet_fragment.specs.Place as place
 use Rattle.enet_fragment.specs.PartialPacket as making
@@ -23,10 +24,11 @@ use Rattle.enet_receiver.specs.DataOutcome.{outcome, outcome_of, is_piece, agree
 use Rattle.enet_receiver.proofs.Maps.{get-insert_same}
 use Rattle.enet_receiver.proofs.Released.{released-keeps, nothing_held}
 use Rattle.enet_inbox.specs.Inbox.{Inbox, empty_inbox, is_full_for, given_way}
-use Rattle.enet_inbox.specs.DataEffect.{packet_of, by_took, is_waiting, met, plain_arrival}
+use Rattle.enet_inbox.specs.DataEffect.{arrival, packet_of, by_took, is_waiting, met, plain_arrival}
+use Rattle.enet_outbox.specs.Outbox.{is_crowded}
 use Rattle.enet_peer.specs.declared.parts.PeerState.TheVariants as state
 use Rattle.enet_peer.specs.Peering.{Peering}
-use Rattle.enet_peer.specs.CommandEffect.{Outcome, obeyed, by_arrival}
+use Rattle.enet_peer.specs.CommandEffect.{Outcome, obeyed, by_arrival, stopped}
 use Rattle.law_connection.specs.Examples.{example_packet}
 
 abbrev pub Begins : Dispatched → Receiver → Type 0
@@ -104,9 +106,10 @@ met-empty =
     let room : Bool = is_ok (plain_arrival (given_way b) first_message).answer in
     ap (λ (t : Took). cond (is_waiting (by_took t b 0 receiving first_command).answer && room) (given_way b) b) first-outcome
 
-comes : (p : Peering) → obeyed (ready p) 0 (Some 0) first_message ≡ by-outcome p Held
-comes p =
-    ap (λ (b : Inbox). by_arrival (ready p) first_message (Some 0) (plain_arrival b first_message)) met-empty
+comes : (p : Peering) → is_crowded p.outbox ≡ false → obeyed (ready p) 0 (Some 0) first_message ≡ by-outcome p Held
+comes p free =
+    ap (λ crowded. cond crowded (stopped (ready p) stop.Waiting) (by_arrival (ready p) first_message (Some 0) (arrival (empty_inbox 1 1000 1000) first_message))) free
+    ∙ ap (λ (b : Inbox). by_arrival (ready p) first_message (Some 0) (plain_arrival b first_message)) met-empty
     ∙ ap (λ full. by-outcome p (outcome wire 1000 nothing_received first_command full)) not-full ∙ ap (by-outcome p) first-outcome
 
 -- it has the packet, with whatever else was dispatched behind it
@@ -121,5 +124,5 @@ unfolding rest
 untaken p = ap (with_untaken p)
     (ap (λ full. map (packet_of 0) (received wire 1000 nothing_received first_command full).dispatched) not-full ∙ ap (map (packet_of 0)) first-received.1)
 
-pub first-comes : (p : Peering) → ((obeyed (ready p) 0 (Some 0) first_message).stop ≡ None) × ((obeyed (ready p) 0 (Some 0) first_message).after ≡ with_untaken p (example_packet ∷ rest))
-first-comes p = (ap (λ (o : Outcome). o.stop) (comes p), ap (λ (o : Outcome). o.after) (comes p) ∙ untaken p)
+pub first-comes : (p : Peering) → is_crowded p.outbox ≡ false → ((obeyed (ready p) 0 (Some 0) first_message).stop ≡ None) × ((obeyed (ready p) 0 (Some 0) first_message).after ≡ with_untaken p (example_packet ∷ rest))
+first-comes p free = (ap (λ (o : Outcome). o.stop) (comes p free), ap (λ (o : Outcome). o.after) (comes p free) ∙ untaken p)

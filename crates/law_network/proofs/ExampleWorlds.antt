@@ -121,7 +121,7 @@ crosses-idle = record {
   puts = puts-packet;
   number = refl;
   brings = record { there = refl; at = refl; of = refl; in_time = refl; spelled = spells (submitting idle).peer first_message puts-packet; plain = refl };
-  obeys = record { let_in = refl; goes = (first-comes idle.peer).0; after = sym (first-comes idle.peer).1; live = λ e. absurd (cc) };
+  obeys = record { let_in = refl; goes = (first-comes idle.peer refl).0; after = sym (first-comes idle.peer refl).1; live = λ e. absurd (cc) };
   tells = refl;
   stays = λ e. absurd (cc);
 }
@@ -221,7 +221,7 @@ crosses-told = record {
   puts = puts-packet-told;
   number = refl;
   brings = record { there = refl; at = refl; of = refl; in_time = refl; spelled = spells (submitting told_asker).peer first_message puts-packet-told; plain = refl };
-  obeys = record { let_in = refl; goes = (first-comes told_answerer.peer).0; after = sym (first-comes told_answerer.peer).1; live = λ e. absurd (cc) };
+  obeys = record { let_in = refl; goes = (first-comes told_answerer.peer refl).0; after = sym (first-comes told_answerer.peer refl).1; live = λ e. absurd (cc) };
   tells = refl;
   stays = λ e. absurd (cc);
 }

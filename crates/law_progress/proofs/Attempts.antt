@@ -36,7 +36,8 @@ use Rattle.enet_peer.specs.declared.parts.PeerState.TheVariants as state
 use Rattle.enet_peer.specs.declared.parts.Limits.{Limits}
 use Rattle.enet_peer.specs.Peering.{Peering, connecting, answering}
 use Rattle.enet_peer.specs.Endings.{settled, disconnecting, cut_off_in, is_later}
-use Rattle.enet_peer.specs.CommandEffect.{obeyed, stopped, is_allowed, is_of_handshake, is_connect, by_body, answered, answered_at, is_answered_in, on_acknowledge, on_match, acknowledged, with_answer, on_verify_in, welcomed, on_disconnect_in}
+use Rattle.enet_peer.proofs.Obeying.{unless-holds}
+use Rattle.enet_peer.specs.CommandEffect.{Outcome, obeyed, unless_crowded_out, stopped, is_allowed, is_of_handshake, is_connect, by_body, answered, answered_at, is_answered_in, on_acknowledge, on_match, acknowledged, with_answer, on_verify_in, welcomed, on_disconnect_in}
 use Rattle.enet_peer.specs.Calls.{pace_of, gone_on, gone_on_in, ticked, pinged, after_timeouts_by, growth_bound, is_connected, next_event, event_after, packet_event, last_event}
 use Rattle.law_progress.specs.Attempts.{Step, Hears, PutsOut, Takes, after_step, after_take, Stays, Turn, Turns, last_of, LastsAtMost}
 use Rattle.law_progress.proofs.Timed.{Timed, timed-begun, timed-again, timed-marked}
@@ -337,10 +338,17 @@ hears-stands a now moment sent m p empty shape k about = by m.body
     answers : (e : Peering) → Stands k p e → Stands k p (answered e m sent true).after
     answers e h = λ t. answered-same p e m sent (h (answered-state e m sent (state_of k) t))
 
-    allowed : (b : Body) → Stands k p (cond (is_of_handshake b) (by_body old moment sent m b) (stopped old stop.NotConnected)).after → Stands k p (cond (is_allowed (state_of k) b) (by_body old moment sent m b) (stopped old stop.NotConnected)).after
-    allowed b h = subst (λ x. Stands k p (cond x (by_body old moment sent m b) (stopped old stop.NotConnected)).after) (sym (handshake-alone k b)) h
+    effect : Body → Outcome
+    effect b = unless_crowded_out old m (by_body old moment sent m b)
 
-    by : (b : Body) → Stands k p (cond (is_connect b) (stopped old stop.BadCommand) (cond (is_allowed (state_of k) b) (by_body old moment sent m b) (stopped old stop.NotConnected))).after
+    allowed : (b : Body) → Stands k p (cond (is_of_handshake b) (by_body old moment sent m b) (stopped old stop.NotConnected)).after → Stands k p (cond (is_allowed (state_of k) b) (effect b) (stopped old stop.NotConnected)).after
+    allowed b h = subst (λ x. Stands k p (cond x (effect b) (stopped old stop.NotConnected)).after) (sym (handshake-alone k b)) (inner (is_of_handshake b) h)
+      where
+        inner : (x : Bool) → Stands k p (cond x (by_body old moment sent m b) (stopped old stop.NotConnected)).after → Stands k p (cond x (effect b) (stopped old stop.NotConnected)).after
+        inner true h = unless-holds (Stands k p) old m (by_body old moment sent m b) (λ h. same-in k p) h
+        inner false h = h
+
+    by : (b : Body) → Stands k p (cond (is_connect b) (stopped old stop.BadCommand) (cond (is_allowed (state_of k) b) (effect b) (stopped old stop.NotConnected))).after
     by (acknowledge number time) = allowed (acknowledge number time) (answers (on_acknowledge old moment m.head.channel number time) (acknowledgement-stands a now moment m.head.channel number time p empty shape k about))
     by (connect offer) = λ h. same-in k p
     by (verify_connect v) = allowed (verify_connect v) (answers (on_verify_in (state_of k) old v) (verify-stands k p v))

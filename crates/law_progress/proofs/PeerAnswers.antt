@@ -27,7 +27,8 @@ use Rattle.enet_outbox.specs.Outbox.{with_acknowledgement, is_unsequenced}
 use Rattle.enet_peer.specs.declared.parts.PeerState.TheVariants as state
 use Rattle.enet_peer.specs.Endings.{is_later}
 use Rattle.enet_peer.specs.Peering.{Peering}
-use Rattle.enet_peer.specs.CommandEffect.{obeyed, on_data, by_arrival, by_answer, answered, answered_at, is_allowed, is_answered_in, stopped}
+use Rattle.enet_outbox.specs.Outbox.{is_crowded}
+use Rattle.enet_peer.specs.CommandEffect.{obeyed, drops_acknowledgements, unless_crowded_out, on_data, by_arrival, by_answer, answered, answered_at, is_allowed, is_answered_in, stopped}
 use Rattle.law_connection.specs.Link.{PutOut, is_late}
 use Rattle.law_connection.specs.LinkSteps.{Has}
 use Rattle.law_connection.specs.Connection.{Put, End, Connection, of_channel}
@@ -176,9 +177,9 @@ met-answers q channel time c r m k = elim (but-for-room r.max_packet r.receiver 
 
 -- so does the peer
 peer-answers : (q : Peering) (now channel time : ℕ) (c : DataCommand) (r : ReceivingEnd) → q.state ≡ state.Connected → c.reliable ≡ true → slice_get q.inbox.receivers channel ≡ Some r → data_of (message_of channel c) ≡ Some c
-    → is_handled (outcome wire r.max_packet r.receiver c false) ≡ true → acknowledges r.receiver.front c.number ≡ true → is_full_for (given_way q.inbox) (given_way_receiver r) c ≡ false
+    → is_handled (outcome wire r.max_packet r.receiver c false) ≡ true → acknowledges r.receiver.front c.number ≡ true → is_full_for (given_way q.inbox) (given_way_receiver r) c ≡ false → is_crowded q.outbox ≡ false
     → IsAnswered q channel time c (obeyed q now (Some time) (message_of channel c))
-peer-answers q now channel time c r connected reliable there reads ok ack room = by c.reliable reliable c.fragment reads
+peer-answers q now channel time c r connected reliable there reads ok ack room free = by c.reliable reliable c.fragment reads
   where
     obeys : (m : Message) → m.head.acknowledge ≡ true → m.head.channel ≡ channel → m.head.number ≡ c.number → ((b : Inbox) → plain_arrival b m ≡ sequenced_on b channel c (slice_get b.receivers channel))
         → IsAnswered q channel time c (on_data q m (Some time))
@@ -187,8 +188,16 @@ peer-answers q now channel time c r connected reliable there reads ok ack room =
         subst (λ b. IsAnswered q channel time c (cond b (by_answer q m (Some time) (passed_over q.inbox m)) (by_arrival q m (Some time) (arrival q.inbox m)))) (sym (ap is_later connected))
         (met-answers q channel time c r m k)
 
-    allows : (m : Message) (body : Body) → is_allowed state.Connected body ≡ true → IsAnswered q channel time c (on_data q m (Some time)) → IsAnswered q channel time c (cond (is_allowed q.state body) (on_data q m (Some time)) (stopped q stop.NotConnected))
-    allows m body e h = subst (λ b. IsAnswered q channel time c (cond b (on_data q m (Some time)) (stopped q stop.NotConnected))) (sym (ap (λ s. is_allowed s body) connected ∙ e)) h
+    allows : (m : Message) (body : Body) → is_allowed state.Connected body ≡ true → IsAnswered q channel time c (on_data q m (Some time)) → IsAnswered q channel time c (cond (is_allowed q.state body) (unless_crowded_out q m (on_data q m (Some time))) (stopped q stop.NotConnected))
+    allows m body e h =
+        subst (λ b. IsAnswered q channel time c (cond b (unless_crowded_out q m (on_data q m (Some time))) (stopped q stop.NotConnected))) (sym (ap (λ s. is_allowed s body) connected ∙ e))
+        (uncrowded (m.head.acknowledge) (not (drops_acknowledgements q.state m.body)) (is_crowded q.outbox) free)
+      where
+        uncrowded : (a b x : Bool) → x ≡ false → IsAnswered q channel time c (cond (a && b && x) (stopped q stop.Waiting) (on_data q m (Some time)))
+        uncrowded true true true e = absurd (cc)
+        uncrowded true true false e = h
+        uncrowded true false x e = h
+        uncrowded false b x e = h
 
     by : (b : Bool) → b ≡ true → (f : Option Fragment) → data_of (record { head = record { acknowledge = b; unsequenced = false; channel = channel; number = c.number }; body = wire_body b f c.unreliable c.body }) ≡ Some c
         → IsAnswered q channel time c (obeyed q now (Some time) (record { head = record { acknowledge = b; unsequenced = false; channel = channel; number = c.number }; body = wire_body b f c.unreliable c.body }))
@@ -246,7 +255,7 @@ linked-answers from to channel p q put c now time k a =
     let same_front : v.incoming.front ≡ r.receiver.front = ap (λ (x : Receiver). x.front) is in
     let small : r.receiver.front % 65536 ≡ r.receiver.front = omega arith in
     subst (λ m. IsAnswered q channel time c (obeyed q now (Some time) m)) (sym a.message)
-    (peer-answers q now channel time c r a.connected a.reliable a.there a.reads both.0 (ap (λ n. acknowledges n c.number) (sym small) ∙ both.1) a.room)
+    (peer-answers q now channel time c r a.connected a.reliable a.there a.reads both.0 (ap (λ n. acknowledges n c.number) (sym small) ∙ both.1) a.room a.free)
 
 pub answers-forth : (joined : Bool) (d : Connection) (p q : Peering) (put : Put) (channel : ℕ) (c : DataCommand) (now time : ℕ) → Invariant joined d → channel < 255 → Awaits d.one d.two p q put channel c → IsAnswered q channel time c (obeyed q now (Some time) put.message)
 answers-forth joined d p q put channel c now time i low a = linked-answers d.one d.two channel p q put c now time (i.both.out channel low) a

@@ -19,7 +19,8 @@ use Rattle.enet_peer.specs.declared.parts.PeerState.{PeerState}
 use Rattle.enet_peer.specs.declared.parts.PeerState.TheVariants as state
 use Rattle.enet_peer.specs.Peering.{Peering}
 use Rattle.enet_peer.specs.Endings.{settled, cut_off_in}
-use Rattle.enet_peer.specs.CommandEffect.{obeyed, stopped, is_allowed, is_of_handshake, is_connect, by_body, answered, answered_at, is_answered_in, on_acknowledge, on_match, acknowledged, with_answer, on_verify_in, welcomed, on_disconnect_in}
+use Rattle.enet_peer.proofs.Obeying.{unless-holds}
+use Rattle.enet_peer.specs.CommandEffect.{Outcome, obeyed, unless_crowded_out, stopped, is_allowed, is_of_handshake, is_connect, by_body, answered, answered_at, is_answered_in, on_acknowledge, on_match, acknowledged, with_answer, on_verify_in, welcomed, on_disconnect_in}
 use Rattle.enet_peer.specs.Calls.{pace_of, ticked, pinged, after_timeouts_by, growth_bound, next_event, event_after, packet_event, last_event}
 use Rattle.law_progress.specs.Attempts.{Step, Hears, PutsOut, Takes, after_step, after_take, IsTold, TellsWhenLeft}
 use Rattle.law_progress.proofs.Attempts.{Kind, Asks, Answers, Leaves, state_of, in_state, handshake-alone, waits-on, unpinged}
@@ -108,10 +109,17 @@ hears-goes k p moment sent m = by m.body
     old : Peering
     old = in_state k p
 
-    allowed : (b : Body) → Goes k (cond (is_of_handshake b) (by_body old moment sent m b) (stopped old stop.NotConnected)).after → Goes k (cond (is_allowed (state_of k) b) (by_body old moment sent m b) (stopped old stop.NotConnected)).after
-    allowed b h = subst (λ x. Goes k (cond x (by_body old moment sent m b) (stopped old stop.NotConnected)).after) (sym (handshake-alone k b)) h
+    effect : Body → Outcome
+    effect b = unless_crowded_out old m (by_body old moment sent m b)
 
-    by : (b : Body) → Goes k (cond (is_connect b) (stopped old stop.BadCommand) (cond (is_allowed (state_of k) b) (by_body old moment sent m b) (stopped old stop.NotConnected))).after
+    allowed : (b : Body) → Goes k (cond (is_of_handshake b) (by_body old moment sent m b) (stopped old stop.NotConnected)).after → Goes k (cond (is_allowed (state_of k) b) (effect b) (stopped old stop.NotConnected)).after
+    allowed b h = subst (λ x. Goes k (cond x (effect b) (stopped old stop.NotConnected)).after) (sym (handshake-alone k b)) (inner (is_of_handshake b) h)
+      where
+        inner : (x : Bool) → Goes k (cond x (by_body old moment sent m b) (stopped old stop.NotConnected)).after → Goes k (cond x (effect b) (stopped old stop.NotConnected)).after
+        inner true h = unless-holds (Goes k) old m (by_body old moment sent m b) (inl refl) h
+        inner false h = h
+
+    by : (b : Body) → Goes k (cond (is_connect b) (stopped old stop.BadCommand) (cond (is_allowed (state_of k) b) (effect b) (stopped old stop.NotConnected))).after
     by (acknowledge number time) = allowed (acknowledge number time) (answered-goes k (on_acknowledge old moment m.head.channel number time) m sent (acknowledgement-goes k p moment m.head.channel number time))
     by (connect offer) = inl refl
     by (verify_connect v) = allowed (verify_connect v) (answered-goes k (on_verify_in (state_of k) old v) m sent (verify-goes k p v))

@@ -8,7 +8,7 @@ use Rattle.enet_sender.specs.declared.sent.Sent.{Sent}
 use Rattle.enet_sender.specs.Sender.{after_acknowledgement}
 use Rattle.enet_sender.specs.Due.{SendingEnd}
 use Rattle.enet_inbox.specs.Inbox.{is_full_for, given_way_receiver, given_way}
-use Rattle.enet_outbox.specs.Outbox.{with_acknowledgement}
+use Rattle.enet_outbox.specs.Outbox.{is_crowded, with_acknowledgement}
 use Rattle.enet_peer.specs.declared.parts.PeerState.TheVariants as state
 use Rattle.enet_peer.specs.Peering.{Peering}
 use Rattle.enet_peer.specs.CommandEffect.{Outcome}
@@ -19,7 +19,8 @@ use Rattle.law_connection.specs.Linked.{sends_in, sender_in}
 
 -- a reliable data command that one end put out, with the peer p, waits there for its acknowledgement, and isn't late; the other end's
 -- peer q is connected, takes in packets of each length that was submitted, and has room for the command, if need be once the unreliable
--- packets that wait give way. For the next packet in order that is so while what the user hasn't taken leaves room, whatever else waits
+-- packets that wait give way, and for its acknowledgement. For the next packet in order the former is so while what the user hasn't taken
+-- leaves room, whatever else waits; the latter while fewer acknowledgements wait to go than may, as after each datagram that was put out
 pub record Awaits (from to : End) (p q : Peering) (put : Put) (channel : ℕ) (c : DataCommand) : Type 0 where
   pub from_is : from.peer ≡ Some p
   pub to_is : to.peer ≡ Some q
@@ -34,6 +35,7 @@ pub record Awaits (from to : End) (p q : Peering) (put : Put) (channel : ℕ) (c
   pub end : ReceivingEnd
   pub there : slice_get q.inbox.receivers channel ≡ Some end
   pub room : is_full_for (given_way q.inbox) (given_way_receiver end) c ≡ false
+  pub free : is_crowded q.outbox ≡ false
   pub short : (x : Packet) → Has from.submitted x → length x.body ≤ end.max_packet
 
 -- it is taken in without a stop, and its acknowledgement waits to go

@@ -81,7 +81,8 @@ pub fn nothing_is_held_back()
 ///
 /// `forth`, `back`: a reliable data command that the other end waits for, and that comes in time while there is room, is taken in without a
 /// stop, and its acknowledgement waits to go: from the first end to the second and back. There is room where the reliable packets that are
-/// held and the packets that the user hasn't taken are below the limits; for the next packet in order where the latter are. `removed`: an
+/// held and the packets that the user hasn't taken are below the limits, for the next packet in order where the latter are, and where less
+/// than 8,192 acknowledgements wait to go. `removed`: an
 /// acknowledgement that comes takes the sent command of its number away, and no other.
 pub fn what_waits_is_answered()
     ensures forth { (joined : Bool) (d : Connection) (p q : Peering) (put : Put) (channel : ℕ) (c : DataCommand) (now time : ℕ) → Invariant joined d → channel < 255

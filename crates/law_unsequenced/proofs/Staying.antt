@@ -40,7 +40,8 @@ use Rattle.enet_peer.specs.Peering.{Peering}
 use Rattle.enet_peer.specs.declared.parts.PeerState.{PeerState}
 use Rattle.enet_peer.specs.declared.parts.PeerState.TheVariants as state
 use Rattle.enet_peer.specs.Endings.{ended, freed, disconnecting, parting, settled, is_later, cut_off_in}
-use Rattle.enet_peer.specs.CommandEffect.{Outcome, answered, answered_at, is_answered_in, is_allowed, obeyed, by_body, by_answer, by_arrival, on_data, stopped, sampled, with_answer, on_match, accepted, is_connecting, on_acknowledge, welcomed, on_verify_in, on_last_disconnect, on_disconnect_in, on_bandwidth, on_throttle}
+use Rattle.enet_peer.specs.CommandEffect.{Outcome, answered, answered_at, is_answered_in, is_allowed, obeyed, unless_crowded_out, by_body, by_answer, by_arrival, on_data, stopped, sampled, with_answer, on_match, accepted, is_connecting, on_acknowledge, welcomed, on_verify_in, on_last_disconnect, on_disconnect_in, on_bandwidth, on_throttle}
+use Rattle.enet_peer.proofs.Obeying.{unless-holds}
 use Rattle.enet_peer.specs.Calls.{left, after_timeouts, after_timeouts_by, is_pinged, ticked, is_connected, gone_on, gone_on_in}
 use Rattle.law_connection.proofs.GivingWay.{sequenced-given_up}
 use Rattle.law_connection.proofs.Runs.{get-map}
@@ -411,9 +412,11 @@ obeyed-becomes p h now sent body flat = by body
 
     -- where it is allowed
     if-allowed : (body : Body) → Becomes young (carried_in h.channel body) (core p) (core (by_body p now sent (message body) body).after)
-        → Becomes young (carried_in h.channel body) (core p) (core (cond (is_allowed p.state body) (by_body p now sent (message body) body) (stopped p stop.NotConnected)).after)
-    if-allowed body f = if-outcome (λ (q : Peering). Becomes young (carried_in h.channel body) (core p) (core q)) (is_allowed p.state body) (by_body p now sent (message body) body) (stopped p stop.NotConnected) f
-        (unchanged (carried_in h.channel body))
+        → Becomes young (carried_in h.channel body) (core p) (core (cond (is_allowed p.state body) (unless_crowded_out p (message body) (by_body p now sent (message body) body)) (stopped p stop.NotConnected)).after)
+    if-allowed body f =
+        let P : Peering → Type 0 = λ q. Becomes young (carried_in h.channel body) (core p) (core q) in
+        if-outcome P (is_allowed p.state body) (unless_crowded_out p (message body) (by_body p now sent (message body) body)) (stopped p stop.NotConnected)
+        (unless-holds P p (message body) (by_body p now sent (message body) body) (unchanged (carried_in h.channel body)) f) (unchanged (carried_in h.channel body))
 
     -- and is acknowledged
     answers : (body : Body) (q : Peering) → Becomes young (carried_in h.channel body) (core p) (core q) → Becomes young (carried_in h.channel body) (core p) (core (answered q (message body) sent true).after)

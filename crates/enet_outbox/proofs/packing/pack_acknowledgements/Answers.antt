@@ -15,11 +15,13 @@ pub acknowledgements-init : goal.acknowledgements-init
 acknowledgements-init c = record {
   stage = λ f h opened e. (f, h, opened, ap (λ (xs : List Acknowledgement). record f.outbox { acknowledgements = xs }) e, ap (λ (xs : List Acknowledgement). more_acknowledgements xs f) e);
   room = omega arith;
+  fewer = omega arith;
 }
 
 pub acknowledgements-preserved : goal.acknowledgements-preserved
 acknowledgements-preserved c = record {
   room = grind arith;
+  fewer = grind arith;
   stage = λ f h opened e.
       let i = c.acknowledgements.invariant.stage f h opened e in
       let g = i.0 in

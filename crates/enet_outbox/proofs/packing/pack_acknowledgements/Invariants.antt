@@ -1,4 +1,4 @@
-use Rattle.std.proofs.Common.{◌≡◌, ◌≤◌, ◌-◌, false}
+use Rattle.std.proofs.Common.{◌≡◌, ◌≤◌, ◌-◌, false, length}
 use Rattle.std.specs.VecDeque.{deque_len, deque_capacity}
 use Rattle.enet_outbox.specs.Emission.{Filling, with_acknowledgements}
 use Rattle.enet_outbox.specs.Private.Packing.{Holds}
@@ -11,6 +11,7 @@ invariant-acknowledgements l = record {
       (g : Filling) × Holds g l.progress l.buf × (g.closed ≡ false) × (g.outbox ≡ record f.outbox { acknowledgements = l.acknowledgements.items })
       × (with_acknowledgements f ≡ more_acknowledgements l.acknowledgements.items g);
   room : deque_capacity l.initial.acknowledgements - deque_len l.initial.acknowledgements ≤ deque_capacity l.acknowledgements - deque_len l.acknowledgements;
+  fewer : length l.acknowledgements.items ≤ length l.initial.acknowledgements.items;
 }
 
 abbrev pub decreases-acknowledgements : goal.decreases-acknowledgements

@@ -27,7 +27,7 @@ led c =
 
 pub invariant_of-self : goal.invariant_of-self
 invariant_of-self c =
-    (record { few = omega (arith, c.pack_channels-sent.ensures.kept, c.self.invariant.0.few); counted = sym (led (goal.at.invariant_of-self c).After-pack_channels-sent).1 }, λ idle. absurd (cc))
+    (record { few = omega (arith, c.pack_channels-sent.ensures.kept, c.self.invariant.0.few); counted = sym (led (goal.at.invariant_of-self c).After-pack_channels-sent).1 }, λ idle. absurd (cc), omega (arith, c.pack_acknowledgements-acknowledged.ensures.fewer, c.self.invariant.2))
 
 pub returns-clause-leads : goal.returns-clause-leads
 returns-clause-leads c =

@@ -6,6 +6,7 @@ use Rattle.enet_peer.specs.CommandEffect.{Outcome, answered, is_kept, obeyed, wa
 use Rattle.enet_peer.specs.Private.Acting.{acted, by_foresight, Replies}
 use Rattle.enet_peer.specs.Peering.{Peering}
 use Rattle.enet_peer.proofs.Arriving.{obeyed_is, stopped_before, no_memory}
+use Rattle.enet_peer.proofs.Crowding.{has_few}
 use Rattle.enet_peer.proofs.Places.{has_place, kept_wanted, place_wanted, replied}
 use Rattle.enet_peer.proofs.peer.Peer.carry_out.Goals as goal
 
@@ -47,6 +48,7 @@ answer-requires c =
     c.in_ok-act.ensures.done ∙ ap (λ (q : Peering). acted q c.args.now c.is_some.result m) same ∙ ap (λ b. acted p c.args.now b m) c.is_some.ensures in
     record {
       head = c.head_of-head.ensures;
+      few = has_few p c.act.new.self.peer c.args.now c.args.sent m c.in_ok-foreseen.foreseen.acknowledged (sym c.in_ok-foreseen.ensures.answer) left;
       room = has_place p c.act.new.self.peer c.args.now c.args.sent m c.in_ok-foreseen.foreseen.acknowledged c.make_room.new.self.acknowledgement_room c.act.new.self.acknowledgement_room left
           c.in_ok-make_room.ensures.room c.in_ok-act.ensures.acknowledgement_room
           (λ clears. subst (λ (q : Peering). length q.outbox.acknowledgements + c.make_room.new.self.acknowledgement_room ≤ length c.act.new.self.peer.outbox.acknowledgements + c.act.new.self.acknowledgement_room) same (c.in_ok-act.ensures.places clears));
