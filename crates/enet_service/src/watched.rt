@@ -5,7 +5,7 @@ ghost use Rattle.enet_service.specs.Hosting.{Obeys};
 ghost use Rattle.enet_submit.specs.declared.order.Order.TheVariants as orders;
 
 use crate::Core;
-use enet_codec::{Addr, Config, DisconnectMode, Event, PeerRef, Refusal};
+use enet_codec::{Addr, Config, DisconnectMode, Event, PeerRef, Refusal, Stop};
 use enet_host::HostCore;
 use enet_submit::Order;
 use std::alloc::Global;
@@ -47,6 +47,9 @@ pub struct WatchedHost {
     // How many notes found no place.
     missed: u64,
     refused: u64,
+    // How many datagrams were stopped so far, and how many orders refused, by the number of the reason.
+    stops: [u64; 14],
+    refusals: [u64; 9],
 }
 
 impl Model for WatchedHost {
@@ -89,6 +92,8 @@ impl WatchedHost {
             notes: Vec::new(alloc),
             missed: 0,
             refused: 0,
+            stops: [0; 14],
+            refusals: [0; 9],
         })
     }
 
@@ -112,6 +117,16 @@ impl WatchedHost {
     /// How many orders were refused since then.
     pub fn refused(&self) -> u64 {
         self.refused
+    }
+
+    /// How many datagrams were stopped so far for the reason of this number ([`Stop::number`]); 0 where no reason has it.
+    pub fn stops(&self, number: u8) -> u64 {
+        self.stops.get(usize::from(number)).copied().unwrap_or(0)
+    }
+
+    /// How many orders were refused so far for the reason of this number: 1 for E1 to 8 for E8. A host has no other reason; 0 of others.
+    pub fn refusals(&self, number: u8) -> u64 {
+        self.refusals.get(usize::from(number)).copied().unwrap_or(0)
     }
 
     /// By their slots, the peers whose connection was told and whose end wasn't.
@@ -143,6 +158,23 @@ impl WatchedHost {
             }
         }
         parted
+    }
+
+    fn count_stop(&mut self, why: Stop)
+        ensures { self.new ≡ self.old }
+    {
+        if let Some(count) = self.stops.get_mut(usize::from(why.number())) {
+            *count = count.saturating_add(1);
+        }
+    }
+
+    fn count_refusal(&mut self, why: Refusal)
+        ensures { self.new ≡ self.old }
+    {
+        self.refused = self.refused.saturating_add(1);
+        if let Some(count) = self.refusals.get_mut(number_of(why)) {
+            *count = count.saturating_add(1);
+        }
     }
 
     fn note(&mut self, note: Note)
@@ -239,14 +271,16 @@ impl Core for WatchedHost {
             order => self.host.apply_order(order),
         };
         if let Err(why) = obeyed {
-            self.refused = self.refused.saturating_add(1);
+            self.count_refusal(why);
             self.note(Note::Refused { peer, why });
         }
         obeyed
     }
 
     fn receive(&mut self, from: Addr, bytes: &[u8]) {
-        Core::receive(&mut self.host, from, bytes);
+        if let Some(why) = self.host.receive(from, bytes).stop {
+            self.count_stop(why);
+        }
     }
 
     fn emit(&mut self, buf: &mut [u8; 4096]) -> Option<(Addr, usize)> {
@@ -257,6 +291,21 @@ impl Core for WatchedHost {
         let event = Core::next_event(&mut self.host)?;
         self.note_event(&event);
         Some(event)
+    }
+}
+
+// The number of a reason for which a host refuses an order.
+fn number_of(why: Refusal) -> usize {
+    match why {
+        Refusal::Memory => 1,
+        Refusal::NoSuchPeer => 2,
+        Refusal::NotConnected => 3,
+        Refusal::NoSuchChannel => 4,
+        Refusal::TooLarge => 5,
+        Refusal::WindowEnd => 6,
+        Refusal::NoSlot => 7,
+        Refusal::BadConfig => 8,
+        _ => 0,
     }
 }
 
