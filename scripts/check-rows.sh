@@ -146,6 +146,22 @@ serve --port 47001 --threads 3
 serve --port 47001 --turns 2 --forever
 serve --port 47001 --control
 serve --port 47001 --turns 2 --control
+serve --port 47001 --mtu 575
+serve --port 47001 --mtu 4097
+serve --port 47001 --receive-buffer 2047
+serve --port 47001 --receive-buffer 1073741825
+serve --port 47001 --per-address 0
+serve --port 47001 --per-address 4096
+serve --port 47001 --connects-per-second 0
+serve --port 47001 --connects-per-second 1000001
+serve --port 47001 --connects-per-address 0
+serve --port 47001 --connects-per-address 1000001
+serve --port 47001 --ban localhost
+serve --port 47001 --ban 127.0.0.1 --ban 127.0.0
+serve --port 47001 --metrics 127.0.0.1:9100
+serve --port 47001 --forever --metrics 127.0.0.1
+serve --port 47001 --forever --metrics 127.0.0.1:0
+serve --port 47001 --forever --metrics localhost:9100
 serve --port 47001 --address localhost
 serve --port 47001 --address 127.0.0.1.1
 demo --clients 0
@@ -168,6 +184,10 @@ services() {
     service_line serve-no-turn 0 "$(listening)" 'served 0 received 0 sent 0' serve --port "$port" --turns 0 --address 127.0.0.1
     service_line serve-small-queues 0 "$(listening)" 'served 2 received 0 sent 0' serve --port "$port" --turns 2 --queue-capacity 1
     service_line serve-small-room 0 "$(listening)" 'served 2 received 0 sent 0' serve --port "$port" --turns 2 --room 1
+    service_line serve-small-mtu 0 "$(listening)" 'served 2 received 0 sent 0' serve --port "$port" --turns 2 --mtu 576
+    service_line serve-limited 0 "$(listening)" 'served 2 received 0 sent 0' serve --port "$port" --turns 2 --per-address 4095 \
+        --connects-per-second 1 --connects-per-address 1 --ban 127.0.0.1 --ban 127.0.0.2
+    small_buffer serve-small-receive-buffer
     service_line serve-with-log 0 "$(listening)" 'served 2 received 0 sent 0' serve --port "$port" --turns 2 --log
     service_line serve-in-two-threads 0 "$(listening)" 'served 2 received 0 sent 0' serve --port "$port" --turns 2 --threads 2
     service_line serve-in-one-thread 0 "$(listening)" 'served 2 received 0 sent 0' serve --port "$port" --turns 2 --threads 1
@@ -186,9 +206,17 @@ services() {
     goes_on forever-in-one-thread 1 --threads 1
     goes_on forever-in-two-threads 2 --threads 2
     goes_on control-without-input 1 --control
+    goes_on metrics 2 --metrics 127.0.0.1:47109
     obeys control
     obeys control-in-two-threads --threads 2
     goes_on_unread unread
+}
+
+# The receive buffer is as small as it is asked for; Linux tells twice that.
+small_buffer() {
+    timeout 120 "$program" serve --port "$port" --turns 2 --receive-buffer 65536 > "$room/out" 2> "$room/err"
+    [ "$(<"$room/err")" = "listening at 127.0.0.1:$port, 32 slots, 2 channels, receive buffer 131072 bytes" ] || { fail "$1" "$(head -c 200 "$room/err")"; return; }
+    passed=$((passed + 1))
 }
 
 # `serve --forever` with the words behind $2, $1 its name here, goes on in $2 threads and writes its first line alone.
@@ -208,14 +236,16 @@ obeys() {
     local name=$1 status
     free_port
     {
-        printf '%s\n' peers nonsense 'kick 0.0' 'kick x' 'say hello' 'log on' 'log maybe' 'log off' ' stop' 'stop now'
+        printf '%s\n' peers nonsense 'kick 0.0' 'kick x' 'ban 127.0.0.9' 'ban x' 'unban 127.0.0.9' 'unban' 'say hello' 'log on' 'log maybe' \
+            'log off' ' stop' 'stop now'
         head -c 2000 /dev/zero | tr '\0' x
         printf '\nstop'
         sleep 1
         printf '\n'
     } | timeout 20 "$program" serve --port "$port" --forever --control "${@:2}" > "$room/out" 2> "$room/err"
     status=${PIPESTATUS[1]}
-    printf '%s\n' 'peers 0' 'not understood' 'no peer 0.0' 'not understood' 'said to 0' 'log on' 'not understood' 'log off' \
+    printf '%s\n' 'peers 0' 'not understood' 'no peer 0.0' 'not understood' 'banned 127.0.0.9 kicked 0' 'not understood' \
+        'unbanned 127.0.0.9' 'not understood' 'said to 0' 'log on' 'not understood' 'log off' \
         'not understood' 'not understood' 'not understood' 'stopping' | cmp -s - "$room/out" || { fail "$name" "it answered: $(head -c 400 "$room/out")"; return; }
     [ "$status" -eq 0 ] || { fail "$name" "status $status where 0 is wanted"; return; }
     [ "$(sized "$room/err")" = "$(listening)" ] || { fail "$name" "standard error is: $(head -c 200 "$room/err")"; return; }
@@ -269,7 +299,7 @@ command_lines() {
     command_line help 0 '' /dev/null "$room/out" --help
     grep -q lab "$room/out" || fail help "it doesn't name the lab"
     command_line help-of-serve 0 '' /dev/null "$room/out" serve --help
-    grep -q -- '--queue-capacity' "$room/out" && grep -q -- '--threads' "$room/out" && grep -q -- '--control' "$room/out" || fail help-of-serve 'an option is missing'
+    grep -q -- '--queue-capacity' "$room/out" && grep -q -- '--threads' "$room/out" && grep -q -- '--control' "$room/out" && grep -q -- '--per-address' "$room/out" && grep -q -- '--metrics' "$room/out" || fail help-of-serve 'an option is missing'
     command_line input-that-cannot-be-read 1 'input or output failed' / "$room/out" lab
     command_line output-that-cannot-be-written 1 'input or output failed' "$rows/one-reliable-packet.lab" /dev/full lab
 }

@@ -2,8 +2,8 @@
 # All tests: the gate (every proof from nothing, the must-fail edits, the programs), then whether the edits that the gate leaves alone still
 # fit the text, the definitions that documents quote, the names, files and commits that they cite, the trials of the crates, the worked
 # scripts and captured datagrams through the built program, each growth of memory of worked rows refused in turn, the instructions of the
-# benchmark's jobs, clients of the reference library that talk through the program, what deploy/ has, and the library for C. Each of the
-# eleven last ends with a line 'N passed, M failed'; the status is other than 0 where anything failed.
+# benchmark's jobs, clients of the reference library that talk through the program, whom it lets in and what it tells of itself, what deploy/
+# has, and the library for C. Each of the thirteen last ends with a line 'N passed, M failed'; the status is other than 0 where anything failed.
 set -u
 cd "$(dirname "$0")/.." || exit 1
 begun=$SECONDS
@@ -32,8 +32,12 @@ bash scripts/check-speed.sh
 speed=$?
 bash scripts/check-clients.sh
 clients=$?
+bash scripts/check-admission.sh
+admitted=$?
+bash scripts/check-metrics.sh
+metrics=$?
 bash scripts/check-deploy.sh
 deployed=$?
 if bash scripts/archive-c.sh > /dev/null; then bash scripts/check-c.sh; else echo '0 passed, 1 failed'; false; fi
 library=$?
-[ "$edits $quotes $documents $trials $rows $inspected $memory $speed $clients $deployed $library" = '0 0 0 0 0 0 0 0 0 0 0' ]
+[ "$edits $quotes $documents $trials $rows $inspected $memory $speed $clients $admitted $metrics $deployed $library" = '0 0 0 0 0 0 0 0 0 0 0 0 0' ]

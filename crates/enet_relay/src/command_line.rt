@@ -1,11 +1,12 @@
 //! What the program can be told.
 
+use crate::admission::{Admission, read_admission, with_admission};
 use crate::failure::Failure;
 use clap::error::ErrorKind;
 use clap::{Arg, ArgAction, ArgMatches, Command, Error, value_parser};
 use enet_codec::Addr;
 use std::alloc::{AllocError, Global};
-use std::net::Ipv4Addr;
+use std::net::{Ipv4Addr, SocketAddrV4};
 use std::rt::Env;
 use std::{env, io};
 
@@ -19,7 +20,7 @@ pub enum Length {
 }
 
 /// What `serve` was told.
-#[derive(Clone, Copy)]
+#[derive(Drop)]
 pub struct ServeOptions {
     pub address: Addr,
     pub peers: u16,
@@ -31,6 +32,9 @@ pub struct ServeOptions {
     pub threads: ServerThreads,
     /// Whether standard input is read.
     pub is_controlled: bool,
+    pub admission: Admission,
+    /// Where figures are told over HTTP.
+    pub metrics: Option<SocketAddrV4>,
 }
 
 /// Which threads serve.
@@ -114,7 +118,7 @@ fn inspect_command<'a>(alloc: Global) -> Result<Command<'a>, AllocError> {
 }
 
 fn serve_command<'a>(alloc: Global) -> Result<Command<'a>, AllocError> {
-    Command::new(alloc, "serve")
+    let serve = Command::new(alloc, "serve")
         .about("Relays chat between the ENet clients that connect")
         .arg(port(alloc))?
         .arg(address(alloc))?
@@ -125,7 +129,9 @@ fn serve_command<'a>(alloc: Global) -> Result<Command<'a>, AllocError> {
         .arg(forever(alloc)?)?
         .arg(logs(alloc))?
         .arg(threads(alloc))?
-        .arg(control(alloc)?)
+        .arg(control(alloc)?)?
+        .arg(metrics(alloc)?)?;
+    with_admission(alloc, serve)
 }
 
 fn demo_command<'a>(alloc: Global) -> Result<Command<'a>, AllocError> {
@@ -205,8 +211,20 @@ fn logs<'a>(alloc: Global) -> Arg<'a> {
 fn control<'a>(alloc: Global) -> Result<Arg<'a>, AllocError> {
     Arg::new(alloc, "control")
         .long("control")
-        .help("Do what lines of standard input say: stop, totals, peers, kick, say, log")
+        .help(
+            "Do what lines of standard input say: stop, totals, peers, kick, ban, unban, say, log",
+        )
         .action(ArgAction::SetTrue)
+        .conflicts_with("turns")?
+        .requires_arg("forever")
+}
+
+fn metrics<'a>(alloc: Global) -> Result<Arg<'a>, AllocError> {
+    Arg::new(alloc, "metrics")
+        .long("metrics")
+        .help(
+            "Tell figures over HTTP at this address and port, as 127.0.0.1:9100: /metrics and /healthz",
+        )
         .conflicts_with("turns")?
         .requires_arg("forever")
 }
@@ -245,7 +263,10 @@ fn task_of(alloc: Global, found: &ArgMatches<'_>) -> Result<Option<Task>, AllocE
     match name {
         "lab" => Ok(Some(Task::Lab)),
         "inspect" => Ok(Some(Task::Inspect(file_named(alloc, found)?))),
-        "serve" => Ok(serve_options(found).map(Task::Serve)),
+        "serve" => match read_admission(alloc, found)? {
+            Some(admission) => Ok(serve_options(found, admission).map(Task::Serve)),
+            None => Ok(None),
+        },
         "demo" => Ok(demo_options(found).map(Task::Demo)),
         _ => Ok(None),
     }
@@ -258,7 +279,7 @@ fn file_named(alloc: Global, found: &ArgMatches<'_>) -> Result<Option<String>, A
     }
 }
 
-fn serve_options(found: &ArgMatches<'_>) -> Option<ServeOptions> {
+fn serve_options(found: &ArgMatches<'_>, admission: Admission) -> Option<ServeOptions> {
     let ip = found.get_one::<Ipv4Addr>("address")?.to_bits();
     let port = found.get_one::<u16>("port")?;
     let length = if found.get_flag("forever") {
@@ -278,7 +299,21 @@ fn serve_options(found: &ArgMatches<'_>) -> Option<ServeOptions> {
             _ => ServerThreads::Two,
         },
         is_controlled: found.get_flag("control"),
+        admission,
+        metrics: metrics_at(found)?,
     })
+}
+
+// Some(None) where it wasn't said; None where it is no address, or has no port.
+fn metrics_at(found: &ArgMatches<'_>) -> Option<Option<SocketAddrV4>> {
+    if found.get_str("metrics").is_none() {
+        return Some(None);
+    }
+    let address = found.get_one::<SocketAddrV4>("metrics")?;
+    if address.port() == 0 {
+        return None;
+    }
+    Some(Some(address))
 }
 
 fn demo_options(found: &ArgMatches<'_>) -> Option<DemoOptions> {

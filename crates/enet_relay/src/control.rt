@@ -6,6 +6,7 @@ use libc::net::{POLLIN, poll};
 use libc::types::pollfd;
 use libc::{STDIN_FILENO, read};
 use std::alloc::Global;
+use std::net::Ipv4Addr;
 
 /// A longer line isn't understood.
 const LONGEST: usize = 1_024;
@@ -24,6 +25,10 @@ pub enum Word {
     Peers,
     /// End the connection of this peer, which is told this number.
     Kick { peer: PeerRef, info: u32 },
+    /// Let nobody from this address in, and end the connections from there.
+    Ban(u32),
+    /// Let this address in again.
+    Unban(u32),
     /// Send this text to each client.
     Say(Bytes),
     /// Tell each connection and each end of one from now on, or no longer.
@@ -132,6 +137,8 @@ fn word_of(alloc: Global, line: &[u8]) -> Option<Word> {
         ("log", Some("on")) => Some(Word::Log(true)),
         ("log", Some("off")) => Some(Word::Log(false)),
         ("kick", Some(rest)) => kick(rest),
+        ("ban", Some(rest)) => Some(Word::Ban(address(rest)?)),
+        ("unban", Some(rest)) => Some(Word::Unban(address(rest)?)),
         ("say", Some(text)) => say(alloc, text),
         _ => None,
     }
@@ -139,6 +146,10 @@ fn word_of(alloc: Global, line: &[u8]) -> Option<Word> {
 
 fn say(alloc: Global, text: &str) -> Option<Word> {
     Some(Word::Say(Bytes::copy_from_slice(alloc, text.as_bytes()).ok()?))
+}
+
+fn address(text: &str) -> Option<u32> {
+    Some(text.parse::<Ipv4Addr>().ok()?.to_bits())
 }
 
 // `SLOT.GENERATION`, and a number behind it or none.

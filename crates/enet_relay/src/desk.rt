@@ -3,8 +3,8 @@
 use crate::control::{Control, Word};
 use crate::outlet::{Outlet, Stream};
 use bytes::Bytes;
-use enet_codec::{DisconnectMode, PeerRef};
-use enet_serve::{Met, Note, WatchedHost};
+use enet_codec::{DisconnectMode, PeerRef, Refusal};
+use enet_serve::{ChatServer, Met, Note, WatchedHost};
 use enet_submit::Order;
 use std::alloc::{AllocError, Global};
 use std::collections::VecDeque;
@@ -17,6 +17,13 @@ const CHAT: u8 = 0;
 
 const RELIABLE: u8 = 1;
 
+/// What becomes of an address.
+#[derive(Clone, Copy)]
+enum Ban {
+    Banned(u32),
+    Unbanned(u32),
+}
+
 /// Where the operator is heard and answered.
 #[derive(Drop)]
 pub struct Desk {
@@ -25,10 +32,11 @@ pub struct Desk {
     answers: Outlet,
     // When the peer of each slot connected.
     since: Vec<Option<Instant>>,
-    /// What the server is to be asked for.
-    pub orders: VecDeque<Order>,
-    /// Whether it is to end.
-    pub stops: bool,
+    // What the server is to be asked for.
+    orders: VecDeque<Order>,
+    bans: VecDeque<Ban>,
+    // Whether it is to end.
+    stops: bool,
 }
 
 impl Desk {
@@ -45,8 +53,28 @@ impl Desk {
             answers: Outlet::new(Stream::Output),
             since,
             orders: VecDeque::new(alloc),
+            bans: VecDeque::new(alloc),
             stops: false,
         })
+    }
+
+    /// Whether the server is to be asked for something, or to end.
+    pub fn is_waiting(&self) -> bool {
+        self.stops || !self.orders.is_empty() || !self.bans.is_empty()
+    }
+
+    /// Hands to the server what it is asked for. True where that was nothing, and it is to end. E1 for want of memory.
+    pub fn hand_over(&mut self, server: &mut ChatServer) -> Result<bool, Refusal> {
+        let is_done = self.stops && self.orders.is_empty() && self.bans.is_empty();
+        for _ban in 0..self.bans.len() {
+            match self.bans.pop_front() {
+                Some(Ban::Banned(ip)) => server.ban(ip)?,
+                Some(Ban::Unbanned(ip)) => server.unban(ip),
+                None => {}
+            }
+        }
+        server.order(&mut self.orders)?;
+        Ok(is_done)
     }
 
     /// What the operator says next, if it is there.
@@ -156,6 +184,45 @@ impl Desk {
             format!(in alloc; "no memory\n")
         } else {
             format!(in alloc; "kicked {slot}.{generation}\n")
+        };
+        self.answer(rt, line);
+    }
+
+    /// Has nobody from this address let in, and the connections from there end.
+    pub fn ban<R: Print + Eprint>(&mut self, rt: &R, alloc: Global, host: &WatchedHost, ip: u32) {
+        if self.bans.push_back(Ban::Banned(ip)).is_err() {
+            self.answer(rt, format!(in alloc; "no memory\n"));
+            return;
+        }
+        let mut kicked = 0u32;
+        for met in host.met() {
+            if let Some(met) = met {
+                if met.address.ip == ip && self.part_from(met.peer) {
+                    kicked = kicked.saturating_add(1);
+                }
+            }
+        }
+        let address = Ipv4Addr::from_bits(ip);
+        self.answer(rt, format!(in alloc; "banned {address} kicked {kicked}\n"));
+    }
+
+    // False where there is no memory.
+    fn part_from(&mut self, peer: PeerRef) -> bool {
+        let order = Order::Disconnect {
+            peer,
+            how: DisconnectMode::Ask,
+            info: 0,
+        };
+        self.orders.push_back(order).is_ok()
+    }
+
+    /// Has this address let in again.
+    pub fn unban<R: Print + Eprint>(&mut self, rt: &R, alloc: Global, ip: u32) {
+        let address = Ipv4Addr::from_bits(ip);
+        let line = if self.bans.push_back(Ban::Unbanned(ip)).is_err() {
+            format!(in alloc; "no memory\n")
+        } else {
+            format!(in alloc; "unbanned {address}\n")
         };
         self.answer(rt, line);
     }

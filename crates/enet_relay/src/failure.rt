@@ -32,6 +32,9 @@ pub enum Failure {
     /// The system makes no second thread.
     #[error("no second thread can be made")]
     NoThread,
+    /// Nobody can be told figures at that address, and this is what the system says of it.
+    #[error("metrics: {0}")]
+    Metrics(io::Error),
     /// The server failed.
     #[error("{0}")]
     Service(Refusal),

@@ -2,15 +2,17 @@
 
 use crate::command_line::{Length, ServeOptions, ServerThreads};
 use crate::failure::Failure;
+use crate::monitor::Monitor;
 use crate::watching::Operator;
 use enet_codec::Refusal;
+use enet_metrics::{Figures, Pages};
 use enet_serve::{ChatServer, Gauge, RunLength, Settings, Unopened, Watch};
 use enet_service::Report;
-use std::net::{Ipv4Addr, Net};
+use std::net::{Ipv4Addr, Net, SocketAddr};
 use std::rt::Clock;
 use std::sync::Wait;
 use std::thread;
-use std::thread::Threads;
+use std::thread::{Threads, join_mut};
 use std::time::Duration;
 
 /// A run of `--forever` has so many seconds, a day, unless much is done before.
@@ -26,14 +28,18 @@ where
         peers: options.peers,
         channels: options.channels,
         queue_capacity: options.queue_capacity,
+        mtu: options.admission.mtu,
+        receive_buffer: options.admission.receive_buffer,
+        rules: options.admission.rules,
     };
     // Where no thread can be made, a join does its parts one after the other: nothing would be relayed until the run is over.
-    if options.threads == ServerThreads::Two && thread::spawn(rt, || ()).is_err() {
+    let wants_thread = options.threads == ServerThreads::Two || options.metrics.is_some();
+    if wants_thread && thread::spawn(rt, || ()).is_err() {
         return Err(Failure::NoThread);
     }
     let mut server = ChatServer::open(rt, settings)?;
     tell_start(rt, &server, settings);
-    let served = serve_as_asked(rt, &mut server, options);
+    let served = begin(rt, &mut server, &options);
     server.take_leave(rt);
     server.close();
     served
@@ -51,11 +57,23 @@ fn tell_start<R: Eprint>(rt: &R, server: &ChatServer, settings: Settings) {
     );
 }
 
-fn serve_as_asked<R>(rt: &R, server: &mut ChatServer, options: ServeOptions) -> Result<(), Failure>
+// Bans whom it was told to, and serves.
+fn begin<R>(rt: &R, server: &mut ChatServer, options: &ServeOptions) -> Result<(), Failure>
 where
-    R: Threads + Wait + Clock + Sync + Print + Eprint + AllocGlobal,
+    R: Threads + Wait + Net + Clock + Sync + Print + Eprint + AllocGlobal,
+{
+    for address in &options.admission.banned {
+        server.ban(*address)?;
+    }
+    serve_as_asked(rt, server, options)
+}
+
+fn serve_as_asked<R>(rt: &R, server: &mut ChatServer, options: &ServeOptions) -> Result<(), Failure>
+where
+    R: Threads + Wait + Net + Clock + Sync + Print + Eprint + AllocGlobal,
 {
     let gauge = Gauge::new();
+    let figures = Figures::new(rt, rt.alloc())?;
     let mut operator = Operator::new(
         rt,
         rt.alloc(),
@@ -64,16 +82,37 @@ where
         options.logs,
         options.is_controlled,
     )?;
+    let Some(address) = options.metrics else {
+        return serve_watched(rt, server, options, &gauge, &mut operator);
+    };
+    operator.tell(Monitor::new(&figures, server.register()?));
+    let mut pages = Pages::open(rt, SocketAddr::from(address)).map_err(Failure::Metrics)?;
+    let (served, _pages) = join_mut(
+        rt,
+        &mut || -> Result<(), Failure> {
+            let served = serve_watched(rt, server, options, &gauge, &mut operator);
+            figures.end();
+            served
+        },
+        &mut || pages.serve(rt, &figures),
+    );
+    served
+}
+
+fn serve_watched<R>(
+    rt: &R,
+    server: &mut ChatServer,
+    options: &ServeOptions,
+    gauge: &Gauge,
+    operator: &mut Operator<'_, R>,
+) -> Result<(), Failure>
+where
+    R: Threads + Wait + Clock + Sync + Print + Eprint,
+{
+    let threads = options.threads;
     match options.length {
-        Length::Turns(turns) => serve_turns(
-            rt,
-            server,
-            options.threads,
-            turns,
-            &gauge,
-            &mut operator,
-        ),
-        Length::Forever => serve_on(rt, server, options.threads, &gauge, &mut operator),
+        Length::Turns(turns) => serve_turns(rt, server, threads, turns, gauge, operator),
+        Length::Forever => serve_on(rt, server, threads, gauge, operator),
     }
 }
 

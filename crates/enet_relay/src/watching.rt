@@ -2,6 +2,7 @@
 
 use crate::control::Word;
 use crate::desk::Desk;
+use crate::monitor::{Counted, Monitor};
 use crate::outlet::{Outlet, Stream};
 use enet_codec::Refusal;
 use enet_serve::{ChatServer, Gauge, Met, Note, Watch, WatchedHost};
@@ -28,6 +29,7 @@ pub struct Operator<'a, R> {
     logs: bool,
     errors: Outlet,
     desk: Desk,
+    monitor: Option<Monitor<'a>>,
     told_at: Option<Instant>,
     lost: u64,
     refused: u64,
@@ -53,6 +55,7 @@ impl<'a, R> Operator<'a, R> {
             logs,
             errors: Outlet::new(Stream::Error),
             desk: Desk::new(alloc, peers, is_controlled)?,
+            monitor: None,
             told_at: None,
             lost: 0,
             refused: 0,
@@ -61,12 +64,15 @@ impl<'a, R> Operator<'a, R> {
         })
     }
 
+    /// Has a monitor told, too.
+    pub fn tell(&mut self, monitor: Monitor<'a>) {
+        self.monitor = Some(monitor);
+    }
+
     /// Hands to the server what its operator asked for. True where nothing was, and it is to end: so what was said before comes before
     /// the end. E1 for want of memory.
     pub fn hand_over(&mut self, server: &mut ChatServer) -> Result<bool, Refusal> {
-        let is_done = self.desk.stops && self.desk.orders.is_empty();
-        server.order(&mut self.desk.orders)?;
-        Ok(is_done)
+        self.desk.hand_over(server)
     }
 }
 
@@ -76,6 +82,10 @@ impl<R: Clock + Print + Eprint> Watch for Operator<'_, R> {
         self.orders = self.orders.saturating_add(u64::from(report.orders));
         self.events = self.events.saturating_add(u64::from(report.events));
         self.refused = self.refused.saturating_add(host.refused());
+        let counted = self.counted();
+        if let Some(monitor) = &mut self.monitor {
+            monitor.look(self.rt, host, counted);
+        }
         if self.logs {
             self.log_all(host);
         }
@@ -89,7 +99,7 @@ impl<R: Clock + Print + Eprint> Watch for Operator<'_, R> {
     }
 
     fn wants_end(&self) -> bool {
-        self.desk.stops || !self.desk.orders.is_empty()
+        self.desk.is_waiting()
     }
 }
 
@@ -110,19 +120,31 @@ impl<R: Clock + Print + Eprint> Operator<'_, R> {
         true
     }
 
-    // `out` counts what the host put out; `lost` says how many of those didn't leave. What waits is in the queues and beside them.
+    // What waits is in the queues and beside them.
+    fn counted(&self) -> Counted {
+        Counted {
+            peers: u64::try_from(self.gauge.peers.load(SeqCst)).unwrap_or(u64::MAX),
+            lost: self.lost,
+            orders: self.gauge.asked().saturating_sub(self.orders),
+            events: self.events.saturating_sub(self.gauge.expanded()),
+        }
+    }
+
+    // `out` counts what the host put out; `lost` says how many of those didn't leave.
     fn totals(&self, host: &WatchedHost) -> Result<String, AllocError> {
         let alloc = self.alloc;
-        let peers = self.gauge.peers.load(SeqCst);
+        let Counted {
+            peers,
+            lost,
+            orders,
+            events,
+        } = self.counted();
         let totals = host.host().totals();
         let came = totals.datagrams_in;
         let bytes_in = totals.bytes_in;
         let went = totals.datagrams_out;
         let bytes_out = totals.bytes_out;
-        let lost = self.lost;
         let refused = self.refused;
-        let orders = self.gauge.asked().saturating_sub(self.orders);
-        let events = self.events.saturating_sub(self.gauge.expanded());
         format!(in alloc;
             "peers {peers} in {came} bytes {bytes_in} out {went} bytes {bytes_out} lost {lost} refused {refused} waiting orders {orders} events {events}\n"
         )
@@ -153,6 +175,8 @@ impl<R: Clock + Print + Eprint> Operator<'_, R> {
             Word::Peers => self.desk.tell_peers(rt, alloc, host),
             Word::Stop => self.desk.stop(rt, alloc),
             Word::Kick { peer, info } => self.desk.kick(rt, alloc, host, peer, info),
+            Word::Ban(ip) => self.desk.ban(rt, alloc, host, ip),
+            Word::Unban(ip) => self.desk.unban(rt, alloc, ip),
             Word::Say(text) => self.desk.say(rt, alloc, host, text),
             Word::Unknown => {
                 let line = format!(in alloc; "not understood\n");

@@ -5,6 +5,7 @@ use Rattle.enet_codec.specs.declared.event.PeerRef.{PeerRef}
 use Rattle.enet_codec.specs.declared.event.Event.{Event}
 use Rattle.enet_codec.specs.declared.refusal.Refusal.{Refusal}
 use Rattle.enet_codec.specs.declared.refusal.Refusal.TheVariants.{Memory, BadConfig, SeatSpent, WireFault, StillHeld}
+use Rattle.enet_codec.specs.declared.config.Config.{Config}
 use Rattle.enet_codec.specs.Config.{standard_config}
 use Rattle.enet_codec.specs.Config as configs
 use Rattle.enet_submit.specs.declared.order.Order.{Order}
@@ -12,6 +13,7 @@ use Rattle.enet_host.specs.Host.{Host}
 use Rattle.enet_host.specs.Opening.{opened}
 use Rattle.enet_bridge.specs.Ends.{orders}
 use Rattle.enet_bridge.specs.Socket.{failures_of}
+use Rattle.enet_guard.specs.Guarding.{Guarding, new_guard}
 use Rattle.enet_service.specs.declared.report.Report.{Report}
 use Rattle.enet_service.specs.Hosting.{host_calls}
 use Rattle.enet_service.specs.LoneTurn.{Kind, RoundsOf}
@@ -30,7 +32,11 @@ host_of server = server.bound.service.host
 
 -- how often its socket has failed
 abbrev pub faults_of : ChatServer → ℕ
-faults_of server = failures_of server.bound.wire
+faults_of server = failures_of server.bound.wire.wire
+
+-- what the guard in front of its host goes by
+abbrev pub guard_of : ChatServer → Guarding
+guard_of server = server.bound.wire.guard
 
 -- the event that waits for room in the queue, if there is one
 abbrev pub waiting_of : ChatServer → Option Event
@@ -50,13 +56,18 @@ backlog_of server = server.kept.backlog.items
 abbrev pub orders_of : ChatServer → List Order
 orders_of server = server.kept.orders.items
 
--- whether there are hosts with these numbers of peers and channels
-abbrev pub is_in_range : Settings → Bool
-is_in_range settings = configs.is_in_range (standard_config settings.peers settings.channels)
+-- the settings of its host
+abbrev pub config_of : Settings → Config
+config_of settings = record (standard_config settings.peers settings.channels) { mtu = settings.mtu }
 
--- a fresh host of these settings, a socket that hasn't failed, and nothing that waits
+-- whether there are hosts with these numbers of peers and channels and this mtu
+abbrev pub is_in_range : Settings → Bool
+is_in_range settings = configs.is_in_range (config_of settings)
+
+-- a fresh host of these settings, a guard with their rules to which nothing came, a socket that hasn't failed, and nothing that waits
 pub record IsOpened (settings : Settings) (server : ChatServer) : Type 0 where
-  pub host : host_of server ≡ opened (standard_config settings.peers settings.channels)
+  pub host : host_of server ≡ opened (config_of settings)
+  pub guard : guard_of server ≡ new_guard settings.rules settings.peers
   pub waiting : waiting_of server ≡ None
   pub faults : faults_of server ≡ 0
   pub queue_capacity : queue_capacity_of server ≡ settings.queue_capacity

@@ -2,6 +2,7 @@
 use crate::lone_turn::lone_turn;
 use enet_chat::{Gauge, LoneRelay};
 use enet_codec::Refusal;
+use enet_guard::Guarded;
 use enet_service::{Bell, BoundService, Fault, MioWire, Report, RunLength, Watch, is_over};
 use std::alloc::Global;
 use std::rt::Clock;
@@ -34,7 +35,7 @@ impl Alone<'_> {
     pub(crate) fn run<R: Wait + Clock, W: Watch>(
         &mut self,
         rt: &R,
-        bound: &mut BoundService<MioWire>,
+        bound: &mut BoundService<Guarded<MioWire>>,
         run_length: RunLength,
         watch: &mut W,
     ) -> Result<Report, Refusal>
@@ -43,9 +44,9 @@ impl Alone<'_> {
         ensures goes { IfOk result (λ report. (rounds : List Round) × Lasts run_length rounds × (report ≡ total rounds)
             × Goes (pair bound.old.service self.old.relay) rounds (pair bound.new.service self.new.relay)) }
         ensures why { IfErr result (λ why. (why ≡ Refusal.WireFault) ⊎ (why ≡ Refusal.Memory)) }
-        ensures sound { OnOk result (failures_of bound.new.wire ≡ failures_of bound.old.wire) }
-        ensures failed { IfErr result (λ why. why ≡ Refusal.WireFault → failures_of bound.new.wire ≡ failures_of bound.old.wire + 1) }
-        ensures other { IfErr result (λ why. why ≢ Refusal.WireFault → failures_of bound.new.wire ≡ failures_of bound.old.wire) }
+        ensures sound { OnOk result (failures_of bound.new.wire.wire ≡ failures_of bound.old.wire.wire) }
+        ensures failed { IfErr result (λ why. why ≡ Refusal.WireFault → failures_of bound.new.wire.wire ≡ failures_of bound.old.wire.wire + 1) }
+        ensures other { IfErr result (λ why. why ≢ Refusal.WireFault → failures_of bound.new.wire.wire ≡ failures_of bound.old.wire.wire) }
     {
         match run_length {
             RunLength::Turns(turns) => self.run_for_turns(rt, bound, turns, watch),
@@ -57,7 +58,7 @@ impl Alone<'_> {
     fn run_for_time<R: Wait + Clock, W: Watch>(
         &mut self,
         rt: &R,
-        bound: &mut BoundService<MioWire>,
+        bound: &mut BoundService<Guarded<MioWire>>,
         time: Duration,
         watch: &mut W,
     ) -> Result<Report, Refusal>
@@ -66,9 +67,9 @@ impl Alone<'_> {
         ensures goes { IfOk result (λ report. (rounds : List Round) × LastsForTime rounds × (report ≡ total rounds)
             × Goes (pair bound.old.service self.old.relay) rounds (pair bound.new.service self.new.relay)) }
         ensures why { IfErr result (λ why. (why ≡ Refusal.WireFault) ⊎ (why ≡ Refusal.Memory)) }
-        ensures sound { OnOk result (failures_of bound.new.wire ≡ failures_of bound.old.wire) }
-        ensures failed { IfErr result (λ why. why ≡ Refusal.WireFault → failures_of bound.new.wire ≡ failures_of bound.old.wire + 1) }
-        ensures other { IfErr result (λ why. why ≢ Refusal.WireFault → failures_of bound.new.wire ≡ failures_of bound.old.wire) }
+        ensures sound { OnOk result (failures_of bound.new.wire.wire ≡ failures_of bound.old.wire.wire) }
+        ensures failed { IfErr result (λ why. why ≡ Refusal.WireFault → failures_of bound.new.wire.wire ≡ failures_of bound.old.wire.wire + 1) }
+        ensures other { IfErr result (λ why. why ≢ Refusal.WireFault → failures_of bound.new.wire.wire ≡ failures_of bound.old.wire.wire) }
     {
         let start = Instant::now(rt);
         let mut total = Report::nothing();
@@ -86,7 +87,7 @@ impl Alone<'_> {
     fn run_for_turns<R: Wait + Clock, W: Watch>(
         &mut self,
         rt: &R,
-        bound: &mut BoundService<MioWire>,
+        bound: &mut BoundService<Guarded<MioWire>>,
         turns: u64,
         watch: &mut W,
     ) -> Result<Report, Refusal>
@@ -95,9 +96,9 @@ impl Alone<'_> {
         ensures goes { IfOk result (λ report. (rounds : List Round) × (length rounds ≡ turns) × (report ≡ total rounds)
             × Goes (pair bound.old.service self.old.relay) rounds (pair bound.new.service self.new.relay)) }
         ensures why { IfErr result (λ why. (why ≡ Refusal.WireFault) ⊎ (why ≡ Refusal.Memory)) }
-        ensures sound { OnOk result (failures_of bound.new.wire ≡ failures_of bound.old.wire) }
-        ensures failed { IfErr result (λ why. why ≡ Refusal.WireFault → failures_of bound.new.wire ≡ failures_of bound.old.wire + 1) }
-        ensures other { IfErr result (λ why. why ≢ Refusal.WireFault → failures_of bound.new.wire ≡ failures_of bound.old.wire) }
+        ensures sound { OnOk result (failures_of bound.new.wire.wire ≡ failures_of bound.old.wire.wire) }
+        ensures failed { IfErr result (λ why. why ≡ Refusal.WireFault → failures_of bound.new.wire.wire ≡ failures_of bound.old.wire.wire + 1) }
+        ensures other { IfErr result (λ why. why ≢ Refusal.WireFault → failures_of bound.new.wire.wire ≡ failures_of bound.old.wire.wire) }
     {
         match self.turn_by_turn(rt, bound, turns) {
             Ok(report) => {
@@ -115,7 +116,7 @@ impl Alone<'_> {
     fn turn_by_turn<R: Wait + Clock>(
         &mut self,
         rt: &R,
-        bound: &mut BoundService<MioWire>,
+        bound: &mut BoundService<Guarded<MioWire>>,
         turns: u64,
     ) -> Result<Report, Fault>
         requires behind { AreBehind self.old.relay.events self.old.relay.orders }
@@ -123,9 +124,9 @@ impl Alone<'_> {
         ensures goes { IfOk result (λ report. (rounds : List Round) × (length rounds ≡ turns) × (report ≡ total rounds)
             × Goes (pair bound.old.service self.old.relay) rounds (pair bound.new.service self.new.relay)) }
         ensures why { IfErr result (λ fault. (fault.why ≡ Refusal.WireFault) ⊎ (fault.why ≡ Refusal.Memory)) }
-        ensures sound { OnOk result (failures_of bound.new.wire ≡ failures_of bound.old.wire) }
-        ensures failed { IfErr result (λ fault. fault.why ≡ Refusal.WireFault → failures_of bound.new.wire ≡ failures_of bound.old.wire + 1) }
-        ensures other { IfErr result (λ fault. fault.why ≢ Refusal.WireFault → failures_of bound.new.wire ≡ failures_of bound.old.wire) }
+        ensures sound { OnOk result (failures_of bound.new.wire.wire ≡ failures_of bound.old.wire.wire) }
+        ensures failed { IfErr result (λ fault. fault.why ≡ Refusal.WireFault → failures_of bound.new.wire.wire ≡ failures_of bound.old.wire.wire + 1) }
+        ensures other { IfErr result (λ fault. fault.why ≢ Refusal.WireFault → failures_of bound.new.wire.wire ≡ failures_of bound.old.wire.wire) }
     {
         let mut buf = [0u8; 4096];
         let mut total = Report::nothing();
@@ -147,15 +148,15 @@ impl Alone<'_> {
     fn take_turn<R: Wait + Clock>(
         &mut self,
         rt: &R,
-        bound: &mut BoundService<MioWire>,
+        bound: &mut BoundService<Guarded<MioWire>>,
         buf: &mut [u8; 4096],
     ) -> Result<Report, Fault>
         ensures goes { IfOk result (λ report. (rounds : List Round) × (length rounds ≡ 1) × (report ≡ total rounds)
             × Goes (pair bound.old.service self.old.relay) rounds (pair bound.new.service self.new.relay)) }
         ensures why { IfErr result (λ fault. (fault.why ≡ Refusal.WireFault) ⊎ (fault.why ≡ Refusal.Memory)) }
-        ensures sound { OnOk result (failures_of bound.new.wire ≡ failures_of bound.old.wire) }
-        ensures failed { IfErr result (λ fault. fault.why ≡ Refusal.WireFault → failures_of bound.new.wire ≡ failures_of bound.old.wire + 1) }
-        ensures other { IfErr result (λ fault. fault.why ≢ Refusal.WireFault → failures_of bound.new.wire ≡ failures_of bound.old.wire) }
+        ensures sound { OnOk result (failures_of bound.new.wire.wire ≡ failures_of bound.old.wire.wire) }
+        ensures failed { IfErr result (λ fault. fault.why ≡ Refusal.WireFault → failures_of bound.new.wire.wire ≡ failures_of bound.old.wire.wire + 1) }
+        ensures other { IfErr result (λ fault. fault.why ≢ Refusal.WireFault → failures_of bound.new.wire.wire ≡ failures_of bound.old.wire.wire) }
     {
         let Alone { relay, bell, gauge } = self;
         if !relay.orders.is_empty() {

@@ -10,7 +10,7 @@ ghost use Rattle.enet_serve.specs.Private.Playing.{AreGuests};
 use crate::client::{Guest, visit};
 use crate::orders::{CHANNELS, Plan};
 use crate::player::{Company, Visit};
-use crate::{ChatServer, Gauge, Settings, Unwatched};
+use crate::{ChatServer, Gauge, Rules, Settings, Unwatched};
 use enet_codec::{Addr, Refusal};
 use enet_service::{Report, RunLength};
 use std::alloc::Global;
@@ -35,6 +35,9 @@ const MOST: u8 = 8;
 
 /// How many places each queue of the server has.
 const QUEUE_CAPACITY: u32 = 1_024;
+
+/// And how many bytes its datagrams have at most.
+const MTU: u32 = 1_392;
 
 /// What is shown.
 #[derive(Clone, Copy)]
@@ -77,6 +80,9 @@ where
         peers: u16::from(shown.clients),
         channels: CHANNELS,
         queue_capacity: QUEUE_CAPACITY,
+        mtu: MTU,
+        receive_buffer: None,
+        rules: Rules::none(),
     };
     // The server first: the system might choose its port for a client.
     let mut server = match ChatServer::open(rt, settings) {

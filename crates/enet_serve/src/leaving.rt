@@ -1,7 +1,7 @@
 //! How the clients of a server are told that it ends.
 
 use enet_codec::{DisconnectMode, Event};
-use enet_service::{BoundService, Fault, MemorySource, MioWire, Sink, run};
+use enet_service::{BoundService, Fault, MemorySource, Sink, Wire, run};
 use std::alloc::Global;
 use std::collections::VecDeque;
 use std::io;
@@ -14,10 +14,10 @@ const MOMENT: u64 = 1_000;
 
 /// Ends each connection behind all that was sent over it, and takes turns until all have ended, for a second at most. Who isn't gone by
 /// then is sent one DISCONNECT that wants no answer. Where the wire fails it ends.
-pub(crate) fn take_leave<R: Wait + Clock>(
+pub(crate) fn take_leave<R: Wait + Clock, N: Wire + Drop>(
     rt: &R,
     alloc: Global,
-    bound: &mut BoundService<MioWire>,
+    bound: &mut BoundService<N>,
 ) {
     if see_off(rt, alloc, bound).is_ok()
         && bound.service.host.part_from_all(DisconnectMode::Now) > 0
@@ -27,10 +27,10 @@ pub(crate) fn take_leave<R: Wait + Clock>(
 }
 
 // Takes turns until no peer is left, or the moment is over. Who connects meanwhile is asked to go, too.
-fn see_off<R: Wait + Clock>(
+fn see_off<R: Wait + Clock, N: Wire + Drop>(
     rt: &R,
     alloc: Global,
-    bound: &mut BoundService<MioWire>,
+    bound: &mut BoundService<N>,
 ) -> Result<(), Fault> {
     let start = Instant::now(rt);
     for _ in rt.forever() {
@@ -72,10 +72,10 @@ impl Sink for Nobody {
 }
 
 // A turn without orders, whose events nobody takes.
-fn take_turn<R: Wait + Clock>(
+fn take_turn<R: Wait + Clock, N: Wire + Drop>(
     rt: &R,
     alloc: Global,
-    bound: &mut BoundService<MioWire>,
+    bound: &mut BoundService<N>,
 ) -> Result<(), Fault> {
     let mut source = MemorySource::new(VecDeque::new(alloc));
     let BoundService { wire, service } = bound;

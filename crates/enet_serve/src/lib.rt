@@ -3,23 +3,25 @@
 //!
 //! Proved: one call of [`ChatServer::serve`] or [`ChatServer::serve_alone`] (`Serves`) is turns of the service, each in the order of its
 //! kind (in one thread a turn tells events and takes orders between hearing and sending), as many as were asked for where a number was, in
-//! none of which the wire failed, and its report their sums. Each event that the turns told was expanded by the rule of the relay, once and
-//! in order, or waits for the next call; each order that the events gave was handed to a turn, once and for every receiver in order, or
-//! waits, too; and events wait only where orders do, and where more orders were handed to the turns or wait than the queue has places, in
-//! one thread 256 at least. So nothing is lost or doubled on the way, nor from one call to the next. Where it ends early, E14 says that the
-//! wire failed, and only E14 does; no run begins where the queues' places are out of range. A server opens with the standard host of its
-//! settings, with nothing waiting ([`ChatServer::open`]). After a call that was refused nothing else is said of the server. What the relay
-//! keeps is as before once leave was taken. Of each client of the demonstration (`Visits`): its service took so many turns, in none of
-//! which the wire failed; the turns were given the first part of what the client asks for, which is its connection and, over the first that
-//! it is told of, three packets of chat; and what is told of the client is whether the turns told its connection, and how many packets they
-//! told. So its game thread missed no event and counted none twice. A number of clients that is out of its range is refused, with a refusal
-//! that comes for nothing else.
-//! Only tested, by scripts/check-rows.sh and scripts/check-clients.sh: what real clients get, that a call ends, at which address a server
-//! listens, what the system says where it can't, that the queues settle (no E16), that the server ends once its relay has, that its clients
-//! are told of its end; that each client of the demonstration gets all packets of the others, that a port that is taken is a refusal, and
-//! that the threads end. Neither: what a network gives, and when; when E1, E10 and E16 come; that in one thread the service doesn't sleep
-//! while orders wait; what `gauge` shows and `watch` is told; whose refusal is told of several in the demonstration; when a client sees
-//! that the others are there; that a client hands over what it asks for (one that never does keeps `Visits`, with all of it left).
+//! none of which the wire failed, and its report their sums. Each event that the turns told was expanded by the rule of the relay, once
+//! and in order, or waits for the next call; each order that the events gave was handed to a turn, once and for every receiver in order,
+//! or waits, too; and events wait only where orders do, and where more orders were handed to the turns or wait than the queue has places,
+//! in one thread 256 at least. So nothing is lost or doubled on the way, nor from one call to the next. Where it ends early, E14 says that
+//! the wire failed, and only E14 does; no run begins where the queues' places are out of range. A server opens with the standard host of
+//! its settings, behind a guard with their rules, with nothing waiting ([`ChatServer::open`]); who is banned is changed by
+//! [`ChatServer::ban`] and [`ChatServer::unban`], which change nothing else. After a call that was refused nothing else is said of the
+//! server. What the relay keeps is as before once leave was taken. Of each client of the demonstration (`Visits`): its service took so
+//! many turns, in none of which the wire failed; the turns were given the first part of what the client asks for, which is its connection
+//! and, over the first that it is told of, three packets of chat; and what is told of the client is whether the turns told its connection,
+//! and how many packets they told. So its game thread missed no event and counted none twice. A number of clients that is out of its range
+//! is refused, with a refusal that comes for nothing else.
+//! Only tested, by scripts/check-admission.sh: whom the guard of a server lets in. By scripts/check-rows.sh and scripts/check-clients.sh:
+//! what real clients get, that a call ends, at which address a server listens, what the system says where it can't, that the queues settle
+//! (no E16), that the server ends once its relay has, that its clients are told of its end; that each client of the demonstration gets all
+//! packets of the others, that a port that is taken is a refusal, and that the threads end. Neither: what a network gives, and when; when
+//! E1, E10 and E16 come; that in one thread the service doesn't sleep while orders wait; what `gauge` shows and `watch` is told; when the
+//! guard is told who is connected; whose refusal is told of several in the demonstration; when a client sees that the others are there;
+//! that a client hands over what it asks for (one that never does keeps `Visits`, with all of it left).
 #![tactic(auto)]
 
 mod alone;
@@ -29,12 +31,14 @@ mod leaving;
 mod lone_turn;
 mod orders;
 mod player;
+mod registrar;
 mod server;
 mod stage;
 mod threads;
 
 pub use demonstration::{Demonstration, demonstrate};
 pub use enet_chat::Gauge;
+pub use enet_guard::{Register, Rules};
 pub use enet_service::{Met, Note, RunLength, Unopened, Unwatched, Watch, WatchedHost};
 pub use player::Visit;
 pub use server::{ChatServer, Settings};

@@ -6,10 +6,12 @@ ghost use Rattle.enet_serve.specs.Private.Threads.{IsLeft, returned};
 
 use crate::alone::Alone;
 use crate::leaving::take_leave;
+use crate::registrar::Registrar;
 use crate::threads::{Carryover, begin_alone, begin_relay, end_alone, relay_on};
 use enet_chat::{Gauge, RelayParts};
 use enet_codec::{Addr, Config, Refusal};
 use enet_events::Poster;
+use enet_guard::{Guarded, Register, Rules};
 use enet_host::HostCore;
 use enet_service::{
     BoundService, Ends, EventReceiver, MioWire, OrderSender, QueueSink, QueueSource, Queues,
@@ -20,7 +22,7 @@ use std::alloc::Global;
 use std::collections::VecDeque;
 use std::net::Net;
 use std::rt::Clock;
-use std::sync::Wait;
+use std::sync::{Arc, Wait};
 use std::thread::Threads;
 use std::{io, mem};
 
@@ -35,26 +37,47 @@ pub struct Settings {
     pub channels: u8,
     /// How many places each of the two queues between its threads has: 1 to 65,536.
     pub queue_capacity: u32,
+    /// The greatest length of a datagram, in bytes: 576 to 4,096.
+    pub mtu: u32,
+    /// How many bytes of datagrams the system is asked to keep until they are received; None for as many as [`MioWire`] asks for.
+    pub receive_buffer: Option<u32>,
+    /// Whom the guard in front of its host lets ask for a connection.
+    pub rules: Rules,
+}
+
+impl Settings {
+    ghost use Rattle.std.specs.Prelude.{◌≡◌};
+    ghost use Rattle.enet_serve.specs.Serving.{config_of};
+
+    fn config(&self) -> Config
+        ensures { result ≡ config_of self.now }
+    {
+        let mut config = Config::standard(self.peers, self.channels);
+        config.mtu = self.mtu;
+        config
+    }
 }
 
 /// A server between two runs: its socket and its host, and what the relay has not done yet. It is given up by [`ChatServer::close`] alone.
 pub struct ChatServer {
     alloc: Global,
     queue_capacity: u32,
-    bound: BoundService<MioWire>,
+    bound: BoundService<Guarded<MioWire>>,
     kept: Carryover,
 }
 
 impl ChatServer {
-    ghost use Rattle.std.specs.Prelude.{◌≡◌, ◌≢◌, ◌+◌, ◌⊎◌, ◌↔◌, ◌++◌, [], IsSome, true, false, None, OnOk, OnErr, IfOk, IfErr, Err};
+    ghost use Rattle.std.specs.Prelude.{◌≡◌, ◌≢◌, ◌+◌, ◌⊎◌, ◌↔◌, ◌++◌, ◌∷◌, [], IsSome, true, false, None, OnOk, OnErr, IfOk, IfErr, Err};
+    ghost use Rattle.std.specs.List.{filter};
     ghost use Rattle.enet_submit.specs.Words.{capacity_of};
+    ghost use Rattle.enet_guard.specs.Guarding.{is_other};
     ghost use Rattle.enet_service.specs.ServiceRuns.{AreNew, IsCapacity};
     ghost use Rattle.enet_service.specs.LoneTurn.{beside, lone};
-    ghost use Rattle.enet_serve.specs.Serving.{Serves, EndsRun, IsNotServed, IsOpened, is_in_range, host_of, faults_of, waiting_of, peers_of, backlog_of, orders_of, queue_capacity_of};
+    ghost use Rattle.enet_serve.specs.Serving.{Serves, EndsRun, IsNotServed, IsOpened, is_in_range, host_of, faults_of, guard_of, waiting_of, peers_of, backlog_of, orders_of, queue_capacity_of};
 
     /// A server at this address, with no peer.
     ///
-    /// E8 where `peers` or `channels` is out of its range (`queue_capacity` is tested by [`ChatServer::serve`]), E14 where the address can't be had,
+    /// E8 where `peers`, `channels` or `mtu` is out of its range (`queue_capacity` is tested by [`ChatServer::serve`]), E14 where the address can't be had,
     /// with what the system says of it, E1 for want of memory.
     pub fn open<R: Net + AllocGlobal>(rt: &R, settings: Settings) -> Result<ChatServer, Unopened>
         ensures out_of_range { is_in_range settings ≡ false → result ≡ Err (record { why = Refusal.BadConfig; reason = None }) }
@@ -63,11 +86,13 @@ impl ChatServer {
         ensures opened { IfOk result (IsOpened settings) }
     {
         let alloc = rt.alloc();
-        let config = Config::standard(settings.peers, settings.channels);
+        let config = settings.config();
         if !config.is_in_range() {
             return Err(Unopened::from(Refusal::BadConfig));
         }
         let wire = MioWire::open(rt, settings.address)?;
+        ask_for_buffer(&wire, settings.receive_buffer);
+        let wire = Guarded::new(alloc, wire, settings.rules, settings.peers)?;
         Ok(ChatServer {
             alloc,
             queue_capacity: settings.queue_capacity,
@@ -105,7 +130,9 @@ impl ChatServer {
         ensures failed { IfErr result (λ why. why ≡ Refusal.WireFault → faults_of self.new ≡ faults_of self.old + 1) }
         ensures other { IfErr result (λ why. why ≢ Refusal.WireFault → faults_of self.new ≡ faults_of self.old) }
     {
-        let bell = self.bound.wire.bell()?;
+        let bell = self.bound.wire.wire.bell()?;
+        let register = self.bound.wire.register()?;
+        let mut watch = Registrar { register, watch };
         let Queues {
             orders,
             events,
@@ -117,7 +144,7 @@ impl ChatServer {
             bell: &bell,
             signals: &Signals::new(),
         };
-        self.run_turns(rt, shared, ends, run_length, gauge, watch)
+        self.run_turns(rt, shared, ends, run_length, gauge, &mut watch)
     }
 
     /// Serves for a run, as [`ChatServer::serve`] does, in one thread: in each turn this thread expands what the service told, and the
@@ -142,7 +169,9 @@ impl ChatServer {
         ensures failed { IfErr result (λ why. why ≡ Refusal.WireFault → faults_of self.new ≡ faults_of self.old + 1) }
         ensures other { IfErr result (λ why. why ≢ Refusal.WireFault → faults_of self.new ≡ faults_of self.old) }
     {
-        let bell = self.bound.wire.bell()?;
+        let bell = self.bound.wire.wire.bell()?;
+        let register = self.bound.wire.register()?;
+        let mut watch = Registrar { register, watch };
         let kept = mem::replace(&mut self.kept, Carryover::new(self.alloc));
         let mut alone = Alone {
             relay: begin_alone(self.alloc, kept, gauge),
@@ -150,7 +179,7 @@ impl ChatServer {
             gauge,
         };
         alone.relay.expand()?;
-        let report = alone.run(rt, &mut self.bound, run_length, watch)?;
+        let report = alone.run(rt, &mut self.bound, run_length, &mut watch)?;
         self.kept = end_alone(alone.relay);
         Ok(report)
     }
@@ -231,6 +260,35 @@ impl ChatServer {
         }
     }
 
+    /// Lets no CONNECT of this address pass from now on, whatever its port; who is connected from there stays.
+    ///
+    /// E1 for want of memory, and then nothing has changed.
+    pub fn ban(&mut self, ip: u32) -> Result<(), Refusal>
+        ensures banned { OnOk result (guard_of self.new ≡ record (guard_of self.old) { banned = (guard_of self.old).banned ++ ip ∷ [] }) }
+        ensures same { OnErr result (guard_of self.new ≡ guard_of self.old) }
+        ensures memory { IfErr result (λ why. why ≡ Refusal.Memory) }
+        ensures host { (host_of self.new ≡ host_of self.old) × (waiting_of self.new ≡ waiting_of self.old) × (faults_of self.new ≡ faults_of self.old) }
+        ensures relay { (peers_of self.new ≡ peers_of self.old) × (backlog_of self.new ≡ backlog_of self.old) × (orders_of self.new ≡ orders_of self.old) × (queue_capacity_of self.new ≡ queue_capacity_of self.old) }
+    {
+        self.bound.wire.guard.ban(ip)
+    }
+
+    /// Lets the CONNECTs of this address pass again, as the rules say.
+    pub fn unban(&mut self, ip: u32)
+        ensures unbanned { guard_of self.new ≡ record (guard_of self.old) { banned = filter (is_other ip) (guard_of self.old).banned } }
+        ensures host { (host_of self.new ≡ host_of self.old) × (waiting_of self.new ≡ waiting_of self.old) × (faults_of self.new ≡ faults_of self.old) }
+        ensures relay { (peers_of self.new ≡ peers_of self.old) × (backlog_of self.new ≡ backlog_of self.old) × (orders_of self.new ≡ orders_of self.old) × (queue_capacity_of self.new ≡ queue_capacity_of self.old) }
+    {
+        self.bound.wire.guard.unban(ip);
+    }
+
+    /// What tells how many CONNECTs the guard passed over. E1 where so many of it are held that no more can be counted.
+    pub fn register(&self) -> Result<Arc<Register, Global>, Refusal>
+        ensures { IfErr result (λ why. why ≡ Refusal.Memory) }
+    {
+        self.bound.wire.register()
+    }
+
     /// The host, which tells how much went through it.
     pub fn host(&self) -> &HostCore
         ensures { result.now ≡ host_of self.now }
@@ -240,12 +298,12 @@ impl ChatServer {
 
     /// How many bytes of datagrams the system keeps until they are received, as [`MioWire::receive_buffer`] tells.
     pub fn receive_buffer(&self) -> Option<u32> {
-        self.bound.wire.receive_buffer()
+        self.bound.wire.wire.receive_buffer()
     }
 
     /// What the system said where the wire failed.
     pub fn reason(&self) -> Option<io::Error> {
-        self.bound.wire.reason()
+        self.bound.wire.wire.reason()
     }
 
     /// Tells each client that the server ends, behind all that was sent to it, and gives them a second to acknowledge it. Where the
@@ -269,6 +327,13 @@ impl ChatServer {
         } = self;
         drop(kept);
         bound.close();
+    }
+}
+
+// Asks for a receive buffer of so many bytes, where a number is given.
+fn ask_for_buffer(wire: &MioWire, bytes: Option<u32>) {
+    if let Some(bytes) = bytes {
+        wire.set_receive_buffer(bytes);
     }
 }
 

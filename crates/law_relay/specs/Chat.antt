@@ -4,7 +4,6 @@ use Rattle.std.specs.List.{All, list_all}
 use Rattle.enet_codec.specs.declared.address.Addr.{Addr}
 use Rattle.enet_codec.specs.declared.config.Config.{Config}
 use Rattle.enet_codec.specs.Config as config
-use Rattle.enet_codec.specs.Config.{standard_config}
 use Rattle.enet_codec.specs.declared.event.Event.{Event}
 use Rattle.enet_codec.specs.declared.event.PeerRef.{PeerRef}
 use Rattle.enet_submit.specs.declared.order.Order.{Order}
@@ -24,7 +23,7 @@ use Rattle.enet_service.specs.LoneTurn.{Kind, AreAmong, RoundsOf}
 use Rattle.enet_chat.specs.Relaying.{noted_all, relayed_all, SameForEach}
 use Rattle.enet_serve.specs.declared.server.ChatServer.{ChatServer}
 use Rattle.enet_serve.specs.declared.server.Settings.{Settings}
-use Rattle.enet_serve.specs.Serving.{Serves, IsOpened, is_in_range, host_of, waiting_of, peers_of, backlog_of, orders_of}
+use Rattle.enet_serve.specs.Serving.{Serves, IsOpened, config_of, is_in_range, host_of, waiting_of, peers_of, backlog_of, orders_of}
 use Rattle.law_network.specs.Calls.{Call}
 use Rattle.law_headline.specs.Nets.{Net, AreApart, is_host, open_net}
 use Rattle.law_headline.specs.Page.{User, IsHeadline, came}
@@ -56,9 +55,6 @@ pub record Served (kind : Kind) (old new : ChatServer) : Type 0 where
 
 abbrev pub EachServed : Type 0
 EachServed = (kind : Kind) (old : ChatServer) (runs : List (RunLength × Report)) (new : ChatServer) → ServesAll kind old runs new → Served kind old new
-
-abbrev pub config_of : Settings → Config
-config_of settings = standard_config settings.peers settings.channels
 
 -- Taking leave: turns that are given no order, and peers that the server parts from between them. Nobody takes what these turns tell
 pub record Leaves (old new : Service Host) : Type 0 where

@@ -9,7 +9,7 @@ use Rattle.enet_serve.proofs.alone.Alone.run_for_time.Given as goal
 
 abbrev pub invariant-loop : goal.invariant-loop
 invariant-loop g l =
-    (failures_of l.bound.wire ≡ failures_of l.fn.bound.wire)
+    (failures_of l.bound.wire.wire ≡ failures_of l.fn.bound.wire.wire)
     × AreFew l.total
     × (rounds : List Round)
     × (times : ℕ)

@@ -8,7 +8,7 @@ use Rattle.enet_serve.proofs.alone.Alone.turn_by_turn.Given as goal
 
 abbrev pub invariant-loop-turn : goal.invariant-loop-turn
 invariant-loop-turn g l =
-    (failures_of l.bound.wire ≡ failures_of l.fn.bound.wire)
+    (failures_of l.bound.wire.wire ≡ failures_of l.fn.bound.wire.wire)
     × (rounds : List Round)
     × Goes (pair l.fn.bound.service l.fn.self.relay) rounds (pair l.bound.service l.self.relay)
     × (length rounds ≡ l._turn)

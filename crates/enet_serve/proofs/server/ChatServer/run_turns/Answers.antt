@@ -9,8 +9,8 @@ use Rattle.enet_serve.proofs.server.ChatServer.run_turns.Goals as goal
 pub returns-clause-serves : goal.returns-clause-serves
 returns-clause-serves g c =
     let old = c.args.self.now in
-    let from : Standing = record { service = old.bound.service; drain = c.args.ends.drain; poster = c.args.ends.poster; told = None; faults = failures_of old.bound.wire } in
-    let to : Standing = record { service = c.beside_turns-relayed.new.bound.service; drain = c.into_drain.result; poster = c.into_poster.result; told = None; faults = failures_of c.beside_turns-relayed.new.bound.wire } in
+    let from : Standing = record { service = old.bound.service; drain = c.args.ends.drain; poster = c.args.ends.poster; told = None; faults = failures_of old.bound.wire.wire } in
+    let to : Standing = record { service = c.beside_turns-relayed.new.bound.service; drain = c.into_drain.result; poster = c.into_poster.result; told = None; faults = failures_of c.beside_turns-relayed.new.bound.wire.wire } in
     let turned : HasTurned c.args.run_length from to c.in_ok-report.report = search rules in
     let begun : IsBegun old.kept c.new-sender.result c.new-receiver.result c.in_ok-relay.relay =
     subst (λ (kept : Carryover). IsBegun kept c.new-sender.result c.new-receiver.result c.in_ok-relay.relay) c.replace-kept.ensures.value c.in_ok-relay.ensures.begun in

@@ -1,0 +1,174 @@
+#!/usr/bin/env bash
+# Asks `enet_relay serve --metrics` for its figures while 32 clients of the reference library talk (clients/tally.c), and compares these with
+# what the clients counted; sends it datagrams that it must stop, and requests that it must refuse; has 20 ask nothing for six seconds, and
+# others get their answer meanwhile; and stops the thread of the service alone (clients/hold.c), of which /healthz must tell. In one thread and
+# in two: `check-metrics.sh [PROGRAM]`. PROGRAM is the built `enet_relay`, by default the one that `rt ci`, or `rt run` in crates/enet_relay,
+# leaves. Prints what failed, and as last line 'N passed, M failed'; the status is 1 where one failed. It takes a minute.
+cd "$(dirname "$0")/.." || exit 1
+. scripts/clients.sh
+program=${1:-crates/enet_relay/out/enet_relay}
+passed=0
+failed=0
+
+fail() {
+    echo "FAILED $1 in $threads threads: $2"
+    failed=$((failed + 1))
+}
+
+# Whether $2 is $3; the case is $1.
+same() {
+    if [ "$2" = "$3" ]; then passed=$((passed + 1)); else fail "$1" "'$2' where '$3' is wanted"; fi
+}
+
+begin() {
+    free_port
+    "$program" serve --port "$port" --forever --peers 64 --queue-capacity 1024 --metrics "127.0.0.1:$port" --threads "$threads" > "$room/out" 2> "$room/err" &
+    relay=$!
+    for _ in {1..100}; do
+        [ -n "$(ask 'GET /healthz' 2> /dev/null)" ] && return
+        sleep 0.1
+    done
+    fail begin "$(<"$room/err")"
+}
+
+finish() {
+    kill "$relay" 2> /dev/null
+    wait "$relay" 2> /dev/null
+    relay=
+}
+
+# The answer to the request line $1, without its version, within two seconds.
+ask() {
+    timeout 2 bash -c 'exec 3<> "/dev/tcp/127.0.0.1/$0" && printf "%s HTTP/1.1\r\nHost: here\r\n\r\n" "$1" >&3 && cat <&3' "$port" "$1" | tr -d '\r'
+}
+
+# The status of the answer.
+status() {
+    head -n 1 <<< "$1" | cut -d ' ' -f 2
+}
+
+# The figure $1 of the answer $2.
+figure() {
+    awk -v name="$1" '$1 == name { print $2 }' <<< "$2"
+}
+
+# Figures while clients talk, and once they have gone.
+figures() {
+    local told
+    "$room/tally" "$port" 32 6 > "$room/tally.out" 2>&1 &
+    local tally=$!
+    for _ in {1..300}; do
+        grep -q talking "$room/tally.out" 2> /dev/null && break
+        sleep 0.1
+    done
+    for _ in {1..5}; do
+        printf x > "/dev/udp/127.0.0.1/$port"
+    done
+    for _ in {1..3}; do
+        printf '\0\62\1\377\0\1\0\1\0\0' > "/dev/udp/127.0.0.1/$port"
+    done
+    for _ in {1..30}; do
+        told=$(ask 'GET /metrics')
+        [ "$(figure enet_peers "$told")" != 32 ] || break
+        sleep 0.2
+    done
+    same status "$(status "$told")" 200
+    same peers "$(figure enet_peers "$told")" 32
+    same slots "$(figure enet_slots "$told")" 64
+    wait "$tally" || fail tally "$(<"$room/tally.out")"
+    sleep 1
+    local sent bytes_sent came bytes_came
+    read -r sent bytes_sent came bytes_came < <(tail -n 1 "$room/tally.out")
+    told=$(ask 'GET /metrics')
+    same peers-afterwards "$(figure enet_peers "$told")" 0
+    same datagrams-in "$(figure 'enet_datagrams_total{way="in"}' "$told")" $((sent + 8))
+    same bytes-in "$(figure 'enet_bytes_total{way="in"}' "$told")" $((bytes_sent + 5 + 30))
+    same datagrams-out "$(figure 'enet_datagrams_total{way="out"}' "$told")" "$came"
+    same bytes-out "$(figure 'enet_bytes_total{way="out"}' "$told")" "$bytes_came"
+    same lost "$(figure enet_datagrams_lost_total "$told")" 0
+    same passed-over "$(figure enet_connects_passed_over_total "$told")" 0
+    same refused "$(figure 'enet_orders_refused_total{reason="E4"}' "$told")" 20
+    same short "$(figure 'enet_datagrams_stopped_total{reason="S1"}' "$told")" 5
+    same unknown "$(figure 'enet_datagrams_stopped_total{reason="S3"}' "$told")" 3
+    same waiting "$(figure 'enet_waiting{what="orders"}' "$told") $(figure 'enet_waiting{what="events"}' "$told")" '0 0'
+    round_trips "$told"
+}
+
+# Buckets grow, the last has all, and in six seconds each of 32 was taken at least three times.
+round_trips() {
+    local count
+    count=$(figure enet_round_trip_seconds_count "$1")
+    same buckets "$(awk '/^enet_round_trip_seconds_bucket/ { if ($2 < last) bad = 1; last = $2; n++ } END { print n, last, bad + 0 }' <<< "$1")" "13 $count 0"
+    [ "${count:-0}" -ge 96 ] && passed=$((passed + 1)) || fail round-trips "only $count"
+}
+
+# What other requests are answered.
+requests() {
+    same no-page "$(status "$(ask 'GET /')")" 404
+    same another-method "$(status "$(ask 'POST /metrics')")" 405
+    same no-request "$(status "$(ask $'\1\2\3')")" 400
+    same long-request "$(status "$(ask "GET /$(head -c 4000 /dev/zero | tr '\0' x)")")" 400
+    same health "$(status "$(ask 'GET /healthz')")" 200
+}
+
+# Twenty ask nothing; each other one gets its answer.
+silent() {
+    local i begun=$SECONDS
+    for i in {1..20}; do
+        timeout 6 bash -c 'exec 3<> "/dev/tcp/127.0.0.1/$0" && sleep 6' "$port" &
+        silent+=($!)
+    done
+    sleep 0.5
+    for i in {1..5}; do
+        same beside-silent "$(status "$(ask 'GET /metrics')")" 200
+    done
+    [ $((SECONDS - begun)) -le 4 ] || fail beside-silent "it took $((SECONDS - begun)) seconds"
+    wait "${silent[@]}"
+    silent=()
+    same after-silent "$(status "$(ask 'GET /healthz')")" 200
+    same descriptors "$(find "/proc/$relay/fd" -lname 'socket:*' | wc -l)" 2
+}
+
+# While one thread is stopped /healthz answers 503 where that is the thread of the service; afterwards 200. Of the threads just one is it.
+hung() {
+    local thread hung=0
+    for thread in "/proc/$relay/task"/*; do
+        "$room/hold" "${thread##*/}" 3 2> "$room/hold.err" &
+        sleep 2
+        [ "$(status "$(ask 'GET /healthz')")" != 503 ] || hung=$((hung + 1))
+        wait $!
+        sleep 1
+        same health-again "$(status "$(ask 'GET /healthz')")" 200
+    done
+    same hung "$hung" 1
+}
+
+# `stop` ends all.
+stops() {
+    free_port
+    { sleep 1; echo stop; sleep 5; } | timeout 20 "$program" serve --port "$port" --forever --control --metrics "127.0.0.1:$port" --threads "$threads" > "$room/out" 2> "$room/err"
+    same stop "${PIPESTATUS[1]} $(<"$room/out")" '0 stopping'
+}
+
+room=$(mktemp -d) || exit 1
+relay=
+silent=()
+threads=1
+trap 'kill $relay $(jobs -p) 2> /dev/null; wait; rm -rf "$room"' EXIT
+if [ ! -x "$program" ]; then
+    fail "$program" "it isn't there: run 'rt ci', or 'rt run' in crates/enet_relay"
+elif ! build_clients "$room"; then
+    fail clients "the C programs can't be built"
+else
+    for threads in 1 2; do
+        begin
+        figures
+        requests
+        silent
+        hung
+        finish
+        stops
+    done
+fi
+echo "$passed passed, $failed failed"
+[ "$failed" -eq 0 ]
