@@ -1,4 +1,5 @@
 pub mod Serving
+pub mod Leaving
 pub mod Plans
 pub mod Visits
 pub mod Private

@@ -1,5 +1,6 @@
 -- What only private functions and proofs speak of: no caller is promised anything by it.
 pub mod Alone
+pub mod SeeingOff
 pub mod Passing
 pub mod Playing
 pub mod Threads

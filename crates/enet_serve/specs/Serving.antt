@@ -15,6 +15,7 @@ use Rattle.enet_bridge.specs.Ends.{orders}
 use Rattle.enet_bridge.specs.Socket.{failures_of}
 use Rattle.enet_guard.specs.Guarding.{Guarding, new_guard}
 use Rattle.enet_service.specs.declared.report.Report.{Report}
+use Rattle.enet_service.specs.declared.service.Service.{Service}
 use Rattle.enet_service.specs.Hosting.{host_calls}
 use Rattle.enet_service.specs.LoneTurn.{Kind, RoundsOf}
 use Rattle.enet_service.specs.Queues.{given, accepted}
@@ -41,6 +42,10 @@ guard_of server = server.bound.wire.guard
 -- the event that waits for room in the queue, if there is one
 abbrev pub waiting_of : ChatServer → Option Event
 waiting_of server = server.bound.service.waiting
+
+-- its service
+abbrev pub service_of : ChatServer → Service Host
+service_of server = record { host = host_of server; waiting = waiting_of server }
 
 -- how many places each of its queues has
 abbrev pub queue_capacity_of : ChatServer → ℕ

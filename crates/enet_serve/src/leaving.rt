@@ -1,4 +1,6 @@
 //! How the clients of a server are told that it ends.
+ghost use Rattle.enet_serve.specs.Leaving.{Leaves};
+ghost use Rattle.enet_serve.specs.Private.SeeingOff.{Idles, SeesOff};
 
 use enet_codec::{DisconnectMode, Event};
 use enet_service::{BoundService, Fault, MemorySource, Sink, Wire, run};
@@ -18,10 +20,13 @@ pub(crate) fn take_leave<R: Wait + Clock, N: Wire + Drop>(
     rt: &R,
     alloc: Global,
     bound: &mut BoundService<N>,
-) {
-    if see_off(rt, alloc, bound).is_ok()
-        && bound.service.host.part_from_all(DisconnectMode::Now) > 0
-    {
+)
+    ensures leaves { Leaves bound.old.service bound.new.service }
+{
+    if see_off(rt, alloc, bound).is_err() {
+        return;
+    }
+    if bound.service.host.part_from_all(DisconnectMode::Now) > 0 {
         let _ = take_turn(rt, alloc, bound);
     }
 }
@@ -31,7 +36,9 @@ fn see_off<R: Wait + Clock, N: Wire + Drop>(
     rt: &R,
     alloc: Global,
     bound: &mut BoundService<N>,
-) -> Result<(), Fault> {
+) -> Result<(), Fault>
+    ensures { SeesOff bound.old.service bound.new.service }
+{
     let start = Instant::now(rt);
     for _ in rt.forever() {
         let peers = bound.service.host.part_from_all(DisconnectMode::Later);
@@ -76,7 +83,9 @@ fn take_turn<R: Wait + Clock, N: Wire + Drop>(
     rt: &R,
     alloc: Global,
     bound: &mut BoundService<N>,
-) -> Result<(), Fault> {
+) -> Result<(), Fault>
+    ensures { Idles bound.old.service bound.new.service }
+{
     let mut source = MemorySource::new(VecDeque::new(alloc));
     let BoundService { wire, service } = bound;
     run(rt, service, wire, &mut source, &mut Nobody, 1)?;

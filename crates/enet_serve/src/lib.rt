@@ -10,7 +10,8 @@
 //! the wire failed, and only E14 does; no run begins where the queues' places are out of range. A server opens with the standard host of
 //! its settings, behind a guard with their rules, with nothing waiting ([`ChatServer::open`]); who is banned is changed by
 //! [`ChatServer::ban`] and [`ChatServer::unban`], which change nothing else. After a call that was refused nothing else is said of the
-//! server. What the relay keeps is as before once leave was taken. Of each client of the demonstration (`Visits`): its service took so
+//! server. Where it takes leave (`Leaves`), its turns are given no order, and between them it parts from clients behind all that was
+//! sent to them, but for a last time; what the relay keeps is as before. Of each client of the demonstration (`Visits`): its service took so
 //! many turns, in none of which the wire failed; the turns were given the first part of what the client asks for, which is its connection
 //! and, over the first that it is told of, three packets of chat; and what is told of the client is whether the turns told its connection,
 //! and how many packets they told. So its game thread missed no event and counted none twice. A number of clients that is out of its range
@@ -21,7 +22,8 @@
 //! packets of the others, that a port that is taken is a refusal, and that the threads end. Neither: what a network gives, and when; when
 //! E1, E10 and E16 come; that in one thread the service doesn't sleep while orders wait; what `gauge` shows and `watch` is told; when the
 //! guard is told who is connected; whose refusal is told of several in the demonstration; when a client sees that the others are there;
-//! that a client hands over what it asks for (one that never does keeps `Visits`, with all of it left).
+//! from which clients leave is taken, and when it gives them up; that a client hands over what it asks for (one that never does keeps
+//! `Visits`, with all of it left).
 #![tactic(auto)]
 
 mod alone;

@@ -7,3 +7,4 @@ pub mod Queues
 pub mod Run
 pub mod Turn
 pub mod LoneTurn
+pub mod Spans

@@ -29,19 +29,19 @@ use Rattle.enet_service.proofs.PhaseSteps.{chain_more}
 use Rattle.enet_service.proofs.Spells.{given_both, accepted_both}
 use Rattle.enet_serve.specs.declared.server.ChatServer.{ChatServer}
 use Rattle.enet_serve.specs.declared.server.Settings.{Settings}
-use Rattle.enet_serve.specs.Serving.{Serves, IsOpened, host_of, waiting_of, peers_of, backlog_of, orders_of, config_of}
+use Rattle.enet_serve.specs.Serving.{Serves, IsOpened, service_of, peers_of, backlog_of, orders_of, config_of}
 use Rattle.law_network.specs.Calls.{Call}
 use Rattle.law_headline.specs.Nets.{Net, open_net}
 use Rattle.law_headline.specs.Page.{User, IsHeadline, IsBehind}
 use Rattle.law_headline.proofs.Page.{holds-behind}
-use Rattle.law_service.specs.Spans.{Span, Spans, rounds_in}
+use Rattle.enet_service.specs.Spans.{Span, Spans, rounds_in}
 use Rattle.law_service.specs.EndToEnd.{Running, user_of, configs, AllMake, asked}
 use Rattle.law_service.proofs.Lifting.{each-life}
 use Rattle.law_service.proofs.EndToEnd.{end-to-end, behind-at}
 use Rattle.law_relay.specs.Relay.{Relaying}
 use Rattle.law_relay.proofs.Refusals.{has-answers, between-pairs-unless}
 use Rattle.law_relay.proofs.Unreliable.{between-pairs-on-one}
-use Rattle.law_relay.specs.Chat.{ServesAll, service_of, Served, EachServed, HasServed, EachHasServed, Played, hosts_of, users_of, users_by, ChatsInOrder, OfChatServer, OfChatThreads}
+use Rattle.law_relay.specs.Chat.{ServesAll, Served, EachServed, HasServed, EachHasServed, Played, hosts_of, users_of, users_by, ChatsInOrder, OfChatServer, OfChatThreads}
 
 none : (kind : Kind) (s : ChatServer) → Served kind s s
 none kind s = record {

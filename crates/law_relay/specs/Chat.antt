@@ -23,11 +23,11 @@ use Rattle.enet_service.specs.LoneTurn.{Kind, AreAmong, RoundsOf}
 use Rattle.enet_chat.specs.Relaying.{noted_all, relayed_all, SameForEach}
 use Rattle.enet_serve.specs.declared.server.ChatServer.{ChatServer}
 use Rattle.enet_serve.specs.declared.server.Settings.{Settings}
-use Rattle.enet_serve.specs.Serving.{Serves, IsOpened, config_of, is_in_range, host_of, waiting_of, peers_of, backlog_of, orders_of}
+use Rattle.enet_serve.specs.Leaving.{Leaves}
+use Rattle.enet_serve.specs.Serving.{Serves, IsOpened, config_of, is_in_range, service_of, peers_of, backlog_of, orders_of}
 use Rattle.law_network.specs.Calls.{Call}
 use Rattle.law_headline.specs.Nets.{Net, AreApart, is_host, open_net}
 use Rattle.law_headline.specs.Page.{User, IsHeadline, came}
-use Rattle.law_service.specs.Spans.{Span, Spans, rounds_in}
 use Rattle.law_service.specs.EndToEnd.{Running, user_of, user_in, user_at, ThreadAt, configs, AllMake, calls_at, asked}
 use Rattle.law_relay.specs.Relay.{Relaying, heard}
 use Rattle.law_relay.specs.Refusals.{Answers, all_asked, TakesChatUnless}
@@ -37,9 +37,6 @@ use Rattle.law_relay.specs.Unreliable.{TakesSome}
 -- long it was to be, and its report
 abbrev pub ServesAll : Kind → ChatServer → List (RunLength × Report) → ChatServer → Type 0
 ServesAll kind old runs new = Chain (λ s run t. (one : Kind) × AreAmong one kind × (many : ℕ) × Serves one many s run.0 t run.1) old runs new
-
-abbrev pub service_of : ChatServer → Service Host
-service_of server = record { host = host_of server; waiting = waiting_of server }
 
 -- all runs as one
 pub record Served (kind : Kind) (old new : ChatServer) : Type 0 where
@@ -56,16 +53,11 @@ pub record Served (kind : Kind) (old new : ChatServer) : Type 0 where
 abbrev pub EachServed : Type 0
 EachServed = (kind : Kind) (old : ChatServer) (runs : List (RunLength × Report)) (new : ChatServer) → ServesAll kind old runs new → Served kind old new
 
--- Taking leave: turns that are given no order, and peers that the server parts from between them. Nobody takes what these turns tell
-pub record Leaves (old new : Service Host) : Type 0 where
-  pub spans : List Span
-  pub acts : Spans host_calls old spans new
-  pub no_orders : given (all_gave (rounds_in spans)) ≡ []
-
+-- a server that takes no leave
 abbrev pub stays : (s : Service Host) → Leaves s s
-stays s = record { spans = []; acts = refl; no_orders = refl }
+stays s = record { spans = []; acts = refl; no_orders = refl; gentle = tt }
 
--- what a fresh server did in all its runs and in taking leave, with the calls of its host
+-- what a fresh server did in all its runs and in taking leave (`ChatServer::take_leave`), with the calls of its host
 pub record HasServed (settings : Settings) (served : ChatServer) (left : Service Host) : Type 0 where
   pub running : Running
   pub relaying : Relaying running

@@ -40,7 +40,7 @@ use Rattle.law_headline.specs.Page.{is_of}
 use Rattle.law_service.specs.Noting.{Noted, Notes, IsOrder, noting, why_submitted}
 use Rattle.law_service.specs.Told.{told as told_by, is_refusal_of, packet_in, packet_unless, packets_of, submitted, taken, submitted_in, taken_in, Answered, refusal, is_refused, unless_refused, settled}
 use Rattle.law_service.specs.Law.{noted, AreNumbered, EachRunTells}
-use Rattle.law_service.specs.Spans.{Span, Parts, Spans, rounds_in}
+use Rattle.enet_service.specs.Spans.{Span, Parts, Spans, rounds_in}
 use Rattle.law_service.proofs.Simulation.{over}
 use Rattle.enet_codec.specs.declared.event.DisconnectMode.{DisconnectMode}
 

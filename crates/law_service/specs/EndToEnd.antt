@@ -24,7 +24,7 @@ use Rattle.enet_service.specs.Run.{all_gave}
 use Rattle.enet_service.specs.ServiceRuns.{beginning}
 use Rattle.enet_service.specs.Turn.{Round}
 use Rattle.law_service.specs.Noting.{Noted, noting}
-use Rattle.law_service.specs.Spans.{Span, Spans, rounds_in}
+use Rattle.enet_service.specs.Spans.{Span, Spans, rounds_in}
 use Rattle.law_service.specs.Told.{told, packets_of, submitted_in, taken}
 use Rattle.law_service.specs.Law.{noted, AreNumbered}
 
