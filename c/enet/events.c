@@ -45,11 +45,11 @@ HOT bool is_for_program(Layer *layer, const gofnjerta_event *told) {
 
 /* Takes the core's next event that is for the program, unless one waits. */
 HOT bool hear(Layer *layer) {
-    while (!layer->pending) {
-        if (gofnjerta_core_next_event(&layer->core, &layer->told) != GOFNJERTA_OK || layer->told.kind == GOFNJERTA_NONE) return false;
-        layer->pending = is_for_program(layer, &layer->told);
+    while (!layer->pending && layer->may_tell) {
+        layer->may_tell = gofnjerta_core_next_event(&layer->core, &layer->told) == GOFNJERTA_OK && layer->told.kind != GOFNJERTA_NONE;
+        layer->pending = layer->may_tell && is_for_program(layer, &layer->told);
     }
-    return true;
+    return layer->pending;
 }
 
 /* Takes the packet of the event that was heard, NULL where it has none; false where there is no memory for it, which leaves the event. */

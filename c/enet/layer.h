@@ -102,6 +102,7 @@ typedef struct {
     ENetPacket *given, *staged; /* the last of them, and the one whose bytes the core holds for several peers */
     size_t orders;             /* for how many peers the last one was */
     bool pending;              /* the event `told`, whose packet the core keeps, is neither handed out nor kept */
+    bool may_tell;             /* the core may have an event: it took or gave a datagram, or time went on, since it last had none */
     gofnjerta_event told;
     size_t line;               /* how many slots stand in line for their kept events, which come first */
     uint16_t line_first, line_last;

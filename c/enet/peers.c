@@ -189,6 +189,7 @@ static void end_disconnecting(Layer *layer, gofnjerta_peer name) {
     uint16_t word = (uint16_t)(name.slot | (read.incoming_session & 3) << 12);
     const uint8_t disconnect[] = {(uint8_t)(word >> 8), (uint8_t)word, 0x44, 0xFF, 0, 0, 0, 0, 0, 0};
     gofnjerta_core_receive(&layer->core, &read.address, disconnect, sizeof disconnect);
+    layer->may_tell = true;
 }
 
 /* The program lets a peer go: it hears nothing more of it. The other end is told once. A connection that ends already goes on to its end in

@@ -21,6 +21,7 @@ void layer_go_on(Layer *layer) {
     while (layer->clock < now) {
         uint64_t ms = now - layer->clock > 60000 ? 60000 : now - layer->clock;
         gofnjerta_tick(&layer->core, (uint32_t)ms);
+        layer->may_tell = true;
         layer->clock += ms;
     }
     if (now - layer->refreshed < REFRESH_MS) return;
@@ -60,12 +61,13 @@ int enet_host_service(ENetHost *host, ENetEvent *event, enet_uint32 timeout) {
     }
     layer_go_on(layer);
     uint64_t end = layer->clock + timeout;
-    for (int ready = 1;;) {
-        layer_put_out(layer);
+    layer_put_out(layer);
+    bool has_waited = false;
+    for (int ready = 1;; has_waited = true) {
         if (layer->has_failed) return -1;
         int came = 0, answer = ready ? layer_take_in(layer, event, &came) : 0;
         if (answer) return answer;
-        if (came) layer_put_out(layer);
+        if (came || has_waited) layer_put_out(layer);
         if (layer->has_failed) return -1;
         int told = tell(layer, event);
         if (told) return told;

@@ -184,6 +184,7 @@ static void send_gathered(Layer *layer) {
 void layer_put_out(Layer *layer) {
     gofnjerta_datagram gave;
     while (gofnjerta_core_service(&layer->core, layer->gathered + layer->gathered_bytes, DATAGRAM, &gave) == GOFNJERTA_OK && gave.length) {
+        layer->may_tell = true;
         gather(layer, &gave);
         if (layer->parcel_count == GATHERED || layer->gathered_bytes > GATHERED_BYTES) send_gathered(layer);
     }
@@ -301,6 +302,7 @@ static void hand_in(Layer *layer, const gofnjerta_address *from, uint8_t *data, 
     size_t taken = length_taken(layer, from, data, length);
     if (!taken) return;
     gofnjerta_received got = gofnjerta_core_receive(&layer->core, from, data, taken);
+    layer->may_tell = true;
     if (!got.handled) return;
     size_t id = (size_t)(data[0] & 0xF) << 8 | data[1];
     if (id < slots_in_use(layer) && layer->slots[id].known) note_handled(layer, (uint16_t)id, data, taken, got.handled);
