@@ -1,15 +1,17 @@
-// What the programs share that speak to a server without the reference library, to harm it: datagrams by hand, and what the server holds.
+// What the programs share that speak to a server without the reference library, to harm it: datagrams by hand, acknowledgements of what comes,
+// and what the server holds.
 #ifndef STRANGER_H
 #define STRANGER_H
 
 #include <arpa/inet.h>
 #include <poll.h>
+#include <stdbool.h>
 #include <sys/socket.h>
 #include <unistd.h>
 
 #include "common.h"
 
-enum { DATAGRAM = 4096 };
+enum { DATAGRAM = 4096, FULL = 1392 };
 
 static int server;
 static uint8_t out[DATAGRAM];
@@ -73,6 +75,35 @@ static inline uint32_t connect_with(uint32_t channels)
     uint32_t word = (uint32_t)(in[8] << 8 | in[9]) | (uint32_t)(in[10] & 3) << 12;
     send_out(put_all(0, (uint32_t[]){ 2, word, 2, 0x01ff, 2, 1, 2, 1, 2, 0, 0, 0 }));
     return word;
+}
+
+// How long the command at the front of so many bytes is, with its body; 0 where there is none that is whole.
+static inline size_t command_length(const uint8_t *at, size_t left)
+{
+    static const uint8_t sizes[16] = { 0, 8, 48, 44, 8, 4, 6, 8, 24, 8, 12, 16, 24 }, lengths_at[16] = { [6] = 4, [7] = 6, [8] = 6, [9] = 6, [12] = 6 };
+    size_t size = left == 0 ? 0 : sizes[at[0] & 15], place = left == 0 ? 0 : lengths_at[at[0] & 15];
+    if (size == 0 || size > left)
+        return 0;
+    size += place == 0 ? 0 : (size_t)at[place] << 8 | at[place + 1];
+    return size <= left ? size : 0;
+}
+
+// Acknowledges what came to the peer with this first word, as far as it has to be. Whether the server let the peer go.
+static inline bool acknowledge_all(uint32_t word)
+{
+    uint8_t in[DATAGRAM];
+    bool is_over = false;
+    for (ssize_t got; (got = recv(server, in, sizeof in, MSG_DONTWAIT)) >= 4;) {
+        size_t length = (size_t)got, reply = put(0, word, 2), step;
+        for (size_t at = in[0] & 0x80 ? 4 : 2; at < length && (step = command_length(in + at, length - at)) != 0; at += step) {
+            is_over = is_over || (in[at] & 15) == 4;
+            if (in[at] & 0x80 && reply + 8 <= FULL)
+                reply = put_all(reply, (uint32_t[]){ 1, 1, 1, in[at + 1], 2, 0, 1, in[at + 2], 1, in[at + 3], 2, (uint32_t)in[2] << 8 | in[3], 0, 0 });
+        }
+        if (reply > 2)
+            send_out(reply);
+    }
+    return is_over;
 }
 
 #endif

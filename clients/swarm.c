@@ -7,7 +7,7 @@
 // which a relay doesn't pass on.
 #include "stranger.h"
 
-enum { FULL = 1392, AHEAD = 28000, PIECES = 16384, FIRST = 2 };
+enum { AHEAD = 28000, PIECES = 16384, FIRST = 2 };
 
 static const char *const kinds[] = { "empty", "lines", "held", "pieces", "both", "groups", "pings" };
 static uint32_t first_word, channels;
@@ -25,36 +25,6 @@ static size_t put_command(size_t at, int kind, uint32_t number)
         return put_all(at, (uint32_t[]){ 1, 0x0c, 1, channel, 2, ahead, 2, round / (channels - FIRST) + 1, 2, 0, 4, PIECES, 4, 0, 4, 0, 4, 0, 0, 0 });
     case 5: return put_all(at, (uint32_t[]){ 1, 0x49, 1, FIRST, 2, 0, 2, number & 0xffff, 2, 0, 0, 0 });
     default: return put_all(at, (uint32_t[]){ 1, 0x85, 1, 0xff, 2, number & 0xffff, 0, 0 });
-    }
-}
-
-// How long a command is that the server sent, with its body; 0 where it is none, or is cut short.
-static size_t command_length(const uint8_t *at, size_t left)
-{
-    static const uint8_t sizes[] = { 0, 8, 48, 44, 8, 4, 6, 8, 24, 8, 12, 16, 24 };
-    size_t kind = at[0] & 15, length = kind < sizeof sizes ? sizes[kind] : 0;
-    if (left < length || left < 4)
-        return 0;
-    if (kind == 6)
-        length += (size_t)at[4] << 8 | at[5];
-    else if (kind >= 7 && kind <= 9)
-        length += (size_t)at[6] << 8 | at[7];
-    else if (kind == 12)
-        length += (size_t)at[6] << 8 | at[7];
-    return length <= left ? length : 0;
-}
-
-// Acknowledges what came.
-static void answer(void)
-{
-    uint8_t in[DATAGRAM];
-    for (ssize_t got; (got = recv(server, in, sizeof in, MSG_DONTWAIT)) >= 4;) {
-        size_t length = (size_t)got, reply = put(0, first_word, 2), step;
-        for (size_t at = in[0] & 0x80 ? 4 : 2; at < length && (step = command_length(in + at, length - at)) != 0; at += step)
-            if (in[at] & 0x80 && reply + 8 <= FULL)
-                reply = put_all(reply, (uint32_t[]){ 1, 1, 1, in[at + 1], 2, 0, 1, in[at + 2], 1, in[at + 3], 2, (uint32_t)in[2] << 8 | in[3], 0, 0 });
-        if (reply > 2)
-            send_out(reply);
     }
 }
 
@@ -87,7 +57,7 @@ int main(int count, char **words)
             sent++;
             bytes += (double)at;
         }
-        answer();
+        acknowledge_all(first_word);
         long grown = resident_bytes(process) - before;
         most = grown > most ? grown : most;
         poll(NULL, 0, 1);
