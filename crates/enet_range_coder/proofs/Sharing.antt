@@ -1,5 +1,5 @@
 -- Contexts, and what they have for a byte.
-use Rattle.std.proofs.Common.{◌≡◌, ℕ, ◌+◌, ◌-◌, ◌<◌, ◌≤◌, true, false, cond, ◌==◌, max, zero, suc, List, [], ◌∷◌, ◌++◌, length, take, drop, get_or, Option, Some, None, IfSome, refl, sym, ◌∙◌, ap, subst, arith, append_assoc, length-append, if◌then◌else◌}
+use Rattle.std.proofs.Common.{◌≡◌, ℕ, ◌+◌, ◌-◌, ◌<◌, ◌≤◌, true, false, cond, ◌==◌, nat_lt, max, zero, suc, List, [], ◌∷◌, ◌++◌, length, take, drop, get_or, Option, Some, None, IfSome, refl, sym, ◌∙◌, ap, subst, arith, append_assoc, length-append, if◌then◌else◌}
 use Rattle.std.proofs.Math.Seq.{drop-nil}
 use Rattle.std.proofs.lemmas.Bool.Decides.{nat_tests}
 use Rattle.enet_range_coder.specs.declared.cell.Cell.{Cell}
@@ -7,7 +7,7 @@ use Rattle.enet_range_coder.specs.declared.chain.Place.{Place}
 use Rattle.enet_range_coder.specs.declared.coder.Coder.{Coder}
 use Rattle.enet_range_coder.specs.declared.interval.Coded.{Coded}
 use Rattle.enet_range_coder.specs.Span.{Span, Cut, IsCut, coded}
-use Rattle.enet_range_coder.specs.Context.{Context, weigh, total, find, Nothing, Escape, Found, share_of, IsShare, then_code, coding, aim, Pass, Leave, At, aim_at, IsAim, guess}
+use Rattle.enet_range_coder.specs.Context.{Context, weigh, total, find, reach, Nothing, Escape, Found, share_of, IsShare, then_code, coding, aim, Pass, Leave, At, aim_at, IsAim, guess}
 use Rattle.enet_range_coder.specs.Memory.{cell_at, chain, all_from, context_at, contexts_from}
 use Rattle.enet_range_coder.specs.Private.Meant.{span_meant, place_meant, said, Puts}
 use Rattle.enet_range_coder.proofs.Round.{find_within, is_share, is_aim}
@@ -98,3 +98,25 @@ guess_stop c x cs bytes k e p = rw (← e, p) refl
 pub guess_leave : (c n : Coded) (x : Context) (cs : List Context) (bytes : List ℕ) (k : Cut) (r : Option ℕ) → Leave k ≡ aim_at x (aim (span_meant c.interval) (total x) (drop c.count bytes)) → Puts c (Some n) (coded (span_meant c.interval) k)
     → r ≡ guess cs (span_meant n.interval) (drop n.count bytes) → r ≡ guess (x ∷ cs) (span_meant c.interval) (drop c.count bytes)
 guess_leave c n x cs bytes k r e b p = rw (← e, b.gives) (subst (λ (x : List ℕ). r ≡ guess cs (span_meant n.interval) x) (ap (λ (i : ℕ). drop i bytes) b.counts ∙ drop_more c.count (length b.bytes) bytes) p)
+
+-- weights don't hang on where the bytes begin
+pub weigh_from : (n k : ℕ) (ws : List ℕ) → weigh (all_from n ws) ≡ weigh (all_from k ws)
+weigh_from n k [] = refl
+weigh_from n k (w ∷ ws) = ap (λ (x : ℕ). max (w + 1) 1 + x) (weigh_from (suc n) (suc k) ws)
+
+-- what lies below an aim may be passed over
+pub reach_skip : (k n : ℕ) (ws : List ℕ) (aim below : ℕ) → below + weigh (all_from n (take k ws)) ≤ aim
+    → reach (all_from (n + k) (drop k ws)) aim (below + weigh (all_from n (take k ws))) ≡ reach (all_from n ws) aim below
+reach_skip zero n ws aim below l = let a : n + 0 ≡ n = omega arith in let b : below + 0 ≡ below = omega arith in rw (a, b) refl
+reach_skip (suc k) n [] aim below l = refl
+reach_skip (suc k) n (w ∷ ws) aim below l =
+    let t : nat_lt aim (below + max (w + 1) 1) ≡ false = grind (arith, nat_tests) in
+    let a : n + suc k ≡ suc n + k = omega arith in
+    let b : below + (max (w + 1) 1 + weigh (all_from (suc n) (take k ws))) ≡ below + max (w + 1) 1 + weigh (all_from (suc n) (take k ws)) = omega arith in
+    rw (t, a, b) (reach_skip k (suc n) ws aim (below + max (w + 1) 1) (omega (arith, l, b)))
+
+pub row_skips : (ws : List ℕ) (first aim below sum : ℕ) → sum ≡ weigh (all_from 0 (take 16 (drop first ws))) → below + sum ≤ aim
+    → reach (all_from (first + 16) (drop (first + 16) ws)) aim (below + sum) ≡ reach (all_from first (drop first ws)) aim below
+row_skips ws first aim below sum e l =
+    let f : sum ≡ weigh (all_from first (take 16 (drop first ws))) = e ∙ weigh_from 0 first (take 16 (drop first ws)) in
+    rw (drop_more first 16 ws, f) (reach_skip 16 first (drop first ws) aim below (rw f at l))

@@ -2,9 +2,9 @@
 
 ghost use Rattle.std.specs.Prelude.{◌≡◌, ◌+◌, ◌-◌, ◌*◌, ◌<◌, ◌≤◌, ◌==◌, if◌then◌else◌, length, drop, take, slice_index, IfSome};
 ghost use Rattle.enet_range_coder.specs.Span.{IsWide, window};
-ghost use Rattle.enet_range_coder.specs.Context.{total, coding, guess, aim};
+ghost use Rattle.enet_range_coder.specs.Context.{total, coding, guess, aim, aim_at};
 ghost use Rattle.enet_range_coder.specs.Memory.{context_at, contexts, contexts_from};
-ghost use Rattle.enet_range_coder.specs.Private.Meant.{span_meant, said, Puts, put_of};
+ghost use Rattle.enet_range_coder.specs.Private.Meant.{span_meant, aim_meant, said, Puts, put_of};
 
 use crate::coder::Coder;
 use crate::context::{Aim, Share};
@@ -66,8 +66,7 @@ impl Coder {
         }
         let rest = further(context, left);
         let shorter = self.at(context).shorter;
-        let aim = self.aim(context, coded, bytes);
-        match self.aim_at(context, aim) {
+        match self.aimed(context, coded, bytes) {
             Aim::At(byte) => Some(byte),
             Aim::Leave(part) => match coded.take(part) {
                 None => None,
@@ -77,13 +76,16 @@ impl Coder {
         }
     }
 
-    /// How many shares of a context lie below the code behind what was put out.
-    fn aim(&self, context: u16, coded: Coded, bytes: &[u8]) -> u32
+    /// What the code behind what was put out aims at in a context.
+    fn aimed(&self, context: u16, coded: Coded, bytes: &[u8]) -> Aim
         requires { coded.count ≤ 9 }
-        ensures { result ≡ aim (span_meant coded.interval) (total (context_at self.now context)) (drop coded.count bytes.now) }
+        ensures { aim_meant result ≡ aim_at (context_at self.now context) (aim (span_meant coded.interval) (total (context_at self.now context)) (drop coded.count bytes.now)) }
     {
-        let total = self.weights_of(context).total;
-        coded.interval.aim(total, window(bytes, coded.count))
+        let weights = self.weights_of(context);
+        let aim = coded
+            .interval
+            .aim(weights.total, window(bytes, coded.count));
+        self.aim_at(context, weights, aim)
     }
 }
 

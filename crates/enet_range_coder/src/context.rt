@@ -131,11 +131,12 @@ impl Coder {
         }
     }
 
-    /// What a code that lies above so many shares aims at in a context.
-    pub(crate) fn aim_at(&self, context: u16, aim: u32) -> Aim
+    /// What a code that lies above so many shares aims at in a context of these weights.
+    pub(crate) fn aim_at(&self, context: u16, weights: Weights, aim: u32) -> Aim
+        requires unseen { weights.unseen ≡ (context_at self.now context).unseen }
+        requires total { weights.total ≡ total (context_at self.now context) }
         ensures { aim_meant result ≡ aim_at (context_at self.now context) aim }
     {
-        let weights = self.weights_of(context);
         if !weights.serves() {
             return Aim::Pass;
         }
