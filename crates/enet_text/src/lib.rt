@@ -29,6 +29,7 @@ pub use datagram::describe;
 pub use fault::InspectFault;
 pub use inspecting::inspect;
 pub use line::{Line, read_line};
+pub use pcap::{Captured, Datagram, Format, datagram_in, is_capture, read_format, read_packet};
 pub use words::{
     bytes_of, bytes_word, end, five, four, id_of, ip_of, one, peer_of, peer_word, three, two,
     u8_of, u8_word, u16_of, u32_of, u32_word, u64_of, u64_word, word,

@@ -15,7 +15,7 @@ enum Order {
 
 /// How the packets of a capture are kept.
 #[derive(Clone, Copy)]
-pub(crate) struct Format {
+pub struct Format {
     order: Order,
     /// Whether the second part of a time counts nanoseconds; else microseconds.
     pub nanoseconds: bool,
@@ -33,7 +33,7 @@ enum Link {
 
 /// A packet of a capture: when it was captured, in seconds and parts of one, and the bytes of it that were kept.
 #[derive(Clone, Copy)]
-pub(crate) struct Captured<'a> {
+pub struct Captured<'a> {
     pub seconds: u32,
     pub parts: u32,
     pub bytes: &'a [u8],
@@ -41,14 +41,14 @@ pub(crate) struct Captured<'a> {
 
 /// A UDP datagram, and between whom it went.
 #[derive(Clone, Copy)]
-pub(crate) struct Datagram<'a> {
+pub struct Datagram<'a> {
     pub from: Addr,
     pub to: Addr,
     pub payload: &'a [u8],
 }
 
 /// Whether the input is a capture, by its first four bytes.
-pub(crate) fn is_capture(input: &[u8]) -> bool
+pub fn is_capture(input: &[u8]) -> bool
     ensures { result ≡ is_some (magic_of input.now) }
 {
     magic(input).is_some()
@@ -70,7 +70,7 @@ fn magic(input: &[u8]) -> Option<(Order, bool)>
 
 /// The format that the 24 bytes at the beginning of a capture tell, and what is left behind them. CutShort where there are fewer,
 /// LinkType where the link type isn't one that is read.
-pub(crate) fn read_format(input: &[u8]) -> Result<(Format, &[u8]), InspectFault>
+pub fn read_format(input: &[u8]) -> Result<(Format, &[u8]), InspectFault>
     ensures format { IfOk result (λ read. IsCapture input.now read.0 read.1.now) }
     ensures refused { IfErr result (λ fault. (fault ≡ InspectFault.CutShort 0) ⊎ ((number : ℕ) × (fault ≡ InspectFault.LinkType number))) }
 {
@@ -105,7 +105,7 @@ fn link_of(number: u32) -> Option<Link>
 }
 
 /// The packet at the front, and what is left behind it. None where it is cut short.
-pub(crate) fn read_packet<'a>(format: Format, rest: &'a [u8]) -> Option<(Captured<'a>, &'a [u8])>
+pub fn read_packet<'a>(format: Format, rest: &'a [u8]) -> Option<(Captured<'a>, &'a [u8])>
     ensures packet { IfSome result (λ read. IsPacket format.order rest.now read.0 read.1.now) }
     ensures cut_short { IfNone result (IsCutShort format.order rest.now) }
 {
@@ -121,7 +121,7 @@ pub(crate) fn read_packet<'a>(format: Format, rest: &'a [u8]) -> Option<(Capture
 }
 
 /// The datagram of a packet that is UDP over IPv4. None where it is another, a fragment of one, or wasn't kept whole.
-pub(crate) fn datagram_in<'a>(format: Format, packet: &'a [u8]) -> Option<Datagram<'a>>
+pub fn datagram_in<'a>(format: Format, packet: &'a [u8]) -> Option<Datagram<'a>>
     ensures { IfSome result (λ datagram. IsWithin datagram.payload.now packet.now) }
 {
     udp_in(ipv4_in(format.link, packet)?)
