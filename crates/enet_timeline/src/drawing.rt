@@ -1,0 +1,413 @@
+//! The picture.
+
+use crate::counting::{goes_again, went_before};
+use crate::element::{
+    push_cross, push_left_head, push_line, push_right_head, push_title, push_words,
+};
+use crate::labels::{label, push_seconds, title};
+use crate::part::{Part, part_of};
+use crate::places::{LEFT, PAGE, RIGHT, is_long, step_of};
+use crate::queue::{Waiting, follow, push_left_over};
+use crate::summary::{push_part, push_whole};
+use crate::timeline::{Mark, Seen, Timeline, Way};
+use crate::told::Kind;
+use enet_text::address_text;
+use std::alloc::{AllocError, Global};
+
+/// So many connections are drawn at most: the first.
+pub(crate) const CONNECTIONS: usize = 24;
+
+/// So many datagrams of each are drawn at most: the first.
+pub(crate) const DATAGRAMS: usize = 500;
+
+/// So many commands of a datagram are followed to their acknowledgement at most.
+const COMMANDS: usize = 64;
+
+/// What becomes of the picture: its text, how far down it reaches, and where the marks of the connection stand that come next.
+#[derive(Drop)]
+struct Pen {
+    text: String,
+    y: u64,
+    /// When the capture's first datagram was captured.
+    begun: u64,
+    queue: Vec<Waiting>,
+    /// The next command, the next to the right that asks for an acknowledgement, and the next to the left.
+    next: usize,
+    right: usize,
+    left: usize,
+}
+
+/// How an arrow looks.
+#[derive(Clone, Copy)]
+struct Look {
+    class: &'static str,
+    /// Whether a command of it went before.
+    is_again: bool,
+    /// Whether one goes again.
+    is_lost: bool,
+}
+
+/// Draws a timeline as an SVG. An error where there is no memory for it.
+pub fn draw(alloc: Global, timeline: &Timeline) -> Result<String, AllocError> {
+    let mut pen = Pen {
+        text: String::new(alloc),
+        y: 24,
+        begun: timeline.seen.first().map_or(0, |seen| seen.at),
+        queue: Vec::new(alloc),
+        next: 0,
+        right: 0,
+        left: 0,
+    };
+    let mut summary = String::new(alloc);
+    push_whole(&mut summary, timeline)?;
+    push_summary(&mut pen, summary.as_str())?;
+    push_legend(&mut pen)?;
+    for index in 0..timeline.connections.len().min(CONNECTIONS) {
+        let part = part_of(alloc, timeline, index)?;
+        draw_part(alloc, &mut pen, &part)?;
+    }
+    let mut text = String::new(alloc);
+    push_head(&mut text, pen.y.saturating_add(20))?;
+    text.push_str(pen.text.as_str())?;
+    text.push_str("</svg>\n")?;
+    Ok(text)
+}
+
+// What the picture begins with.
+fn push_head(text: &mut String, height: u64) -> Result<(), AllocError> {
+    write!(
+        text,
+        "<svg xmlns=\"http://www.w3.org/2000/svg\" width=\"{PAGE}\" height=\"{height}\" viewBox=\"0 0 {PAGE} {height}\">\n"
+    )?;
+    text.push_str(STYLE)?;
+    write!(
+        text,
+        "<rect width=\"{PAGE}\" height=\"{height}\" fill=\"#fff\"/>\n"
+    )
+}
+
+const STYLE: &str = "<style>
+text{font:10px monospace;fill:#333}
+path{fill:none;stroke:#333;stroke-width:1.3}
+.head{stroke:none}
+.title{font:bold 14px sans-serif;fill:#111}
+.sum{font:11px sans-serif;fill:#444}
+.end{font:bold 11px sans-serif;text-anchor:middle;fill:#111}
+.axis{stroke:#999}
+.time{fill:#888}
+.to{text-anchor:end}
+.pause{fill:#999;font-style:italic;text-anchor:middle}
+.name{font-size:8px;fill:#567;text-anchor:middle;paint-order:stroke;stroke:#fff;stroke-width:2px}
+.bar{stroke:#7fa8e0;stroke-width:3}
+.late{stroke:#e58a1f}
+.open{stroke:#d33;stroke-dasharray:4 2}
+.dot{fill:#e58a1f;stroke:#fff}
+.cross{stroke:#d11;stroke-width:2}
+.rule{stroke:#ddd}
+.again{stroke-width:2.2}
+text.again{fill:#b85c00;font-weight:bold}
+.lost{stroke-dasharray:2 3}
+.data{stroke:#1f5fbf}.data.head{fill:#1f5fbf}
+.plain{stroke:#2a9d5c}.plain.head{fill:#2a9d5c}
+.control{stroke:#7a3fb0}.control.head{fill:#7a3fb0}
+.ping{stroke:#777}.ping.head{fill:#777}
+.ack{stroke:#bbb}.ack.head{fill:#bbb}
+.unread{stroke:#c00}.unread.head{fill:#c00}
+</style>
+";
+
+// The lines of a summary, one below another.
+fn push_summary(pen: &mut Pen, summary: &str) -> Result<(), AllocError> {
+    for line in summary.lines() {
+        push_words(&mut pen.text, "sum", 16, pen.y, line)?;
+        pen.y = pen.y.saturating_add(15);
+    }
+    Ok(())
+}
+
+/// What the looks of arrows say: where each stands, its class and its words.
+const LEGEND: [(u64, &str, &str); 7] = [
+    (16, "data", "reliable"),
+    (120, "plain", "unreliable, unsequenced"),
+    (300, "control", "connection"),
+    (410, "ping", "ping"),
+    (486, "ack", "acknowledgements"),
+    (630, "unread", "can't be read"),
+    (752, "data again", "sent again"),
+];
+
+// What the looks of arrows say.
+fn push_legend(pen: &mut Pen) -> Result<(), AllocError> {
+    let y = pen.y.saturating_add(4);
+    push_samples(&mut pen.text, y)?;
+    push_cross(&mut pen.text, "cross", 866, y)?;
+    push_words(
+        &mut pen.text,
+        "sum",
+        876,
+        y.saturating_add(4),
+        "goes again later: lost, or its acknowledgement",
+    )?;
+    pen.y = y.saturating_add(20);
+    push_summary(pen, HELP)
+}
+
+fn push_samples(text: &mut String, y: u64) -> Result<(), AllocError> {
+    for (x, class, words) in &LEGEND {
+        push_sample(text, class, *x, y, words)?;
+    }
+    Ok(())
+}
+
+const HELP: &str =
+    "Time runs down, in seconds since the first datagram; a pause is cut short where its length stands. At an arrow: what its commands are, channel:number (bytes).
+Beside each end: the reliable numbers it sent (c is the channel of the connection itself), each from its sending to its acknowledgement: orange went again, red is never acknowledged.
+";
+
+fn push_sample(
+    text: &mut String,
+    class: &str,
+    x: u64,
+    y: u64,
+    words: &str,
+) -> Result<(), AllocError> {
+    push_line(text, class, (x, y), (x.saturating_add(24), y))?;
+    push_words(
+        text,
+        "sum",
+        x.saturating_add(30),
+        y.saturating_add(4),
+        words,
+    )
+}
+
+// A connection below what is there.
+fn draw_part(alloc: Global, pen: &mut Pen, part: &Part) -> Result<(), AllocError> {
+    pen.y = pen.y.saturating_add(18);
+    push_line(&mut pen.text, "rule", (16, pen.y), (PAGE - 16, pen.y))?;
+    pen.y = pen.y.saturating_add(22);
+    push_part_summary(alloc, pen, part)?;
+    push_end_names(alloc, pen, part)?;
+    let top = pen.y;
+    pen.queue.clear();
+    pen.next = 0;
+    pen.right = 0;
+    pen.left = 0;
+    draw_datagrams(alloc, pen, part)?;
+    pen.y = pen.y.saturating_add(14);
+    push_left_over(&mut pen.text, pen.queue.as_slice(), pen.y)?;
+    push_line(&mut pen.text, "axis", (LEFT, top), (LEFT, pen.y))?;
+    push_line(&mut pen.text, "axis", (RIGHT, top), (RIGHT, pen.y))
+}
+
+fn push_part_summary(alloc: Global, pen: &mut Pen, part: &Part) -> Result<(), AllocError> {
+    let mut summary = String::new(alloc);
+    push_part(alloc, &mut summary, part)?;
+    push_summary(pen, summary.as_str())
+}
+
+fn push_end_names(alloc: Global, pen: &mut Pen, part: &Part) -> Result<(), AllocError> {
+    pen.y = pen.y.saturating_add(10);
+    let left = address_text(alloc, part.connection.left)?;
+    let right = address_text(alloc, part.connection.right)?;
+    push_words(&mut pen.text, "end", LEFT, pen.y, left.as_str())?;
+    push_words(&mut pen.text, "end", RIGHT, pen.y, right.as_str())?;
+    pen.y = pen.y.saturating_add(6);
+    Ok(())
+}
+
+// The datagrams of a connection.
+fn draw_datagrams(alloc: Global, pen: &mut Pen, part: &Part) -> Result<(), AllocError> {
+    let mut before: Option<u64> = None;
+    for seen in part.seen.iter().take(DATAGRAMS) {
+        let gap = seen.at.saturating_sub(before.unwrap_or(seen.at));
+        before = Some(seen.at);
+        push_pause(alloc, pen, gap)?;
+        pen.y = pen.y.saturating_add(step_of(gap));
+        draw_seen(alloc, pen, part, seen)?;
+    }
+    Ok(())
+}
+
+// A pause that is longer than the picture shows.
+fn push_pause(alloc: Global, pen: &mut Pen, gap: u64) -> Result<(), AllocError> {
+    if !is_long(gap) {
+        return Ok(());
+    }
+    let mut words = String::new(alloc);
+    push_seconds(&mut words, gap)?;
+    words.push_str(" s later")?;
+    push_words(
+        &mut pen.text,
+        "pause",
+        LEFT.midpoint(RIGHT),
+        pen.y.saturating_add(30),
+        words.as_str(),
+    )
+}
+
+// A datagram, with what it does to what waits.
+fn draw_seen(alloc: Global, pen: &mut Pen, part: &Part, seen: &Seen) -> Result<(), AllocError> {
+    let marks = part.marks.as_slice();
+    let first = pen.next.min(marks.len());
+    let count = count_in(&marks[first..], seen.number);
+    let marks = marks.get(first..first.saturating_add(count)).unwrap_or(&[]);
+    pen.next = first.saturating_add(count);
+    let look = look_of(pen, part, seen, marks);
+    push_moment(alloc, pen, seen)?;
+    push_arrow(alloc, pen, seen, marks, look)?;
+    for mark in marks.iter().take(COMMANDS) {
+        follow(alloc, &mut pen.text, &mut pen.queue, mark, pen.y)?;
+    }
+    Ok(())
+}
+
+// How many of the first commands are of a datagram.
+fn count_in(marks: &[Mark], datagram: u64) -> usize {
+    marks
+        .iter()
+        .take_while(|mark| mark.datagram == datagram)
+        .count()
+}
+
+// How the arrow of a datagram looks, and past its commands.
+fn look_of(pen: &mut Pen, part: &Part, seen: &Seen, marks: &[Mark]) -> Look {
+    let mut look = Look {
+        class: class_of(seen, marks),
+        is_again: false,
+        is_lost: false,
+    };
+    for mark in marks {
+        if mark.told.asks {
+            look = match mark.way {
+                Way::Right => look_with(look, part.to_right.as_slice(), pen.right),
+                Way::Left => look_with(look, part.to_left.as_slice(), pen.left),
+            };
+            step_past(pen, mark.way);
+        }
+    }
+    look
+}
+
+// The look with what the command at a place adds.
+fn look_with(look: Look, sent: &[Mark], place: usize) -> Look {
+    Look {
+        class: look.class,
+        is_again: look.is_again || went_before(sent, place),
+        is_lost: look.is_lost || goes_again(sent, place),
+    }
+}
+
+// Past a command that asks for an acknowledgement.
+fn step_past(pen: &mut Pen, way: Way) {
+    match way {
+        Way::Right => pen.right = pen.right.saturating_add(1),
+        Way::Left => pen.left = pen.left.saturating_add(1),
+    }
+}
+
+// The class of the most telling command.
+fn class_of(seen: &Seen, marks: &[Mark]) -> &'static str {
+    if seen.stop.is_some() {
+        return "unread";
+    }
+    let mut best = 0;
+    for mark in marks {
+        best = rank_of(mark.told.kind).max(best);
+    }
+    match best {
+        5 => "control",
+        4 => "data",
+        3 => "plain",
+        2 => "ping",
+        _ => "ack",
+    }
+}
+
+fn rank_of(kind: Kind) -> u8 {
+    match kind {
+        Kind::Connect | Kind::VerifyConnect | Kind::Disconnect => 5,
+        Kind::BandwidthLimit | Kind::ThrottleConfigure => 5,
+        Kind::SendReliable | Kind::SendFragment => 4,
+        Kind::SendUnreliable | Kind::SendUnsequenced | Kind::SendUnreliableFragment => 3,
+        Kind::Ping => 2,
+        Kind::Acknowledge => 1,
+    }
+}
+
+// When a datagram was captured, and its number.
+fn push_moment(alloc: Global, pen: &mut Pen, seen: &Seen) -> Result<(), AllocError> {
+    let mut words = String::new(alloc);
+    push_seconds(&mut words, seen.at.saturating_sub(pen.begun))?;
+    push_words(
+        &mut pen.text,
+        "time",
+        16,
+        pen.y.saturating_add(3),
+        words.as_str(),
+    )?;
+    let number = seen.number;
+    let words = format!(in alloc; "#{number}")?;
+    push_words(
+        &mut pen.text,
+        "time",
+        PAGE - 50,
+        pen.y.saturating_add(3),
+        words.as_str(),
+    )
+}
+
+// The arrow of a datagram, with its words.
+fn push_arrow(
+    alloc: Global,
+    pen: &mut Pen,
+    seen: &Seen,
+    marks: &[Mark],
+    look: Look,
+) -> Result<(), AllocError> {
+    let words = label(alloc, seen, marks)?;
+    let more = title(alloc, seen, marks)?;
+    let line = if look.is_again { "again " } else { "" };
+    let class = look.class;
+    let class = format!(in alloc; "{line}{class}")?;
+    let text = &mut pen.text;
+    text.push_str("<g>")?;
+    push_title(text, more.as_str())?;
+    push_shaft(text, class.as_str(), seen.way, look, pen.y)?;
+    let side = match (seen.way, look.is_again) {
+        (Way::Right, false) => "",
+        (Way::Right, true) => "again",
+        (Way::Left, false) => "to",
+        (Way::Left, true) => "to again",
+    };
+    let x = match seen.way {
+        Way::Right => LEFT + 10,
+        Way::Left => RIGHT - 10,
+    };
+    push_words(text, side, x, pen.y.saturating_sub(4), words.as_str())?;
+    text.push_str("</g>\n")?;
+    Ok(())
+}
+
+// The line of an arrow, and its head. One that is lost has a cross.
+fn push_shaft(
+    text: &mut String,
+    class: &str,
+    way: Way,
+    look: Look,
+    y: u64,
+) -> Result<(), AllocError> {
+    push_line(text, class, (LEFT, y), (RIGHT, y))?;
+    match way {
+        Way::Right => push_right_head(text, class, RIGHT, y)?,
+        Way::Left => push_left_head(text, class, LEFT, y)?,
+    }
+    if look.is_lost {
+        let x = match way {
+            Way::Right => RIGHT - 40,
+            Way::Left => LEFT + 40,
+        };
+        push_cross(text, "cross", x, y)?;
+    }
+    Ok(())
+}

@@ -1,0 +1,154 @@
+//! What stands at an arrow, and what is told of it where the pointer rests.
+
+use crate::timeline::{Mark, Seen};
+use crate::told::{Detail, Kind, Told};
+use enet_codec::CONTROL_CHANNEL;
+use std::alloc::{AllocError, Global};
+
+/// No command is put behind so many letters.
+const WIDTH: usize = 74;
+
+/// So many commands of a datagram are told in full at most.
+const COMMANDS: usize = 64;
+
+/// The commands of a datagram in short. What doesn't find room is counted.
+pub(crate) fn label(alloc: Global, seen: &Seen, marks: &[Mark]) -> Result<String, AllocError> {
+    let mut text = String::new(alloc);
+    let mut before = None;
+    let mut left = 0usize;
+    for mark in marks {
+        if text.len() > WIDTH {
+            left = left.saturating_add(1);
+        } else {
+            push_short(&mut text, before, mark.told)?;
+            before = Some(mark.told.kind);
+        }
+    }
+    if left > 0 {
+        write!(text, " +{left}")?;
+    }
+    if let Some(stop) = seen.stop {
+        let label = stop.label();
+        write!(text, "; {label}")?;
+    }
+    Ok(text)
+}
+
+// A command in short.
+fn push_short(text: &mut String, before: Option<Kind>, told: Told) -> Result<(), AllocError> {
+    push_name(text, before, told.kind)?;
+    push_channel(text, told.channel)?;
+    push_number(text, told)?;
+    push_len(text, " (", ")", told.len)
+}
+
+// The name of a command, behind the one before it. Of acknowledgements that follow one another it stands once.
+fn push_name(text: &mut String, before: Option<Kind>, kind: Kind) -> Result<(), AllocError> {
+    let name = short_name(kind);
+    match before {
+        None => write!(text, "{name} "),
+        Some(before) if is_acknowledgement(before) && is_acknowledgement(kind) => {
+            text.push_str(" ")?;
+            Ok(())
+        }
+        Some(_) => write!(text, ", {name} "),
+    }
+}
+
+fn is_acknowledgement(kind: Kind) -> bool {
+    matches!(kind, Kind::Acknowledge)
+}
+
+fn short_name(kind: Kind) -> &'static str {
+    match kind {
+        Kind::Acknowledge => "ack",
+        Kind::Connect => "CONNECT",
+        Kind::VerifyConnect => "VERIFY_CONNECT",
+        Kind::Disconnect => "DISCONNECT",
+        Kind::Ping => "ping",
+        Kind::SendReliable => "reliable",
+        Kind::SendUnreliable => "unreliable",
+        Kind::SendFragment => "fragment",
+        Kind::SendUnsequenced => "unsequenced",
+        Kind::BandwidthLimit => "bandwidth",
+        Kind::ThrottleConfigure => "throttle",
+        Kind::SendUnreliableFragment => "unreliable fragment",
+    }
+}
+
+// Its number, and what it has beside it.
+fn push_number(text: &mut String, told: Told) -> Result<(), AllocError> {
+    let number = told.number;
+    match told.detail {
+        Detail::Received(received) => write!(text, "{received}"),
+        Detail::Nothing | Detail::Offered(_) => write!(text, "{number}"),
+        Detail::Unreliable(place) => write!(text, "{number}.{place}"),
+        Detail::Group(group) => write!(text, "g{group}"),
+        Detail::Piece {
+            number: piece,
+            count,
+        } => {
+            let piece = u64::from(piece) + 1;
+            write!(text, "{number} {piece}/{count}")
+        }
+    }
+}
+
+/// A channel before a number: `c` for that of the connection itself.
+pub(crate) fn push_channel(text: &mut String, channel: u8) -> Result<(), AllocError> {
+    if channel == CONTROL_CHANNEL {
+        text.push_str("c:")?;
+        return Ok(());
+    }
+    write!(text, "{channel}:")
+}
+
+/// A datagram in full: its number and length, and each command by the name that ENet gives it.
+pub(crate) fn title(alloc: Global, seen: &Seen, marks: &[Mark]) -> Result<String, AllocError> {
+    let mut text = String::new(alloc);
+    let number = seen.number;
+    let len = seen.len;
+    write!(text, "datagram {number}, {len} bytes")?;
+    for mark in marks.iter().take(COMMANDS) {
+        text.push_str("\n")?;
+        push_long(&mut text, mark.told)?;
+    }
+    Ok(text)
+}
+
+// A command by its name.
+fn push_long(text: &mut String, told: Told) -> Result<(), AllocError> {
+    let name = told.kind.name();
+    let channel = told.channel;
+    let number = told.number;
+    write!(text, "{name} channel {channel} number {number}")?;
+    push_detail(text, told.detail)?;
+    push_len(text, " length ", "", told.len)
+}
+
+// What a command has beside its number.
+fn push_detail(text: &mut String, detail: Detail) -> Result<(), AllocError> {
+    match detail {
+        Detail::Nothing => Ok(()),
+        Detail::Received(received) => write!(text, " received_number {received}"),
+        Detail::Offered(id) => write!(text, " connect_id {id:08x}"),
+        Detail::Unreliable(place) => write!(text, " unreliable {place}"),
+        Detail::Group(group) => write!(text, " group {group}"),
+        Detail::Piece { number, count } => write!(text, " fragment {number} count {count}"),
+    }
+}
+
+// How many bytes a command carries, where it carries any.
+fn push_len(text: &mut String, before: &str, behind: &str, len: usize) -> Result<(), AllocError> {
+    if len == 0 {
+        return Ok(());
+    }
+    write!(text, "{before}{len}{behind}")
+}
+
+/// Microseconds as seconds.
+pub(crate) fn push_seconds(text: &mut String, microseconds: u64) -> Result<(), AllocError> {
+    let seconds = microseconds / 1_000_000;
+    let parts = microseconds % 1_000_000;
+    write!(text, "{seconds}.{parts:06}")
+}
