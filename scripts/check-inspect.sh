@@ -1,7 +1,8 @@
 #!/usr/bin/env bash
 # Runs the built program `enet_relay inspect`: on the datagrams of the files in trials/captured, of which it must tell what
 # inspected.awk derives from the remarks that stand beside them; on lines that are cut short, compressed, unreadable or passed over; and on
-# captures in pcap format that are made here, byte by byte. The last line is 'N passed, M failed'; the status is 1 where one fails. The
+# captures in pcap format that are made here, byte by byte. With `--timeline` it must tell and draw of captures what timeline.py finds in
+# them. The last line is 'N passed, M failed'; the status is 1 where one fails. The
 # program is the one that `rt ci`, or `rt run` in crates/enet_relay, leaves; another can be named as argument.
 cd "$(dirname "$0")/.." || exit 1
 program=$(realpath -m "${1:-crates/enet_relay/out/enet_relay}")
@@ -140,6 +141,68 @@ captures() {
     capture "no beginning" a1b2c3d4 '' 'capture cut short after 0 packets\n' 2
 }
 
+# A capture that is drawn: its name here, its file, and what is wanted on standard error, and the status.
+timeline() {
+    local name="timeline: $1" status found
+    rm -f "$room/picture"
+    timeout 60 "$program" inspect "$2" --timeline "$room/picture" > "$room/out" 2> "$room/err" < /dev/null
+    status=$?
+    [ "$status" -eq "$4" ] || { fail "$name" "status $status where $4 is wanted: $(head -c 200 "$room/err")"; return; }
+    [ "$(<"$room/err")" = "$3" ] || { fail "$name" "standard error is: $(head -c 200 "$room/err")"; return; }
+    found=$(python3 scripts/timeline.py check "$2" "$room/out" "$room/picture" 2>&1) || { fail "$name" "$found"; return; }
+    passed=$((passed + 1))
+}
+
+# The captured files as captures, many connections, random datagrams, and captures that are cut short anywhere.
+timelines() {
+    local file seed cut
+    for file in "$captures"/*.txt; do
+        python3 scripts/timeline.py capture "$file" "$room/made"
+        timeline "$(basename "$file" .txt)" "$room/made" '' 0
+    done
+    python3 scripts/timeline.py crowd "$room/made"
+    timeline crowd "$room/made" '' 0
+    for seed in 1 2 3 4 5 6 7 8; do
+        python3 scripts/timeline.py random $seed "$room/made"
+        timeline "random $seed" "$room/made" '' 0
+    done
+    python3 scripts/timeline.py capture "$captures/data.txt" "$room/made"
+    for cut in 25 40 100 1000 9999; do
+        head -c $cut "$room/made" > "$room/cut"
+        timeline "cut at $cut" "$room/cut" "capture cut short after $(whole_packets "$room/cut") packets" 2
+    done
+    head -c 24 "$room/made" > "$room/cut"
+    timeline "no packet" "$room/cut" '' 0
+}
+
+whole_packets() {
+    python3 - "$1" << 'END'
+import struct, sys
+whole, at, count = open(sys.argv[1], 'rb').read(), 24, 0
+while at + 16 <= len(whole) and at + 16 + struct.unpack_from('<I', whole, at + 8)[0] <= len(whole):
+    at += 16 + struct.unpack_from('<I', whole, at + 8)[0]
+    count += 1
+print(count)
+END
+}
+
+# What has no timeline: its name here, its file, what is wanted on standard error, and the status.
+no_timeline() {
+    timeout 60 "$program" inspect "$2" --timeline "$room/none" > "$room/out" 2> "$room/err"
+    [ $? -eq "$4" ] && [ ! -s "$room/out" ] && [ ! -e "$room/none" ] && [ "$(<"$room/err")" = "$3" ] && passed=$((passed + 1)) \
+        || fail "no timeline: $1" "$(head -c 200 "$room/err")"
+}
+
+refused_timelines() {
+    echo a001006485ff0003 > "$room/hex"
+    no_timeline lines "$room/hex" 'a timeline is drawn of a capture in pcap format alone' 2
+    bytes a1b2c3d4 > "$room/short"
+    no_timeline "no beginning" "$room/short" 'capture cut short after 0 packets' 2
+    bytes "$(beginning little 0xa1b2c3d4 105)" > "$room/short"
+    no_timeline "link type" "$room/short" "link type 105 can't be read" 2
+    no_timeline "no such file" "$room/no-such-file" 'No such file or directory (os error 2)' 1
+}
+
 files() {
     timeout 60 "$program" inspect "$room/no-such-file" > "$room/out" 2> "$room/err"
     [ $? -eq 1 ] && [ "$(<"$room/err")" = 'No such file or directory (os error 2)' ] && passed=$((passed + 1)) || fail no-such-file "$(<"$room/err")"
@@ -159,6 +222,8 @@ else
     captured_files
     rows
     captures
+    timelines
+    refused_timelines
     files
 fi
 echo "$passed passed, $failed failed"

@@ -55,13 +55,21 @@ pub struct DemoOptions {
     pub port: Option<u16>,
 }
 
+/// What `inspect` was told.
+#[derive(Drop)]
+pub struct InspectOptions {
+    /// The file to read; None where standard input is read.
+    pub file: Option<String>,
+    /// The file to draw into; None where the datagrams are told in words.
+    pub picture: Option<String>,
+}
+
 /// What the program is to do.
 pub enum Task {
     /// The help was printed, and nothing is left to do.
     Nothing,
     Lab,
-    /// Of this file, or where there is none of standard input.
-    Inspect(Option<String>),
+    Inspect(InspectOptions),
     Serve(ServeOptions),
     Demo(DemoOptions),
 }
@@ -114,7 +122,8 @@ fn command<'a>(alloc: Global) -> Result<Command<'a>, AllocError> {
 fn inspect_command<'a>(alloc: Global) -> Result<Command<'a>, AllocError> {
     Command::new(alloc, "inspect")
         .about("Tells in words what datagrams say: a line of hex each, or a capture in pcap format")
-        .arg(file(alloc))
+        .arg(file(alloc))?
+        .arg(picture(alloc))
 }
 
 fn serve_command<'a>(alloc: Global) -> Result<Command<'a>, AllocError> {
@@ -144,6 +153,12 @@ fn demo_command<'a>(alloc: Global) -> Result<Command<'a>, AllocError> {
 
 fn file<'a>(alloc: Global) -> Arg<'a> {
     Arg::new(alloc, "file").help("The file to read; without it standard input is read")
+}
+
+fn picture<'a>(alloc: Global) -> Arg<'a> {
+    Arg::new(alloc, "timeline")
+        .long("timeline")
+        .help("Draw a capture's connections into this file, as an SVG, and tell in words what they hold")
 }
 
 fn clients<'a>(alloc: Global) -> Arg<'a> {
@@ -262,7 +277,7 @@ fn task_of(alloc: Global, found: &ArgMatches<'_>) -> Result<Option<Task>, AllocE
     };
     match name {
         "lab" => Ok(Some(Task::Lab)),
-        "inspect" => Ok(Some(Task::Inspect(file_named(alloc, found)?))),
+        "inspect" => Ok(Some(Task::Inspect(inspect_options(alloc, found)?))),
         "serve" => match read_admission(alloc, found)? {
             Some(admission) => Ok(serve_options(found, admission).map(Task::Serve)),
             None => Ok(None),
@@ -272,8 +287,19 @@ fn task_of(alloc: Global, found: &ArgMatches<'_>) -> Result<Option<Task>, AllocE
     }
 }
 
-fn file_named(alloc: Global, found: &ArgMatches<'_>) -> Result<Option<String>, AllocError> {
-    match found.get_str("file") {
+fn inspect_options(alloc: Global, found: &ArgMatches<'_>) -> Result<InspectOptions, AllocError> {
+    Ok(InspectOptions {
+        file: word_named(alloc, found, "file")?,
+        picture: word_named(alloc, found, "timeline")?,
+    })
+}
+
+fn word_named(
+    alloc: Global,
+    found: &ArgMatches<'_>,
+    name: &str,
+) -> Result<Option<String>, AllocError> {
+    match found.get_str(name) {
         Some(path) => Ok(Some(String::from_str(alloc, path)?)),
         None => Ok(None),
     }

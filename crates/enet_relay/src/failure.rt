@@ -4,6 +4,7 @@ use enet_codec::Refusal;
 use enet_lab::LabFault;
 use enet_serve::Unopened;
 use enet_text::InspectFault;
+use enet_timeline::TimelineFault;
 use std::alloc::AllocError;
 use std::io;
 use thiserror::Error;
@@ -26,6 +27,9 @@ pub enum Failure {
     /// The input of `inspect` wasn't read to its end.
     #[error("{0}")]
     Inspect(InspectFault),
+    /// The input has no timeline.
+    #[error("{0}")]
+    Timeline(TimelineFault),
     /// The file to inspect can't be opened, and this is what the system says of it.
     #[error("{0}")]
     File(io::Error),
@@ -49,6 +53,7 @@ impl Failure {
         match self {
             Failure::CommandLine | Failure::Lab(LabFault::BadScript(_)) => 2,
             Failure::Inspect(fault) if fault.is_unreadable() => 2,
+            Failure::Timeline(fault) if fault.is_unreadable() => 2,
             _ => 1,
         }
     }

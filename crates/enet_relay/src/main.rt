@@ -21,6 +21,7 @@ mod command_line;
 mod control;
 mod demonstrating;
 mod desk;
+mod drawing;
 mod failure;
 mod inspecting;
 mod monitor;
@@ -30,6 +31,7 @@ mod watching;
 
 use command_line::{Task, read_task};
 use demonstrating::demonstrate;
+use drawing::draw_capture;
 use enet_lab::lab;
 use failure::Failure;
 use inspecting::inspect_input;
@@ -53,7 +55,10 @@ where
         Task::Lab => {
             lab(rt.alloc(), &mut rt.reader(), &mut io::writer(rt)).map_err(Failure::Lab)?;
         }
-        Task::Inspect(file) => inspect_input(rt, file)?,
+        Task::Inspect(options) => match options.picture {
+            None => inspect_input(rt, options.file)?,
+            Some(picture) => draw_capture(rt, options.file, picture.as_str())?,
+        },
         Task::Serve(options) => serve(rt, options)?,
         Task::Demo(options) => {
             if !demonstrate(rt, options)? {

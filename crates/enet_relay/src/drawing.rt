@@ -1,0 +1,58 @@
+//! What `inspect --timeline` draws.
+
+use crate::failure::Failure;
+use enet_text::InspectFault;
+use enet_timeline::{draw, read_timeline, summarize};
+use std::io::{ErrorKind, Read, Write};
+use std::rt::Files;
+use std::{fs, io};
+
+/// Draws the capture of a file, or of standard input, into the file that `picture` names, and tells on standard output what it holds. One that
+/// is cut short is drawn up to there.
+pub fn draw_capture<R>(rt: &R, file: Option<String>, picture: &str) -> Result<(), Failure>
+where
+    R: Files + Input + Print + AllocGlobal,
+{
+    let input = read_input(rt, file)?;
+    let timeline = read_timeline(rt.alloc(), input.as_slice()).map_err(Failure::Timeline)?;
+    let words = summarize(rt.alloc(), &timeline)?;
+    let drawn = draw(rt.alloc(), &timeline)?;
+    fs::write(rt, picture, drawn.as_str()).map_err(Failure::File)?;
+    write_words(rt, words.as_str())?;
+    if timeline.is_cut {
+        let packets = timeline.datagrams.saturating_add(timeline.others);
+        return Err(Failure::Inspect(InspectFault::CutShort(packets)));
+    }
+    Ok(())
+}
+
+fn read_input<R>(rt: &R, file: Option<String>) -> Result<Vec<u8>, Failure>
+where
+    R: Files + Input + AllocGlobal,
+{
+    match file {
+        Some(path) => {
+            let mut file = fs::open(rt, path.as_str()).map_err(Failure::File)?;
+            read_whole(rt, &mut file)
+        }
+        None => read_whole(rt, &mut rt.reader()),
+    }
+}
+
+fn read_whole<R: AllocGlobal, S: Read>(rt: &R, reader: &mut S) -> Result<Vec<u8>, Failure> {
+    let mut input = Vec::new(rt.alloc());
+    match reader.read_to_end(&mut input) {
+        Ok(_) => Ok(input),
+        Err(error) if error.kind() == ErrorKind::OutOfMemory => Err(Failure::Memory),
+        Err(_) => Err(Failure::Io),
+    }
+}
+
+fn write_words<R: Print>(rt: &R, words: &str) -> Result<(), Failure> {
+    let mut writer = io::writer(rt);
+    let written = writer.write_all(words.as_bytes());
+    match (written, writer.flush()) {
+        (Ok(()), Ok(())) => Ok(()),
+        _ => Err(Failure::Io),
+    }
+}
