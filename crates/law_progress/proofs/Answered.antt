@@ -33,14 +33,14 @@ use Rattle.law_connection.proofs.Shown.{Images, Sound}
 use Rattle.law_connection.proofs.WireReceiver.{Shows-acknowledged}
 use Rattle.law_progress.specs.Links.{Waits, AreShort}
 
-is-eqb : (m n : ℕ) → m ≡ n → eqb m n ≡ true
+pub is-eqb : (m n : ℕ) → m ≡ n → eqb m n ≡ true
 is-eqb m n t = grind (arith, nat_tests)
 
-le-leb : (m n : ℕ) → m ≤ n → leb m n ≡ true
+pub le-leb : (m n : ℕ) → m ≤ n → leb m n ≡ true
 le-leb m n t = grind (arith, nat_tests)
 
 -- each packet that is carried was submitted
-packet-short : (mtu count most : ℕ) (ps : List Packet) (c : ChosenPacket) → AreShort most ps → Has (carried_from mtu count ps) c → length c.packet.body ≤ most
+pub packet-short : (mtu count most : ℕ) (ps : List Packet) (c : ChosenPacket) → AreShort most ps → Has (carried_from mtu count ps) c → length c.packet.body ≤ most
 packet-short mtu count most [] c s h = absurd h
 packet-short mtu count most (p ∷ ps) c s (inl e) = subst (λ (x : ChosenPacket). length x.packet.body ≤ most) e (s p (inl refl))
 packet-short mtu count most (p ∷ ps) c s (inr h) = packet-short mtu (cond (goes_reliable mtu count p) 0 (count + 1)) most ps c (λ q k. s q (inr k)) h
@@ -61,21 +61,21 @@ is_piece-meant mtu most cs d p cut short rel =
     (λ i. a i && b i && (not (rel i) || c i))
 
 -- only a piece of a long packet tells of others
-long-fragment : (mtu : ℕ) (cs : List ChosenPacket) (d : DataCommand) (p : IsPieceOf mtu cs d) → is_none (wired d).fragment ≡ false → is_long mtu p.packet.packet ≡ true
+pub long-fragment : (mtu : ℕ) (cs : List ChosenPacket) (d : DataCommand) (p : IsPieceOf mtu cs d) → is_none (wired d).fragment ≡ false → is_long mtu p.packet.packet ≡ true
 long-fragment mtu cs d p h =
     elim (is_long mtu p.packet.packet) as (λ b. is_none (option_map (wired_fragment p.packet.reliable) (cond b (Some (fragment_at (piece_length mtu) p.packet (cond p.packet.reliable (p.number + 1) (p.count + 1)) p.index)) None)) ≡ false → b ≡ true) [
       | true ↦ λ e. refl
       | false ↦ λ e. absurd (cc)
     ] (subst (λ (x : DataCommand). is_none (wired x).fragment ≡ false) p.command h)
 
-belongs-by : (m : PartialPacket) (p : Place) → is_sound p ≡ true → p.count ≡ count_of m → p.total ≡ m.total → is_same_cut m.cut (told_piece_len p) ≡ true → belongs m p ≡ true
+pub belongs-by : (m : PartialPacket) (p : Place) → is_sound p ≡ true → p.count ≡ count_of m → p.total ≡ m.total → is_same_cut m.cut (told_piece_len p) ≡ true → belongs m p ≡ true
 unfolding belongs
 belongs-by m p a c t k =
     let x : eqb p.count (count_of m) ≡ true = is-eqb _ _ c in
     let y : eqb p.total m.total ≡ true = is-eqb _ _ t in
     (λ i. a i && (x i && y i) && k i)
 
-same-cut : (o : Option ℕ) (told size : ℕ) → ((n : ℕ) → o ≡ Some n → n ≡ size) → told ≡ size → is_same_cut o told ≡ true
+pub same-cut : (o : Option ℕ) (told size : ℕ) → ((n : ℕ) → o ≡ Some n → n ≡ size) → told ≡ size → is_same_cut o told ≡ true
 same-cut None told size h e = refl
 same-cut (Some n) told size h e = is-eqb n told (h n refl ∙ sym e)
 
@@ -117,7 +117,7 @@ agrees-meant mtu cs r d p k rel (inr same) = ap (λ o. agrees_with o (wired d)) 
     ] refl
 
 -- so it is handled where there is room
-handled-at : (r : Receiver) (c : DataCommand) (o : Option ℕ) → is_handled (outcome_at r c false o) ≡ true
+pub handled-at : (r : Receiver) (c : DataCommand) (o : Option ℕ) → is_handled (outcome_at r c false o) ≡ true
 handled-at r c None = refl
 handled-at r c (Some n) = elim (is_behind r c n || came (came_at r c n) c) as (λ b. is_handled (cond b Again (cond (false && is_none (came_at r c n)) Waiting Held)) ≡ true) [ true ↦ refl | false ↦ refl ]
 

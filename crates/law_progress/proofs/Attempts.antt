@@ -7,7 +7,7 @@ use Rattle.enet_codec.specs.declared.command.Offer.{Offer}
 use Rattle.enet_codec.specs.declared.stop.Stop.TheVariants as stop
 use Rattle.enet_codec.specs.Message.{Message, Body, acknowledge, connect, verify_connect, disconnect, ping, send_reliable, send_unreliable, send_fragment, send_unsequenced, send_unreliable_fragment, bandwidth_limit, throttle_configure}
 use Rattle.enet_rtt.specs.Clock.{elapsed_time}
-use Rattle.enet_rtt.specs.Timing.{timeout}
+use Rattle.enet_rtt.specs.Timing.{Estimate, timeout}
 use Rattle.enet_rtt.specs.Transmission as transmission
 use Rattle.enet_rtt.specs.Expiry.{gives_up}
 use Rattle.enet_rtt.specs.declared.transmission.Transmission.{Transmission}
@@ -38,7 +38,7 @@ use Rattle.enet_peer.specs.Peering.{Peering, connecting, answering}
 use Rattle.enet_peer.specs.Endings.{settled, disconnecting, cut_off_in, is_later}
 use Rattle.enet_peer.proofs.Obeying.{unless-holds}
 use Rattle.enet_peer.specs.CommandEffect.{Outcome, obeyed, unless_crowded_out, stopped, is_allowed, is_of_handshake, is_connect, by_body, answered, answered_at, is_answered_in, on_acknowledge, on_match, acknowledged, with_answer, on_verify_in, welcomed, on_disconnect_in}
-use Rattle.enet_peer.specs.Calls.{pace_of, gone_on, gone_on_in, ticked, pinged, after_timeouts_by, growth_bound, is_connected, next_event, event_after, packet_event, last_event}
+use Rattle.enet_peer.specs.Calls.{pace_of, gone_on, gone_on_in, ticked, pinged, after_timeouts_by, growth_bound, is_connected, is_answering, next_event, event_after, packet_event, last_event}
 use Rattle.law_progress.specs.Attempts.{Step, Hears, PutsOut, Takes, after_step, after_take, Stays, Turn, Turns, last_of, LastsAtMost}
 use Rattle.law_progress.proofs.Timed.{Timed, timed-begun, timed-again, timed-marked}
 use Rattle.law_progress.proofs.NothingLeft.{nothing-left}
@@ -95,29 +95,44 @@ empty-new : (from n : ℕ) → AreEmpty (map new_end (range_with_len from n))
 empty-new from zero = tt
 empty-new from (suc n) = (refl, refl, empty-new (from + 1) n)
 
--- what an attempt is about, when it first went and with which timeout, and the peer's greatest patience
-record Attempt : Type 0 where
-  kind : Kind
-  command : Numbered
-  first : ℕ
-  timeout : ℕ
-  most : ℕ
-  about : is_about kind command.control ≡ true
+-- what an attempt is about, when it first went, and what the peer keeps meanwhile: its patience, its estimate, and when it last heard
+pub record Attempt : Type 0 where
+  pub kind : Kind
+  pub command : Numbered
+  pub first : ℕ
+  pub patience : Patience
+  pub estimate : Estimate
+  pub heard : ℕ
+  pub about : is_about kind command.control ≡ true
 
--- by now the command went, and goes on as it should
-abbrev Went : Attempt → ℕ → SentControl → Type 0
-Went a now t = (t.command ≡ a.command) × Timed a.first a.timeout a.most now t.transmission
+-- its first timeout, and how far timeouts grow
+abbrev pub wait_of : Attempt → ℕ
+wait_of a = timeout a.estimate
+
+abbrev pub bound_of : Attempt → ℕ
+bound_of a = cond (a.estimate.sampled || is_answering (state_of a.kind)) 1000 4294967295
+
+-- what is said of how a command goes again and again, from its first send on, moment by moment
+pub record Course (G : ℕ → Transmission → Type 0) (a : Attempt) (gap : ℕ) : Type 0 where
+  pub begins : G a.first (transmission.begun (a.first % 2 ^ 32) (wait_of a))
+  pub again : (now : ℕ) (t : Transmission) → G now t → t.due ≡ true → G now (transmission.again (now % 2 ^ 32) t)
+  pub marks : (before now : ℕ) (t : Transmission) → G before t → t.due ≡ false → before ≤ now → now ≤ before + gap → transmission.ends (now % 2 ^ 32) a.patience a.heard t ≡ false
+      → G now (transmission.marked (bound_of a) (now % 2 ^ 32) t)
+
+-- by now the command went, and goes on so
+abbrev Went : (ℕ → Transmission → Type 0) → Attempt → ℕ → SentControl → Type 0
+Went G a now t = (t.command ≡ a.command) × G now t.transmission
 
 -- channel 0xFF has it queued, at the first moment, or sent
-abbrev Shape : Attempt → ℕ → Commands → Type 0
-Shape a now c = ((c.queued ≡ a.command ∷ []) × (c.sent ≡ []) × (now ≡ a.first)) ⊎ ((t : SentControl) × (c.queued ≡ []) × (c.sent ≡ t ∷ []) × Went a now t)
+abbrev Shape : (ℕ → Transmission → Type 0) → Attempt → ℕ → Commands → Type 0
+Shape G a now c = ((c.queued ≡ a.command ∷ []) × (c.sent ≡ []) × (now ≡ a.first)) ⊎ ((t : SentControl) × (c.queued ≡ []) × (c.sent ≡ t ∷ []) × Went G a now t)
 
 -- where it is sent and waits
-record Rests (a : Attempt) (now : ℕ) (c : Commands) : Type 0 where
+record Rests (G : ℕ → Transmission → Type 0) (a : Attempt) (now : ℕ) (c : Commands) : Type 0 where
   sent : SentControl
   queued : c.queued ≡ []
   alone : c.sent ≡ sent ∷ []
-  went : Went a now sent
+  went : Went G a now sent
   waits : sent.transmission.due ≡ false
 
 -- what is due first of one sent command
@@ -144,35 +159,35 @@ next-first now wait c x queued none reliable =
     ∙ ap (λ (l : List SentControl). cond (controlling.is_in_span l x.number) (Some (record { command = x; commands = record c { queued = []; sent = cond (controlling.is_reliable x.control) (c.sent ++ controlling.begun now wait x ∷ []) c.sent } })) None) none
 
 -- what goes of channel 0xFF keeps this
-shape-next : (a : Attempt) (now : ℕ) (c : Commands) (n : controlling.Next) → controlling.next (now % 2 ^ 32) a.timeout c ≡ Some n → Shape a now c → Shape a now n.commands
-shape-next a now c n e (inl q) =
+shape-next : (G : ℕ → Transmission → Type 0) (a : Attempt) {gap : ℕ} (k0 : Course G a gap) (now : ℕ) (c : Commands) (n : controlling.Next) → controlling.next (now % 2 ^ 32) (wait_of a) c ≡ Some n → Shape G a now c → Shape G a now n.commands
+shape-next G a k0 now c n e (inl q) =
     let reliable = reliable-about a.kind a.command.control a.about in
     let x = a.command in
-    let mine = next-first (now % 2 ^ 32) a.timeout c x q.0 q.1 reliable in
-    let same : ◌≡◌ {A = controlling.Next} (record { command = x; commands = record c { queued = []; sent = cond (controlling.is_reliable x.control) (c.sent ++ controlling.begun (now % 2 ^ 32) a.timeout x ∷ []) c.sent } }) n = some-is (sym mine ∙ e) in
-    subst (λ (k : controlling.Next). Shape a now k.commands) same (inr (
-      controlling.begun (now % 2 ^ 32) a.timeout x,
+    let mine = next-first (now % 2 ^ 32) (wait_of a) c x q.0 q.1 reliable in
+    let same : ◌≡◌ {A = controlling.Next} (record { command = x; commands = record c { queued = []; sent = cond (controlling.is_reliable x.control) (c.sent ++ controlling.begun (now % 2 ^ 32) (wait_of a) x ∷ []) c.sent } }) n = some-is (sym mine ∙ e) in
+    subst (λ (k : controlling.Next). Shape G a now k.commands) same (inr (
+      controlling.begun (now % 2 ^ 32) (wait_of a) x,
       refl,
-      ap (λ b. cond b (c.sent ++ controlling.begun (now % 2 ^ 32) a.timeout x ∷ []) c.sent) reliable ∙ ap (λ (l : List SentControl). l ++ controlling.begun (now % 2 ^ 32) a.timeout x ∷ []) q.1,
-      (refl, subst (λ k. Timed a.first a.timeout a.most k (transmission.begun (k % 2 ^ 32) a.timeout)) (sym q.2) (timed-begun a.first a.timeout a.timeout a.most (omega arith))),
+      ap (λ b. cond b (c.sent ++ controlling.begun (now % 2 ^ 32) (wait_of a) x ∷ []) c.sent) reliable ∙ ap (λ (l : List SentControl). l ++ controlling.begun (now % 2 ^ 32) (wait_of a) x ∷ []) q.1,
+      (refl, subst (λ k. G k (transmission.begun (k % 2 ^ 32) (wait_of a))) (sym q.2) k0.begins),
     ))
   where
     some-is : {X : Type 0} {u v : X} → Some u ≡ Some v → u ≡ v
     some-is {X} {u} {v} e = cc
-shape-next a now c n e (inr (t, none, sent, w)) = by t.transmission.due refl
+shape-next G a k0 now c n e (inr (t, none, sent, w)) = by t.transmission.due refl
   where
     some-is : {X : Type 0} {u v : X} → Some u ≡ Some v → u ≡ v
     some-is {X} {u} {v} e = cc
 
-    by : (b : Bool) → t.transmission.due ≡ b → Shape a now n.commands
-    by false k = absurd (let f : Some n ≡ None = sym e ∙ next-waits (now % 2 ^ 32) a.timeout c t none sent k in cc)
+    by : (b : Bool) → t.transmission.due ≡ b → Shape G a now n.commands
+    by false k = absurd (let f : Some n ≡ None = sym e ∙ next-waits (now % 2 ^ 32) (wait_of a) c t none sent k in cc)
     by true k =
-        let same : ◌≡◌ {A = controlling.Next} (record { command = t.command; commands = record c { sent = slice_set c.sent 0 (controlling.again (now % 2 ^ 32) t) } }) n = some-is (sym (next-again (now % 2 ^ 32) a.timeout c t sent k) ∙ e) in
-        subst (λ (x : controlling.Next). Shape a now x.commands) same (inr (
+        let same : ◌≡◌ {A = controlling.Next} (record { command = t.command; commands = record c { sent = slice_set c.sent 0 (controlling.again (now % 2 ^ 32) t) } }) n = some-is (sym (next-again (now % 2 ^ 32) (wait_of a) c t sent k) ∙ e) in
+        subst (λ (x : controlling.Next). Shape G a now x.commands) same (inr (
           controlling.again (now % 2 ^ 32) t,
           none,
           ap (λ (l : List SentControl). slice_set l 0 (controlling.again (now % 2 ^ 32) t)) sent,
-          (w.0, timed-again a.first a.timeout a.most now t.transmission w.1 k),
+          (w.0, k0.again now t.transmission w.1 k),
         ))
 
 -- a datagram that is filled keeps what each command of channel 0xFF that goes keeps, where the channels are empty
@@ -191,12 +206,13 @@ kept-filled pace o R goes empty r = by-filling pace o (Kept R) (record {
 }) (empty, r)
 
 -- what a peer keeps at a moment while the attempt lasts
-record Lasts (a : Attempt) (now : ℕ) (p : Peering) : Type 0 where
+record Lasts (G : ℕ → Transmission → Type 0) (a : Attempt) (now : ℕ) (p : Peering) : Type 0 where
   state : p.state ≡ state_of a.kind
   empty : AreEmpty p.outbox.senders
-  most : p.patience.maximum ≡ a.most
-  wait : timeout p.estimate ≡ a.timeout
-  shape : Shape a now p.outbox.control
+  patience : p.patience ≡ a.patience
+  estimate : p.estimate ≡ a.estimate
+  heard : p.heard ≡ a.heard
+  shape : Shape G a now p.outbox.control
 
 -- as much of it as a command that comes may change
 record Same (p q : Peering) : Type 0 where
@@ -204,18 +220,20 @@ record Same (p q : Peering) : Type 0 where
   senders : q.outbox.senders ≡ p.outbox.senders
   patience : q.patience ≡ p.patience
   estimate : q.estimate ≡ p.estimate
+  heard : q.heard ≡ p.heard
 
-same-lasts : (a : Attempt) (now : ℕ) (p q : Peering) → Same p q → q.state ≡ state_of a.kind → Lasts a now p → Lasts a now q
-same-lasts a now p q s e l = record {
+same-lasts : (G : ℕ → Transmission → Type 0) (a : Attempt) (now : ℕ) (p q : Peering) → Same p q → q.state ≡ state_of a.kind → Lasts G a now p → Lasts G a now q
+same-lasts G a now p q s e l = record {
   state = e;
   empty = subst (λ xs. AreEmpty xs) (sym s.senders) l.empty;
-  most = ap (λ (x : Patience). x.maximum) s.patience ∙ l.most;
-  wait = ap timeout s.estimate ∙ l.wait;
-  shape = subst (λ (c : Commands). Shape a now c) (sym s.control) l.shape;
+  patience = s.patience ∙ l.patience;
+  estimate = s.estimate ∙ l.estimate;
+  heard = s.heard ∙ l.heard;
+  shape = subst (λ (c : Commands). Shape G a now c) (sym s.control) l.shape;
 }
 
 same-self : (p : Peering) → Same p p
-same-self p = record { control = refl; senders = refl; patience = refl; estimate = refl }
+same-self p = record { control = refl; senders = refl; patience = refl; estimate = refl; heard = refl }
 
 -- an acknowledgement that waits changes nothing of it
 answered-same : (p e : Peering) (m : Message) (sent : Option ℕ) → Same p e → Same p (answered e m sent true).after
@@ -224,7 +242,7 @@ answered-same p e m sent k = go (m.head.acknowledge && true && is_answered_in e.
     go : (b : Bool) (o : Option ℕ) → Same p (cond b (answered_at e m.head o) (record { stop = None; after = e })).after
     go false o = k
     go true None = k
-    go true (Some time) = record { control = k.control; senders = k.senders; patience = k.patience; estimate = k.estimate }
+    go true (Some time) = record { control = k.control; senders = k.senders; patience = k.patience; estimate = k.estimate; heard = k.heard }
 
 answered-state : (e : Peering) (m : Message) (sent : Option ℕ) (s : PeerState) → (answered e m sent true).after.state ≡ s → e.state ≡ s
 answered-state e m sent s = go (m.head.acknowledge && true && is_answered_in e.state m.body) sent
@@ -235,14 +253,14 @@ answered-state e m sent s = go (m.head.acknowledge && true && is_answered_in e.s
     go true (Some time) h = h
 
 -- what an acknowledgement can match
-matches : (a : Attempt) (now : ℕ) (o : Outbox) (channel number : ℕ) → AreEmpty o.senders → Shape a now o.control → (matched_by o channel number ≡ matched.Nothing) ⊎ (matched_by o channel number ≡ matched.Control a.command.control)
-matches a now o channel number empty shape = by (channel == 0xFF)
+matches : (G : ℕ → Transmission → Type 0) (a : Attempt) (now : ℕ) (o : Outbox) (channel number : ℕ) → AreEmpty o.senders → Shape G a now o.control → (matched_by o channel number ≡ matched.Nothing) ⊎ (matched_by o channel number ≡ matched.Control a.command.control)
+matches G a now o channel number empty shape = by (channel == 0xFF)
   where
     on : (x : Option SendingEnd) → slice_get o.senders channel ≡ x → matched_on x number ≡ matched.Nothing
     on None e = refl
     on (Some s) e = ap (λ (l : List Sent). as_data (sender.size_at l (sender.position_of number l))) (empty-at o.senders channel s empty e).1
 
-    at : Shape a now o.control → (outbox.as_control (controlling.acknowledged_control o.control number) ≡ matched.Nothing) ⊎ (outbox.as_control (controlling.acknowledged_control o.control number) ≡ matched.Control a.command.control)
+    at : Shape G a now o.control → (outbox.as_control (controlling.acknowledged_control o.control number) ≡ matched.Nothing) ⊎ (outbox.as_control (controlling.acknowledged_control o.control number) ≡ matched.Control a.command.control)
     at (inl q) = inl (ap (λ (l : List SentControl). outbox.as_control (controlling.control_at l (controlling.position_of number l))) q.1)
     at (inr (t, none, sent, w)) = found (eqb t.command.number number) refl
       where
@@ -285,23 +303,23 @@ abbrev pub in_state : Kind → Peering → Peering
 in_state k p = record p { state = state_of k }
 
 same-in : (k : Kind) (p : Peering) → Same p (in_state k p)
-same-in k p = record { control = refl; senders = refl; patience = refl; estimate = refl }
+same-in k p = record { control = refl; senders = refl; patience = refl; estimate = refl; heard = refl }
 
 -- an acknowledgement
-acknowledgement-stands : (a : Attempt) (now moment channel number time : ℕ) (p : Peering) → AreEmpty p.outbox.senders → Shape a now p.outbox.control → (k : Kind) → is_about k a.command.control ≡ true
+acknowledgement-stands : (G : ℕ → Transmission → Type 0) (a : Attempt) (now moment channel number time : ℕ) (p : Peering) → AreEmpty p.outbox.senders → Shape G a now p.outbox.control → (k : Kind) → is_about k a.command.control ≡ true
     → Stands k p (on_acknowledge (in_state k p) moment channel number time)
-acknowledgement-stands a now moment channel number time p empty shape Asks about = λ h. same-in Asks p
-acknowledgement-stands a now moment channel number time p empty shape Answers about =
+acknowledgement-stands G a now moment channel number time p empty shape Asks about = λ h. same-in Asks p
+acknowledgement-stands G a now moment channel number time p empty shape Answers about =
     let old : Peering = in_state Answers p in
     let gone : Peering = acknowledged old moment channel number time in
-    elim (matches a now p.outbox channel number empty shape) [
+    elim (matches G a now p.outbox channel number empty shape) [
       | inl none ↦ subst (λ m. Stands Answers p (on_match m old gone)) (sym none) (λ h. same-in Answers p)
       | inr own ↦ subst (λ m. Stands Answers p (on_match m old gone)) (sym own) (λ h. absurd (ends-answering a.command.control gone about h))
     ]
-acknowledgement-stands a now moment channel number time p empty shape Leaves about =
+acknowledgement-stands G a now moment channel number time p empty shape Leaves about =
     let old : Peering = in_state Leaves p in
     let gone : Peering = acknowledged old moment channel number time in
-    elim (matches a now p.outbox channel number empty shape) [
+    elim (matches G a now p.outbox channel number empty shape) [
       | inl none ↦ subst (λ m. Stands Leaves p (on_match m old gone)) (sym none) (λ h. same-in Leaves p)
       | inr own ↦ subst (λ m. Stands Leaves p (on_match m old gone)) (sym own) (λ h. absurd (ends-leaving a.command.control gone about h))
     ]
@@ -328,9 +346,9 @@ handshake-alone Answers b = refl
 handshake-alone Leaves b = refl
 
 -- any command
-hears-stands : (a : Attempt) (now moment : ℕ) (sent : Option ℕ) (m : Message) (p : Peering) → AreEmpty p.outbox.senders → Shape a now p.outbox.control → (k : Kind) → is_about k a.command.control ≡ true
+hears-stands : (G : ℕ → Transmission → Type 0) (a : Attempt) (now moment : ℕ) (sent : Option ℕ) (m : Message) (p : Peering) → AreEmpty p.outbox.senders → Shape G a now p.outbox.control → (k : Kind) → is_about k a.command.control ≡ true
     → Stands k p (obeyed (in_state k p) moment sent m).after
-hears-stands a now moment sent m p empty shape k about = by m.body
+hears-stands G a now moment sent m p empty shape k about = by m.body
   where
     old : Peering
     old = in_state k p
@@ -349,7 +367,7 @@ hears-stands a now moment sent m p empty shape k about = by m.body
         inner false h = h
 
     by : (b : Body) → Stands k p (cond (is_connect b) (stopped old stop.BadCommand) (cond (is_allowed (state_of k) b) (effect b) (stopped old stop.NotConnected))).after
-    by (acknowledge number time) = allowed (acknowledge number time) (answers (on_acknowledge old moment m.head.channel number time) (acknowledgement-stands a now moment m.head.channel number time p empty shape k about))
+    by (acknowledge number time) = allowed (acknowledge number time) (answers (on_acknowledge old moment m.head.channel number time) (acknowledgement-stands G a now moment m.head.channel number time p empty shape k about))
     by (connect offer) = λ h. same-in k p
     by (verify_connect v) = allowed (verify_connect v) (answers (on_verify_in (state_of k) old v) (verify-stands k p v))
     by (disconnect info) = allowed (disconnect info) (answers (on_disconnect_in (state_of k) old (m.head.acknowledge && is_some sent) info) (disconnect-stands k p (m.head.acknowledge && is_some sent) info))
@@ -376,10 +394,10 @@ takes-same k p = by p.greeting
 
     packets : (untaken : List Packet) → Same p (after_take old (packet_event old untaken))
     packets [] = last k
-    packets (q ∷ rest) = record { control = refl; senders = refl; patience = refl; estimate = refl }
+    packets (q ∷ rest) = record { control = refl; senders = refl; patience = refl; estimate = refl; heard = refl }
 
     by : (greeting : Option ℕ) → Same p (after_take old (event_after old greeting))
-    by (Some info) = record { control = refl; senders = refl; patience = refl; estimate = refl }
+    by (Some info) = record { control = refl; senders = refl; patience = refl; estimate = refl; heard = refl }
     by None = packets p.inbox.untaken
 
 -- a datagram is put out, which ends nothing here
@@ -391,41 +409,41 @@ waits-on k q e = ap (λ s. gone_on_in s q) e ∙ by k e
     by Answers h = ap (λ s. cond (is_later s && outbox.is_done q.outbox) (disconnecting q q.info) q) h
     by Leaves h = ap (λ s. cond (is_later s && outbox.is_done q.outbox) (disconnecting q q.info) q) h
 
-puts-kept : (a : Attempt) (now : ℕ) (R : Commands → Type 0) (p : Peering) → ((c : Commands) (n : controlling.Next) → controlling.next (now % 2 ^ 32) a.timeout c ≡ Some n → R c → R n.commands) → Lasts a now p → R p.outbox.control
+puts-kept : (G : ℕ → Transmission → Type 0) (a : Attempt) (now : ℕ) (R : Commands → Type 0) (p : Peering) → ((c : Commands) (n : controlling.Next) → controlling.next (now % 2 ^ 32) (wait_of a) c ≡ Some n → R c → R n.commands) → Lasts G a now p → R p.outbox.control
     → Kept R (filled (pace_of p (now % 2 ^ 32)) p.outbox)
-puts-kept a now R p goes l r =
-    kept-filled (pace_of p (now % 2 ^ 32)) p.outbox R (λ c n e h. goes c n (ap (λ w. controlling.next (now % 2 ^ 32) w c) (sym l.wait) ∙ e) h) l.empty r
+puts-kept G a now R p goes l r =
+    kept-filled (pace_of p (now % 2 ^ 32)) p.outbox R (λ c n e h. goes c n (ap (λ w. controlling.next (now % 2 ^ 32) w c) (sym (ap timeout l.estimate)) ∙ e) h) l.empty r
 
-puts-lasts : (a : Attempt) (now : ℕ) (p : Peering) → Lasts a now p → Lasts a now (after_step (now % 2 ^ 32) p PutsOut)
-puts-lasts a now p l =
+puts-lasts : (G : ℕ → Transmission → Type 0) (a : Attempt) {gap : ℕ} (k0 : Course G a gap) (now : ℕ) (p : Peering) → Lasts G a now p → Lasts G a now (after_step (now % 2 ^ 32) p PutsOut)
+puts-lasts G a k0 now p l =
     let f = filled (pace_of p (now % 2 ^ 32)) p.outbox in
     let q : Peering = record p { outbox = f.outbox } in
-    let k = puts-kept a now (λ c. Shape a now c) p (λ c n e h. shape-next a now c n e h) l l.shape in
-    subst (λ (x : Peering). Lasts a now x) (sym (waits-on a.kind q l.state)) (record { state = l.state; empty = k.0; most = l.most; wait = l.wait; shape = k.1 })
+    let k = puts-kept G a now (λ c. Shape G a now c) p (λ c n e h. shape-next G a k0 now c n e h) l l.shape in
+    subst (λ (x : Peering). Lasts G a now x) (sym (waits-on a.kind q l.state)) (record { state = l.state; empty = k.0; patience = l.patience; estimate = l.estimate; heard = l.heard; shape = k.1 })
 
 -- a step keeps what holds while the attempt lasts
-step-lasts : (a : Attempt) (now : ℕ) (p : Peering) (step : Step) → Lasts a now p → (after_step (now % 2 ^ 32) p step).state ≡ state_of a.kind → Lasts a now (after_step (now % 2 ^ 32) p step)
-step-lasts a now p step l e = by step e
+step-lasts : (G : ℕ → Transmission → Type 0) (a : Attempt) {gap : ℕ} (k0 : Course G a gap) (now : ℕ) (p : Peering) (step : Step) → Lasts G a now p → (after_step (now % 2 ^ 32) p step).state ≡ state_of a.kind → Lasts G a now (after_step (now % 2 ^ 32) p step)
+step-lasts G a k0 now p step l e = by step e
   where
     at : in_state a.kind p ≡ p
     at = ap (λ s. record p { state = s }) (sym l.state)
 
-    by : (step : Step) → (after_step (now % 2 ^ 32) p step).state ≡ state_of a.kind → Lasts a now (after_step (now % 2 ^ 32) p step)
+    by : (step : Step) → (after_step (now % 2 ^ 32) p step).state ≡ state_of a.kind → Lasts G a now (after_step (now % 2 ^ 32) p step)
     by (Hears sent m) h =
-        let stands : Stands a.kind p (obeyed p (now % 2 ^ 32) sent m).after = subst (λ (x : Peering). Stands a.kind p (obeyed x (now % 2 ^ 32) sent m).after) at (hears-stands a now (now % 2 ^ 32) sent m p l.empty l.shape a.kind a.about) in
-        same-lasts a now p (obeyed p (now % 2 ^ 32) sent m).after (stands h) h l
-    by PutsOut h = puts-lasts a now p l
-    by Takes h = same-lasts a now p (after_take p (next_event p)) (subst (λ (x : Peering). Same p (after_take x (next_event x))) at (takes-same a.kind p)) h l
+        let stands : Stands a.kind p (obeyed p (now % 2 ^ 32) sent m).after = subst (λ (x : Peering). Stands a.kind p (obeyed x (now % 2 ^ 32) sent m).after) at (hears-stands G a now (now % 2 ^ 32) sent m p l.empty l.shape a.kind a.about) in
+        same-lasts G a now p (obeyed p (now % 2 ^ 32) sent m).after (stands h) h l
+    by PutsOut h = puts-lasts G a k0 now p l
+    by Takes h = same-lasts G a now p (after_take p (next_event p)) (subst (λ (x : Peering). Same p (after_take x (next_event x))) at (takes-same a.kind p)) h l
 
 stays-state : (s : PeerState) (moment : ℕ) (steps : List Step) (p q : Peering) → Stays s moment steps p q → p.state ≡ s
 stays-state s moment [] p q h = h.0
 stays-state s moment (step ∷ steps) p q h = h.0
 
-stays-lasts : (a : Attempt) (now : ℕ) (steps : List Step) (p q : Peering) → Lasts a now p → Stays (state_of a.kind) (now % 2 ^ 32) steps p q → Lasts a now q
-stays-lasts a now [] p q l h = subst (λ (x : Peering). Lasts a now x) h.1 l
-stays-lasts a now (step ∷ steps) p q l h =
+stays-lasts : (G : ℕ → Transmission → Type 0) (a : Attempt) {gap : ℕ} (k0 : Course G a gap) (now : ℕ) (steps : List Step) (p q : Peering) → Lasts G a now p → Stays (state_of a.kind) (now % 2 ^ 32) steps p q → Lasts G a now q
+stays-lasts G a k0 now [] p q l h = subst (λ (x : Peering). Lasts G a now x) h.1 l
+stays-lasts G a k0 now (step ∷ steps) p q l h =
     let r = after_step (now % 2 ^ 32) p step in
-    stays-lasts a now steps r q (step-lasts a now p step l (stays-state (state_of a.kind) (now % 2 ^ 32) steps r q h.1)) h.1
+    stays-lasts G a k0 now steps r q (step-lasts G a k0 now p step l (stays-state (state_of a.kind) (now % 2 ^ 32) steps r q h.1)) h.1
 
 -- a moment comes
 or-left : (x y : Bool) → (x || y) ≡ false → x ≡ false
@@ -446,38 +464,41 @@ unpinged k q n e = by k e
     by Leaves h = ap (λ s. cond (is_connected s && outbox.is_quiet q.outbox && leb q.ping_interval (elapsed_time n q.heard)) (record q { outbox = outbox.with_control q.outbox control.Ping }) q) h
 
 -- what is to be shown of channel 0xFF for it
-record Marked (a : Attempt) (now : ℕ) (p : Peering) : Type 0 where
-  resent : (bound : ℕ) → has_ended p.outbox (now % 2 ^ 32) p.patience p.heard ≡ false → Shape a now (controlling.with_marked bound (now % 2 ^ 32) p.outbox.control)
-  rests : has_ended p.outbox (now % 2 ^ 32) p.patience p.heard ≡ false → has_late p.outbox (now % 2 ^ 32) ≡ false → Shape a now p.outbox.control
+record Marked (G : ℕ → Transmission → Type 0) (a : Attempt) (now : ℕ) (p : Peering) : Type 0 where
+  resent : has_ended p.outbox (now % 2 ^ 32) p.patience p.heard ≡ false → Shape G a now (controlling.with_marked (bound_of a) (now % 2 ^ 32) p.outbox.control)
+  rests : has_ended p.outbox (now % 2 ^ 32) p.patience p.heard ≡ false → has_late p.outbox (now % 2 ^ 32) ≡ false → Shape G a now p.outbox.control
 
-tick-lasts : (a : Attempt) (now : ℕ) (p : Peering) → p.state ≡ state_of a.kind → AreEmpty p.outbox.senders → p.patience.maximum ≡ a.most → timeout p.estimate ≡ a.timeout → Marked a now p
-    → (ticked p (now % 2 ^ 32)).state ≡ state_of a.kind → Lasts a now (ticked p (now % 2 ^ 32))
-tick-lasts a now p at empty most wait k = go (has_ended p.outbox n p.patience p.heard) refl (has_late p.outbox n) refl
+tick-lasts : (G : ℕ → Transmission → Type 0) (a : Attempt) (now : ℕ) (p : Peering) → p.state ≡ state_of a.kind → AreEmpty p.outbox.senders → p.patience ≡ a.patience → p.estimate ≡ a.estimate → p.heard ≡ a.heard → Marked G a now p
+    → (ticked p (now % 2 ^ 32)).state ≡ state_of a.kind → Lasts G a now (ticked p (now % 2 ^ 32))
+tick-lasts G a now p at empty patience estimate heard k = go (has_ended p.outbox n p.patience p.heard) refl (has_late p.outbox n) refl
   where
     n : ℕ
     n = now % 2 ^ 32
 
+    bound : growth_bound p ≡ bound_of a
+    bound = ap (λ (x : Estimate). cond (x.sampled || is_answering p.state) 1000 4294967295) estimate ∙ ap (λ s. cond (a.estimate.sampled || is_answering s) 1000 4294967295) at
+
     go : (e : Bool) → has_ended p.outbox n p.patience p.heard ≡ e → (late : Bool) → has_late p.outbox n ≡ late → (pinged (after_timeouts_by (cond e End (cond late Resend No)) p n) n).state ≡ state_of a.kind
-        → Lasts a now (pinged (after_timeouts_by (cond e End (cond late Resend No)) p n) n)
+        → Lasts G a now (pinged (after_timeouts_by (cond e End (cond late Resend No)) p n) n)
     go true e late f h = absurd (cut-ends a.kind p n (subst (λ s. (pinged (cut_off_in s p) n).state ≡ state_of a.kind) at h))
     go false e true f h =
         let q : Peering = record p { outbox = outbox.marked p.outbox (growth_bound p) n } in
-        subst (λ (x : Peering). Lasts a now x) (sym (unpinged a.kind q n at))
-        (record { state = at; empty = empty-marked (growth_bound p) n p.outbox.senders empty; most = most; wait = wait; shape = k.resent (growth_bound p) e })
-    go false e false f h = subst (λ (x : Peering). Lasts a now x) (sym (unpinged a.kind p n at)) (record { state = at; empty = empty; most = most; wait = wait; shape = k.rests e f })
+        subst (λ (x : Peering). Lasts G a now x) (sym (unpinged a.kind q n at))
+        (record { state = at; empty = empty-marked (growth_bound p) n p.outbox.senders empty; patience = patience; estimate = estimate; heard = heard; shape = subst (λ b. Shape G a now (controlling.with_marked b n p.outbox.control)) (sym bound) (k.resent e) })
+    go false e false f h = subst (λ (x : Peering). Lasts G a now x) (sym (unpinged a.kind p n at)) (record { state = at; empty = empty; patience = patience; estimate = estimate; heard = heard; shape = k.rests e f })
 
 -- before the first turn it is queued
-first-marked : (a : Attempt) (p : Peering) → p.outbox.control.queued ≡ a.command ∷ [] → p.outbox.control.sent ≡ [] → Marked a a.first p
-first-marked a p queued none = record {
-  resent = λ bound e. inl (queued, ap (map (controlling.marked bound (a.first % 2 ^ 32))) none, refl);
+first-marked : (G : ℕ → Transmission → Type 0) (a : Attempt) (p : Peering) → p.outbox.control.queued ≡ a.command ∷ [] → p.outbox.control.sent ≡ [] → Marked G a a.first p
+first-marked G a p queued none = record {
+  resent = λ e. inl (queued, ap (map (controlling.marked (bound_of a) (a.first % 2 ^ 32))) none, refl);
   rests = λ e f. inl (queued, none, refl);
 }
 
 -- later it waits, and where it waited out its timeout it is due to go again, or patience is over
-later-marked : (a : Attempt) (before now gap : ℕ) (p : Peering) → Rests a before p.outbox.control → p.patience.maximum ≡ a.most → before ≤ now → now ≤ before + gap → a.timeout + 2 * a.most + gap < 2 ^ 32 → Marked a now p
-later-marked a before now gap p r most up down near = record {
-  resent = λ bound e. inr (controlling.marked bound n t, r.queued, ap (map (controlling.marked bound n)) r.alone, (r.went.0, goes bound e));
-  rests = λ e f. inr (t, r.queued, r.alone, (r.went.0, subst (λ (x : Transmission). Timed a.first a.timeout a.most now x) (stays f) (goes 0 e)));
+later-marked : (G : ℕ → Transmission → Type 0) (a : Attempt) (before now gap : ℕ) (p : Peering) → Course G a gap → Rests G a before p.outbox.control → p.patience ≡ a.patience → p.heard ≡ a.heard → before ≤ now → now ≤ before + gap → Marked G a now p
+later-marked G a before now gap p k0 r patience heard up down = record {
+  resent = λ e. inr (controlling.marked (bound_of a) n t, r.queued, ap (map (controlling.marked (bound_of a) n)) r.alone, (r.went.0, goes e));
+  rests = λ e f. inr (t, r.queued, r.alone, (r.went.0, subst (λ (x : Transmission). G now x) (stays f) (goes e)));
 }
   where
     n : ℕ
@@ -486,97 +507,118 @@ later-marked a before now gap p r most up down near = record {
     t : SentControl
     t = r.sent
 
-    w : Timed a.first a.timeout a.most before t.transmission
-    w = r.went.1
-
-    close : now < a.first + 2 ^ 32
-    close = let x = w.in_time in omega arith
-
     -- nothing is late: it stays as it was
-    stays : has_late p.outbox n ≡ false → transmission.marked 0 n t.transmission ≡ t.transmission
+    stays : has_late p.outbox n ≡ false → transmission.marked (bound_of a) n t.transmission ≡ t.transmission
     stays f =
         let first : (transmission.is_late n t.transmission || false) ≡ false = ap (list_any (controlling.is_late n)) (sym r.alone) ∙ or-left (list_any (controlling.is_late n) p.outbox.control.sent) _ f in
-        ap (λ b. cond b (record t.transmission { timeout = transmission.grown_time 0 t.transmission.timeout; due = true }) t.transmission) (or-left (transmission.is_late n t.transmission) false first)
+        ap (λ b. cond b (record t.transmission { timeout = transmission.grown_time (bound_of a) t.transmission.timeout; due = true }) t.transmission) (or-left (transmission.is_late n t.transmission) false first)
 
-    patient : has_ended p.outbox n p.patience p.heard ≡ false → transmission.is_late n t.transmission ≡ true → leb a.most (elapsed_time n t.transmission.first) ≡ false
-    patient e is_late =
+    not_ended : has_ended p.outbox n p.patience p.heard ≡ false → transmission.ends n a.patience a.heard t.transmission ≡ false
+    not_ended e =
         let first : (transmission.ends n p.patience p.heard t.transmission || false) ≡ false = ap (list_any (controlling.ends n p.patience p.heard)) (sym r.alone) ∙ or-left (list_any (controlling.ends n p.patience p.heard) p.outbox.control.sent) _ e in
-        let not_ended : transmission.ends n p.patience p.heard t.transmission ≡ false = or-left (transmission.ends n p.patience p.heard t.transmission) false first in
-        ap (λ m. leb m (elapsed_time n t.transmission.first)) (sym most)
-        ∙ or-left (leb p.patience.maximum (elapsed_time n t.transmission.first)) _ (ap (λ b. b && gives_up p.patience n p.heard t.transmission) (sym is_late) ∙ not_ended)
+        ap (λ x. transmission.ends n x a.heard t.transmission) (sym patience) ∙ ap (λ x. transmission.ends n p.patience x t.transmission) (sym heard)
+        ∙ or-left (transmission.ends n p.patience p.heard t.transmission) false first
 
-    goes : (bound : ℕ) → has_ended p.outbox n p.patience p.heard ≡ false → Timed a.first a.timeout a.most now (transmission.marked bound n t.transmission)
-    goes bound e = timed-marked a.first a.timeout a.most before now bound t.transmission w r.waits up close (patient e)
+    goes : has_ended p.outbox n p.patience p.heard ≡ false → G now (transmission.marked (bound_of a) n t.transmission)
+    goes e = k0.marks before now t.transmission r.went.1 r.waits up down (not_ended e)
 
 -- at the end of a turn nothing is left to be put out, so the command waits
-record Rested (a : Attempt) (now : ℕ) (p : Peering) : Type 0 where
-  lasts : Lasts a now p
-  rests : Rests a now p.outbox.control
+record Rested (G : ℕ → Transmission → Type 0) (a : Attempt) (now : ℕ) (p : Peering) : Type 0 where
+  lasts : Lasts G a now p
+  rests : Rests G a now p.outbox.control
 
-rests-left : (a : Attempt) (now : ℕ) (c : Commands) → controlling.next (now % 2 ^ 32) a.timeout c ≡ None → Shape a now c → Rests a now c
-rests-left a now c none (inl q) =
-    absurd (let f : None ≡ Some _ = sym none ∙ next-first (now % 2 ^ 32) a.timeout c a.command q.0 q.1 (reliable-about a.kind a.command.control a.about) in cc)
-rests-left a now c none (inr (t, queued, sent, w)) = by t.transmission.due refl
+rests-left : (G : ℕ → Transmission → Type 0) (a : Attempt) (now : ℕ) (c : Commands) → controlling.next (now % 2 ^ 32) (wait_of a) c ≡ None → Shape G a now c → Rests G a now c
+rests-left G a now c none (inl q) =
+    absurd (let f : None ≡ Some _ = sym none ∙ next-first (now % 2 ^ 32) (wait_of a) c a.command q.0 q.1 (reliable-about a.kind a.command.control a.about) in cc)
+rests-left G a now c none (inr (t, queued, sent, w)) = by t.transmission.due refl
   where
-    by : (b : Bool) → t.transmission.due ≡ b → Rests a now c
+    by : (b : Bool) → t.transmission.due ≡ b → Rests G a now c
     by false k = record { sent = t; queued = queued; alone = sent; went = w; waits = k }
-    by true k = absurd (let f : None ≡ Some _ = sym none ∙ next-again (now % 2 ^ 32) a.timeout c t sent k in cc)
+    by true k = absurd (let f : None ≡ Some _ = sym none ∙ next-again (now % 2 ^ 32) (wait_of a) c t sent k in cc)
 
-turn-rests : (a : Attempt) (now : ℕ) (p q : Peering) → ((ticked p (now % 2 ^ 32)).state ≡ state_of a.kind → Lasts a now (ticked p (now % 2 ^ 32))) → Turn (state_of a.kind) now p q → Rested a now q
-turn-rests a now p q first turn = subst (λ (x : Peering). Rested a now x) (sym turn.after) (subst (λ (x : Peering). Rested a now x) (sym (waits-on a.kind r l.state)) (record {
-  lasts = record { state = l.state; empty = kept.0; most = l.most; wait = l.wait; shape = (let k = kept.1 in inr (k.sent, k.queued, k.alone, k.went)) };
+turn-rests : (G : ℕ → Transmission → Type 0) (a : Attempt) {gap : ℕ} (k0 : Course G a gap) (now : ℕ) (p q : Peering) → ((ticked p (now % 2 ^ 32)).state ≡ state_of a.kind → Lasts G a now (ticked p (now % 2 ^ 32))) → Turn (state_of a.kind) now p q → Rested G a now q
+turn-rests G a k0 now p q first turn = subst (λ (x : Peering). Rested G a now x) (sym turn.after) (subst (λ (x : Peering). Rested G a now x) (sym (waits-on a.kind r l.state)) (record {
+  lasts = record { state = l.state; empty = kept.0; patience = l.patience; estimate = l.estimate; heard = l.heard; shape = (let k = kept.1 in inr (k.sent, k.queued, k.alone, k.went)) };
   rests = kept.1;
 }))
   where
     n : ℕ
     n = now % 2 ^ 32
 
-    l : Lasts a now turn.last
-    l = stays-lasts a now turn.steps (ticked p n) turn.last (first (stays-state (state_of a.kind) n turn.steps (ticked p n) turn.last turn.stays)) turn.stays
+    l : Lasts G a now turn.last
+    l = stays-lasts G a k0 now turn.steps (ticked p n) turn.last (first (stays-state (state_of a.kind) n turn.steps (ticked p n) turn.last turn.stays)) turn.stays
 
     r : Peering
     r = record turn.last { outbox = (filled (pace_of turn.last n) turn.last.outbox).outbox }
 
-    none : controlling.next n a.timeout turn.last.outbox.control ≡ None
-    none = ap (λ w. controlling.next n w turn.last.outbox.control) (sym l.wait) ∙ nothing-left (pace_of turn.last n) turn.last.outbox (wide (min turn.last.terms.mtu 4096)) turn.spent
+    none : controlling.next n (wait_of a) turn.last.outbox.control ≡ None
+    none = ap (λ w. controlling.next n w turn.last.outbox.control) (sym (ap timeout l.estimate)) ∙ nothing-left (pace_of turn.last n) turn.last.outbox (wide (min turn.last.terms.mtu 4096)) turn.spent
       where
         wide : (m : ℕ) → 576 ≤ max 576 m
         wide m = grind arith
 
-    kept : Kept (λ c. Rests a now c) (filled (pace_of turn.last n) turn.last.outbox)
-    kept = puts-kept a now (λ c. Rests a now c) turn.last (λ c x e k. absurd (let f : Some x ≡ None = sym e ∙ next-waits n a.timeout c k.sent k.queued k.alone k.waits in cc)) l (rests-left a now turn.last.outbox.control none l.shape)
+    kept : Kept (λ c. Rests G a now c) (filled (pace_of turn.last n) turn.last.outbox)
+    kept = puts-kept G a now (λ c. Rests G a now c) turn.last (λ c x e k. absurd (let f : Some x ≡ None = sym e ∙ next-waits n (wait_of a) c k.sent k.queued k.alone k.waits in cc)) l (rests-left G a now turn.last.outbox.control none l.shape)
 
 -- turn after turn
-turns-last : (a : Attempt) (gap : ℕ) (moments : List ℕ) (now : ℕ) (p q : Peering) → a.timeout + 2 * a.most + gap < 2 ^ 32 → ((r : Peering) → Turn (state_of a.kind) now p r → Rested a now r) → Turns (state_of a.kind) gap now p moments q
-    → last_of now moments ≤ a.first + a.timeout + 2 * a.most
-turns-last a gap [] now p q near first turn = (first q turn).rests.went.1.in_time
-turns-last a gap (next ∷ later) now p q near first (r, turn, up, down, rest) =
+turns-last : (G : ℕ → Transmission → Type 0) (a : Attempt) (gap : ℕ) → Course G a gap → (moments : List ℕ) (now : ℕ) (p q : Peering) → ((r : Peering) → Turn (state_of a.kind) now p r → Rested G a now r) → Turns (state_of a.kind) gap now p moments q
+    → Rested G a (last_of now moments) q
+turns-last G a gap k0 [] now p q first turn = first q turn
+turns-last G a gap k0 (next ∷ later) now p q first (r, turn, up, down, rest) =
     let k = first r turn in
-    turns-last a gap later next r q near
-    (λ x t. turn-rests a next r x (λ e. tick-lasts a next r k.lasts.state k.lasts.empty k.lasts.most k.lasts.wait (later-marked a now next gap r k.rests k.lasts.most up down near) e) t)
+    turns-last G a gap k0 later next r q
+    (λ x t. turn-rests G a k0 next r x (λ e. tick-lasts G a next r k.lasts.state k.lasts.empty k.lasts.patience k.lasts.estimate k.lasts.heard (later-marked G a now next gap r k0 k.rests k.lasts.patience k.lasts.heard up down) e) t)
     rest
 
 -- a peer of which channel 0xFF has its command queued, alone, and no channel anything
-record Begins (k : Kind) (p : Peering) : Type 0 where
-  state : p.state ≡ state_of k
-  empty : AreEmpty p.outbox.senders
-  command : Numbered
-  queued : p.outbox.control.queued ≡ command ∷ []
-  none : p.outbox.control.sent ≡ []
-  about : is_about k command.control ≡ true
+pub record Begins (k : Kind) (p : Peering) : Type 0 where
+  pub state : p.state ≡ state_of k
+  pub empty : AreEmpty p.outbox.senders
+  pub command : Numbered
+  pub queued : p.outbox.control.queued ≡ command ∷ []
+  pub none : p.outbox.control.sent ≡ []
+  pub about : is_about k command.control ≡ true
+
+-- the attempt that it begins at this moment, and the command as it goes at the end of a turn
+abbrev pub attempt_of : (k : Kind) (p : Peering) → Begins k p → ℕ → Attempt
+attempt_of k p b now = record { kind = k; command = b.command; first = now; patience = p.patience; estimate = p.estimate; heard = p.heard; about = b.about }
+
+pub begun-goes : (G : ℕ → Transmission → Type 0) (k : Kind) (p : Peering) (b : Begins k p) (gap now : ℕ) (moments : List ℕ) (q : Peering) → Course G (attempt_of k p b now) gap → Turns (state_of k) gap now p moments q
+    → (t : Transmission) × (t.due ≡ false) × G (last_of now moments) t
+begun-goes G k p b gap now moments q k0 turns =
+    let a : Attempt = attempt_of k p b now in
+    let last = turns-last G a gap k0 moments now p q (λ r t. turn-rests G a k0 now p r (λ e. tick-lasts G a now p b.state b.empty refl refl refl (first-marked G a p b.queued b.none) e) t) turns in
+    let r = last.rests in
+    (r.sent.transmission, r.waits, r.went.1)
+
+-- a timeout grows no faster than the time since the first send
+timed-course : (a : Attempt) (gap : ℕ) → wait_of a + 2 * a.patience.maximum + gap < 2 ^ 32 → Course (Timed a.first (wait_of a) a.patience.maximum) a gap
+timed-course a gap near = record {
+  begins = timed-begun a.first (wait_of a) (wait_of a) a.patience.maximum (omega arith);
+  again = λ now t w due. timed-again a.first (wait_of a) a.patience.maximum now t w due;
+  marks = λ before now t w waits up down not_ended. timed-marked a.first (wait_of a) a.patience.maximum before now (bound_of a) t w waits up (let x = w.in_time in omega arith)
+      (λ late. or-left (leb a.patience.maximum (elapsed_time (now % 2 ^ 32) t.first)) _ (ap (λ b. b && gives_up a.patience (now % 2 ^ 32) a.heard t) (sym late) ∙ not_ended));
+}
 
 begun-lasts : (k : Kind) (p : Peering) → Begins k p → LastsAtMost (state_of k) p (timeout p.estimate + 2 * p.patience.maximum)
 begun-lasts k p b gap now moments q near turns =
-    let last = turns-last a gap moments now p q near (λ r t. turn-rests a now p r (λ e. tick-lasts a now p b.state b.empty refl refl (first-marked a p b.queued b.none) e) t) turns in omega arith
-  where
-    a : Attempt
-    a = record { kind = k; command = b.command; first = now; timeout = timeout p.estimate; most = p.patience.maximum; about = b.about }
+    let a : Attempt = attempt_of k p b now in
+    let last = begun-goes (Timed a.first (wait_of a) a.patience.maximum) k p b gap now moments q (timed-course a gap near) turns in
+    let w = last.2 in
+    let x = w.in_time in
+    omega arith
+
+pub asking : (start : ℕ) (offer : Offer) (limits : Limits) → Begins Asks (connecting start offer limits)
+asking start offer limits = record { state = refl; empty = empty-new 0 _; command = _; queued = refl; none = refl; about = refl }
+
+pub replying : (start : ℕ) (offer : Offer) (server : Server) (limits : Limits) → Begins Answers (answering start offer server limits)
+replying start offer server limits = record { state = refl; empty = empty-new 0 _; command = _; queued = refl; none = refl; about = refl }
 
 pub asking-ends : (start : ℕ) (offer : Offer) (limits : Limits) → LastsAtMost state.Connecting (connecting start offer limits) 60500
-asking-ends start offer limits = begun-lasts Asks (connecting start offer limits) (record { state = refl; empty = empty-new 0 _; command = _; queued = refl; none = refl; about = refl })
+asking-ends start offer limits = begun-lasts Asks (connecting start offer limits) (asking start offer limits)
 
 pub answering-ends : (start : ℕ) (offer : Offer) (server : Server) (limits : Limits) → LastsAtMost state.Answering (answering start offer server limits) 60500
-answering-ends start offer server limits = begun-lasts Answers (answering start offer server limits) (record { state = refl; empty = empty-new 0 _; command = _; queued = refl; none = refl; about = refl })
+answering-ends start offer server limits = begun-lasts Answers (answering start offer server limits) (replying start offer server limits)
 
 pub leaving-ends : (p : Peering) (info : ℕ) → LastsAtMost state.Disconnecting (disconnecting p info) (timeout p.estimate + 2 * p.patience.maximum)
 leaving-ends p info = begun-lasts Leaves (disconnecting p info) (record { state = refl; empty = empty-cleared p.outbox.senders; command = _; queued = refl; none = refl; about = refl })

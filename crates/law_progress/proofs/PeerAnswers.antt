@@ -33,7 +33,7 @@ use Rattle.law_connection.specs.Link.{PutOut, is_late}
 use Rattle.law_connection.specs.LinkSteps.{Has}
 use Rattle.law_connection.specs.Connection.{Put, End, Connection, of_channel}
 use Rattle.law_connection.specs.Invariant.{Invariant}
-use Rattle.law_connection.specs.Linked.{IsLinked, sends_in, dispatches_in, sender_in, receiver_in}
+use Rattle.law_connection.specs.Linked.{IsLinked, dispatches_in, receiver_in}
 use Rattle.law_connection.proofs.LinkRuns.{keeps, Sound-runs, Sound-fresh}
 use Rattle.law_connection.specs.LinkSteps as link
 use Rattle.law_progress.specs.Links.{Waits, AreShort}
@@ -78,7 +78,7 @@ same-outcome most r c full reliable = (λ i. cond (is_piece most c && agrees_wit
     at (Some place) = ap (outcome_of r c full place) (same-came r c place reliable)
 
 -- a command that is handled where there is room is stopped for want of room alone
-but-for-room : (most : ℕ) (r : Receiver) (c : DataCommand) (full : Bool) → is_handled (outcome wire most r c false) ≡ true → (is_handled (outcome wire most r c full) ≡ true) ⊎ (outcome wire most r c full ≡ Waiting)
+pub but-for-room : (most : ℕ) (r : Receiver) (c : DataCommand) (full : Bool) → is_handled (outcome wire most r c false) ≡ true → (is_handled (outcome wire most r c full) ≡ true) ⊎ (outcome wire most r c full ≡ Waiting)
 but-for-room most r c full ok = by (is_piece_of_its_packet wire most r c) ok
   where
     at : (o : Option ℕ) → (is_handled (outcome_at r c full o) ≡ true) ⊎ (outcome_at r c full o ≡ Waiting)
@@ -96,7 +96,7 @@ but-for-room most r c full ok = by (is_piece_of_its_packet wire most r c) ok
     by false e = absurd (cc)
 
 -- the receivers once unreliable packets gave way
-given_way-there : (rs : List ReceivingEnd) (i : ℕ) (r : ReceivingEnd) → slice_get rs i ≡ Some r → slice_get (map given_way_receiver rs) i ≡ Some (given_way_receiver r)
+pub given_way-there : (rs : List ReceivingEnd) (i : ℕ) (r : ReceivingEnd) → slice_get rs i ≡ Some r → slice_get (map given_way_receiver rs) i ≡ Some (given_way_receiver r)
 given_way-there [] i r e = absurd (cc)
 given_way-there (x ∷ rs) zero r e = let it : x ≡ r = cc in ap (λ (y : ReceivingEnd). Some (given_way_receiver y)) it
 given_way-there (x ∷ rs) (suc i) r e = given_way-there rs i r e
@@ -210,7 +210,7 @@ peer-answers q now channel time c r connected reliable there reads ok ack room f
         allows m (send_fragment f c.body) refl (obeys m refl refl refl (λ b. ap (sequenced b channel) is))
 
 -- what goes on a channel was submitted
-on-channel : (mtu channel most : ℕ) (qs : List Packet) → ((x : Packet) → Has qs x → length x.body ≤ most) → AreShort most (of_channel mtu channel qs)
+pub on-channel : (mtu channel most : ℕ) (qs : List Packet) → ((x : Packet) → Has qs x → length x.body ≤ most) → AreShort most (of_channel mtu channel qs)
 on-channel mtu channel most [] short x h = absurd h
 on-channel mtu channel most (q ∷ qs) short x h =
     elim (q.channel == channel && not (is_unsequenced mtu (record { flags = q.flags; body = q.body }))) as (λ b. Has (cond b ((record { flags = q.flags; body = q.body }) ∷ of_channel mtu channel qs) (of_channel mtu channel qs)) x → length x.body ≤ most) [
@@ -221,7 +221,7 @@ on-channel mtu channel most (q ∷ qs) short x h =
       | false ↦ λ k. on-channel mtu channel most qs (λ y j. short y (inr j)) x k
     ] h
 
-both-of : (a b : Bool) → (a && b) ≡ true → (a ≡ true) × (b ≡ true)
+pub both-of : (a b : Bool) → (a && b) ≡ true → (a ≡ true) × (b ≡ true)
 both-of true b h = (refl, h)
 both-of false b h = absurd (cc)
 

@@ -89,7 +89,7 @@ controls-push [] q f = ap (λ b. cond b (0 + 1) 0) f
 controls-push (x ∷ xs) q f = ap (λ n. cond x.transmission.due (n + 1) n) (controls-push xs q f)
 
 -- a sender that is asked
-ready-next : (o : Occasion) (s : Sender) (n : Next) → next wire o s ≡ Some n → ready_at n.sender + 1 ≤ ready_at s
+pub ready-next : (o : Occasion) (s : Sender) (n : Next) → next wire o s ≡ Some n → ready_at n.sender + 1 ≤ ready_at s
 ready-next o s n e = go (position (λ (p : Sent). p.transmission.due) s.sent) refl e
   where
     from_queue : (q : List DataCommand) → s.queued ≡ q → next_queued wire o s q ≡ Some n → ready_at n.sender + 1 ≤ ready_at s

@@ -12,7 +12,7 @@ use Rattle.enet_outbox.specs.Outbox as outbox
 use Rattle.enet_peer.specs.declared.parts.PeerState.TheVariants as state
 use Rattle.enet_peer.specs.Endings.{is_later, settled, disconnecting}
 use Rattle.enet_peer.specs.Peering.{Peering}
-use Rattle.enet_peer.specs.CommandEffect.{Outcome, obeyed, is_allowed, stopped, answered, on_acknowledge, on_match, sampled}
+use Rattle.enet_peer.specs.CommandEffect.{obeyed, is_allowed, stopped, answered, on_acknowledge, on_match, sampled}
 use Rattle.enet_peer.specs.CommandEffect as effect
 use Rattle.law_connection.specs.LinkSteps.{Has}
 use Rattle.law_progress.specs.Peers.{IsRemoved}

@@ -109,7 +109,7 @@ unsequenced-goes pace k f big g = by f.outbox.unsequenced refl g
         ])
 
 -- where nothing waits for its acknowledgement, no bytes are in transit
-no-transit : (senders : List SendingEnd) → AreQuiet senders → sum_by (λ (s : SendingEnd). bytes_in_transit s.sender) senders ≡ 0
+pub no-transit : (senders : List SendingEnd) → AreQuiet senders → sum_by (λ (s : SendingEnd). bytes_in_transit s.sender) senders ≡ 0
 no-transit [] quiet = refl
 no-transit (s ∷ rest) quiet =
     let own : bytes_in_transit s.sender ≡ 0 = ap (λ (l : List Sent). sum_by (λ (p : Sent). length p.command.body) l) (quiet 0 s refl) in
@@ -118,7 +118,7 @@ no-transit (s ∷ rest) quiet =
     omega arith
 
 -- so the head of each queue may go
-head-due : (o : Occasion) (s : Sender) (c : DataCommand) (rest : List DataCommand) → s.sent ≡ [] → s.queued ≡ c ∷ rest → o.transit + length c.body ≤ o.most → next wire o s ≡ Some (first_sent o.now o.timeout s c rest)
+pub head-due : (o : Occasion) (s : Sender) (c : DataCommand) (rest : List DataCommand) → s.sent ≡ [] → s.queued ≡ c ∷ rest → o.transit + length c.body ≤ o.most → next wire o s ≡ Some (first_sent o.now o.timeout s c rest)
 head-due o s c rest none queued small =
     let size : leb (o.transit + length c.body) o.most ≡ true = le-leb (o.transit + length c.body) o.most small in
     let may : may_go wire s.sent o.transit o.most c ≡ true = ap (λ l. may_go wire l o.transit o.most c) none ∙ (λ i. not c.reliable || (true && size i)) ∙ or_true (not c.reliable) in
@@ -134,7 +134,7 @@ pub none-due : (o : Occasion) (s : Sender) → s.sent ≡ [] → s.queued ≡ []
 none-due o s none queued = ap (λ (l : List Sent). next_of wire o s (position (λ (p : Sent). p.transmission.due) l)) none ∙ ap (next_queued wire o s) queued
 
 -- lists in which one place was set
-get-set : {X : Type 0} (xs : List X) (i j : ℕ) (x y : X) → slice_get (slice_set xs i x) j ≡ Some y → ((i ≡ j) × (x ≡ y)) ⊎ ((i ≢ j) × (slice_get xs j ≡ Some y))
+pub get-set : {X : Type 0} (xs : List X) (i j : ℕ) (x y : X) → slice_get (slice_set xs i x) j ≡ Some y → ((i ≡ j) × (x ≡ y)) ⊎ ((i ≢ j) × (slice_get xs j ≡ Some y))
 get-set [] i j x y e = absurd (cc)
 get-set (z ∷ zs) zero zero x y e = inl (refl, (cc))
 get-set (z ∷ zs) zero (suc j) x y e = inr ((λ f. absurd (omega arith)), e)
@@ -144,7 +144,7 @@ get-set (z ∷ zs) (suc i) (suc j) x y e = elim (get-set zs i j x y e) [
   | inr w ↦ inr ((λ f. w.0 (omega arith)), w.1)
 ]
 
-set-other : {X : Type 0} (xs : List X) (i j : ℕ) (x y : X) → i ≢ j → slice_get xs j ≡ Some y → slice_get (slice_set xs i x) j ≡ Some y
+pub set-other : {X : Type 0} (xs : List X) (i j : ℕ) (x y : X) → i ≢ j → slice_get xs j ≡ Some y → slice_get (slice_set xs i x) j ≡ Some y
 set-other [] i j x y apart e = absurd (cc)
 set-other (z ∷ zs) zero zero x y apart e = absurd (apart refl)
 set-other (z ∷ zs) zero (suc j) x y apart e = e
@@ -156,7 +156,7 @@ set-same [] i x y e = absurd (cc)
 set-same (z ∷ zs) zero x y e = refl
 set-same (z ∷ zs) (suc i) x y e = set-same zs i x y e
 
-same-number : (i j : ℕ) → (i ≡ j) ⊎ (i ≢ j)
+pub same-number : (i j : ℕ) → (i ≡ j) ⊎ (i ≢ j)
 same-number i j = elim (eqb i j) as (λ b. eqb i j ≡ b → (i ≡ j) ⊎ (i ≢ j)) [ true ↦ λ t. inl (is i j t) | false ↦ λ t. inr (isnt i j t) ] refl
   where
     is : (m n : ℕ) → eqb m n ≡ true → m ≡ n
@@ -166,14 +166,14 @@ same-number i j = elim (eqb i j) as (λ b. eqb i j ≡ b → (i ≡ j) ⊎ (i �
     isnt m n t = grind (arith, nat_tests)
 
 -- what is skipped is unreliable
-Has-skipped : (cs : List DataCommand) (c : DataCommand) → Has (skipped cs) c → Has cs c
+pub Has-skipped : (cs : List DataCommand) (c : DataCommand) → Has (skipped cs) c → Has cs c
 Has-skipped [] c h = absurd h
 Has-skipped (x ∷ cs) c h = elim (is_more x) as (λ b. Has (cond b (skipped cs) (x ∷ cs)) c → Has (x ∷ cs) c) [
   | true ↦ λ k. inr (Has-skipped cs c k)
   | false ↦ λ k. k
 ] h
 
-skips-unreliable : (cs : List DataCommand) (c : DataCommand) → Has cs c → c.reliable ≡ true → Has (skipped cs) c
+pub skips-unreliable : (cs : List DataCommand) (c : DataCommand) → Has cs c → c.reliable ≡ true → Has (skipped cs) c
 skips-unreliable [] c h r = absurd h
 skips-unreliable (x ∷ cs) c h r = elim (is_more x) as (λ b. is_more x ≡ b → Has (cond b (skipped cs) (x ∷ cs)) c) [
   | true ↦ λ t. later h t (λ k. skips-unreliable cs c k r)
@@ -370,12 +370,12 @@ Has-map f [] x h = absurd h
 Has-map f (y ∷ xs) x (inl e) = inl (ap f e)
 Has-map f (y ∷ xs) x (inr h) = inr (Has-map f xs x h)
 
-below-length : {X : Type 0} (xs : List X) (k : ℕ) (x : X) → slice_get xs k ≡ Some x → k < length xs
+pub below-length : {X : Type 0} (xs : List X) (k : ℕ) (x : X) → slice_get xs k ≡ Some x → k < length xs
 below-length [] k x e = absurd (cc)
 below-length (y ∷ ys) zero x e = omega arith
 below-length (y ∷ ys) (suc k) x e = let z = below-length ys k x e in omega arith
 
-in-order : (base n k : ℕ) → k < n → Has (map (λ turn. (base + turn) % n) (range_with_len 0 n)) k
+pub in-order : (base n k : ℕ) → k < n → Has (map (λ turn. (base + turn) % n) (range_with_len 0 n)) k
 in-order base n k low = go (leb (base % n) k) refl
   where
     whole : base / n * n + base % n ≡ base

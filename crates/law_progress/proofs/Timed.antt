@@ -30,13 +30,13 @@ timed-again first wait most now t w due = by w.grown
         let grown = k.1 in
         record { last = now; first_is = w.first_is; last_is = refl; after = omega arith; by = omega arith; brief = k.2; in_time = w.in_time; grown = inl (refl, k.1, omega arith) }
 
-elapsed-is : (since now : ℕ) → since ≤ now → now < since + 2 ^ 32 → elapsed_time (now % 2 ^ 32) (since % 2 ^ 32) ≡ now - since
+pub elapsed-is : (since now : ℕ) → since ≤ now → now < since + 2 ^ 32 → elapsed_time (now % 2 ^ 32) (since % 2 ^ 32) ≡ now - since
 elapsed-is since now low high = omega arith
 
-le-of : (m n : ℕ) → leb m n ≡ true → m ≤ n
+pub le-of : (m n : ℕ) → leb m n ≡ true → m ≤ n
 le-of m n e = grind (arith, nat_tests)
 
-lt-of : (m n : ℕ) → leb m n ≡ false → n < m
+pub lt-of : (m n : ℕ) → leb m n ≡ false → n < m
 lt-of m n e = grind (arith, nat_tests)
 
 at-most-twice : (bound t : ℕ) → transmission.grown_time bound t ≤ 2 * t

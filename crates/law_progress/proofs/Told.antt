@@ -26,10 +26,10 @@ use Rattle.law_progress.specs.Attempts.{Step, Hears, PutsOut, Takes, after_step,
 use Rattle.law_progress.proofs.Attempts.{Kind, Asks, Answers, Leaves, state_of, in_state, handshake-alone, waits-on, unpinged}
 
 -- a Connect event waits, or a Disconnect event is to be taken, or the peer is free
-abbrev Tells : Peering → Type 0
+abbrev pub Tells : Peering → Type 0
 Tells q = ((info : ℕ) × (q.greeting ≡ Some info)) ⊎ ((q.state ≡ state.Ended) ⊎ (q.state ≡ state.Free))
 
-told-by : (q : Peering) → Tells q → IsTold q
+pub told-by : (q : Peering) → Tells q → IsTold q
 told-by q (inl c) = inl (_, ap (event_after q) c.1)
 told-by q (inr (inr free)) = inr free
 told-by q (inr (inl ended)) = inl (greets q.greeting refl)

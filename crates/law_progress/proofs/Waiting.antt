@@ -53,30 +53,30 @@ use Rattle.law_progress.specs.Waits.{Deed, Lives, Submits, Leaves, after_leave, 
 use Rattle.law_progress.proofs.PutsOut.{found-passes}
 use Rattle.law_progress.proofs.Timed.{Timed, timed-begun, timed-again, timed-marked, timed-elapsed}
 
-or-both : (a b : Bool) → (a || b) ≡ false → (a ≡ false) × (b ≡ false)
+pub or-both : (a b : Bool) → (a || b) ≡ false → (a ≡ false) × (b ≡ false)
 or-both true b e = absurd (cc)
 or-both false b e = (refl, e)
 
 -- members of lists that changed in one place
-Has-at : {X : Type 0} (xs : List X) (i : ℕ) (x : X) → slice_get xs i ≡ Some x → Has xs x
+pub Has-at : {X : Type 0} (xs : List X) (i : ℕ) (x : X) → slice_get xs i ≡ Some x → Has xs x
 Has-at [] i x e = absurd (cc)
 Has-at (y ∷ ys) zero x e = inl (cc)
 Has-at (y ∷ ys) (suc i) x e = inr (Has-at ys i x e)
 
-Has-set : {X : Type 0} (xs : List X) (i : ℕ) (x y : X) → Has (slice_set xs i x) y → (x ≡ y) ⊎ Has xs y
+pub Has-set : {X : Type 0} (xs : List X) (i : ℕ) (x y : X) → Has (slice_set xs i x) y → (x ≡ y) ⊎ Has xs y
 Has-set [] i x y h = absurd h
 Has-set (z ∷ zs) zero x y (inl e) = inl e
 Has-set (z ∷ zs) zero x y (inr h) = inr (inr h)
 Has-set (z ∷ zs) (suc i) x y (inl e) = inr (inl e)
 Has-set (z ∷ zs) (suc i) x y (inr h) = elim (Has-set zs i x y h) [ inl e ↦ inl e | inr k ↦ inr (inr k) ]
 
-Has-pushed : {X : Type 0} (xs : List X) (x y : X) → Has (xs ++ x ∷ []) y → (x ≡ y) ⊎ Has xs y
+pub Has-pushed : {X : Type 0} (xs : List X) (x y : X) → Has (xs ++ x ∷ []) y → (x ≡ y) ⊎ Has xs y
 Has-pushed [] x y (inl e) = inl e
 Has-pushed [] x y (inr h) = absurd h
 Has-pushed (z ∷ zs) x y (inl e) = inr (inl e)
 Has-pushed (z ∷ zs) x y (inr h) = elim (Has-pushed zs x y h) [ inl e ↦ inl e | inr k ↦ inr (inr k) ]
 
-Has-mapped : {X Y : Type 0} (f : X → Y) (xs : List X) (y : Y) → Has (map f xs) y → (x : X) × Has xs x × (f x ≡ y)
+pub Has-mapped : {X Y : Type 0} (f : X → Y) (xs : List X) (y : Y) → Has (map f xs) y → (x : X) × Has xs x × (f x ≡ y)
 Has-mapped f [] y h = absurd h
 Has-mapped f (x ∷ xs) y (inl e) = (x, inl refl, e)
 Has-mapped f (x ∷ xs) y (inr h) = let k = Has-mapped f xs y h in (k.0, inr k.1, k.2)
@@ -97,17 +97,17 @@ Has-either [] ys x h = inr h
 Has-either (z ∷ zs) ys x (inl e) = inl (inl e)
 Has-either (z ∷ zs) ys x (inr h) = elim (Has-either zs ys x h) [ inl k ↦ inl (inr k) | inr k ↦ inr k ]
 
-Has-removed : {X : Type 0} (xs : List X) (i : ℕ) (x : X) → Has (remove xs i) x → Has xs x
+pub Has-removed : {X : Type 0} (xs : List X) (i : ℕ) (x : X) → Has (remove xs i) x → Has xs x
 Has-removed xs i x h = elim (Has-either (take i xs) (drop (suc i) xs) x h) [ inl k ↦ Has-taken i xs x k | inr k ↦ Has-dropped (suc i) xs x k ]
 
 -- something holds of each command that was sent and isn't acknowledged
-abbrev Each : (Transmission → Type 0) → List SentControl → List SendingEnd → Type 0
+abbrev pub Each : (Transmission → Type 0) → List SentControl → List SendingEnd → Type 0
 Each R controls senders = ((t : SentControl) → Has controls t → R t.transmission) × ((s : SendingEnd) → Has senders s → (t : Sent) → Has s.sender.sent t → R t.transmission)
 
 none-cleared : (R : Transmission → Type 0) (xs : List SendingEnd) → (s : SendingEnd) → Has (map cleared_sender xs) s → (t : Sent) → Has s.sender.sent t → R t.transmission
 none-cleared R xs s h t k = let c = Has-mapped cleared_sender xs s h in absurd (subst (λ (x : SendingEnd). Has x.sender.sent t) (sym c.2) k)
 
-none-new : (R : Transmission → Type 0) (from n : ℕ) → (s : SendingEnd) → Has (map new_end (range_with_len from n)) s → (t : Sent) → Has s.sender.sent t → R t.transmission
+pub none-new : (R : Transmission → Type 0) (from n : ℕ) → (s : SendingEnd) → Has (map new_end (range_with_len from n)) s → (t : Sent) → Has s.sender.sent t → R t.transmission
 none-new R from n s h t k = let c = Has-mapped new_end (range_with_len from n) s h in absurd (subst (λ (x : SendingEnd). Has x.sender.sent t) (sym c.2) k)
 
 -- what a datagram that is filled keeps of it, where it holds of what goes first and of what goes again
@@ -185,7 +185,7 @@ each-due R o s n g e all = go (position (λ (p : Sent). p.transmission.due) s.se
     go None w k = from_queue s.queued k
     go (Some i) w k = from_sent i w (slice_get s.sent i) refl k
 
-each-set : (R : Transmission → Type 0) (xs : List SendingEnd) (k : ℕ) (s : SendingEnd) (new : Sender) → slice_get xs k ≡ Some s → ((t : Sent) → Has new.sent t → R t.transmission) → ((x : SendingEnd) → Has xs x → (t : Sent) → Has x.sender.sent t → R t.transmission)
+pub each-set : (R : Transmission → Type 0) (xs : List SendingEnd) (k : ℕ) (s : SendingEnd) (new : Sender) → slice_get xs k ≡ Some s → ((t : Sent) → Has new.sent t → R t.transmission) → ((x : SendingEnd) → Has xs x → (t : Sent) → Has x.sender.sent t → R t.transmission)
     → (x : SendingEnd) → Has (slice_set xs k (record s { sender = new })) x → (t : Sent) → Has x.sender.sent t → R t.transmission
 each-set R xs k s new there own others x h t m = elim (Has-set xs k (record s { sender = new }) x h) [ inl is ↦ own t (subst (λ (y : SendingEnd). Has y.sender.sent t) (sym is) m) | inr old ↦ others x old t m ]
 
@@ -201,7 +201,7 @@ each-filled R pace o g all = by-filling pace o (λ f. Each R f.outbox.control.se
 }) all
 
 -- what a peer keeps of it, with an estimate that stays within 16 bits, and the patience that was set
-abbrev Fair : (Transmission → Type 0) → ℕ → Peering → Type 0
+abbrev pub Fair : (Transmission → Type 0) → ℕ → Peering → Type 0
 Fair R most p = Each R p.outbox.control.sent p.outbox.senders × IsWithin p.estimate 65535 × (p.patience.maximum ≡ most)
 
 -- an end drops all
@@ -214,10 +214,10 @@ fair-freed R most p h = (((λ t k. absurd k), none-cleared R p.outbox.senders), 
 fair-parting : (R : Transmission → Type 0) (most : ℕ) (p : Peering) (info : ℕ) → Fair R most p → Fair R most (parting p info)
 fair-parting R most p info h = (((λ t k. absurd k), none-cleared R p.outbox.senders), h.1, h.2)
 
-fair-disconnecting : (R : Transmission → Type 0) (most : ℕ) (p : Peering) (info : ℕ) → Fair R most p → Fair R most (disconnecting p info)
+pub fair-disconnecting : (R : Transmission → Type 0) (most : ℕ) (p : Peering) (info : ℕ) → Fair R most p → Fair R most (disconnecting p info)
 fair-disconnecting R most p info h = (((λ t k. absurd k), none-cleared R p.outbox.senders), h.1, h.2)
 
-fair-settled : (R : Transmission → Type 0) (most : ℕ) (p : Peering) → Fair R most p → Fair R most (settled p)
+pub fair-settled : (R : Transmission → Type 0) (most : ℕ) (p : Peering) → Fair R most p → Fair R most (settled p)
 fair-settled R most p h = by (is_later p.state && outbox.is_done p.outbox)
   where
     by : (b : Bool) → Fair R most (cond b (disconnecting p p.info) p)
@@ -335,7 +335,7 @@ fair-data R most p m sent h = by (is_later p.state)
     by true = fair-result R most p m sent (passed_over p.inbox m) h
     by false = fair-result R most (record p { inbox = a.after }) m sent a.answer h
 
-fair-obeyed : (R : Transmission → Type 0) (most : ℕ) (p : Peering) (now : ℕ) (sent : Option ℕ) (m : Message) → Fair R most p → Fair R most (obeyed p now sent m).after
+pub fair-obeyed : (R : Transmission → Type 0) (most : ℕ) (p : Peering) (now : ℕ) (sent : Option ℕ) (m : Message) → Fair R most p → Fair R most (obeyed p now sent m).after
 fair-obeyed R most p now sent m h = by (is_connect m.body) (is_allowed p.state m.body)
   where
     body : (b : Body) → Fair R most (by_body p now sent m b).after
@@ -358,7 +358,7 @@ fair-obeyed R most p now sent m h = by (is_connect m.body) (is_allowed p.state m
     by false false = h
 
 -- what else happens at a peer
-fair-takes : (R : Transmission → Type 0) (most : ℕ) (p : Peering) → Fair R most p → Fair R most (after_take p (next_event p))
+pub fair-takes : (R : Transmission → Type 0) (most : ℕ) (p : Peering) → Fair R most p → Fair R most (after_take p (next_event p))
 fair-takes R most p h = by p.greeting
   where
     last : (s : PeerState) → Fair R most (after_take p (last_event s p))
@@ -400,17 +400,20 @@ fair-left R most p Asks info h = fair-disconnecting R most p info h
 fair-left R most p AsksLater info h = fair-settled R most (record p { state = state.DisconnectLater; info = info }) h
 fair-left R most p Refused info h = h
 
--- by now each goes on as it should
-abbrev Goes : ℕ → ℕ → Transmission → Type 0
-Goes most now t = (first : ℕ) × Timed first 327675 most now t
+-- by now each goes on as it should, and first went at such a moment
+abbrev pub GoesFrom : (ℕ → Type 0) → ℕ → ℕ → Transmission → Type 0
+GoesFrom Q most now t = (first : ℕ) × Timed first 327675 most now t × Q first
+
+abbrev pub Goes : ℕ → ℕ → Transmission → Type 0
+Goes = GoesFrom (λ first. Unit {0})
 
 sends-on : (most now wait : ℕ) → wait ≤ 327675 → Sends (Goes most now) (now % 2 ^ 32) wait
 sends-on most now wait low = record {
-  first = (now, timed-begun now 327675 wait most low);
-  again = λ t g due. (g.0, timed-again g.0 327675 most now t g.1 due);
+  first = (now, timed-begun now 327675 wait most low, tt);
+  again = λ t g due. (g.0, timed-again g.0 327675 most now t g.1 due, tt);
 }
 
-timeout-low : (e : Estimate) → IsWithin e 65535 → timeout e ≤ 327675
+pub timeout-low : (e : Estimate) → IsWithin e 65535 → timeout e ≤ 327675
 timeout-low e w = let a = w.round_trip in let b = w.variance in least (e.round_trip + 4 * e.variance) (omega arith)
   where
     least : (n : ℕ) → n ≤ 327675 → min n 4294967295 ≤ 327675
@@ -431,10 +434,10 @@ fair-deeds most now p [] h = h
 fair-deeds most now p (deed ∷ deeds) h = fair-deeds most now (after_deed (now % 2 ^ 32) p deed) deeds (fair-deed most now p deed h)
 
 -- a moment comes, nothing being due to go again
-abbrev Rests : Transmission → Type 0
+abbrev pub Rests : Transmission → Type 0
 Rests t = t.due ≡ false
 
-none-of : {X : Type 0} (f : X → Bool) (xs : List X) (x : X) → list_any f xs ≡ false → Has xs x → f x ≡ false
+pub none-of : {X : Type 0} (f : X → Bool) (xs : List X) (x : X) → list_any f xs ≡ false → Has xs x → f x ≡ false
 none-of f [] x e h = absurd h
 none-of f (y ∷ ys) x e (inl is) = ap f (sym is) ∙ (or-both (f y) (list_any f ys) e).0
 none-of f (y ∷ ys) x e (inr h) = none-of f ys x (or-both (f y) (list_any f ys) e).1 h
@@ -450,15 +453,15 @@ patient : (most n heard : ℕ) (pt : Patience) (t : Transmission) → pt.maximum
 patient most n heard pt t same e late =
     ap (λ m. leb m (elapsed_time n t.first)) (sym same) ∙ (or-both (leb pt.maximum (elapsed_time n t.first)) _ (ap (λ b. b && gives_up pt n heard t) (sym late) ∙ e)).0
 
-tick-fair : (most before now gap : ℕ) (p : Peering) → Fair (Goes most before) most p → Each Rests p.outbox.control.sent p.outbox.senders → before ≤ now → now ≤ before + gap → 327675 + 2 * most + gap < 2 ^ 32
-    → Fair (Goes most now) most (ticked p (now % 2 ^ 32))
-tick-fair most before now gap p h rests up down near = go (has_ended p.outbox n p.patience p.heard) refl (has_late p.outbox n) refl
+pub tick-fair : (Q : ℕ → Type 0) (most before now gap : ℕ) (p : Peering) → Fair (GoesFrom Q most before) most p → Each Rests p.outbox.control.sent p.outbox.senders → before ≤ now → now ≤ before + gap → 327675 + 2 * most + gap < 2 ^ 32
+    → Fair (GoesFrom Q most now) most (ticked p (now % 2 ^ 32))
+tick-fair Q most before now gap p h rests up down near = go (has_ended p.outbox n p.patience p.heard) refl (has_late p.outbox n) refl
   where
     n : ℕ
     n = now % 2 ^ 32
 
-    goes : (bound : ℕ) (t : Transmission) → Goes most before t → t.due ≡ false → transmission.ends n p.patience p.heard t ≡ false → Goes most now (transmission.marked bound n t)
-    goes bound t g waits e = (g.0, timed-marked g.0 327675 most before now bound t g.1 waits up (let x = g.1 in let y = x.in_time in omega arith) (λ late. patient most n p.heard p.patience t h.2 e late))
+    goes : (bound : ℕ) (t : Transmission) → GoesFrom Q most before t → t.due ≡ false → transmission.ends n p.patience p.heard t ≡ false → GoesFrom Q most now (transmission.marked bound n t)
+    goes bound t g waits e = (g.0, timed-marked g.0 327675 most before now bound t g.1 waits up (let x = g.1 in let y = x.in_time in omega arith) (λ late. patient most n p.heard p.patience t h.2 e late), g.2)
 
     ends-controls : has_ended p.outbox n p.patience p.heard ≡ false → (t : SentControl) → Has p.outbox.control.sent t → transmission.ends n p.patience p.heard t.transmission ≡ false
     ends-controls e t k = none-of (controlling.ends n p.patience p.heard) p.outbox.control.sent t (or-both (list_any (controlling.ends n p.patience p.heard) p.outbox.control.sent) _ e).0 k
@@ -468,14 +471,14 @@ tick-fair most before now gap p h rests up down near = go (has_ended p.outbox n 
         none-of (sender.ends n p.patience p.heard) s.sender.sent t
         (none-of (λ (x : SendingEnd). list_any (sender.ends n p.patience p.heard) x.sender.sent) p.outbox.senders s (or-both (list_any (controlling.ends n p.patience p.heard) p.outbox.control.sent) _ e).1 k) j
 
-    marks : (bound : ℕ) → has_ended p.outbox n p.patience p.heard ≡ false → Fair (Goes most now) most (record p { outbox = outbox.marked p.outbox bound n })
+    marks : (bound : ℕ) → has_ended p.outbox n p.patience p.heard ≡ false → Fair (GoesFrom Q most now) most (record p { outbox = outbox.marked p.outbox bound n })
     marks bound e = (
       (
         (λ t k. (let c = Has-mapped (controlling.marked bound n) p.outbox.control.sent t k in
-            subst (λ (x : SentControl). Goes most now x.transmission) c.2 (goes bound c.0.transmission (h.0.0 c.0 c.1) (rests.0 c.0 c.1) (ends-controls e c.0 c.1)))),
+            subst (λ (x : SentControl). GoesFrom Q most now x.transmission) c.2 (goes bound c.0.transmission (h.0.0 c.0 c.1) (rests.0 c.0 c.1) (ends-controls e c.0 c.1)))),
         (λ s k t j. (let d = Has-mapped (marked_sender bound n) p.outbox.senders s k in
             let c = Has-mapped (sender.marked bound n) d.0.sender.sent t (subst (λ (x : SendingEnd). Has x.sender.sent t) (sym d.2) j) in
-            subst (λ (x : Sent). Goes most now x.transmission) c.2 (goes bound c.0.transmission (h.0.1 d.0 d.1 c.0 c.1) (rests.1 d.0 d.1 c.0 c.1) (ends-channels e d.0 d.1 c.0 c.1)))),
+            subst (λ (x : Sent). GoesFrom Q most now x.transmission) c.2 (goes bound c.0.transmission (h.0.1 d.0 d.1 c.0 c.1) (rests.1 d.0 d.1 c.0 c.1) (ends-channels e d.0 d.1 c.0 c.1)))),
       ),
       h.1,
       h.2,
@@ -485,11 +488,11 @@ tick-fair most before now gap p h rests up down near = go (has_ended p.outbox n 
     same : (t : Transmission) → transmission.is_late n t ≡ false → transmission.marked 0 n t ≡ t
     same t e = ap (λ b. cond b (record t { timeout = transmission.grown_time 0 t.timeout; due = true }) t) e
 
-    stays : has_ended p.outbox n p.patience p.heard ≡ false → has_late p.outbox n ≡ false → Fair (Goes most now) most p
+    stays : has_ended p.outbox n p.patience p.heard ≡ false → has_late p.outbox n ≡ false → Fair (GoesFrom Q most now) most p
     stays e f = (let both = or-both (list_any (controlling.is_late n) p.outbox.control.sent) _ f in (
       (
-        (λ t k. subst (λ (x : Transmission). Goes most now x) (same t.transmission (none-of (controlling.is_late n) p.outbox.control.sent t both.0 k)) (goes 0 t.transmission (h.0.0 t k) (rests.0 t k) (ends-controls e t k))),
-        (λ s k t j. subst (λ (x : Transmission). Goes most now x)
+        (λ t k. subst (λ (x : Transmission). GoesFrom Q most now x) (same t.transmission (none-of (controlling.is_late n) p.outbox.control.sent t both.0 k)) (goes 0 t.transmission (h.0.0 t k) (rests.0 t k) (ends-controls e t k))),
+        (λ s k t j. subst (λ (x : Transmission). GoesFrom Q most now x)
             (same t.transmission (none-of (sender.is_late n) s.sender.sent t (none-of (λ (x : SendingEnd). list_any (sender.is_late n) x.sender.sent) p.outbox.senders s both.1 k) j))
             (goes 0 t.transmission (h.0.1 s k t j) (rests.1 s k t j) (ends-channels e s k t j))),
       ),
@@ -497,33 +500,33 @@ tick-fair most before now gap p h rests up down near = go (has_ended p.outbox n 
       h.2,
     ))
 
-    cut : (s : PeerState) → Fair (Goes most now) most (cut_off_in s p)
-    cut state.Answering = (((λ t k. absurd k), none-cleared (Goes most now) p.outbox.senders), h.1, h.2)
-    cut s = (((λ t k. absurd k), none-cleared (Goes most now) p.outbox.senders), h.1, h.2)
+    cut : (s : PeerState) → Fair (GoesFrom Q most now) most (cut_off_in s p)
+    cut state.Answering = (((λ t k. absurd k), none-cleared (GoesFrom Q most now) p.outbox.senders), h.1, h.2)
+    cut s = (((λ t k. absurd k), none-cleared (GoesFrom Q most now) p.outbox.senders), h.1, h.2)
 
-    pings : (q : Peering) → Fair (Goes most now) most q → Fair (Goes most now) most (pinged q n)
+    pings : (q : Peering) → Fair (GoesFrom Q most now) most q → Fair (GoesFrom Q most now) most (pinged q n)
     pings q k = by (is_pinged q n)
       where
-        by : (b : Bool) → Fair (Goes most now) most (cond b (record q { outbox = outbox.with_control q.outbox control.Ping }) q)
+        by : (b : Bool) → Fair (GoesFrom Q most now) most (cond b (record q { outbox = outbox.with_control q.outbox control.Ping }) q)
         by true = k
         by false = k
 
-    go : (e : Bool) → has_ended p.outbox n p.patience p.heard ≡ e → (late : Bool) → has_late p.outbox n ≡ late → Fair (Goes most now) most (pinged (after_timeouts_by (cond e End (cond late Resend No)) p n) n)
+    go : (e : Bool) → has_ended p.outbox n p.patience p.heard ≡ e → (late : Bool) → has_late p.outbox n ≡ late → Fair (GoesFrom Q most now) most (pinged (after_timeouts_by (cond e End (cond late Resend No)) p n) n)
     go true e late f = pings (cut_off_in p.state p) (cut p.state)
     go false e true f = pings (record p { outbox = outbox.marked p.outbox (growth_bound p) n }) (marks (growth_bound p) e)
     go false e false f = pings p (stays e f)
 
 -- moment after moment
-abbrev Ready : ℕ → ℕ → Peering → Type 0
+abbrev pub Ready : ℕ → ℕ → Peering → Type 0
 Ready most now q = Fair (Goes most now) most q × Each Rests q.outbox.control.sent q.outbox.senders
 
 moment-ready : (most before now gap : ℕ) (p q : Peering) → Ready most before p → before ≤ now → now ≤ before + gap → 327675 + 2 * most + gap < 2 ^ 32 → Moment now p q → Ready most now q
 moment-ready most before now gap p q r up down near m = (
-  subst (λ (x : Peering). Fair (Goes most now) most x) (sym m.after) (fair-deeds most now (ticked p (now % 2 ^ 32)) m.deeds (tick-fair most before now gap p r.0 r.1 up down near)),
+  subst (λ (x : Peering). Fair (Goes most now) most x) (sym m.after) (fair-deeds most now (ticked p (now % 2 ^ 32)) m.deeds (tick-fair (λ first. Unit {0}) most before now gap p r.0 r.1 up down near)),
   rest-of q.outbox m.resent,
 )
 
-moments-ready : (most gap : ℕ) (moments : List ℕ) (before now : ℕ) (p q : Peering) → Ready most before p → before ≤ now → now ≤ before + gap → 327675 + 2 * most + gap < 2 ^ 32 → Moments gap now p moments q → Ready most (last_of now moments) q
+pub moments-ready : (most gap : ℕ) (moments : List ℕ) (before now : ℕ) (p q : Peering) → Ready most before p → before ≤ now → now ≤ before + gap → 327675 + 2 * most + gap < 2 ^ 32 → Moments gap now p moments q → Ready most (last_of now moments) q
 moments-ready most gap [] before now p q r up down near m = moment-ready most before now gap p q r up down near m
 moments-ready most gap (next ∷ later) before now p q r up down near (u, m, low, high, rest) =
     moments-ready most gap later now next u q (moment-ready most before now gap p u r up down near m) low high near rest

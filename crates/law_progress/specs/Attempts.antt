@@ -1,6 +1,6 @@
 -- How long an attempt to connect or to disconnect lasts, whatever comes. Times are in milliseconds, on a clock that doesn't wrap; the
 -- peer's own shows its remainder modulo 2^32.
-use Rattle.std.specs.Prelude.{◌≡◌, ℕ, ◌+◌, ◌%◌, ◌^◌, ◌<◌, ◌≤◌, List, [], ◌∷◌, Option, Some, None, ◌⊎◌}
+use Rattle.std.specs.Prelude.{◌≡◌, ℕ, ◌+◌, ◌*◌, ◌%◌, ◌^◌, ◌<◌, ◌≤◌, List, [], ◌∷◌, Option, Some, None, ◌⊎◌}
 use Rattle.enet_codec.specs.Message.{Message}
 use Rattle.enet_outbox.specs.Emission.{filled}
 use Rattle.enet_peer.specs.declared.parts.PeerState.{PeerState}
@@ -51,6 +51,12 @@ last_of now (next ∷ later) = last_of next later
 -- so long that it wraps
 abbrev pub LastsAtMost : PeerState → Peering → ℕ → Type 0
 LastsAtMost s p most = (gap now : ℕ) (moments : List ℕ) (q : Peering) → most + gap < 2 ^ 32 → Turns s gap now p moments q → last_of now moments ≤ now + most
+
+-- where the clock goes on by at most one millisecond and `extra` at once, also from the moment at which a peer was made so to its first
+-- turn, the peer can't stay in this state for `most` milliseconds and so many times `extra` from that turn on
+abbrev pub LastsFor : PeerState → (ℕ → Peering) → ℕ → ℕ → Type 0
+LastsFor s made most times = (extra start now : ℕ) (moments : List ℕ) (q : Peering) → 31500 + 9 * (extra + 1) < 2 ^ 32 → start ≤ now → now ≤ start + (extra + 1) → Turns s (extra + 1) now (made (start % 2 ^ 32)) moments q
+    → last_of now moments < now + most + times * extra
 
 -- its user has an event to take, or the connection's place is free
 abbrev pub IsTold : Peering → Type 0

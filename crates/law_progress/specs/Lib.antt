@@ -4,3 +4,6 @@ pub mod Outboxes
 pub mod Peers
 pub mod Attempts
 pub mod Waits
+pub mod Later
+pub mod Fits
+pub mod Settled

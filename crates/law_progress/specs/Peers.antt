@@ -1,5 +1,5 @@
 -- What a connected peer makes of a command that its sender waits for.
-use Rattle.std.specs.Prelude.{◌≡◌, ℕ, ◌+◌, ◌≤◌, true, false, length, map, Some, None, slice_get}
+use Rattle.std.specs.Prelude.{◌≡◌, ℕ, ◌+◌, ◌<◌, ◌≤◌, ◌&&◌, not, Bool, true, false, length, map, Some, None, slice_get}
 use Rattle.enet_codec.specs.declared.packet.Packet.{Packet}
 use Rattle.enet_fragment.specs.declared.data.DataCommand.{DataCommand}
 use Rattle.enet_fragment.specs.DataCommand.{data_of, message_of}
@@ -7,7 +7,13 @@ use Rattle.enet_receiver.specs.Foresight.{ReceivingEnd}
 use Rattle.enet_sender.specs.declared.sent.Sent.{Sent}
 use Rattle.enet_sender.specs.Sender.{after_acknowledgement}
 use Rattle.enet_sender.specs.Due.{SendingEnd}
-use Rattle.enet_inbox.specs.Inbox.{is_full_for, given_way_receiver, given_way}
+use Rattle.enet_inbox.specs.Inbox.{is_full, is_full_for, given_way_receiver, given_way}
+use Rattle.enet_senders.specs.Controlling.{is_reliable}
+use Rattle.enet_senders.specs.Controlling as controlling
+use Rattle.enet_senders.specs.declared.control.Control.{Control}
+use Rattle.enet_senders.specs.declared.control.Control.TheVariants as control
+use Rattle.enet_senders.specs.declared.control.Numbered.{Numbered}
+use Rattle.enet_outbox.specs.declared.parts.Unsequenced.{Unsequenced}
 use Rattle.enet_outbox.specs.Outbox.{is_crowded, with_acknowledgement}
 use Rattle.enet_peer.specs.declared.parts.PeerState.TheVariants as state
 use Rattle.enet_peer.specs.Peering.{Peering}
@@ -38,6 +44,21 @@ pub record Awaits (from to : End) (p q : Peering) (put : Put) (channel : ℕ) (c
   pub free : is_crowded q.outbox ≡ false
   pub short : (x : Packet) → Has from.submitted x → length x.body ≤ end.max_packet
 
+-- an unreliable data command that one end put out comes in time to the other end's peer q, which is connected, takes in packets of each
+-- length that was submitted, and has room for it, if need be once the unreliable packets that wait give way
+pub record Comes (from to : End) (q : Peering) (put : Put) (channel : ℕ) (c : DataCommand) : Type 0 where
+  pub to_is : to.peer ≡ Some q
+  pub connected : q.state ≡ state.Connected
+  pub logged : Has from.log put
+  pub message : put.message ≡ message_of channel c
+  pub reads : data_of (message_of channel c) ≡ Some c
+  pub unreliable : c.reliable ≡ false
+  pub in_time : is_late (sent_on channel from) put.sent_then c.number ≡ false
+  pub end : ReceivingEnd
+  pub there : slice_get q.inbox.receivers channel ≡ Some end
+  pub room : is_full_for (given_way q.inbox) (given_way_receiver end) c ≡ false
+  pub short : (x : Packet) → Has from.submitted x → length x.body ≤ end.max_packet
+
 -- it is taken in without a stop, and its acknowledgement waits to go
 pub record IsAnswered (q : Peering) (channel time : ℕ) (c : DataCommand) (o : Outcome) : Type 0 where
   pub stop : o.stop ≡ None
@@ -51,3 +72,34 @@ pub record IsRemoved (p : Peering) (channel number : ℕ) (s : SendingEnd) (o : 
   pub there : slice_get o.after.outbox.senders channel ≡ Some after
   pub is : after.sender ≡ after_acknowledgement s.sender number
   pub less : length after.sender.sent + 1 ≡ length s.sender.sent
+
+-- whether a command of channel 0xFF opens a connection
+abbrev pub opens : Control → Bool
+opens (control.Connect offer) = true
+opens _ = false
+
+-- whether one asks for the end
+abbrev pub ends : Control → Bool
+ends (control.Disconnect info) = true
+ends _ = false
+
+-- a command of channel 0xFF that asks for its acknowledgement, and opens no connection, is taken in without a stop, and its acknowledgement
+-- waits to go, where fewer acknowledgements wait than may: DISCONNECT also where as many do, which it drops
+abbrev pub IsHeard : Peering → Numbered → ℕ → Outcome → Type 0
+IsHeard q n time o = is_reliable n.control ≡ true → opens n.control ≡ false → (not (ends n.control) && is_crowded q.outbox) ≡ false
+    → (o.stop ≡ None) × Has o.after.outbox.acknowledgements (record { channel = 0xFF; number = n.number; time = time })
+
+-- a connected peer has the channel of an unsequenced packet, takes in packets of its length, and has room for it, if need be once the
+-- unreliable packets that wait give way
+pub record TakesIn (q : Peering) (u : Unsequenced) : Type 0 where
+  pub connected : q.state ≡ state.Connected
+  pub channel : u.channel < length q.inbox.receivers
+  pub short : length u.body ≤ q.inbox.max_packet
+  pub room : is_full (given_way q.inbox) ≡ false
+
+-- the command of channel 0xFF of this number is gone, and no other; the peer is connected as before
+pub record IsTakenAway (p : Peering) (number : ℕ) (o : Outcome) : Type 0 where
+  pub stop : o.stop ≡ None
+  pub connected : o.after.state ≡ state.Connected
+  pub control : o.after.outbox.control ≡ controlling.after_acknowledgement p.outbox.control number
+  pub less : length o.after.outbox.control.sent + 1 ≡ length p.outbox.control.sent

@@ -4,59 +4,70 @@
 //! They speak of the links of `law_connection`, which are one channel from a sender to a receiver and the acknowledgements back, and of the
 //! definitions that the contracts of `enet_outbox::Outbox` and `enet_peer::Peer` name. Proved, each by itself: a command that waits for its
 //! acknowledgement is acknowledged wherever it comes while there is room, and from each reached link an exchange without losses leads to
-//! where all reliable packets were dispatched (`everything_can_arrive`); nothing holds back for good what an outbox has to send
-//! (`nothing_is_held_back`); a peer answers what its sender waits for, and the answer takes it away (`what_waits_is_answered`); what was
-//! acknowledged was delivered (`acknowledged_was_delivered`); an attempt ends within a stated time (`every_attempt_ends`), and so does
-//! each wait for an acknowledgement (`no_wait_is_endless`). Not proved: that rounds without losses bring all channels of a connection to
-//! where nothing is outstanding, with the transit limit, the throttle and the timers of real peers, nor how many rounds that takes; that a
-//! peer which is to disconnect later comes to do so.
+//! where all reliable packets were dispatched (`everything_can_arrive`); nothing holds back for good what an outbox has to send, and once
+//! nothing goes any more, all has gone, or something waits for its acknowledgement (`nothing_is_held_back`); a peer answers what its sender
+//! waits for, the answer takes it away, and no command of another kind is stopped where there is room, for it and for the acknowledgement
+//! that it asks for (`what_waits_is_answered`, `each_trip_takes_one_away`); what was acknowledged was delivered
+//! (`acknowledged_was_delivered`); an attempt ends within a stated time (`every_attempt_ends`), and so does each wait for an
+//! acknowledgement (`no_wait_is_endless`); all that a peer has to send fits its datagrams (`all_that_waits_fits`); a peer that is to
+//! disconnect later comes to do so (`no_leave_is_put_off`). Not proved: that rounds without losses bring all channels of a connection to
+//! where nothing is outstanding, with the transit limit, the throttle and the timers of real peers, nor how many rounds that takes.
 #![tactic(auto)]
 
-ghost use Rattle.std.specs.Prelude.{◌≡◌, ℕ, ◌+◌, ◌*◌, ◌<◌, ◌≤◌, Bool, Option, Some, map, slice_get, true, false, List, [], ◌∷◌, length};
+ghost use Rattle.std.specs.Prelude.{◌≡◌, ℕ, ◌+◌, ◌*◌, ◌<◌, ◌≤◌, Bool, Option, Some, None, map, slice_get, true, false, List, [], ◌∷◌, length, ◌⊎◌};
 ghost use Rattle.enet_codec.specs.declared.command.Offer.{Offer};
 ghost use Rattle.enet_codec.specs.Message.{Message, acknowledge};
 ghost use Rattle.enet_seq.specs.Numbering.{wire};
 ghost use Rattle.enet_rtt.specs.Timing.{timeout};
 ghost use Rattle.enet_fragment.specs.declared.data.DataCommand.{DataCommand};
 ghost use Rattle.enet_connect.specs.declared.server.Server.{Server};
-ghost use Rattle.enet_receiver.specs.DataOutcome.{acknowledged};
+ghost use Rattle.enet_receiver.specs.DataOutcome.{outcome, is_handled, acknowledged};
 ghost use Rattle.enet_receiver.specs.Members.{Has};
 ghost use Rattle.enet_sender.specs.CommandChoice.{carried};
 ghost use Rattle.enet_sender.specs.Sender.{left};
 ghost use Rattle.enet_sender.specs.Due.{SendingEnd};
 ghost use Rattle.enet_sender.specs.declared.sent.Sent.{Sent};
+ghost use Rattle.enet_senders.specs.Controlling.{message_of as control_message};
+ghost use Rattle.enet_senders.specs.declared.control.Numbered.{Numbered};
+ghost use Rattle.enet_senders.specs.declared.control.SentControl.{SentControl};
 ghost use Rattle.enet_outbox.specs.declared.parts.Pace.{Pace};
 ghost use Rattle.enet_outbox.specs.declared.parts.Acknowledgement.{Acknowledgement};
-ghost use Rattle.enet_outbox.specs.Outbox.{Outbox};
-ghost use Rattle.enet_outbox.specs.Emission.{filled, acknowledgement_of};
+ghost use Rattle.enet_outbox.specs.Outbox.{Outbox, is_done};
+ghost use Rattle.enet_outbox.specs.Emission.{filled, acknowledgement_of, unsequenced_of};
+ghost use Rattle.enet_outbox.specs.declared.parts.Unsequenced.{Unsequenced};
 ghost use Rattle.enet_peer.specs.declared.parts.Limits.{Limits};
 ghost use Rattle.enet_peer.specs.declared.parts.PeerState.TheVariants as state;
 ghost use Rattle.enet_connect.specs.declared.terms.Terms.{Terms};
 ghost use Rattle.enet_peer.specs.Peering.{Peering, joined, connecting, answering};
-ghost use Rattle.enet_peer.specs.Endings.{disconnecting};
+ghost use Rattle.enet_peer.specs.Endings.{disconnecting, parting};
 ghost use Rattle.enet_peer.specs.CommandEffect.{obeyed};
-ghost use Rattle.law_connection.specs.Link.{PutOut};
+ghost use Rattle.law_connection.specs.Link.{PutOut, is_late};
 ghost use Rattle.law_connection.specs.LinkSteps.{Event, Runs, fresh_link, bodies_of};
 ghost use Rattle.law_connection.specs.WireLink.{WireLink};
 ghost use Rattle.law_connection.specs.Connection.{Put, Connection};
 ghost use Rattle.law_connection.specs.Invariant.{Invariant};
 ghost use Rattle.law_progress.specs.Links.{Waits, AreShort, AllDispatched, IsUp, AreTimed, GetsThrough};
-ghost use Rattle.law_progress.specs.Outboxes.{AreFit, AreQuiet, HasNew, AreSome, IsSpent, ready};
-ghost use Rattle.law_progress.specs.Peers.{Awaits, IsAnswered, IsRemoved};
+ghost use Rattle.law_progress.specs.Outboxes.{AreFit, AllFit, NothingMayGo, WaitsForSome, GoOrStay, IsPutOut, AreQuiet, HasNew, AreSome, IsSpent, ready};
+ghost use Rattle.law_progress.specs.Peers.{Awaits, Comes, IsAnswered, IsRemoved, IsHeard, IsTakenAway, TakesIn};
+ghost use Rattle.law_progress.specs.Settled.{IsSettled};
 ghost use Rattle.law_progress.specs.Delivered.{IsDelivered};
-ghost use Rattle.law_progress.specs.Attempts.{LastsAtMost, TellsWhenLeft};
+ghost use Rattle.law_progress.specs.Attempts.{LastsAtMost, LastsFor, TellsWhenLeft};
 ghost use Rattle.law_progress.specs.Waits.{NoneWaitsLonger};
+ghost use Rattle.law_progress.specs.Fits.{StaysFit};
+ghost use Rattle.law_progress.specs.Later.{DisconnectsLater, LeavesOrTells};
 
 /// One channel of one connection, after any list of events, whatever was lost, repeated, reordered or late by then, while both ends go on.
 ///
 /// `answered`: a reliable command that waits for its acknowledgement is acknowledged wherever it comes, not over 32,768 numbers late, by a
 /// receiver that has room and takes in packets of the lengths that were submitted: it is never refused as a bad piece, and never outside
-/// the windows that are acknowledged. `complete`: where no reliable command is queued or unacknowledged, each reliable packet that was
-/// submitted was dispatched. `no_dead_end`: a list of events in which nothing is lost leads there, if timeouts are within the
-/// clock's 32 bits.
+/// the windows that are acknowledged. `handled`: no command that comes so, reliable or not, is refused. `complete`: where no reliable
+/// command is queued or unacknowledged, each reliable packet that was submitted was dispatched. `no_dead_end`: a list of events in which
+/// nothing is lost leads there, if timeouts are within the clock's 32 bits.
 pub fn everything_can_arrive()
     ensures answered { (mtu most : ℕ) (events : List Event) (v : WireLink) → 28 < mtu → Runs mtu events fresh_link v → v.is_sending ≡ true → v.is_open ≡ true
         → AreShort most v.submitted → (e : PutOut) → Waits v e → acknowledged wire most v.incoming e.command false ≡ true }
+    ensures handled { (mtu most : ℕ) (events : List Event) (v : WireLink) → 28 < mtu → Runs mtu events fresh_link v → v.is_open ≡ true → AreShort most v.submitted
+        → (e : PutOut) → Has v.commands e → is_late v.greatest e.sent_then e.command.number ≡ false → is_handled (outcome wire most v.incoming e.command false) ≡ true }
     ensures complete { (mtu : ℕ) (events : List Event) (v : WireLink) → 28 < mtu → Runs mtu events fresh_link v → v.is_sending ≡ true → v.is_open ≡ true
         → (left v.outgoing).reliable ≡ false → AllDispatched (carried mtu v.submitted) (bodies_of v.incoming.dispatched) }
     ensures no_dead_end { (mtu most : ℕ) (events : List Event) (v : WireLink) → 28 < mtu → Runs mtu events fresh_link v → IsUp v
@@ -68,22 +79,35 @@ pub fn everything_can_arrive()
 /// `data`: where a reliable command is queued on some channel and nothing waits for its acknowledgement on any, the next datagram has a
 /// command, if each that is queued fits a datagram. `acknowledgements`: the one that has waited longest goes with the next datagram, and no
 /// new one comes to wait. `ends`: a datagram with a command leaves less that is ready to go, so putting out all at one moment comes to an
-/// end. `spent`: then no acknowledgement waits, and no command of channel 0xFF is due or may go.
+/// end. `spent`: then no acknowledgement waits, and no command of channel 0xFF is due or may go. `rests`: nor on any channel, once the
+/// datagram was asked for that had no command, which may drop unreliable packets, and no unsequenced packet waits, if all fits datagrams.
+/// `left`: so then nothing is left to send, or a command that was sent waits for its acknowledgement. `kept`: no reliable command is lost
+/// on its way into a datagram: each that was queued still is, or is put in, and each that was sent is as before, or is put in again. `all`:
+/// so putting out all comes to where nothing may go, by at most one datagram more than there was ready, and all acknowledgements that
+/// waited and reliable commands that were due to go again were put out.
 pub fn nothing_is_held_back()
     ensures data { (pace : Pace) (o : Outbox) (channel : ℕ) → AreFit pace o → AreQuiet o.senders → HasNew o.senders channel → AreSome (filled pace o).messages }
     ensures acknowledgements { (pace : Pace) (o : Outbox) (a : Acknowledgement) (rest : List Acknowledgement) → 576 ≤ pace.mtu → o.acknowledgements ≡ a ∷ rest
         → Has (filled pace o).messages (acknowledgement_of a) × (length (filled pace o).outbox.acknowledgements ≤ length rest) }
     ensures ends { (pace : Pace) (o : Outbox) → AreSome (filled pace o).messages → ready (filled pace o).outbox < ready o }
     ensures spent { (pace : Pace) (o : Outbox) → 576 ≤ pace.mtu → (filled pace o).messages ≡ [] → IsSpent pace o }
+    ensures rests { (pace : Pace) (o : Outbox) → AllFit pace o → (filled pace o).messages ≡ [] → NothingMayGo pace (filled pace o).outbox }
+    ensures kept { (pace : Pace) (o : Outbox) → GoOrStay o (filled pace o) }
+    ensures all { (pace : Pace) (o : Outbox) → AllFit pace o → (n : ℕ) × (n ≤ ready o + 1) × IsPutOut pace o n }
+    ensures left { (pace : Pace) (o : Outbox) → AllFit pace o → (filled pace o).messages ≡ [] → (is_done (filled pace o).outbox ≡ true) ⊎ WaitsForSome (filled pace o).outbox }
 {}
 
 /// A connected peer, in every reached connection, on a channel below 255.
 ///
 /// `forth`, `back`: a reliable data command that the other end waits for, and that comes in time while there is room, is taken in without a
 /// stop, and its acknowledgement waits to go: from the first end to the second and back. There is room where the reliable packets that are
-/// held and the packets that the user hasn't taken are below the limits, for the next packet in order where the latter are, and where less
-/// than 8,192 acknowledgements wait to go. `removed`: an
-/// acknowledgement that comes takes the sent command of its number away, and no other.
+/// held and the packets that the user hasn't taken are below the limits, for the next packet in order where the latter are, and where fewer
+/// than 8,192 acknowledgements wait to go. `removed`: an acknowledgement that comes takes the sent command of its number away, and no
+/// other. `unreliable_forth`, `unreliable_back`: an unreliable data command that comes in time is taken in, too, without a stop while there
+/// is room, however many acknowledgements wait. `controls`: each reliable command of channel 0xFF but CONNECT is acknowledged while fewer
+/// than 8,192 acknowledgements wait to go, and DISCONNECT, which drops those that wait, always. `unsequenced`: an unsequenced packet is
+/// taken in without a stop where there is room for it, however many wait. `controls_removed`: the acknowledgement that comes takes the sent
+/// command of channel 0xFF of its number away, and no other.
 pub fn what_waits_is_answered()
     ensures forth { (joined : Bool) (d : Connection) (p q : Peering) (put : Put) (channel : ℕ) (c : DataCommand) (now time : ℕ) → Invariant joined d → channel < 255
         → Awaits d.one d.two p q put channel c → IsAnswered q channel time c (obeyed q now (Some time) put.message) }
@@ -92,6 +116,27 @@ pub fn what_waits_is_answered()
     ensures removed { (p : Peering) (now : ℕ) (sent : Option ℕ) (m : Message) (number time : ℕ) (s : SendingEnd) → p.state ≡ state.Connected → m.head.acknowledge ≡ false
         → m.body ≡ acknowledge number time → m.head.channel < 255 → slice_get p.outbox.senders m.head.channel ≡ Some s → Has (map (λ (x : Sent). x.command.number) s.sender.sent) number
         → IsRemoved p m.head.channel number s (obeyed p now sent m) }
+    ensures unreliable_forth { (joined : Bool) (d : Connection) (q : Peering) (put : Put) (channel : ℕ) (c : DataCommand) (now : ℕ) (sent : Option ℕ) → Invariant joined d → channel < 255
+        → Comes d.one d.two q put channel c → (obeyed q now sent put.message).stop ≡ None }
+    ensures unreliable_back { (joined : Bool) (d : Connection) (q : Peering) (put : Put) (channel : ℕ) (c : DataCommand) (now : ℕ) (sent : Option ℕ) → Invariant joined d → channel < 255
+        → Comes d.two d.one q put channel c → (obeyed q now sent put.message).stop ≡ None }
+    ensures controls { (q : Peering) (n : Numbered) (now time : ℕ) → q.state ≡ state.Connected → IsHeard q n time (obeyed q now (Some time) (control_message n)) }
+    ensures controls_removed { (p : Peering) (now : ℕ) (sent : Option ℕ) (number time : ℕ) → p.state ≡ state.Connected → Has (map (λ (t : SentControl). t.command.number) p.outbox.control.sent) number
+        → IsTakenAway p number (obeyed p now sent (acknowledgement_of (record { channel = 0xFF; number = number; time = time }))) }
+    ensures unsequenced { (q : Peering) (u : Unsequenced) (now : ℕ) (sent : Option ℕ) → TakesIn q u → (obeyed q now sent (unsequenced_of u)).stop ≡ None }
+{}
+
+/// Two connected peers, in every reached connection, on a channel below 255, where all that the receiving one has to send fits datagrams.
+///
+/// Where a reliable data command that the one end waits for comes to the other in time, and there is room, and fewer than 8,192
+/// acknowledgements wait to go there, its acknowledgement is in one of the datagrams that this end puts out next, at most one more than it
+/// has commands ready to go; and where that acknowledgement comes back, it takes the command away, and no other: from the first end to the
+/// second (`forth`) and back (`back`).
+pub fn each_trip_takes_one_away()
+    ensures forth { (joined : Bool) (d : Connection) (p q : Peering) (put : Put) (channel : ℕ) (c : DataCommand) (now time : ℕ) (pace : Pace) → Invariant joined d → channel < 255
+        → Awaits d.one d.two p q put channel c → p.state ≡ state.Connected → AllFit pace q.outbox → IsSettled pace p channel time c (obeyed q now (Some time) put.message) }
+    ensures back { (joined : Bool) (d : Connection) (p q : Peering) (put : Put) (channel : ℕ) (c : DataCommand) (now time : ℕ) (pace : Pace) → Invariant joined d → channel < 255
+        → Awaits d.two d.one p q put channel c → p.state ≡ state.Connected → AllFit pace q.outbox → IsSettled pace p channel time c (obeyed q now (Some time) put.message) }
 {}
 
 /// Acknowledged means delivered, in every reached connection, on a channel below 255, from the first end to the second (`forth`) and back
@@ -107,12 +152,19 @@ pub fn acknowledged_was_delivered()
 ///
 /// `connecting`, `answering`: a client that asks and a server that has answered stay so for 60,500 at most, from the first moment at which
 /// they put something out, with ENet's default patience. `disconnecting`: so does a peer that has asked for the end, for at most its first
-/// timeout and twice the greatest patience that was set. `told`: such a state is left only so that the user has an event to take, or the
-/// peer is free.
+/// timeout and twice the greatest patience that was set; `acknowledging`, `parting`: one that has to acknowledge the other's DISCONNECT,
+/// and one that leaves by one DISCONNECT which asks for no acknowledgement, no longer than its first turn. `asked`, `answered`: where the
+/// clock goes on by one millisecond at once, the client stays so for less than 31,500, and the server for less than 7,500; for each
+/// millisecond more at once, by 5 and by 7 longer. `told`: a client that asks, a server that has answered and a peer that has asked for the
+/// end cease to be so only so that the user has an event to take, or the peer is free.
 pub fn every_attempt_ends()
     ensures connecting { (start : ℕ) (offer : Offer) (limits : Limits) → LastsAtMost state.Connecting (connecting start offer limits) 60500 }
     ensures answering { (start : ℕ) (offer : Offer) (server : Server) (limits : Limits) → LastsAtMost state.Answering (answering start offer server limits) 60500 }
     ensures disconnecting { (p : Peering) (info : ℕ) → LastsAtMost state.Disconnecting (disconnecting p info) (timeout p.estimate + 2 * p.patience.maximum) }
+    ensures acknowledging { (p : Peering) → LastsAtMost state.AckDisconnect p 0 }
+    ensures parting { (p : Peering) (info : ℕ) → LastsAtMost state.Parting (parting p info) 0 }
+    ensures asked { (offer : Offer) (limits : Limits) → LastsFor state.Connecting (λ start. connecting start offer limits) 31500 5 }
+    ensures answered { (offer : Offer) (server : Server) (limits : Limits) → LastsFor state.Answering (λ start. answering start offer server limits) 7500 7 }
     ensures told { TellsWhenLeft state.Connecting × TellsWhenLeft state.Answering × TellsWhenLeft state.Disconnecting }
 {}
 
@@ -126,4 +178,29 @@ pub fn no_wait_is_endless()
     ensures joined { (start : ℕ) (terms : Terms) (limits : Limits) → NoneWaitsLonger (joined start terms limits) }
     ensures connecting { (start : ℕ) (offer : Offer) (limits : Limits) → NoneWaitsLonger (connecting start offer limits) }
     ensures answering { (start : ℕ) (offer : Offer) (server : Server) (limits : Limits) → NoneWaitsLonger (answering start offer server limits) }
+{}
+
+/// One peer, whatever comes to it, whatever its user submits and takes, and however it disconnects: each packet that waits fits a datagram,
+/// and so does each command that was sent and may have to go again, as `nothing_is_held_back` asks for it. So of a peer that is connected
+/// from the start (`joined`), of a client that asks (`connecting`), each with an mtu of at most 4,096, and of a server that has answered
+/// (`answering`).
+pub fn all_that_waits_fits()
+    ensures joined { (start : ℕ) (terms : Terms) (limits : Limits) → terms.mtu ≤ 4096 → StaysFit (joined start terms limits) }
+    ensures connecting { (start : ℕ) (offer : Offer) (limits : Limits) → offer.mtu ≤ 4096 → StaysFit (connecting start offer limits) }
+    ensures answering { (start : ℕ) (offer : Offer) (server : Server) (limits : Limits) → StaysFit (answering start offer server limits) }
+{}
+
+/// One peer that is to disconnect later, whatever comes to it: as in `every_attempt_ends`, at each moment all is put out that may go.
+///
+/// It stays so for no longer than its timeouts, the greatest patience and the gap between two moments of its clock allow: some 328 seconds
+/// at most, twice that patience and the gap, for each command that was still to go for the first time, and once more. Then it was done and
+/// asked for the end, which `every_attempt_ends` bounds, or the other end did, or its patience was over. So of a peer that was connected
+/// from the start (`joined`), of a client that asked (`connecting`), each with an mtu of at most 4,096, and of a server that answered
+/// (`answering`), whatever came and whatever its user did before, settings apart. `told`: it ceases to be so only where it has asked for
+/// the end, or has to acknowledge that the other end did, or its user has an event to take, or it is free.
+pub fn no_leave_is_put_off()
+    ensures joined { (start : ℕ) (terms : Terms) (limits : Limits) → terms.mtu ≤ 4096 → DisconnectsLater (joined start terms limits) }
+    ensures connecting { (start : ℕ) (offer : Offer) (limits : Limits) → offer.mtu ≤ 4096 → DisconnectsLater (connecting start offer limits) }
+    ensures answering { (start : ℕ) (offer : Offer) (server : Server) (limits : Limits) → DisconnectsLater (answering start offer server limits) }
+    ensures told { LeavesOrTells }
 {}

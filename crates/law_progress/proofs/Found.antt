@@ -1,0 +1,65 @@
+-- Where a test first passes.
+use Rattle.std.proofs.Common.{◌≡◌, ℕ, suc, ◌+◌, not, ltb, Bool, true, false, cond, List, [], ◌∷◌, length, refl, sym, ap, ◌∙◌, inl, inr, arith, Some, None}
+use Rattle.std.proofs.lemmas.Bool.Decides.{nat_tests}
+use Rattle.std.specs.List.{position, prefix_len, slice_get}
+use Rattle.enet_seq.specs.Numbering.{wire}
+use Rattle.enet_senders.specs.Controlling as controlling
+use Rattle.enet_senders.specs.Controlling.{Commands}
+use Rattle.enet_senders.specs.declared.control.SentControl.{SentControl}
+use Rattle.enet_receiver.specs.Members.{Has}
+use Rattle.enet_sender.specs.declared.sent.Sent.{Sent}
+use Rattle.enet_sender.specs.Sender as sender
+use Rattle.enet_sender.specs.Sender.{Occasion, Sender, next, next_of}
+use Rattle.law_progress.proofs.Controls.{some-is}
+use Rattle.law_progress.proofs.Waiting.{Rests}
+
+-- what passes a test is found
+pub found : {X : Type 0} (f : X → Bool) (xs : List X) (x : X) → Has xs x → f x ≡ true → (i : ℕ) × (position f xs ≡ Some i) × (y : X) × (slice_get xs i ≡ Some y)
+found f [] x h k = absurd h
+found {X} f (y ∷ ys) x h k = go (f y) refl h (λ m. found f ys x m k)
+  where
+    Found : List X → Type 0
+    Found l = (i : ℕ) × (position f l ≡ Some i) × (z : X) × (slice_get l i ≡ Some z)
+
+    before : ℕ
+    before = prefix_len (λ (q : X). not (f q)) ys
+
+    some_place : (m : ℕ) → ltb 0 (suc m) ≡ true
+    some_place m = grind (arith, nat_tests)
+
+    up : (m n : ℕ) → ltb m n ≡ true → ltb (1 + m) (suc n) ≡ true
+    up m n e = grind (arith, nat_tests)
+
+    go : (b : Bool) → f y ≡ b → Has (y ∷ ys) x → (Has ys x → Found ys) → Found (y ∷ ys)
+    go true d h rest = (0, ap (λ b. let i : ℕ = cond (not b) (1 + before) 0 in cond (ltb i (suc (length ys))) (Some i) None) d ∙ ap (λ c. cond c (Some 0) None) (some_place (length ys)), y, refl)
+    go false d (inl same) rest = absurd (let z : true ≡ false = sym k ∙ ap f (sym same) ∙ d in cc)
+    go false d (inr m) rest = by (ltb before (length ys)) refl (rest m)
+      where
+        by : (b : Bool) → ltb before (length ys) ≡ b → Found ys → Found (y ∷ ys)
+        by true l w =
+            let is : Some before ≡ Some w.0 = sym (ap (λ c. cond c (Some before) None) l) ∙ w.1 in
+            let same : before ≡ w.0 = some-is is in
+            let at : Some (1 + before) ≡ Some (suc w.0) = ap Some (omega arith) in
+            (suc w.0, ap (λ b. let i : ℕ = cond (not b) (1 + before) 0 in cond (ltb i (suc (length ys))) (Some i) None) d ∙ ap (λ c. cond c (Some (1 + before)) None) (up before (length ys) l) ∙ at, w.2, w.3)
+        by false l w = absurd (let z : None ≡ Some w.0 = sym (ap (λ c. cond c (Some before) None) l) ∙ w.1 in cc)
+
+-- where nothing goes next, nothing is due to go again
+pub sender-rests : (o : Occasion) (s : Sender) → next wire o s ≡ None → (t : Sent) → Has s.sent t → Rests t.transmission
+sender-rests o s none t h = by t.transmission.due refl
+  where
+    by : (b : Bool) → t.transmission.due ≡ b → Rests t.transmission
+    by false e = e
+    by true e =
+        let w = found (λ (p : Sent). p.transmission.due) s.sent t h e in
+        let goes : next wire o s ≡ Some (sender.resent o.now s w.0 w.2) = ap (next_of wire o s) w.1 ∙ ap (sender.next_resent o.now s w.0) w.3 in
+        absurd (let z : None ≡ Some _ = sym none ∙ goes in cc)
+
+pub controls-rest : (now wait : ℕ) (c : Commands) → controlling.next now wait c ≡ None → (t : SentControl) → Has c.sent t → Rests t.transmission
+controls-rest now wait c none t h = by t.transmission.due refl
+  where
+    by : (b : Bool) → t.transmission.due ≡ b → Rests t.transmission
+    by false e = e
+    by true e =
+        let w = found (λ (p : SentControl). p.transmission.due) c.sent t h e in
+        let goes : controlling.next now wait c ≡ controlling.next_resent now c w.0 (Some w.2) = ap (controlling.next_of now wait c) w.1 ∙ ap (controlling.next_resent now c w.0) w.3 in
+        absurd (let z : None ≡ Some _ = sym none ∙ goes in cc)

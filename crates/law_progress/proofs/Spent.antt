@@ -1,0 +1,472 @@
+-- Where a datagram would have nothing in it, nothing may go: no command is due, and no head of a queue may go.
+use Rattle.std.proofs.Common.{◌≡◌, ◌≢◌, ℕ, zero, suc, ◌+◌, ◌-◌, ◌*◌, ◌/◌, ◌<◌, ◌≤◌, ◌&&◌, leb, ltb, max, Bool, true, false, cond, List, [], ◌∷◌, ◌++◌, length, refl, sym, ap, subst, ◌∙◌, inl, inr, ◌⊎◌, arith, Option, Some, None}
+use Rattle.std.proofs.lemmas.Bool.Decides.{nat_tests}
+use Rattle.std.proofs.lemmas.List.Sums.{sum_by-cons}
+use Rattle.std.specs.Prelude.{sum_by, unwrap_or}
+use Rattle.std.specs.Option.{option_map}
+use Rattle.std.specs.List.{position, slice_get, slice_set}
+use Rattle.enet_codec.specs.Message.{Message}
+use Rattle.enet_seq.specs.Numbering.{wire}
+use Rattle.enet_throttle.specs.Throttle.{is_admitted}
+use Rattle.enet_senders.specs.Controlling as controlling
+use Rattle.enet_fragment.specs.declared.data.DataCommand.{DataCommand}
+use Rattle.enet_fragment.specs.DataCommand.{message_of}
+use Rattle.enet_sender.specs.declared.outgoing.Kind.{Kind}
+use Rattle.enet_sender.specs.declared.outgoing.Kind.TheVariants.{Reliable, Begins, More}
+use Rattle.enet_sender.specs.declared.sent.Sent.{Sent}
+use Rattle.enet_sender.specs.Sender.{Occasion, Sender, Next, next, next_of, next_queued, next_resent, first_sent, resent, again, begun, may_go, is_more, skipped, with_skipped, bytes_in_transit}
+use Rattle.enet_sender.specs.Due.{SendingEnd, due_kind}
+use Rattle.enet_outbox.specs.declared.parts.Acknowledgement.{Acknowledgement}
+use Rattle.enet_outbox.specs.declared.parts.Unsequenced.{Unsequenced}
+use Rattle.enet_outbox.specs.declared.parts.Pace.{Pace}
+use Rattle.enet_outbox.specs.Outbox.{Outbox, transit_of}
+use Rattle.enet_outbox.specs.Emission.{Filling, empty_datagram, size_of, fits, with_command, shut, asked, repeated, with_one_acknowledgement, with_acknowledgements, control_step, with_one_control, with_controls, control_turns, unsequenced_of, unsequenced_asked, unsequenced_step, with_one_unsequenced, with_unsequenced, with_sender, data_put, data_step, due_step, channel_step, with_one_data, with_channel, turns_of, channel_turns, with_channels, turn_order, occasion, filled}
+use Rattle.enet_outbox.proofs.Repeats.{by-repeated, repeated-idle}
+use Rattle.enet_outbox.proofs.Filled.{by-filling}
+use Rattle.enet_receiver.specs.Members.{Has}
+use Rattle.law_progress.specs.Outboxes.{AreFit, AllFit, NothingMayGo, due_count, ready_at}
+use Rattle.law_progress.proofs.AcknowledgementsGo.{none-waits}
+use Rattle.law_progress.proofs.Filling.{le-leb, data-size, unsequenced-size, Filled, filled-with, unsequenced-filled, data-filled, channel-filled, order-filled}
+use Rattle.law_progress.proofs.NothingLeft.{nothing-left}
+use Rattle.law_progress.proofs.PutsOut.{found-passes, ready-next}
+use Rattle.law_progress.proofs.SomethingGoes.{get-set, set-same, same-number, Has-skipped, skipped-length, in-order, below-length}
+use Rattle.law_progress.proofs.Waiting.{Has-at, Has-set, Has-pushed}
+
+-- what a sender puts out next: the head of its queue, or a sent command that is due to go again
+pub data Goes (o : Occasion) (s : Sender) (n : Next) : Type 0 where
+  First : (c : DataCommand) (rest : List DataCommand) → s.queued ≡ c ∷ rest → may_go wire s.sent o.transit o.most c ≡ true → first_sent o.now o.timeout s c rest ≡ n → Goes o s n
+  Again : (i : ℕ) (p : Sent) → slice_get s.sent i ≡ Some p → p.transmission.due ≡ true → resent o.now s i p ≡ n → Goes o s n
+
+pub goes-of : (o : Occasion) (s : Sender) (n : Next) → next wire o s ≡ Some n → Goes o s n
+goes-of o s n e = go (position (λ (p : Sent). p.transmission.due) s.sent) refl e
+  where
+    some-is : {X : Type 0} {u v : X} → Some u ≡ Some v → u ≡ v
+    some-is {X} {u} {v} e = cc
+
+    head : (q : List DataCommand) → s.queued ≡ q → next_queued wire o s q ≡ Some n → Goes o s n
+    head [] t k = absurd (cc)
+    head (c ∷ rest) t k = by (may_go wire s.sent o.transit o.most c) refl k
+      where
+        by : (b : Bool) → may_go wire s.sent o.transit o.most c ≡ b → cond b (Some (first_sent o.now o.timeout s c rest)) None ≡ Some n → Goes o s n
+        by true m h = First c rest t m (some-is h)
+        by false m h = absurd (cc)
+
+    sent : (i : ℕ) → position (λ (p : Sent). p.transmission.due) s.sent ≡ Some i → (p : Option Sent) → slice_get s.sent i ≡ p → next_resent o.now s i p ≡ Some n → Goes o s n
+    sent i w None t k = absurd (cc)
+    sent i w (Some p) t k = Again i p t (found-passes (λ (q : Sent). q.transmission.due) s.sent i p w t) (some-is k)
+
+    go : (w : Option ℕ) → position (λ (p : Sent). p.transmission.due) s.sent ≡ w → next_of wire o s w ≡ Some n → Goes o s n
+    go None w k = head s.queued refl k
+    go (Some i) w k = sent i w (slice_get s.sent i) refl k
+
+-- what each command that a sender puts out next has, and what it leaves
+member : (o : Occasion) (s : Sender) (n : Next) (P : DataCommand → Type 0) → Goes o s n → ((c : DataCommand) → Has s.queued c → P c) → ((t : Sent) → Has s.sent t → P t.command) → P n.command
+member o s n P (First c rest q may is) queued sent = subst (λ (x : Next). P x.command) is (queued c (subst (λ (l : List DataCommand). Has l c) (sym q) (inl refl)))
+member o s n P (Again i p there due is) queued sent = subst (λ (x : Next). P x.command) is (sent p (Has-at s.sent i p there))
+
+pub queued-left : (o : Occasion) (s : Sender) (n : Next) (c : DataCommand) → Goes o s n → Has n.sender.queued c → Has s.queued c
+queued-left o s n c (First d rest q may is) h = subst (λ (l : List DataCommand). Has l c) (sym q) (inr (subst (λ (x : Next). Has x.sender.queued c) (sym is) h))
+queued-left o s n c (Again i p there due is) h = subst (λ (x : Next). Has x.sender.queued c) (sym is) h
+
+pub sent-left : (o : Occasion) (s : Sender) (n : Next) (P : DataCommand → Type 0) → Goes o s n → ((c : DataCommand) → Has s.queued c → P c) → ((t : Sent) → Has s.sent t → P t.command) → (t : Sent) → Has n.sender.sent t → P t.command
+sent-left o s n P (First c rest q may is) queued all t h = by c.reliable (subst (λ (x : Next). Has x.sender.sent t) (sym is) h)
+  where
+    by : (b : Bool) → Has (cond b (s.sent ++ begun o.now o.timeout c ∷ []) s.sent) t → P t.command
+    by true k = elim (Has-pushed s.sent (begun o.now o.timeout c) t k) [ inl same ↦ subst (λ (x : Sent). P x.command) same (queued c (subst (λ (l : List DataCommand). Has l c) (sym q) (inl refl))) | inr old ↦ all t old ]
+    by false k = all t k
+sent-left o s n P (Again i p there due is) queued all t h =
+    elim (Has-set s.sent i (again o.now p) t (subst (λ (x : Next). Has x.sender.sent t) (sym is) h)) [
+      | inl same ↦ subst (λ (x : Sent). P x.command) same (all p (Has-at s.sent i p there))
+      | inr old ↦ all t old
+    ]
+
+sum-set : {X : Type 0} (f : X → ℕ) (xs : List X) (k : ℕ) (x y : X) → slice_get xs k ≡ Some x → f y ≡ f x → sum_by f (slice_set xs k y) ≡ sum_by f xs
+sum-set f [] k x y t e = absurd (cc)
+sum-set f (z ∷ zs) zero x y t e =
+    let it : z ≡ x = cc in
+    let same : f z ≡ f x = ap f it in
+    let a : sum_by f (y ∷ zs) ≡ f y + sum_by f zs = sum_by-cons f y zs in
+    let b : sum_by f (z ∷ zs) ≡ f z + sum_by f zs = sum_by-cons f z zs in
+    omega arith
+sum-set f (z ∷ zs) (suc k) x y t e =
+    let rest : sum_by f (slice_set zs k y) ≡ sum_by f zs = sum-set f zs k x y t e in
+    let a : sum_by f (z ∷ slice_set zs k y) ≡ f z + sum_by f (slice_set zs k y) = sum_by-cons f z (slice_set zs k y) in
+    let b : sum_by f (z ∷ zs) ≡ f z + sum_by f zs = sum_by-cons f z zs in
+    omega arith
+
+transit-left : (o : Occasion) (s : Sender) (n : Next) → Goes o s n → n.command.reliable ≡ false → bytes_in_transit n.sender ≡ bytes_in_transit s
+transit-left o s n (First c rest q may is) unreliable =
+    let r : c.reliable ≡ false = ap (λ (x : Next). x.command.reliable) is ∙ unreliable in
+    ap (λ (x : Next). bytes_in_transit x.sender) (sym is) ∙ ap (λ b. sum_by (λ (p : Sent). length p.command.body) (cond b (s.sent ++ begun o.now o.timeout c ∷ []) s.sent)) r
+transit-left o s n (Again i p there due is) unreliable =
+    ap (λ (x : Next). bytes_in_transit x.sender) (sym is) ∙ sum-set (λ (q : Sent). length q.command.body) s.sent i p (again o.now p) there refl
+
+-- where nothing is ready, nothing goes
+none-ready : (o : Occasion) (s : Sender) → ready_at s ≤ 0 → next wire o s ≡ None
+none-ready o s none = by (next wire o s) refl
+  where
+    by : (x : Option Next) → next wire o s ≡ x → next wire o s ≡ None
+    by None e = e
+    by (Some n) e = (let less = ready-next o s n e in absurd (omega arith))
+
+due-few : (xs : List Sent) → due_count xs ≤ length xs
+due-few [] = omega arith
+due-few (x ∷ xs) = let rest = due-few xs in elim x.transmission.due as (λ b. cond b (due_count xs + 1) (due_count xs) ≤ suc (length xs)) [ true ↦ omega arith | false ↦ omega arith ]
+
+-- all still fit, where a sender goes on
+sender-fits : (pace : Pace) (o u : Outbox) (k : ℕ) (s new : SendingEnd) → AllFit pace o → slice_get o.senders k ≡ Some s → u.senders ≡ slice_set o.senders k new → u.unsequenced ≡ o.unsequenced
+    → ((c : DataCommand) → Has new.sender.queued c → length c.body + 28 ≤ pace.mtu) → ((t : Sent) → Has new.sender.sent t → length t.command.body + 28 ≤ pace.mtu) → AllFit pace u
+sender-fits pace o u k s new all there is same queued sent = record {
+  fit = record {
+    mtu = fit.mtu;
+    unsequenced = λ x h. fit.unsequenced x (subst (λ xs. Has xs x) same h);
+    queued = λ j y t d h. elim (get-set o.senders k j new y (subst (λ (l : List SendingEnd). slice_get l j ≡ Some y) is t)) [
+      | inl w ↦ queued d (subst (λ (z : SendingEnd). Has z.sender.queued d) (sym w.1) h)
+      | inr w ↦ fit.queued j y w.1 d h
+    ];
+  };
+  sent = λ j y t d h. elim (get-set o.senders k j new y (subst (λ (l : List SendingEnd). slice_get l j ≡ Some y) is t)) [
+    | inl w ↦ sent d (subst (λ (z : SendingEnd). Has z.sender.sent d) (sym w.1) h)
+    | inr w ↦ all.sent j y w.1 d h
+  ];
+}
+  where
+    fit : AreFit pace o
+    fit = all.fit
+
+-- and while a datagram is filled
+pub filled-fits : (pace : Pace) (o : Outbox) → AllFit pace o → AllFit pace (filled pace o).outbox
+filled-fits pace o all = by-filling pace o (λ f. AllFit pace f.outbox) (record {
+  closes = λ f g. g;
+  acknowledges = λ f a rest e g. record { fit = record { mtu = g.fit.mtu; unsequenced = g.fit.unsequenced; queued = g.fit.queued }; sent = g.sent };
+  controls = λ f n e g. record { fit = record { mtu = g.fit.mtu; unsequenced = g.fit.unsequenced; queued = g.fit.queued }; sent = g.sent };
+  puts_unsequenced = λ f u rest t e g. record { fit = record { mtu = g.fit.mtu; unsequenced = λ x h. g.fit.unsequenced x (subst (λ xs. Has xs x) (sym e) (inr h)); queued = g.fit.queued }; sent = g.sent };
+  drops_unsequenced = λ f u rest t e g. record { fit = record { mtu = g.fit.mtu; unsequenced = λ x h. g.fit.unsequenced x (subst (λ xs. Has xs x) (sym e) (inr h)); queued = g.fit.queued }; sent = g.sent };
+  puts_data = λ f k s n t there due g. sender-fits pace f.outbox (data_put f k s n (record f.outbox { throttle = t })).outbox k s (record s { sender = n.sender }) g there refl refl
+      (λ c h. g.fit.queued k s there c (queued-left _ s.sender n c (goes-of _ s.sender n due) h))
+      (λ x h. sent-left _ s.sender n (λ c. length c.body + 28 ≤ pace.mtu) (goes-of _ s.sender n due) (λ c j. g.fit.queued k s there c j) (λ p j. g.sent k s there p j) x h);
+  drops_data = λ f k s n t there due kind g. sender-fits pace f.outbox (with_sender (record f.outbox { throttle = t }) k (record s { sender = with_skipped n.sender })) k s (record s { sender = with_skipped n.sender }) g there refl refl
+      (λ c h. g.fit.queued k s there c (queued-left _ s.sender n c (goes-of _ s.sender n due) (Has-skipped n.sender.queued c h)))
+      (λ x h. sent-left _ s.sender n (λ c. length c.body + 28 ≤ pace.mtu) (goes-of _ s.sender n due) (λ c j. g.fit.queued k s there c j) (λ p j. g.sent k s there p j) x h);
+}) all
+
+-- what a sender is told, by the bytes in transit and the throttle's value
+abbrev told : Pace → ℕ → ℕ → Occasion
+told pace transit value = record { now = pace.now; timeout = pace.timeout; transit = transit; most = max (value * pace.window / 32) pace.mtu }
+
+-- a datagram that is still empty, of an outbox with so many bytes in transit, this throttle and at most so many unsequenced packets
+record Blank (pace : Pace) (transit value most : ℕ) (f : Filling) : Type 0 where
+  closed : f.closed ≡ false
+  bytes : f.bytes ≡ pace.mtu - 4
+  commands : f.commands ≡ 32
+  fit : AllFit pace f.outbox
+  transit_is : transit_of f.outbox ≡ transit
+  value_is : f.outbox.throttle.value ≡ value
+  few : length f.outbox.unsequenced ≤ most
+
+-- into it each of them fits
+room : (pace : Pace) (transit value most : ℕ) (f : Filling) (m : Message) → Blank pace transit value most f → 576 ≤ pace.mtu → size_of m ≤ pace.mtu - 4 → fits f m ≡ true
+room pace transit value most f m e big small =
+    let bytes = e.bytes in
+    let a : ltb 0 f.commands ≡ true = some f.commands e.commands in
+    let b : leb (size_of m) f.bytes ≡ true = le-leb (size_of m) f.bytes (omega arith) in
+    (λ i. a i && b i)
+  where
+    some : (n : ℕ) → n ≡ 32 → ltb 0 n ≡ true
+    some n h = grind (arith, nat_tests)
+
+-- unsequenced packets: one goes, or is dropped
+unsequenced-once : (pace : Pace) (transit value most : ℕ) (f : Filling) → Blank pace transit value (suc most) f → Filled (with_one_unsequenced f) ⊎ Blank pace transit value most (with_one_unsequenced f)
+unsequenced-once pace transit value most f e = by f.outbox.unsequenced refl
+  where
+    all : AllFit pace f.outbox
+    all = e.fit
+
+    fit : AreFit pace f.outbox
+    fit = all.fit
+
+    by : (us : List Unsequenced) → f.outbox.unsequenced ≡ us → Filled (unsequenced_step f us) ⊎ Blank pace transit value most (unsequenced_step f us)
+    by [] is = inr (record { closed = e.closed; bytes = e.bytes; commands = e.commands; fit = e.fit; transit_is = e.transit_is; value_is = e.value_is; few = (let z : length f.outbox.unsequenced ≡ 0 = ap (λ (l : List Unsequenced). length l) is in omega arith) })
+    by (u ∷ rest) is =
+        let m = unsequenced_of u in
+        let short = fit.unsequenced u (subst (λ xs. Has xs u) (sym is) (inl refl)) in
+        let big = fit.mtu in
+        let ok = room pace transit value (suc most) f m e big (let z = unsequenced-size u in omega arith) in
+        let put : Filling = with_command f m (record (asked f.outbox) { unsequenced = rest; last = Some u.channel }) in
+        let drop : Filling = record f { outbox = record (asked f.outbox) { unsequenced = rest } } in
+        let left : Blank pace transit value most drop = record {
+          closed = e.closed;
+          bytes = e.bytes;
+          commands = e.commands;
+          fit = record {
+            fit = record { mtu = fit.mtu; unsequenced = λ x h. fit.unsequenced x (subst (λ xs. Has xs x) (sym is) (inr h)); queued = fit.queued };
+            sent = all.sent;
+          };
+          transit_is = e.transit_is;
+          value_is = e.value_is;
+          few = (let few = e.few in let z : length f.outbox.unsequenced ≡ suc (length rest) = ap (λ (l : List Unsequenced). length l) is in omega arith);
+        } in
+        subst (λ b. Filled (cond b (unsequenced_asked f u rest) (shut f)) ⊎ Blank pace transit value most (cond b (unsequenced_asked f u rest) (shut f))) (sym ok)
+        (elim (is_admitted f.outbox.throttle) as (λ b. Filled (cond b put drop) ⊎ Blank pace transit value most (cond b put drop)) [
+          | true ↦ inl (filled-with f m (record (asked f.outbox) { unsequenced = rest; last = Some u.channel }))
+          | false ↦ inr left
+        ])
+
+unsequenced-all : (pace : Pace) (transit value n : ℕ) (f : Filling) → Blank pace transit value n f → Filled (repeated n with_one_unsequenced f) ⊎ Blank pace transit value 0 (repeated n with_one_unsequenced f)
+unsequenced-all pace transit value zero f e = inr e
+unsequenced-all pace transit value (suc n) f e =
+    subst (λ (g : Filling). Filled (repeated n with_one_unsequenced g) ⊎ Blank pace transit value 0 (repeated n with_one_unsequenced g)) (sym (ap (λ b. cond b f (with_one_unsequenced f)) e.closed))
+    (elim (unsequenced-once pace transit value n f e) [
+      | inl h ↦ inl (by-repeated Filled n with_one_unsequenced unsequenced-filled (with_one_unsequenced f) h)
+      | inr g ↦ unsequenced-all pace transit value n (with_one_unsequenced f) g
+    ])
+
+-- of a channel nothing may go
+abbrev Done : Pace → ℕ → ℕ → ℕ → Filling → Type 0
+Done pace transit value k f = (s : SendingEnd) → slice_get f.outbox.senders k ≡ Some s → next wire (told pace transit value) s.sender ≡ None
+
+-- a command of channel i was due, and was dropped: less is ready there, and the other channels are as before
+record Dropped (pace : Pace) (transit value i : ℕ) (f g : Filling) : Type 0 where
+  blank : Blank pace transit value 0 g
+  end : SendingEnd
+  there : slice_get f.outbox.senders i ≡ Some end
+  due : Next
+  is_due : next wire (told pace transit value) end.sender ≡ Some due
+  less : (t : SendingEnd) → slice_get g.outbox.senders i ≡ Some t → ready_at t.sender + 1 ≤ ready_at end.sender
+  others : (j : ℕ) → i ≢ j → (t : SendingEnd) → slice_get g.outbox.senders j ≡ Some t → slice_get f.outbox.senders j ≡ Some t
+
+abbrev After : Pace → ℕ → ℕ → ℕ → Filling → Filling → Type 0
+After pace transit value i f g = Filled g ⊎ (((g ≡ f) × Done pace transit value i f) ⊎ Dropped pace transit value i f g)
+
+data-after : (pace : Pace) (transit value i : ℕ) (f : Filling) → Blank pace transit value 0 f → After pace transit value i f (with_one_data pace i f)
+data-after pace transit value i f e = at (slice_get f.outbox.senders i) refl
+  where
+    all : AllFit pace f.outbox
+    all = e.fit
+
+    fit : AreFit pace f.outbox
+    fit = all.fit
+
+    same-told : occasion pace f.outbox ≡ told pace transit value
+    same-told = λ j. record { now = pace.now; timeout = pace.timeout; transit = e.transit_is j; most = max (e.value_is j * pace.window / 32) pace.mtu }
+
+    at : (o : Option SendingEnd) → slice_get f.outbox.senders i ≡ o → After pace transit value i f (channel_step pace i f o)
+    at None t = inr (inl (refl, λ s there. absurd (let x : Some s ≡ None = sym there ∙ t in cc)))
+    at (Some s) t = subst (λ (o : Occasion). After pace transit value i f (due_step f i s (next wire o s.sender))) (sym same-told) (due (next wire (told pace transit value) s.sender) refl)
+      where
+        o : Occasion
+        o = told pace transit value
+
+        due : (x : Option Next) → next wire o s.sender ≡ x → After pace transit value i f (due_step f i s x)
+        due None is = inr (inl (refl, λ x there. (let one : Some s ≡ Some x = sym t ∙ there in let it : s ≡ x = cc in subst (λ (y : SendingEnd). next wire o y.sender ≡ None) it is)))
+        due (Some n) is =
+            let g = goes-of o s.sender n is in
+            let big = fit.mtu in
+            let short : length n.command.body + 28 ≤ pace.mtu = member o s.sender n (λ c. length c.body + 28 ≤ pace.mtu) g (λ c h. fit.queued i s t c h) (λ x h. all.sent i s t x h) in
+            let ok = room pace transit value 0 f (message_of s.channel n.command) e big (let z = data-size s.channel n.command in omega arith) in
+            subst (λ b. After pace transit value i f (cond b (data_step f i s n (due_kind n.command)) (shut f))) (sym ok) (kind (due_kind n.command) refl)
+          where
+            g : Goes o s.sender n
+            g = goes-of o s.sender n is
+
+            kind : (d : Kind) → due_kind n.command ≡ d → After pace transit value i f (data_step f i s n d)
+            kind Reliable x = inl (filled-with f (message_of s.channel n.command) (record (with_sender f.outbox i (record s { sender = n.sender })) { last = Some i }))
+            kind More x = inl (filled-with f (message_of s.channel n.command) (record (with_sender f.outbox i (record s { sender = n.sender })) { last = Some i }))
+            kind Begins x = elim (is_admitted f.outbox.throttle) as (λ b. After pace transit value i f (cond b (data_put f i s n (asked f.outbox)) dropped)) [
+              | true ↦ inl (filled-with f (message_of s.channel n.command) (record (with_sender (asked f.outbox) i (record s { sender = n.sender })) { last = Some i }))
+              | false ↦ inr (inr left)
+            ]
+              where
+                after : SendingEnd
+                after = record s { sender = with_skipped n.sender }
+
+                dropped : Filling
+                dropped = record f { outbox = with_sender (asked f.outbox) i after }
+
+                unreliable : n.command.reliable ≡ false
+                unreliable = by n.command.reliable (is_more n.command) x
+                  where
+                    by : (r m : Bool) → cond r Reliable (cond m More Begins) ≡ Begins → r ≡ false
+                    by true m h = cc
+                    by false m h = refl
+
+                blank : Blank pace transit value 0 dropped
+                blank = record {
+                  closed = e.closed;
+                  bytes = e.bytes;
+                  commands = e.commands;
+                  fit = sender-fits pace f.outbox dropped.outbox i s after e.fit t refl refl
+                      (λ d h. fit.queued i s t d (queued-left o s.sender n d g (Has-skipped n.sender.queued d h)))
+                      (λ d h. sent-left o s.sender n (λ c. length c.body + 28 ≤ pace.mtu) g (λ c k. fit.queued i s t c k) (λ p k. all.sent i s t p k) d h);
+                  transit_is = sum-set (λ (z : SendingEnd). bytes_in_transit z.sender) f.outbox.senders i s after t (transit-left o s.sender n g unreliable) ∙ e.transit_is;
+                  value_is = e.value_is;
+                  few = e.few;
+                }
+
+                left : Dropped pace transit value i f dropped
+                left = record {
+                  blank = blank;
+                  end = s;
+                  there = t;
+                  due = n;
+                  is_due = is;
+                  less = λ y there. (
+                      let now : Some after ≡ Some y = sym (set-same f.outbox.senders i after s t) ∙ there in
+                      let it : after ≡ y = cc in
+                      let ready = ready-next o s.sender n is in
+                      let short = skipped-length n.sender.queued in
+                      let same : ready_at y.sender ≡ length (skipped n.sender.queued) + due_count n.sender.sent = ap (λ (z : SendingEnd). ready_at z.sender) (sym it) in
+                      omega arith);
+                  others = λ j apart y there. elim (get-set f.outbox.senders i j after y there) [ inl w ↦ absurd (apart w.0) | inr w ↦ w.1 ];
+                }
+
+-- asked often enough, a channel puts something in, or nothing of it may go
+drains : (pace : Pace) (transit value k n : ℕ) (f : Filling) → Blank pace transit value 0 f → ((s : SendingEnd) → slice_get f.outbox.senders k ≡ Some s → ready_at s.sender ≤ n)
+    → Filled (repeated n (with_one_data pace k) f) ⊎ (Blank pace transit value 0 (repeated n (with_one_data pace k) f) × Done pace transit value k (repeated n (with_one_data pace k) f))
+drains pace transit value k zero f e few = inr (e, λ s there. none-ready (told pace transit value) s.sender (few s there))
+drains pace transit value k (suc n) f e few =
+    subst (λ (g : Filling). Rests (repeated n (with_one_data pace k) g)) (sym (ap (λ b. cond b f (with_one_data pace k f)) e.closed))
+    (elim (data-after pace transit value k f e) [
+      | inl h ↦ inl (channel-filled pace k n (with_one_data pace k f) h)
+      | inr (inl idle) ↦ subst (λ (g : Filling). Rests g) (sym (ap (repeated n (with_one_data pace k)) idle.0 ∙ repeated-idle n (with_one_data pace k) f e.closed idle.0)) (inr (e, idle.1))
+      | inr (inr d) ↦ drains pace transit value k n (with_one_data pace k f) d.blank (λ s there. (let less = d.less s there in let all = few d.end d.there in omega arith))
+    ])
+  where
+    Rests : Filling → Type 0
+    Rests g = Filled g ⊎ (Blank pace transit value 0 g × Done pace transit value k g)
+
+-- another channel, whether or not nothing of the one may go
+abbrev Going : Pace → ℕ → ℕ → Filling → Type 0
+Going pace transit value f = Filled f ⊎ Blank pace transit value 0 f
+
+abbrev Gone : Pace → ℕ → ℕ → ℕ → Filling → Type 0
+Gone pace transit value k f = Filled f ⊎ (Blank pace transit value 0 f × Done pace transit value k f)
+
+going-step : (pace : Pace) (transit value i : ℕ) (f : Filling) → Going pace transit value f → Going pace transit value (with_one_data pace i f)
+going-step pace transit value i f (inl h) = inl (data-filled pace i f h)
+going-step pace transit value i f (inr e) = elim (data-after pace transit value i f e) [
+  | inl h ↦ inl h
+  | inr (inl idle) ↦ inr (subst (λ (g : Filling). Blank pace transit value 0 g) (sym idle.0) e)
+  | inr (inr d) ↦ inr d.blank
+]
+
+gone-step : (pace : Pace) (transit value k i : ℕ) (f : Filling) → Gone pace transit value k f → Gone pace transit value k (with_one_data pace i f)
+gone-step pace transit value k i f (inl h) = inl (data-filled pace i f h)
+gone-step pace transit value k i f (inr (e, none)) = elim (data-after pace transit value i f e) [
+  | inl h ↦ inl h
+  | inr (inl idle) ↦ inr (subst (λ (g : Filling). Blank pace transit value 0 g × Done pace transit value k g) (sym idle.0) (e, none))
+  | inr (inr d) ↦ elim (same-number i k) [
+    | inl same ↦ absurd (let z : Some d.due ≡ None = sym d.is_due ∙ none d.end (subst (λ j. slice_get f.outbox.senders j ≡ Some d.end) same d.there) in cc)
+    | inr apart ↦ inr (d.blank, λ s there. none s (d.others k apart s there))
+  ]
+]
+
+order-gone : (pace : Pace) (transit value k : ℕ) (order : List ℕ) (f : Filling) → Gone pace transit value k f → Gone pace transit value k (with_channels pace order f)
+order-gone pace transit value k [] f g = g
+order-gone pace transit value k (i ∷ rest) f g =
+    order-gone pace transit value k rest (with_channel pace f i) (by-repeated (Gone pace transit value k) (channel_turns f.outbox i) (with_one_data pace i) (gone-step pace transit value k i) f g)
+
+order-reaches : (pace : Pace) (transit value k : ℕ) (order : List ℕ) (f : Filling) → Has order k → Going pace transit value f → Gone pace transit value k (with_channels pace order f)
+order-reaches pace transit value k [] f h g = absurd h
+order-reaches pace transit value k (i ∷ rest) f h (inl filled') = inl (order-filled pace (i ∷ rest) f filled')
+order-reaches pace transit value k (i ∷ rest) f (inr h) (inr e) =
+    order-reaches pace transit value k rest (with_channel pace f i) h (by-repeated (Going pace transit value) (channel_turns f.outbox i) (with_one_data pace i) (going-step pace transit value i) f (inr e))
+order-reaches pace transit value k (i ∷ rest) f (inl same) (inr e) =
+    order-gone pace transit value k rest (with_channel pace f i) (subst (λ j. Gone pace transit value k (with_channel pace f j)) (sym same) (drains pace transit value k (channel_turns f.outbox k) f e turns))
+  where
+    turns : (s : SendingEnd) → slice_get f.outbox.senders k ≡ Some s → ready_at s.sender ≤ channel_turns f.outbox k
+    turns s there =
+        let is : channel_turns f.outbox k ≡ length s.sender.queued + length s.sender.sent = ap turns_of there in
+        let few = due-few s.sender.sent in
+        omega arith
+
+-- so where nothing is put in, nothing may go
+pub nothing-may-go : (pace : Pace) (o : Outbox) → AllFit pace o → (filled pace o).messages ≡ [] → NothingMayGo pace (filled pace o).outbox
+nothing-may-go pace o fit none = record {
+  acknowledgements = rests.0;
+  controls = rests.1;
+  unsequenced = no-unsequenced o.senders refl;
+  channels = channels;
+}
+  where
+    f0 : Filling
+    f0 = empty_datagram pace o
+
+    big : 576 ≤ pace.mtu
+    big = fit.fit.mtu
+
+    no-answers : o.acknowledgements ≡ []
+    no-answers = none-waits pace o big none
+
+    no-controls : controlling.next pace.now pace.timeout o.control ≡ None
+    no-controls = nothing-left pace o big none
+
+    rests : ((filled pace o).outbox.acknowledgements ≡ []) × (controlling.next pace.now pace.timeout (filled pace o).outbox.control ≡ None)
+    rests = by-filling pace o (λ f. (f.outbox.acknowledgements ≡ []) × (controlling.next pace.now pace.timeout f.outbox.control ≡ None)) (record {
+      closes = λ f g. g;
+      acknowledges = λ f a rest e g. absurd (let z : a ∷ rest ≡ [] = sym e ∙ g.0 in cc);
+      controls = λ f n e g. absurd (let z : Some n ≡ None = sym e ∙ g.1 in cc);
+      puts_unsequenced = λ f u rest t e g. g;
+      drops_unsequenced = λ f u rest t e g. g;
+      puts_data = λ f k s n t there due g. g;
+      drops_data = λ f k s n t there due kind g. g;
+    }) (no-answers, no-controls)
+
+    -- the first two stages put nothing in
+    begins : with_controls pace (with_acknowledgements f0) ≡ f0
+    begins =
+        ap (with_controls pace) (ap (λ (l : List Acknowledgement). repeated (length l) with_one_acknowledgement f0) no-answers)
+        ∙ repeated-idle (control_turns o) (with_one_control pace) f0 refl (ap (control_step f0) no-controls)
+
+    f3 : Filling
+    f3 = with_unsequenced f0
+
+    going : Going pace (transit_of o) o.throttle.value f3
+    going = unsequenced-all pace (transit_of o) o.throttle.value (length o.unsequenced) f0 (record { closed = refl; bytes = refl; commands = refl; fit = fit; transit_is = refl; value_is = refl; few = omega arith })
+
+    is : filled pace o ≡ with_channels pace (turn_order o) f3
+    is = ap (λ (f : Filling). with_channels pace (turn_order o) (with_unsequenced f)) begins
+
+    empty : Filled (with_channels pace (turn_order o) f3) → ⊥
+    empty h = subst (λ (l : List Message). Has l h.0) (ap (λ (f : Filling). f.messages) (sym is) ∙ none) h.1
+
+    gone : (k : ℕ) → k < length o.senders → Blank pace (transit_of o) o.throttle.value 0 (filled pace o) × Done pace (transit_of o) o.throttle.value k (filled pace o)
+    gone k low = subst (λ (f : Filling). Blank pace (transit_of o) o.throttle.value 0 f × Done pace (transit_of o) o.throttle.value k f) (sym is)
+        (by (order-reaches pace (transit_of o) o.throttle.value k (turn_order o) f3 (in-order (unwrap_or (option_map (λ channel. channel + 1) o.last) 0) (length o.senders) k low) going))
+      where
+        by : Gone pace (transit_of o) o.throttle.value k (with_channels pace (turn_order o) f3) → Blank pace (transit_of o) o.throttle.value 0 (with_channels pace (turn_order o) f3) × Done pace (transit_of o) o.throttle.value k (with_channels pace (turn_order o) f3)
+        by (inl h) = absurd (empty h)
+        by (inr h) = h
+
+    nil : (us : List Unsequenced) → length us ≤ 0 → us ≡ []
+    nil [] h = refl
+    nil (u ∷ us) h = absurd (omega arith)
+
+    no-unsequenced : (xs : List SendingEnd) → o.senders ≡ xs → (filled pace o).outbox.unsequenced ≡ []
+    no-unsequenced [] e = ap (λ (f : Filling). f.outbox.unsequenced) alone ∙ left going
+      where
+        alone : filled pace o ≡ f3
+        alone = is ∙ ap (λ (l : List SendingEnd). with_channels pace (turn_order (record o { senders = l })) f3) e
+
+        left : Going pace (transit_of o) o.throttle.value f3 → f3.outbox.unsequenced ≡ []
+        left (inl h) = absurd (empty (order-filled pace (turn_order o) f3 h))
+        left (inr b) = nil f3.outbox.unsequenced b.few
+    no-unsequenced (x ∷ xs) e = (let g = gone 0 (let z : length o.senders ≡ suc (length xs) = ap (λ (l : List SendingEnd). length l) e in omega arith) in nil (filled pace o).outbox.unsequenced g.0.few)
+
+    below : (k : ℕ) (s : SendingEnd) → slice_get (filled pace o).outbox.senders k ≡ Some s → k < length o.senders
+    below k s = by-filling pace o (λ f. (x : SendingEnd) → slice_get f.outbox.senders k ≡ Some x → k < length o.senders) (record {
+      closes = λ f g. g;
+      acknowledges = λ f a rest e g. g;
+      controls = λ f n e g. g;
+      puts_unsequenced = λ f u rest t e g. g;
+      drops_unsequenced = λ f u rest t e g. g;
+      puts_data = λ f i y n t there due g x h. elim (get-set f.outbox.senders i k (record y { sender = n.sender }) x h) [ inl w ↦ g y (subst (λ j. slice_get f.outbox.senders j ≡ Some y) w.0 there) | inr w ↦ g x w.1 ];
+      drops_data = λ f i y n t there due kind g x h. elim (get-set f.outbox.senders i k (record y { sender = with_skipped n.sender }) x h) [ inl w ↦ g y (subst (λ j. slice_get f.outbox.senders j ≡ Some y) w.0 there) | inr w ↦ g x w.1 ];
+    }) (λ x h. below-length o.senders k x h) s
+
+    channels : (k : ℕ) (s : SendingEnd) → slice_get (filled pace o).outbox.senders k ≡ Some s → next wire (occasion pace (filled pace o).outbox) s.sender ≡ None
+    channels k s there =
+        let g = gone k (below k s there) in
+        let b = g.0 in
+        let same : occasion pace (filled pace o).outbox ≡ told pace (transit_of o) o.throttle.value = (λ j. record { now = pace.now; timeout = pace.timeout; transit = b.transit_is j; most = max (b.value_is j * pace.window / 32) pace.mtu }) in
+        ap (λ (x : Occasion). next wire x s.sender) same ∙ g.1 s there

@@ -1,0 +1,284 @@
+-- How often an attempt is tried, and how long that takes: a CONNECT goes at most six times, each timeout twice the one before, a
+-- VERIFY_CONNECT at most eight times, each timeout but the first one a second.
+use Rattle.std.proofs.Common.{◌≡◌, ◌≢◌, ℕ, zero, suc, ◌+◌, ◌-◌, ◌*◌, ◌%◌, ◌^◌, ◌<◌, ◌≤◌, ◌&&◌, ◌||◌, not, leb, max, min, Bool, true, false, cond, refl, sym, ap, subst, ◌∙◌, inl, inr, ◌⊎◌, arith}
+use Rattle.std.proofs.lemmas.Bool.Decides.{nat_tests}
+use Rattle.enet_codec.specs.declared.command.Offer.{Offer}
+use Rattle.enet_rtt.specs.Clock.{elapsed_time, since_later}
+use Rattle.enet_rtt.specs.Transmission as transmission
+use Rattle.enet_rtt.specs.Expiry.{gives_up}
+use Rattle.enet_rtt.specs.declared.transmission.Transmission.{Transmission}
+use Rattle.enet_connect.specs.declared.server.Server.{Server}
+use Rattle.enet_peer.specs.declared.parts.PeerState.TheVariants as state
+use Rattle.enet_peer.specs.declared.parts.Limits.{Limits}
+use Rattle.enet_peer.specs.Peering.{connecting, answering}
+use Rattle.law_progress.specs.Attempts.{last_of, LastsFor}
+use Rattle.law_progress.proofs.Attempts.{Asks, Answers, Attempt, wait_of, bound_of, Course, attempt_of, begun-goes, asking, replying}
+use Rattle.law_progress.proofs.Timed.{elapsed-is, le-of, lt-of}
+
+-- when try j comes, counted from the first, where each waits so long
+abbrev at : (ℕ → ℕ) → ℕ → ℕ
+at wait zero = 0
+at wait (suc j) = at wait j + wait j
+
+-- a command is tried again so often and after such waits, on a clock that goes on by at most `extra` and one millisecond at once
+record Plan (a : Attempt) (extra again most : ℕ) : Type 0 where
+  wait : ℕ → ℕ
+  few : again < 255
+  begins : wait_of a ≡ wait 0
+  some : (j : ℕ) → 0 < wait j
+  grows : (j : ℕ) → j < again → transmission.grown_time (bound_of a) (wait j) ≡ wait (suc j)
+  near : (j : ℕ) → j ≤ again → at wait (suc j) + suc j * extra < 2 ^ 32
+  within : (j : ℕ) → j ≤ again → at wait (suc j) + j * extra ≤ most + again * extra
+  ends : (now last : ℕ) (t : Transmission) → t.attempts ≡ again + 1 → t.timeout ≡ wait again → elapsed_time (now % 2 ^ 32) t.first ≡ now - a.first → elapsed_time (now % 2 ^ 32) t.last ≡ now - last → now < a.first + at wait (suc again) + suc again * extra + 1
+      → a.first + at wait again ≤ last → last + wait again ≤ now → gives_up a.patience (now % 2 ^ 32) a.heard t ≡ true
+
+-- a moment is that of try j, or later by so much at most as the clock jumps
+abbrev Placed : (a : Attempt) (extra again most : ℕ) → Plan a extra again most → ℕ → ℕ → Type 0
+Placed a extra again most p j x = (a.first + at p.wait j ≤ x) × (x ≤ a.first + at p.wait j + j * extra)
+
+-- by now try j was made and waits, or it is due
+record Tried (a : Attempt) (extra again most : ℕ) (p : Plan a extra again most) (now : ℕ) (t : Transmission) : Type 0 where
+  try_is : ℕ
+  few : try_is ≤ again
+  first_is : t.first ≡ a.first % 2 ^ 32
+  timeout_is : t.timeout ≡ p.wait try_is
+  goes : ((t.due ≡ false) × (t.attempts ≡ try_is + 1) × (last : ℕ) × (t.last ≡ last % 2 ^ 32) × (last ≤ now) × (now < last + p.wait try_is) × Placed a extra again most p try_is last)
+      ⊎ ((t.due ≡ true) × (t.attempts ≡ try_is) × Placed a extra again most p try_is now)
+
+tried-begins : (a : Attempt) (extra again most : ℕ) (p : Plan a extra again most) → Tried a extra again most p a.first (transmission.begun (a.first % 2 ^ 32) (wait_of a))
+tried-begins a extra again most p = record {
+  try_is = 0;
+  few = omega arith;
+  first_is = refl;
+  timeout_is = p.begins;
+  goes = inl (refl, refl, a.first, refl, omega arith, (let x = p.some 0 in omega arith), (omega arith, omega arith));
+}
+
+tried-again : (a : Attempt) (extra again most : ℕ) (p : Plan a extra again most) (now : ℕ) (t : Transmission) → Tried a extra again most p now t → t.due ≡ true → Tried a extra again most p now (transmission.again (now % 2 ^ 32) t)
+tried-again a extra again most p now t w due = by w.goes
+  where
+    counted : (j n : ℕ) → j < 255 → n ≡ j → min (n + 1) 255 ≡ j + 1
+    counted j n low e = ap (λ m. min (m + 1) 255) e ∙ least (j + 1) (omega arith)
+      where
+        least : (m : ℕ) → m ≤ 255 → min m 255 ≡ m
+        least m h = grind arith
+
+    by : ((t.due ≡ false) × (t.attempts ≡ w.try_is + 1) × (last : ℕ) × (t.last ≡ last % 2 ^ 32) × (last ≤ now) × (now < last + p.wait w.try_is) × Placed a extra again most p w.try_is last)
+        ⊎ ((t.due ≡ true) × (t.attempts ≡ w.try_is) × Placed a extra again most p w.try_is now) → Tried a extra again most p now (transmission.again (now % 2 ^ 32) t)
+    by (inl k) = absurd (let f : true ≡ false = sym due ∙ k.0 in cc)
+    by (inr k) = record {
+      try_is = w.try_is;
+      few = w.few;
+      first_is = w.first_is;
+      timeout_is = w.timeout_is;
+      goes = inl (refl, counted w.try_is t.attempts (let x = w.few in let y = p.few in omega arith) k.1, now, refl, omega arith, (let x = p.some w.try_is in omega arith), k.2);
+    }
+
+tried-marked : (a : Attempt) (extra again most : ℕ) (p : Plan a extra again most) (before now : ℕ) (t : Transmission) → Tried a extra again most p before t → t.due ≡ false → before ≤ now → now ≤ before + (extra + 1)
+    → transmission.ends (now % 2 ^ 32) a.patience a.heard t ≡ false → Tried a extra again most p now (transmission.marked (bound_of a) (now % 2 ^ 32) t)
+tried-marked a extra again most p before now t w waits up down lives = by w.goes
+  where
+    n : ℕ
+    n = now % 2 ^ 32
+
+    j : ℕ
+    j = w.try_is
+
+    by : ((t.due ≡ false) × (t.attempts ≡ w.try_is + 1) × (last : ℕ) × (t.last ≡ last % 2 ^ 32) × (last ≤ before) × (before < last + p.wait w.try_is) × Placed a extra again most p w.try_is last)
+        ⊎ ((t.due ≡ true) × (t.attempts ≡ w.try_is) × Placed a extra again most p w.try_is before) → Tried a extra again most p now (transmission.marked (bound_of a) n t)
+    by (inr k) = absurd (let f : true ≡ false = sym k.0 ∙ waits in cc)
+    by (inl (k, attempts, last, last_is, low, soon, placed)) = late_or_not (leb t.timeout (elapsed_time n t.last)) refl
+      where
+        early : a.first + at p.wait j ≤ last
+        early = placed.0
+
+        late : last ≤ a.first + at p.wait j + j * extra
+        late = placed.1
+
+        wait : ℕ
+        wait = p.wait j
+
+        near : a.first + (at p.wait j + wait) + suc j * extra < a.first + 2 ^ 32
+        near = let x = p.near j w.few in omega arith
+
+        steps : suc j * extra ≡ j * extra + extra
+        steps = omega arith
+
+        since_last : elapsed_time n t.last ≡ now - last
+        since_last = ap (elapsed_time n) last_is ∙ elapsed-is last now (omega arith) (let x = near in let y = steps in let z = late in let v = early in omega arith)
+
+        since_first : elapsed_time n t.first ≡ now - a.first
+        since_first = ap (elapsed_time n) w.first_is ∙ elapsed-is a.first now (let v = early in omega arith) (let x = near in let y = steps in let z = late in omega arith)
+
+        late_or_not : (b : Bool) → leb t.timeout (elapsed_time n t.last) ≡ b → Tried a extra again most p now (transmission.marked (bound_of a) n t)
+        late_or_not false e =
+            let is_early : transmission.is_late n t ≡ false = (λ i. not (waits i) && e i) in
+            subst (λ b. Tried a extra again most p now (cond b (record t { timeout = transmission.grown_time (bound_of a) t.timeout; due = true }) t)) (sym is_early) (record {
+              try_is = j;
+              few = w.few;
+              first_is = w.first_is;
+              timeout_is = w.timeout_is;
+              goes = inl (waits, attempts, last, last_is, omega arith, (let x = lt-of t.timeout (elapsed_time n t.last) e in let y = since_last in let z = w.timeout_is in omega arith), (early, late));
+            })
+        late_or_not true e =
+            let is_late : transmission.is_late n t ≡ true = (λ i. not (waits i) && e i) in
+            subst (λ b. Tried a extra again most p now (cond b (record t { timeout = transmission.grown_time (bound_of a) t.timeout; due = true }) t)) (sym is_late) (record {
+              try_is = suc j;
+              few = more;
+              first_is = w.first_is;
+              timeout_is = ap (transmission.grown_time (bound_of a)) w.timeout_is ∙ p.grows j more;
+              goes = inr (refl, attempts_are, ((let x = over in let v = early in omega arith), (let y = steps in let z = late in omega arith)));
+            })
+          where
+            over : last + wait ≤ now
+            over = let x = le-of t.timeout (elapsed_time n t.last) e in let y = since_last in let z = w.timeout_is in omega arith
+
+            attempts_are : t.attempts ≡ suc j
+            attempts_are = omega arith
+
+            is_late : transmission.is_late n t ≡ true
+            is_late = λ i. not (waits i) && e i
+
+            patient : gives_up a.patience n a.heard t ≡ false
+            patient = ap (λ b. b && gives_up a.patience n a.heard t) (sym is_late) ∙ lives
+
+            below : (m k : ℕ) → m ≤ k → m ≢ k → m < k
+            below m k l d = grind arith
+
+            more : j < again
+            more = below j again w.few (λ same. ends same)
+              where
+                ends : j ≡ again → ⊥
+                ends same =
+                    let up : gives_up a.patience n a.heard t ≡ true = p.ends now last t (attempts ∙ ap (λ m. m + 1) same) (w.timeout_is ∙ ap p.wait same) since_first since_last
+                    (subst (λ m. now < a.first + at p.wait (suc m) + suc m * extra + 1) same (let y = steps in let z = late in omega arith))
+                    (subst (λ m. a.first + at p.wait m ≤ last) same early) (subst (λ m. last + p.wait m ≤ now) same over) in
+                    let f : true ≡ false = sym up ∙ patient in
+                    cc
+
+tried-course : (a : Attempt) (extra again most : ℕ) (p : Plan a extra again most) → Course (Tried a extra again most p) a (extra + 1)
+tried-course a extra again most p = record {
+  begins = tried-begins a extra again most p;
+  again = tried-again a extra again most p;
+  marks = tried-marked a extra again most p;
+}
+
+-- so long it waits at most
+tried-ends : (a : Attempt) (extra again most : ℕ) (p : Plan a extra again most) (now : ℕ) (t : Transmission) → t.due ≡ false → Tried a extra again most p now t → now < a.first + most + again * extra
+tried-ends a extra again most p now t waits w = by w.goes
+  where
+    by : ((t.due ≡ false) × (t.attempts ≡ w.try_is + 1) × (last : ℕ) × (t.last ≡ last % 2 ^ 32) × (last ≤ now) × (now < last + p.wait w.try_is) × Placed a extra again most p w.try_is last)
+        ⊎ ((t.due ≡ true) × (t.attempts ≡ w.try_is) × Placed a extra again most p w.try_is now) → now < a.first + most + again * extra
+    by (inr k) = absurd (let f : true ≡ false = sym k.0 ∙ waits in cc)
+    by (inl (k, attempts, last, last_is, low, soon, placed)) = let x = p.within w.try_is w.few in let y = placed.1 in omega arith
+
+-- what the product with a number at most so great is
+times : (j k m : ℕ) → j ≤ k → j * m ≤ k * m
+times j k m h =
+    let d : ℕ = k - j in
+    let e : k ≡ j + d = omega arith in
+    let f : k * m ≡ (j + d) * m = ap (λ n. n * m) e in
+    let g : (j + d) * m ≡ j * m + d * m = omega arith in
+    omega arith
+
+or-true : (a b : Bool) → b ≡ true → (a || b) ≡ true
+or-true true b e = refl
+or-true false b e = e
+
+le-true : (m n : ℕ) → m ≤ n → leb m n ≡ true
+le-true m n h = grind (arith, nat_tests)
+
+-- CONNECT: each wait is twice the one before, and the sixth ends after the greatest patience
+abbrev doubled : ℕ → ℕ
+doubled zero = 500
+doubled (suc j) = 2 * doubled j
+
+at-doubled : (j : ℕ) → at doubled j + 500 ≡ doubled j
+at-doubled zero = refl
+at-doubled (suc j) = let e = at-doubled j in omega arith
+
+doubled-some : (j : ℕ) → 0 < doubled j
+doubled-some zero = omega arith
+doubled-some (suc j) = let e = doubled-some j in omega arith
+
+doubled-most : (j : ℕ) → j ≤ 5 → doubled j ≤ 16000
+doubled-most zero h = omega arith
+doubled-most (suc zero) h = omega arith
+doubled-most (suc (suc zero)) h = omega arith
+doubled-most (suc (suc (suc zero))) h = omega arith
+doubled-most (suc (suc (suc (suc zero)))) h = omega arith
+doubled-most (suc (suc (suc (suc (suc zero))))) h = omega arith
+doubled-most (suc (suc (suc (suc (suc (suc j)))))) h = absurd (omega arith)
+
+-- VERIFY_CONNECT: half a second, and then a second
+abbrev seconds : ℕ → ℕ
+seconds zero = 500
+seconds (suc j) = 1000
+
+at-seconds : (j : ℕ) → at seconds (suc j) ≡ 500 + j * 1000
+at-seconds zero = refl
+at-seconds (suc j) = let e = at-seconds j in omega arith
+
+seconds-some : (j : ℕ) → 0 < seconds j
+seconds-some zero = omega arith
+seconds-some (suc j) = omega arith
+
+asking-plan : (start : ℕ) (offer : Offer) (limits : Limits) (now extra : ℕ) → 31500 + 7 * (extra + 1) < 2 ^ 32 → Plan (attempt_of Asks (connecting start offer limits) (asking start offer limits) now) extra 5 31500
+asking-plan start offer limits now extra close = record {
+  wait = doubled;
+  few = omega arith;
+  begins = refl;
+  some = doubled-some;
+  grows = λ j low. twice (doubled j) (let x = doubled-most j (omega arith) in omega arith);
+  near = λ j low. (let x = at-doubled (suc j) in let y = doubled-most j low in let z = times (suc j) 6 extra (omega arith) in omega arith);
+  within = λ j low. (let x = at-doubled (suc j) in let y = doubled-most j low in let z = times j 5 extra low in omega arith);
+  ends = λ later last t attempts wait since_first since_last by early over. (
+      let x = since_first in let y = early in let z = over in
+      let long : 30000 ≤ elapsed_time (later % 2 ^ 32) t.first = omega arith in
+      λ i. le-true 30000 (elapsed_time (later % 2 ^ 32) t.first) long i || (leb 32 (2 ^ (t.attempts - 1)) && leb (elapsed_time (later % 2 ^ 32) t.last + t.timeout + 5000) (since_later (later % 2 ^ 32) t.first start)));
+}
+  where
+    twice : (m : ℕ) → 2 * m ≤ 4294967295 → max m (min (2 * m) 4294967295) ≡ 2 * m
+    twice m h = grind arith
+
+replying-plan : (start : ℕ) (offer : Offer) (server : Server) (limits : Limits) (now extra : ℕ) → start ≤ now → now ≤ start + (extra + 1) → 31500 + 9 * (extra + 1) < 2 ^ 32
+    → Plan (attempt_of Answers (answering (start % 2 ^ 32) offer server limits) (replying (start % 2 ^ 32) offer server limits) now) extra 7 7500
+replying-plan start offer server limits now extra up down close = record {
+  wait = seconds;
+  few = omega arith;
+  begins = refl;
+  some = seconds-some;
+  grows = λ j low. grown j;
+  near = λ j low. (let x = at-seconds j in let y = times j 7 1000 low in let z = times (suc j) 8 extra (omega arith) in omega arith);
+  within = λ j low. (let x = at-seconds j in let y = times j 7 1000 low in let z = times j 7 extra low in omega arith);
+  ends = λ later last t attempts wait since_first since_last by early over. (
+      let heard : elapsed_time (later % 2 ^ 32) (start % 2 ^ 32) ≡ later - start = elapsed-is start later (omega arith) (omega arith) in
+      let often : leb 32 (2 ^ (t.attempts - 1)) ≡ true = ap (λ m. leb 32 (2 ^ (m - 1))) attempts in
+      let long : leb (elapsed_time (later % 2 ^ 32) t.last + t.timeout + 5000) (since_later (later % 2 ^ 32) t.first (start % 2 ^ 32)) ≡ true =
+      le-true (elapsed_time (later % 2 ^ 32) t.last + t.timeout + 5000) (since_later (later % 2 ^ 32) t.first (start % 2 ^ 32))
+      (lesser (elapsed_time (later % 2 ^ 32) t.first) (elapsed_time (later % 2 ^ 32) (start % 2 ^ 32)) (elapsed_time (later % 2 ^ 32) t.last + t.timeout + 5000) (omega arith) (omega arith)) in
+      or-true (leb 30000 (elapsed_time (later % 2 ^ 32) t.first)) _ (λ i. often i && long i));
+}
+  where
+    grown : (j : ℕ) → max (seconds j) (min (2 * seconds j) 1000) ≡ 1000
+    grown zero = refl
+    grown (suc j) = refl
+
+    lesser : (x y m : ℕ) → m ≤ x → m ≤ y → m ≤ min x y
+    lesser x y m h k = grind arith
+
+pub asking-lasts : (offer : Offer) (limits : Limits) → LastsFor state.Connecting (λ start. connecting start offer limits) 31500 5
+asking-lasts offer limits extra start now moments q close up down turns =
+    let p = asking-plan (start % 2 ^ 32) offer limits now extra (omega arith) in
+    let b = asking (start % 2 ^ 32) offer limits in
+    let a : Attempt = attempt_of Asks (connecting (start % 2 ^ 32) offer limits) b now in
+    let last = begun-goes (Tried a extra 5 31500 p) Asks (connecting (start % 2 ^ 32) offer limits) b (extra + 1) now moments q (tried-course a extra 5 31500 p) turns in
+    tried-ends a extra 5 31500 p (last_of now moments) last.0 last.1 last.2
+
+pub answering-lasts : (offer : Offer) (server : Server) (limits : Limits) → LastsFor state.Answering (λ start. answering start offer server limits) 7500 7
+answering-lasts offer server limits extra start now moments q close up down turns =
+    let p = replying-plan start offer server limits now extra up down (omega arith) in
+    let b = replying (start % 2 ^ 32) offer server limits in
+    let a : Attempt = attempt_of Answers (answering (start % 2 ^ 32) offer server limits) b now in
+    let last = begun-goes (Tried a extra 7 7500 p) Answers (answering (start % 2 ^ 32) offer server limits) b (extra + 1) now moments q (tried-course a extra 7 7500 p) turns in
+    tried-ends a extra 7 7500 p (last_of now moments) last.0 last.1 last.2

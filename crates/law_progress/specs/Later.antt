@@ -1,0 +1,37 @@
+-- How a peer that is to disconnect later comes to do so, whatever comes. Times are in milliseconds, as in Attempts.
+use Rattle.std.specs.Prelude.{◌≡◌, ℕ, ◌+◌, ◌*◌, ◌^◌, ◌<◌, ◌≤◌, List, [], ◌∷◌, length, ◌⊎◌}
+use Rattle.enet_sender.specs.Due.{SendingEnd}
+use Rattle.enet_outbox.specs.Outbox.{Outbox}
+use Rattle.enet_peer.specs.declared.parts.PeerState.TheVariants as state
+use Rattle.enet_peer.specs.Peering.{Peering}
+use Rattle.enet_peer.specs.Calls.{ticked}
+use Rattle.law_progress.specs.Attempts.{Step, after_step, Turns, last_of, IsTold}
+use Rattle.law_progress.specs.Waits.{Moments}
+
+-- how many commands wait to go for the first time
+abbrev pub queued_over : List SendingEnd → ℕ
+queued_over [] = 0
+queued_over (s ∷ rest) = length s.sender.queued + queued_over rest
+
+abbrev pub still_to_go : Outbox → ℕ
+still_to_go o = length o.control.queued + queued_over o.senders
+
+-- how long a command waits for its acknowledgement at most
+abbrev pub longest_wait : Peering → ℕ
+longest_wait p = 327675 + 2 * p.patience.maximum
+
+-- where this peer has come, after any moments, to be one that is to disconnect later, it stays so for at most the longest wait and the gap,
+-- for each command that is still to go, and once more
+abbrev pub DisconnectsLater : Peering → Type 0
+DisconnectsLater p = (gap now : ℕ) (moments : List ℕ) (q : Peering) (next : ℕ) (later : List ℕ) (r : Peering) → longest_wait p + gap < 2 ^ 32 → Moments gap now p moments q
+    → last_of now moments ≤ next → next ≤ last_of now moments + gap → Turns state.DisconnectLater gap next q later r
+    → last_of next later ≤ next + (still_to_go q.outbox + 1) * (longest_wait p + gap)
+
+-- it has asked for the end, or has the other end's request for it to acknowledge
+abbrev pub IsLeaving : Peering → Type 0
+IsLeaving p = (p.state ≡ state.Disconnecting) ⊎ (p.state ≡ state.AckDisconnect)
+
+-- a peer that is to disconnect later ceases to be so, by a step or by a moment that comes, only so that it is leaving, or its user is told
+pub record LeavesOrTells : Type 0 where
+  pub step : (p : Peering) (now : ℕ) (step : Step) → p.state ≡ state.DisconnectLater → ((after_step now p step).state ≡ state.DisconnectLater) ⊎ (IsLeaving (after_step now p step) ⊎ IsTold (after_step now p step))
+  pub tick : (p : Peering) (now : ℕ) → p.state ≡ state.DisconnectLater → ((ticked p now).state ≡ state.DisconnectLater) ⊎ IsTold (ticked p now)
