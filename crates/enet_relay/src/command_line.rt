@@ -156,9 +156,9 @@ fn file<'a>(alloc: Global) -> Arg<'a> {
 }
 
 fn picture<'a>(alloc: Global) -> Arg<'a> {
-    Arg::new(alloc, "timeline")
-        .long("timeline")
-        .help("Draw a capture's connections into this file, as an SVG, and tell in words what they hold")
+    Arg::new(alloc, "timeline").long("timeline").help(
+        "Draw a capture's connections into this file, as an SVG, and tell in words what they hold",
+    )
 }
 
 fn clients<'a>(alloc: Global) -> Arg<'a> {
