@@ -29,7 +29,7 @@ mod outlet;
 mod serving;
 mod watching;
 
-use command_line::{Task, read_task};
+use command_line::{InspectOptions, Task, read_task};
 use demonstrating::demonstrate;
 use drawing::draw_capture;
 use enet_lab::lab;
@@ -55,9 +55,9 @@ where
         Task::Lab => {
             lab(rt.alloc(), &mut rt.reader(), &mut io::writer(rt)).map_err(Failure::Lab)?;
         }
-        Task::Inspect(options) => match options.picture {
-            None => inspect_input(rt, options.file)?,
-            Some(picture) => draw_capture(rt, options.file, picture.as_str())?,
+        Task::Inspect(InspectOptions { file, picture }) => match picture {
+            None => inspect_input(rt, file)?,
+            Some(picture) => draw_capture(rt, file, picture.as_str())?,
         },
         Task::Serve(options) => serve(rt, options)?,
         Task::Demo(options) => {

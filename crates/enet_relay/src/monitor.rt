@@ -28,14 +28,14 @@ pub struct Counted {
 
 /// Stores how the server stands, for those who ask over HTTP.
 #[derive(Drop)]
-pub struct Monitor<'a> {
-    figures: &'a Figures,
+pub struct Monitor {
+    figures: Arc<Figures, Global>,
     register: Arc<Register, Global>,
     trips_at: Option<Instant>,
 }
 
-impl<'a> Monitor<'a> {
-    pub fn new(figures: &'a Figures, register: Arc<Register, Global>) -> Monitor<'a> {
+impl Monitor {
+    pub fn new(figures: Arc<Figures, Global>, register: Arc<Register, Global>) -> Monitor {
         Monitor {
             figures,
             register,

@@ -8,9 +8,10 @@ use enet_codec::Refusal;
 use enet_metrics::{Figures, Pages};
 use enet_serve::{ChatServer, Gauge, RunLength, Settings, Unopened, Watch};
 use enet_service::Report;
+use std::alloc::Global;
 use std::net::{Ipv4Addr, Net, SocketAddr};
 use std::rt::Clock;
-use std::sync::Wait;
+use std::sync::{Arc, Wait};
 use std::thread;
 use std::thread::{Threads, join_mut};
 use std::time::Duration;
@@ -73,7 +74,6 @@ where
     R: Threads + Wait + Net + Clock + Sync + Print + Eprint + AllocGlobal,
 {
     let gauge = Gauge::new();
-    let figures = Figures::new(rt, rt.alloc())?;
     let mut operator = Operator::new(
         rt,
         rt.alloc(),
@@ -85,7 +85,8 @@ where
     let Some(address) = options.metrics else {
         return serve_watched(rt, server, options, &gauge, &mut operator);
     };
-    operator.tell(Monitor::new(&figures, server.register()?));
+    let figures = shared(Figures::new(rt, rt.alloc())?, rt.alloc())?;
+    operator.tell(Monitor::new(another(&figures)?, server.register()?));
     let mut pages = Pages::open(rt, SocketAddr::from(address)).map_err(Failure::Metrics)?;
     let (served, _pages) = join_mut(
         rt,
@@ -97,6 +98,21 @@ where
         &mut || pages.serve(rt, &figures),
     );
     served
+}
+
+// Figures that the watch and the pages share.
+fn shared(figures: Figures, alloc: Global) -> Result<Arc<Figures, Global>, Refusal> {
+    match Arc::new(alloc, figures) {
+        Ok(shared) => Ok(shared),
+        Err(_) => Err(Refusal::Memory),
+    }
+}
+
+fn another(figures: &Arc<Figures, Global>) -> Result<Arc<Figures, Global>, Refusal> {
+    match Arc::try_clone(figures) {
+        Ok(another) => Ok(another),
+        Err(_) => Err(Refusal::Memory),
+    }
 }
 
 fn serve_watched<R>(

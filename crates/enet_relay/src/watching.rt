@@ -29,7 +29,7 @@ pub struct Operator<'a, R> {
     logs: bool,
     errors: Outlet,
     desk: Desk,
-    monitor: Option<Monitor<'a>>,
+    monitor: Option<Monitor>,
     told_at: Option<Instant>,
     lost: u64,
     refused: u64,
@@ -65,7 +65,7 @@ impl<'a, R> Operator<'a, R> {
     }
 
     /// Has a monitor told, too.
-    pub fn tell(&mut self, monitor: Monitor<'a>) {
+    pub fn tell(&mut self, monitor: Monitor) {
         self.monitor = Some(monitor);
     }
 
